@@ -1,4 +1,4 @@
-"""Runs built programs with an allocation, a read or a write refused."""
+"""Runs built programs and lets an allocation, a read or a write fail."""
 import os
 import subprocess
 import sys
@@ -12,7 +12,8 @@ build = programs.build
 
 
 def shim(folder, source='memory/refuse.c'):
-    """The library that refuses an allocation, or another that is loaded before the C library, made by the kit's compiler."""
+    """Compiles, with the kit's compiler, a library that makes allocations (or other calls) fail when it is
+    loaded before the C library."""
     kit = os.path.dirname(subprocess.run(['rt', 'doc'], capture_output=True, text=True).stdout.split()[0])
     made = os.path.join(folder, os.path.basename(source) + '.so')
     tools = os.path.join(kit, 'toolchain', 'bin')
@@ -22,7 +23,7 @@ def shim(folder, source='memory/refuse.c'):
 
 
 def run(crate, text, library, refused, folder, variable='REFUSE', **others):
-    """What the program writes, its status, and how many calls were refused whose numbers the variable and others give."""
+    """Runs a program. Returns its result and how many of the calls selected by the variables failed."""
     told = os.path.join(folder, 'told')
     with open(told, 'wb') as sink:
         os.dup2(sink.fileno(), 3)

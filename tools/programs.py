@@ -1,5 +1,5 @@
-"""The programs of the repository: which sources they are made of, whether a proved build of exactly these is there, and how
-one is made."""
+"""The programs of the repository: their sources, whether a proved build of these sources exists, and how to
+build them."""
 import hashlib
 import os
 import re
@@ -11,12 +11,13 @@ import threading
 import time
 
 TOP = os.path.dirname(os.path.dirname(os.path.abspath(__file__)))
-# What each of four checks side by side takes at most, in bytes, by the samples of whole runs (alone one takes up to 6 GB, most less than 4).
+# The peak memory in bytes of each of four parallel checks, sampled from complete runs. A single check takes
+# up to 6 GB, most take less than 4.
 ONE_CHECK = 9 << 29
 
 
 def libraries():
-    """Each crate with the crates of the repository that its line in crates.txt names."""
+    """Returns each crate with the crates of the repository that its line in crates.txt names."""
     lines = {}
     with open(os.path.join(TOP, 'crates.txt'), encoding='utf-8') as text:
         for line in text:
@@ -28,7 +29,7 @@ def libraries():
 
 
 def needed(program):
-    """The crates that a program is made of, each after those that it stands on, the program last."""
+    """Returns the crates of a program, each after its dependencies; the program is last."""
     below, found = libraries(), []
 
     def add(name):
@@ -42,7 +43,8 @@ def needed(program):
 
 
 def sum_of_sources(program):
-    """A sum of all that the program is made of: the kit, the lines of crates.txt, HANDLES, and the texts of its crates."""
+    """Returns a hash of a program's sources: the kit, the lines of crates.txt, HANDLES, and the files of its
+    crates."""
     crates = needed(program)
     total = hashlib.sha256(subprocess.run(['rt', 'version'], stdout=subprocess.PIPE).stdout)
     files = [os.path.join(TOP, 'HANDLES')]
@@ -59,17 +61,17 @@ def sum_of_sources(program):
 
 
 def program_of(name):
-    """Where a program is built."""
+    """Returns the path of a built program."""
     return os.path.join(TOP, 'crates', name, 'out', name)
 
 
 def mark_of(name):
-    """Where it is written down which sources a program was proved and built from."""
+    """Returns the path of the file that records the sources from which a program was proved and built."""
     return program_of(name) + '.sources'
 
 
 def is_built(name):
-    """Whether a proved build of exactly these sources is there."""
+    """Returns whether a proved build of exactly these sources exists."""
     try:
         with open(mark_of(name), encoding='utf-8') as mark:
             return os.access(program_of(name), os.X_OK) and mark.read() == sum_of_sources(name)
@@ -78,19 +80,19 @@ def is_built(name):
 
 
 def write_down(name, sources):
-    """Writes down that a program was proved and built from these sources, if they are still the same."""
+    """Records that a program was proved and built from these sources, if they are still the same."""
     if os.access(program_of(name), os.X_OK) and sources == sum_of_sources(name):
         with open(mark_of(name), 'w', encoding='utf-8') as mark:
             mark.write(sources)
 
 
 def unproved_of(name):
-    """Where the unproved program of these sources is kept."""
+    """Returns the path of the unproved program."""
     return program_of(name) + '.unproved'
 
 
 def has_unproved(name):
-    """Whether an unproved program of exactly these sources is kept."""
+    """Returns whether an unproved program of exactly these sources exists."""
     try:
         with open(unproved_of(name) + '.sources', encoding='utf-8') as mark:
             return os.access(unproved_of(name), os.X_OK) and mark.read() == sum_of_sources(name)
@@ -99,7 +101,8 @@ def has_unproved(name):
 
 
 def keep_unproved(folder, kept, ended):
-    """Keeps the program that `rt try` makes in a folder of its own, which it removes: a hard link, made while the program runs."""
+    """Keeps the program that `rt try` makes in its own folder and then removes, by a hard link while the
+    program runs."""
     while not ended.wait(0.0005):
         for made in glob_programs(folder):
             try:
@@ -110,7 +113,7 @@ def keep_unproved(folder, kept, ended):
 
 
 def glob_programs(folder):
-    """The programs that `rt try` has made in a folder so far."""
+    """Lists the programs that `rt try` has made in a folder so far."""
     found = []
     try:
         for room in os.scandir(folder):
@@ -121,8 +124,8 @@ def glob_programs(folder):
 
 
 def make_unproved(name, words, given):
-    """Compiles the sources without proving them, by the kit's unproved run of these words and this input, and keeps the program.
-    Returns whether it is kept; what the kit says is printed if it isn't."""
+    """Compiles the sources without proving them, by an unproved run of the kit with these words and this
+    input, and keeps the program. Returns whether it is kept; if not, prints the kit's output."""
     sources = sum_of_sources(name)
     out = os.path.dirname(program_of(name))
     os.makedirs(out, exist_ok=True)
@@ -146,8 +149,8 @@ def make_unproved(name, words, given):
 
 
 def run_unproved(program, name, words, first_words=(), first_input=b''):
-    """Answers by the unproved program, which is made first if it isn't kept, in the place of this process. `program` is what the
-    user calls it. Returns a status only if there is no such program."""
+    """Replaces this process by the unproved program, which it compiles first if necessary. `program` is the
+    name for the user. Returns a status only if there is no such program."""
     if not has_unproved(name):
         print(f'{program}: compiling the sources without proving them, about a minute; kept until they change', file=sys.stderr, flush=True)
         if not make_unproved(name, first_words, first_input):
@@ -161,7 +164,7 @@ def run_unproved(program, name, words, first_words=(), first_input=b''):
 
 
 def at_once():
-    """How many crates are proved side by side: as many as there are processors, if memory suffices."""
+    """Returns how many crates to prove in parallel: the number of processors, if memory suffices."""
     cores = len(os.sched_getaffinity(0))
     with open('/proc/meminfo', encoding='utf-8') as lines:
         free = int(re.search(r'MemAvailable:\s+(\d+)', lines.read()).group(1)) << 10
@@ -173,14 +176,14 @@ def tell(name, text):
 
 
 class Progress:
-    """Tells which crate is being proved, which of how many, and how long it took."""
+    """Reports which crate is being proved, its number, and how long it took."""
 
     def __init__(self, program):
         self.program, self.crates = program, needed(program)
         self.start, self.began, self.passed, self.ended = time.time(), {}, set(), threading.Event()
 
     def has_begun(self, crate):
-        """Whether the kit began to build a crate: it makes a folder anew then."""
+        """Returns whether the kit started to build a crate: it creates a folder then."""
         folder = 'out/rlib' if crate != self.program else 'out/incremental'
         try:
             return os.stat(os.path.join(TOP, 'crates', crate, folder)).st_ctime >= self.start
@@ -188,7 +191,7 @@ class Progress:
             return False
 
     def look(self):
-        """Tells of each crate that was begun since the last look."""
+        """Reports each crate that was started since the last call."""
         for crate in self.crates:
             if crate not in self.began and crate not in self.passed and self.has_begun(crate):
                 self.began[crate] = time.time()
@@ -199,14 +202,15 @@ class Progress:
             self.look()
 
     def took(self, crate):
-        """Tells of a crate that was proved, unless an earlier run did that."""
+        """Reports a proved crate, unless an earlier run proved it."""
         self.passed.add(crate)
         if crate in self.began:
             tell(self.program, f'proved {crate} in {time.time() - self.began[crate]:.0f} s')
 
 
 def proves(program):
-    """Proves all crates that a program is made of, those that no one waits for side by side. What an earlier run proved stays."""
+    """Proves all crates of a program, in parallel where their dependencies allow it. Skips what an earlier
+    run proved."""
     progress = Progress(program)
     folder = os.path.join(TOP, 'crates', program)
     run = subprocess.Popen(['rt', 'all', 'check', '--jobs', str(at_once())], cwd=folder, stdin=subprocess.DEVNULL,
@@ -228,7 +232,7 @@ def proves(program):
 
 
 def build(name):
-    """Proves and builds a program where no proved build is there, and answers whether one is then."""
+    """Proves and builds a program if no proved build exists. Returns whether one exists after that."""
     if is_built(name):
         return True
     began, sources, many = time.time(), sum_of_sources(name), len(needed(name))

@@ -1,20 +1,20 @@
 #!/usr/bin/env python3
-"""Tells where the seconds of a check went: `tools/slow_proofs.py CRATE [LINES]`, by functions and by modules of them.
+"""Reports where the time of a check went, by function and by module: `tools/slow_proofs.py CRATE [LINES]`.
 
-`rt check` keeps what it proved in crates/CRATE/out/incremental, a file for each module, written as the module is done. So a file took the
-time since the one before it. Beside other work that is more than a processor's seconds; after an edit it is only what was proved anew.
-For all of a crate, remove that folder and check once more."""
+`rt check` writes a file to crates/CRATE/out/incremental when it has proved a module. A module's time is the
+time since the file before it. With other work in parallel that exceeds the processor time, and after an edit
+it covers only what was proved again. For a complete crate, remove that folder and check again."""
 import collections
 import os
 import sys
 
 TOP = os.path.dirname(os.path.dirname(os.path.abspath(__file__)))
-# A longer time passed between two checks.
+# A longer time is a pause between two checks.
 BETWEEN = 90
 
 
 def modules(crate):
-    """Each module of a crate that was proved, and when it was done."""
+    """Returns each proved module of a crate with its time."""
     done = []
     for folder, _, names in os.walk(os.path.join(TOP, 'crates', crate, 'out', 'incremental')):
         for name in names:

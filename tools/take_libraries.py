@@ -1,11 +1,12 @@
 #!/usr/bin/env python3
-"""Takes the libraries that a run of `rt ci` proved in another copy of this tree, so that `rt check` here doesn't prove them anew.
+"""Copies libraries that a run of `rt ci` proved in another copy of this tree, so that `rt check` doesn't
+prove them again.
 
     tools/take_libraries.py COPY
 
-A library is taken where its sources, and those of all below it, are the same in both trees; it may be called while that run goes on, for
-what it has finished. For work at a desk: `./check` takes nothing from anywhere. It writes the stamps that the kit looks at, and so stands
-on the inside of its command `rt`."""
+It copies a library if its sources and those of its dependencies are the same in both trees. It may run during
+that run of `rt ci`, for the crates that are finished. It is only for development: `./check` copies nothing.
+It writes the stamps that the kit reads, so it depends on the internals of the command `rt`."""
 import importlib.machinery
 import importlib.util
 import os
@@ -17,7 +18,7 @@ TOP = os.path.dirname(os.path.dirname(os.path.abspath(__file__)))
 
 
 def command():
-    """The kit's command as a module."""
+    """Loads the kit's command as a module."""
     path = os.path.realpath(shutil.which('rt'))
     loader = importlib.machinery.SourceFileLoader('rt', path)
     made = importlib.util.module_from_spec(importlib.util.spec_from_loader('rt', loader))
@@ -27,13 +28,13 @@ def command():
 
 
 def crates_of(rt, top):
-    """The crates of a tree by their names, each after those that it stands on."""
+    """Returns the crates of a tree by name, each after its dependencies."""
     os.chdir(top)
     return {crate.name: crate for crate in rt.rtlib.crates_below(top)}
 
 
 def take(crate, other, stamp):
-    """Copies a library, and writes the sum of its sources beside it."""
+    """Copies a library and writes the hash of its sources next to it."""
     folder = os.path.dirname(crate.rlib)
     shutil.rmtree(folder, ignore_errors=True)
     os.makedirs(folder)
@@ -43,7 +44,8 @@ def take(crate, other, stamp):
 
 
 def take_all(here, there):
-    """Takes each library that can be taken, and answers the names of those that are here then, and of those that lack."""
+    """Copies each library that can be copied. Returns the names of the libraries that now exist, and of those
+    that are missing."""
     found, lacking = [], []
     for name, crate in here.items():
         if not crate.makes_rlib():

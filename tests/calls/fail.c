@@ -1,5 +1,5 @@
-// Loaded before the C library: the read of standard input, or the write to standard output, whose number FAIL_READ or
-// FAIL_WRITE gives fails, and says so by a byte on descriptor 3.
+// Loaded before the C library. Fails the read of standard input with the number in FAIL_READ, or the write to
+// standard output with the number in FAIL_WRITE, and reports that by a byte on descriptor 3.
 
 typedef unsigned long size_t;
 extern long syscall(long number, ...);
@@ -9,7 +9,7 @@ extern int *__errno_location(void);
 static long reads;
 static long writes;
 
-// The number that a variable has, 0 where it isn't set.
+// Returns the number in a variable, 0 if it isn't set.
 static long number_of(const char *name) {
     const char *text = getenv(name);
     long number = 0;

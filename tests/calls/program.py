@@ -1,7 +1,8 @@
 #!/usr/bin/env python3
-"""Runs the program with each read of its input and each write of its output failing in turn: it writes nothing after a
-failed read, and the beginning of the right lines where a write failed, and ends with status 2. Where it was refused the
-memory of its buffer, each answer is a write of its own, and none is begun after a failed one."""
+"""Runs the program and lets each read of its input and each write of its output fail in turn. After a failed
+read it must write nothing; after a failed write its output must be a prefix of the right lines. In both cases
+it must end with status 2. If the allocation of its buffer fails, each answer is a separate write, and none
+follows a failed one."""
 import os
 import sys
 import tempfile
@@ -10,20 +11,21 @@ sys.dont_write_bytecode = True
 sys.path.insert(0, os.path.dirname(os.path.dirname(os.path.abspath(__file__))))
 import refusing
 
-# Lines of each kind, and the answers of those that have one.
+# Lines of each kind, and their answers.
 LINES = b'ids 0 2 10\ntext 0 a b a\nleaf 0 n i 5\n? text p a\n? leaf p n i 5\nids 1 0\n'
 ANSWERS = (b'808288\n0 2 10\n', b'0:2:0,2\n', b'0:1:\n', b'error line\n')
 
 
 def is_lawful(done, most, right, was_refused):
-    """Whether a run without a failed call is the right one, and another wrote the beginning of what it may at most, and said so."""
+    """Returns whether a run without a failed call is right, and any other wrote a prefix of `most` and ended
+    with status 2."""
     if not was_refused:
         return done.stdout == right and done.returncode == 1
     return done.returncode == 2 and most.startswith(done.stdout)
 
 
 def failed_calls(variable, text, right, most, library, folder):
-    """How many calls failed in turn, or None where one wasn't told."""
+    """Returns how many calls failed in turn, or None if a failure wasn't reported."""
     for call in range(1, 100000):
         done, was_refused = refusing.run('iiq', text, library, call, folder, variable)
         if done.stderr or not is_lawful(done, most, right, was_refused):
@@ -35,7 +37,8 @@ def failed_calls(variable, text, right, most, library, folder):
 
 
 def failed_answers(calls, memory, folder):
-    """How many answers failed in turn to be written without a buffer, or None where one wasn't told or was written."""
+    """Returns how many unbuffered writes of answers failed in turn, or None if one wasn't reported or was
+    written."""
     for call in range(1, len(ANSWERS) + 2):
         done, refused = refusing.run('iiq', LINES, f'{calls}:{memory}', call, folder, 'FAIL_WRITE', REFUSE='1')
         fails = call <= len(ANSWERS)
@@ -54,7 +57,7 @@ def main():
         text = f.read()
     with open(os.path.join(refusing.TOP, 'crates', 'iiq', 'stdout'), 'rb') as f:
         right = f.read()
-    # as much before it that it takes several reads and writes
+    # enough lines before it for several reads and writes
     text = b'ids 0 2 10\n' * 2000 + text
     right = b'808288\n0 2 10\n' * 2000 + right
     os.dup2(2, 3)

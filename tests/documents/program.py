@@ -1,6 +1,6 @@
 #!/usr/bin/env python3
-"""Each command that README shows is run as it is printed, in a copy of the tree, one after the other, and has to print what README says.
-What other parts of the gate run is left out, by name."""
+"""Runs each command that README shows, one after the other in a copy of the tree, and compares its output
+with README. The commands in PROVES, which other parts of the gate run, are skipped."""
 import os
 import shutil
 import subprocess
@@ -12,7 +12,7 @@ TOP = os.path.dirname(os.path.dirname(os.path.dirname(os.path.abspath(__file__))
 sys.path.insert(0, os.path.join(TOP, 'tools'))
 import programs
 
-# What a command of README prints at the end of its standard output; nothing where nothing is looked at.
+# The end of each command's standard output according to README; None where it isn't compared.
 PRINTS = {
     "echo 'ids 0 2 10' | ./iiq": '808288\n0 2 10\n',
     r"""printf '[[field]]\nname = "body"\ntype = "text"\n' > schema.toml""": '',
@@ -25,12 +25,13 @@ PRINTS = {
     "echo 'mine: nequllpa anyhow' >> crates.txt": '',
     'cd crates/mine && rt try': None,
 }
-# Commands that prove: the gate that runs this test is the second one, and has done what the first one does.
+# Commands that prove. They are skipped: the gate runs this test in its second stage, and the first one has
+# proved.
 PROVES = ('./iiq --prove', './check')
 
 
 def commands():
-    """The lines of README's indented blocks that are commands, in order."""
+    """Returns the commands in README's indented blocks, in order."""
     found = []
     with open(os.path.join(TOP, 'README.md'), encoding='utf-8') as page:
         for line in page:
@@ -40,7 +41,7 @@ def commands():
 
 
 def copied(folder):
-    """A copy of the tree with the programs that are built, and nothing else of what proofs leave."""
+    """Copies the tree with the built programs, but without other proof output."""
     tree = os.path.join(folder, 'tree')
     shutil.copytree(TOP, tree, symlinks=True, ignore=shutil.ignore_patterns('.git', 'out'))
     for name in ('iiq', 'nequllpa_cli'):

@@ -1,5 +1,6 @@
 #!/usr/bin/env python3
-"""The program `nequllpa` on wide and deep input: 1,000 fields, queries of 10,000 words, and parentheses in one another, on a small stack."""
+"""Runs `nequllpa` on wide and deep input with a small stack: 1,000 fields, queries of 10,000 words, nested
+parentheses."""
 import json
 import os
 import resource
@@ -17,12 +18,12 @@ PROGRAM = 'nequllpa_cli'
 FIELDS = 1_000
 WORDS = 10_000
 NESTING = 128
-# The stack that the program has, in bytes: a search of so many words took 36 kB for each of them once.
+# The stack of the program in bytes. A search of that many words once took 36 kB for each word.
 STACK = 1 << 20
 
 
 class Failed(Exception):
-    """What isn't as it has to be."""
+    """A result that differs from the expected one."""
 
 
 def small_stack():
@@ -30,7 +31,7 @@ def small_stack():
 
 
 def wants(program, room, words, status, out, err='', given=b'', before=small_stack):
-    """Runs the program, which has to end so, print this, and write something with this in it on standard error."""
+    """Runs the program and checks its status, its output, and that standard error contains `err`."""
     told = f'{[word[:60] for word in words]}'
     try:
         done = subprocess.run([program, *words], input=given, stdout=subprocess.PIPE, stderr=subprocess.PIPE, cwd=room, timeout=110, preexec_fn=before)
@@ -41,7 +42,7 @@ def wants(program, room, words, status, out, err='', given=b'', before=small_sta
 
 
 def queries(program, room):
-    """Queries of many words in one field, of one word in many fields, and of parentheses in one another."""
+    """Queries of many words in one field, of one word in many fields, and of nested parentheses."""
     row = [f'w{number}' for number in range(WORDS)]
     for query, found in (
             (' '.join(row), [0, 1]),

@@ -1,11 +1,11 @@
 #!/usr/bin/env python3
-"""The program `nequllpa` as a user runs it: JSON lines of texts that the machine has are indexed into a folder, searched and looked
-into, and what is answered is compared with a plain reading of the texts; bad lines and schemas, damaged files, a folder that can't be
-written and one that is no index are refused by name. Documents are told with the positions of the words that were sought, and damage with
-its file, field, term, part and bytes.
+"""Runs `nequllpa` as a user does. Indexes JSON lines of the machine's texts into a folder, searches and
+inspects it, and compares the answers with a plain reading of the texts. Bad lines and schemas, damaged files,
+a folder that can't be written, and one that is no index must give specific errors. Documents must be printed
+with the positions of the query's words, and damage with its file, field, term, part and bytes.
 
     program.py            as the gate runs it, over the licences of the machine
-    program.py MB         the same over so many megabytes of the kit's sources, and how long it took"""
+    program.py MB         also over this many megabytes of the kit's sources, with times"""
 import json
 import os
 import random
@@ -28,11 +28,11 @@ FILES = {'schema': 'schema', 'term': 'terms', 'idx': 'postings', 'pos': 'positio
 
 
 class Failed(Exception):
-    """What isn't as it has to be."""
+    """A result that differs from the expected one."""
 
 
 class User:
-    """A user with a folder, who runs the program."""
+    """A user who runs the program in a folder."""
 
     def __init__(self, program, folder):
         self.program, self.folder, self.runs = program, folder, 0
@@ -52,7 +52,7 @@ class User:
                               cwd=self.folder, preexec_fn=before, timeout=600)
 
     def wants(self, words, status, out=None, err=None, given=b'', before=None):
-        """Runs the program, which has to end so, print this, and tell something with this in it on standard error."""
+        """Runs the program and checks its status, its output, and that standard error contains `err`."""
         done = self.run(*words, given=given, before=before)
         told = f'{" ".join(map(str, words))}: status {done.returncode}, {done.stdout[-300:]!r}, {done.stderr[-300:]!r}'
         if done.returncode != status:
@@ -73,7 +73,8 @@ def numbers(found):
 
 
 def indexes(user, docs):
-    """The documents, from two files and from standard input: the same index, and what the commands tell of it."""
+    """Indexes the documents from two files and from standard input: the index must be the same, and `check`
+    and `stats` right."""
     schema = user.write('schema.toml', texts.SCHEMA)
     half = len(docs) // 2
     first, second = user.write('a.jsonl', lines(docs[:half])), user.write('b.jsonl', '\n' + lines(docs[half:]) + '  \n')
@@ -94,7 +95,8 @@ def indexes(user, docs):
 
 
 def placed(lists, words, found):
-    """What `--positions` prints of documents: each with the words that stand in it, and where."""
+    """Returns what `--positions` prints for documents: each with the words that occur in it and their
+    positions."""
     row = lambda doc: [(word, lists[word][doc]) for word in words if doc in lists[word]]
     told = ''.join(f'{doc}{"".join(f"{chr(9)}body:{word} " + " ".join(map(str, at)) for word, at in row(doc))}\n' for doc in found)
     terms = lambda doc: [{'field': 'body', 'term': word, 'positions': at} for word, at in row(doc)]
@@ -102,7 +104,7 @@ def placed(lists, words, found):
 
 
 def tells_places(user, lists, words, query, found):
-    """The documents of a query with the positions of its words, in words and as JSON."""
+    """Checks the documents of a query with the positions of its words, as words and as JSON."""
     told, objects = placed(lists, words, found)
     user.wants(['search', 'folder', query, '--field', 'body', '--positions'], 0 if found else 1, told)
     user.wants(['search', 'folder', query, '--field', 'body', '--positions', '--json'], 0 if found else 1, objects)
@@ -110,7 +112,7 @@ def tells_places(user, lists, words, query, found):
 
 
 def searches(user, docs, chosen):
-    """Words and pairs of words of a field of texts, by a plain filter over the words."""
+    """Compares searches for words and pairs of words of a text field with a plain filter."""
     lists = texts.lists_of(docs, 'body')
     words = sorted(lists)
     picked = chosen.sample(words, min(40, len(words))) + sorted(words, key=lambda word: -len(lists[word]))[:10]
@@ -162,7 +164,7 @@ type = "text"
 
 
 def ids(user):
-    """Documents told by the values of a field `id`, where they have one."""
+    """Checks documents printed by the values of a field `id`."""
     schema = user.write('ids.toml', IDS)
     docs = [{'id': 70, 'body': 'old "sea"'}, {'body': 'the sea'}, {'id': [9, 5], 'body': 'sea, old sea'}]
     user.wants(['index', 'ids', '--schema', schema], 0, '3 documents indexed\n', 'bytes of memory for each byte of input', given=lines(docs).encode())
@@ -189,7 +191,7 @@ def ids(user):
 
 
 def values(user, docs):
-    """A value of each type, by a plain filter over the documents."""
+    """Compares searches for a value of each type with a plain filter over the documents."""
     name = texts.words_of(docs[0]['title'])[0]
     for query, has in (
             (f'number:{docs[3]["number"]}', lambda doc: doc['number'] == docs[3]['number']),
@@ -272,7 +274,8 @@ BAD_SCHEMAS = (
 
 
 def refusals(user, docs):
-    """Bad lines, schemas and words are refused by name, and the index that is there stays."""
+    """Checks that bad lines, schemas and arguments give specific errors, and that the existing index
+    stays."""
     schema = user.path('schema.toml')
     for line, reason in BAD_LINES:
         line = line if isinstance(line, bytes) else line.encode()
@@ -315,7 +318,8 @@ def refusals(user, docs):
 
 
 def damages(user, chosen, places):
-    """Each file cut, changed and taken away at many places: `check` names it each time, and tells which bytes it has."""
+    """Cuts, changes and removes each file at many places: `check` must report the file each time, with its
+    byte range."""
     whole, damaged_places, located = user.path('folder'), 0, 0
     for name in sorted(os.listdir(whole)):
         if name == 'lock':
@@ -359,7 +363,7 @@ type = "json"
 
 
 def values_twice(user):
-    """A value that is twice in a document, whose list has the document once: nothing is damaged."""
+    """Checks that a value that occurs twice in a document, but once in its list, is no damage."""
     user.wants(['index', 'twice', '--schema', user.write('json.toml', JSON)], 0, given=lines([{'j': {'sizes': [40, 40], 'word': 'sea sea'}}]).encode())
     told = user.wants(['check', 'twice'], 0)
     if not told.endswith('\n0 damages\n'):
@@ -367,13 +371,13 @@ def values_twice(user):
 
 
 def places_of_damage(user):
-    """Damage of one list: its file, field, term and part, and where its bytes lie."""
+    """Damages one list: `check` must report its file, field, term, part and bytes."""
     docs = [{'body': 'sea ' * 3 + 'bird'}] * 3
     user.wants(['index', 'small', '--schema', user.write('ids.toml', IDS)], 0, given=lines(docs).encode())
     path = os.path.join(user.path('small'), 'idx.0')
     with open(path, 'rb') as file:
         text = file.read()
-    # the number of tokens in 8 bytes, then documents and counts of `bird`, and those of `sea`
+    # the number of tokens in 8 bytes, then documents and counts of `bird`, then those of `sea`
     bird, sea = bytes([0x80, 0x81, 0x81, 0x81, 0x81, 0x81]), bytes([0x80, 0x81, 0x81, 0x83, 0x83, 0x83])
     start = text.index(bird + sea)
     for place, byte, said in ((0, 0x00, f', field body, term bird: damaged frequencies, bytes {start}..{start + 6}'),
@@ -391,7 +395,8 @@ def places_of_damage(user):
 
 
 def stopped(user, docs):
-    """A folder that can't be written, and a disk with no room: refused, and the index that was there stays."""
+    """A folder that can't be written, and a full disk: indexing must fail, and the existing index must
+    stay."""
     schema = user.path('schema.toml')
     locked = user.path('locked')
     shutil.copytree(user.path('folder'), locked)
@@ -423,7 +428,7 @@ def stopped(user, docs):
 
 
 def most_memory(user, words):
-    """Runs the program, which has to end well, and answers how many bytes of memory it had at most."""
+    """Runs the program, which must succeed. Returns its peak memory in bytes."""
     run, peak = subprocess.Popen([user.program, *words], cwd=user.folder, stdout=subprocess.DEVNULL, stderr=subprocess.DEVNULL), 0
     while run.poll() is None:
         with open(f'/proc/{run.pid}/status', encoding='utf-8') as status:
@@ -436,7 +441,7 @@ def most_memory(user, words):
 
 
 def measured(user, docs):
-    """How long it takes to index, to open and to search, which is printed."""
+    """Prints how long indexing, opening and searching take."""
     text = lines(docs)
     size = len(text.encode())
     path, schema = user.write('all.jsonl', text), user.path('schema.toml')

@@ -1,6 +1,7 @@
 #!/usr/bin/env python3
-"""The program `nequllpa` over random folders: random schemas and lines of every type, some with lists of several blocks. `check` has to
-find no damage, and `terms`, `postings`, `fields` and `search` have to answer what a plain reading of the lines gives.
+"""Runs `nequllpa` over random folders: random schemas and lines of every type, some with lists of several
+blocks. `check` must find no damage, and `terms`, `postings`, `fields` and `search` must answer what a plain
+reading of the lines gives.
 
     random_folders.py              50 folders, as the gate runs it
     random_folders.py N SEED       N others"""
@@ -29,11 +30,11 @@ NUMBERS = [0, 1, 2, 7, 255, 256, 2 ** 31, 2 ** 63 - 1]
 
 
 class Failed(Exception):
-    """What isn't as it has to be."""
+    """A result that differs from the expected one."""
 
 
 def random_schema(chosen):
-    """Fields of a schema, of random types and settings."""
+    """Returns the fields of a schema with random types and settings."""
     fields = []
     for name in chosen.sample(NAMES, chosen.randint(1, 6)):
         field = {'name': name, 'type': chosen.choice(['text', 'text', 'u64', 'i64', 'bool', 'bytes', 'ip_addr', 'json', 'json'])}
@@ -51,7 +52,7 @@ def random_schema(chosen):
 
 
 def schema_text(fields):
-    """The schema in TOML."""
+    """Returns the schema in TOML."""
     told = lambda value: json.dumps(value, ensure_ascii=False)
     return '\n'.join('[[field]]\n' + ''.join(f'{key} = {told(value)}\n' for key, value in field.items()) for field in fields)
 
@@ -61,7 +62,7 @@ def random_text(chosen):
 
 
 def random_json(chosen, depth):
-    """A JSON value without fractions."""
+    """Returns a JSON value without fractions."""
     kind = chosen.randint(0, 7 if depth else 5)
     if kind == 0:
         return None
@@ -78,7 +79,7 @@ def random_json(chosen, depth):
 
 
 def random_value(chosen, field):
-    """A value of a field."""
+    """Returns a value for a field."""
     kind = field['type']
     if kind == 'text':
         return random_text(chosen)
@@ -96,7 +97,7 @@ def random_value(chosen, field):
 
 
 def random_line(chosen, fields):
-    """A document: of some fields a value, several, or null."""
+    """Returns a document: for some fields a value, several values, or null."""
     made = {}
     for field in fields:
         how = chosen.random()
@@ -121,7 +122,7 @@ def signed_key(number):
 
 
 def leaves(value, path, expands):
-    """The leaves of a JSON value with their paths, members in the order of the bytes of their keys."""
+    """Yields the leaves of a JSON value with their paths; members are ordered by the bytes of their keys."""
     if isinstance(value, dict):
         for key in sorted(value, key=str.encode):
             if '\0' not in key:
@@ -135,12 +136,13 @@ def leaves(value, path, expands):
 
 
 def spelled_path(path):
-    """A path as `terms` prints it."""
+    """Returns a path as `terms` prints it."""
     return ''.join('.' if c == '\1' else '\\' + c if c in '.\\ ' else c for c in path)
 
 
 class Field:
-    """What a plain reading finds of a field: for each key its text, and each document with its positions or None; and the tokens."""
+    """A plain reading of a field: the text of each key, its documents with positions (or None), and the
+    number of tokens."""
 
     def __init__(self, setting):
         self.setting, self.lists, self.texts, self.tokens, self.counts = setting, {}, {}, 0, {}
@@ -153,14 +155,14 @@ class Field:
         self.counts[doc] = self.counts.get(doc, 0) + 1
 
     def put_words(self, doc, prefix, spelled, value, begin):
-        """The words of a text at a place; where the next text at the same path begins."""
+        """Adds the words of a text at a path. Returns where the next text at the same path starts."""
         words = texts.words_of(value)
         for place, word in enumerate(words):
             self.put(prefix + word.encode(), spelled + word, doc, begin + place)
         return begin + len(words) + 1
 
     def add(self, doc, value):
-        """Adds the value that a document has under the field's name."""
+        """Adds the value of a document for this field."""
         if self.setting.get('indexed') is False or value is None:
             return
         if self.kind == 'json':
@@ -205,7 +207,7 @@ class Field:
         return self.setting.get('record', 'position') if self.kind in ('text', 'json') else 'basic'
 
     def postings(self, key, with_positions):
-        """What `postings` prints of a term."""
+        """Returns what `postings` prints for a term."""
         told = ''
         for doc, positions in sorted(self.lists[key].items()):
             is_value = positions[0] is None
@@ -219,7 +221,7 @@ class Field:
 
 
 class Reader:
-    """A folder that the program has made, beside a plain reading of its lines."""
+    """A folder that the program wrote, and a plain reading of its lines."""
 
     def __init__(self, program, room, fields, lines):
         self.program, self.room, self.lines, self.runs = program, room, lines, 0
@@ -248,7 +250,7 @@ class Reader:
             raise Failed(f'check: status {status}, {told!r}, {err!r}')
 
     def looks(self, chosen):
-        """Fields, terms and postings."""
+        """Compares the fields, terms and postings."""
         status, told, err = self.run('fields', 'folder')
         rows = [row for row in told.splitlines() if not row.startswith('  ')]
         for number, (field, row) in enumerate(zip(self.fields, rows, strict=True)):
@@ -262,11 +264,11 @@ class Reader:
                 self.wants(['postings', 'folder', '--positions', '--', name, field.texts[key]], 0, field.postings(key, True))
 
     def docs_of(self, field, word):
-        """The documents with a word in a field of texts."""
+        """Returns the documents with a word in a text field."""
         return set(field.lists.get(word.encode(), {}))
 
     def searches(self, chosen):
-        """Words, pairs of words and numbers, by a filter of the documents."""
+        """Compares searches for words, pairs of words and numbers with a filter of the documents."""
         text_fields = [field for field in self.fields if field.kind == 'text' and field.setting.get('indexed') is not False]
         everywhere = lambda word: set().union(*(self.docs_of(field, word) for field in text_fields))
         plain = [word for word in WORDS if texts.words_of(word) == [word]]
@@ -287,7 +289,7 @@ class Reader:
                 self.phrase(chosen, field, name)
 
     def phrase(self, chosen, field, name):
-        """A phrase of two words in a field."""
+        """Compares the search for a phrase of two words in a field."""
         one, two = chosen.choice(sorted(field.lists)), chosen.choice(sorted(field.lists))
         found = {doc for doc, places in field.lists[one].items() if any(place + 1 in field.lists[two].get(doc, ()) for place in places)}
         self.finds(f'{name}:"{one.decode()} {two.decode()}"', found)

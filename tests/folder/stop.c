@@ -1,5 +1,6 @@
-// Loaded before the C library: ends the process by SIGKILL before the call of the system whose number STOP_AT gives, or, with
-// PAUSE_AT, stops it there by SIGSTOP. Calls that change files or take a lock count, each told by a letter on descriptor 3.
+// Loaded before the C library. Before the system call with the number in STOP_AT it ends the process by
+// SIGKILL; before that in PAUSE_AT it stops the process by SIGSTOP. It counts calls that change files or take
+// a lock, and reports each by a letter on descriptor 3.
 
 typedef unsigned long size_t;
 typedef unsigned int mode_t;

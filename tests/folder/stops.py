@@ -1,6 +1,6 @@
 #!/usr/bin/env python3
-"""The program `nequllpa` stopped at each of its calls of the system, and two programs that write to one folder: the folder has the
-index that was there or the new one, and a second writer is refused at once."""
+"""Stops `nequllpa` before each of its system calls, and runs two programs that write to one folder. The
+folder must hold the old index or the new one, and a second writer must fail at once."""
 import json
 import os
 import shutil
@@ -20,11 +20,11 @@ SCHEMA = '[[field]]\nname = "body"\ntype = "text"\n'
 
 
 class Failed(Exception):
-    """What isn't as it has to be."""
+    """A result that differs from the expected one."""
 
 
 class Folder:
-    """A folder that programs write to."""
+    """A folder to which programs write."""
 
     def __init__(self, room, program, library):
         self.room, self.program, self.library, self.stops = room, program, library, 0
@@ -38,7 +38,7 @@ class Folder:
         return os.path.join(self.room, name)
 
     def run(self, *words, **variables):
-        """Runs the program; returns how it ended, and the letters of its calls."""
+        """Runs the program. Returns its result and the letters of its calls."""
         told = self.path('told')
         with open(told, 'wb') as sink:
             os.dup2(sink.fileno(), 3)
@@ -55,7 +55,8 @@ class Folder:
             raise Failed(f'status {done.returncode}, {done.stdout!r}, {done.stderr!r}; wanted {status} and {said!r}')
 
     def holds(self, *answers):
-        """The folder opens with one of these numbers of documents, each file whole, and all in it fits; or has no index, where None is given."""
+        """Checks that the folder holds an undamaged index with one of these numbers of documents, or no index
+        if None is given."""
         done, _ = self.run('check', 'index')
         if None in answers and done.returncode == 1 and 'no index here' in done.stdout:
             return
@@ -66,7 +67,8 @@ class Folder:
 
 
 def stopped_everywhere(folder, old):
-    """The program stopped before each of its calls, over a folder with the old index or with none: how many calls these are."""
+    """Stops the program before each of its calls, over a folder with the old index or without one. Returns
+    its calls."""
     for stop in range(1, 1000):
         shutil.rmtree(folder.path('index'), ignore_errors=True)
         if old is not None:
@@ -78,7 +80,7 @@ def stopped_everywhere(folder, old):
         if done.returncode != -signal.SIGKILL:
             raise Failed(f'stopped at {stop}: status {done.returncode}, {done.stderr!r}')
         folder.holds(old, 2)
-        # what was left is no hindrance, and the lock fell with its process
+        # what is left must not prevent the next run, and the lock ends with its process
         folder.wants(folder.index('new.jsonl')[0], 0, '2 documents indexed')
         folder.holds(2)
         folder.stops += 1
@@ -86,7 +88,8 @@ def stopped_everywhere(folder, old):
 
 
 def in_order(calls):
-    """The order of the calls of one save: lock, then each file made, written and flushed with the folder, then the rename, flushed too."""
+    """Checks the order of a save's calls: lock, then create, write and flush each file and flush the folder,
+    then rename and flush again."""
     if calls.count('r') != 1 or not calls[calls.index('r') + 1:].startswith('s'):
         raise Failed(f'the calls {calls}: one rename, and the folder flushed after it')
     before = calls[:calls.index('r')].split('o')[1:]
@@ -99,7 +102,8 @@ def in_order(calls):
 
 
 def two_writers(folder, count):
-    """One program paused before each of its calls, once it has the lock: the other one is refused at once. Then one is killed."""
+    """Pauses one program before each of its calls: once it holds the lock, a second writer must fail at once.
+    Then ends or resumes it."""
     refused = 0
     for pause in range(1, count + 1):
         shutil.rmtree(folder.path('index'), ignore_errors=True)
@@ -131,7 +135,7 @@ def two_writers(folder, count):
 
 
 def wait_paused(process):
-    """Waits until a process stops, or ends."""
+    """Waits until a process stops or ends."""
     for _ in range(4000):
         with open(f'/proc/{process.pid}/stat', encoding='ascii') as stat:
             if stat.read().rsplit(')', 1)[1].split()[0] in 'TZ':
@@ -141,7 +145,8 @@ def wait_paused(process):
 
 
 def orphans(folder):
-    """Files with names of an index in a folder without meta: named, never removed without --force."""
+    """Files with names of an index in a folder without meta: must be reported, and never removed without
+    --force."""
     index = folder.path('index')
     shutil.rmtree(index, ignore_errors=True)
     os.mkdir(index)

@@ -1,4 +1,4 @@
-"""Texts that the machine has, as JSON lines, and what a plain reading of them finds."""
+"""Texts of the machine as JSON lines, and a plain reading of them."""
 import glob
 import json
 import os
@@ -50,18 +50,18 @@ indexed = false
 
 
 def words_of(text):
-    """The words of a text: runs of ASCII letters, ASCII digits and characters past ASCII."""
+    """Returns the words of a text: runs of ASCII letters, ASCII digits and non-ASCII characters."""
     return re.findall(r'[A-Za-z0-9\u0080-\U0010ffff]+', text)
 
 
 def small_texts():
-    """The licences of the machine, or the documents of the repository where there are none."""
+    """Returns the paths of the machine's licences, or of the repository's documents if there are none."""
     found = sorted(path for path in glob.glob(os.path.join(LICENCES, '*')) if not os.path.islink(path))
     return found or sorted(glob.glob(os.path.join(TOP, 'docs', '*.md')))
 
 
 def large_texts():
-    """Sources and documents of the kit beside the licences."""
+    """Returns the small texts and the sources and documents of the kit."""
     kit = os.path.join(os.path.dirname(os.popen('rt doc').read().strip()), 'rattle')
     found = []
     for folder, folders, names in os.walk(kit):
@@ -71,7 +71,7 @@ def large_texts():
 
 
 def paragraphs(paths):
-    """Each paragraph of some files, beside the file's name."""
+    """Yields each paragraph of some files with the file's name."""
     for path in paths:
         with open(path, encoding='utf-8', errors='replace') as text:
             for place, paragraph in enumerate(re.split(r'\n\s*\n', text.read())):
@@ -80,7 +80,7 @@ def paragraphs(paths):
 
 
 def document(number, title, place, paragraph):
-    """A document of a paragraph, with a value of each type."""
+    """Returns a document for a paragraph, with a value of each type."""
     words = words_of(paragraph)
     return {
         'title': title,
@@ -96,7 +96,7 @@ def document(number, title, place, paragraph):
 
 
 def documents(paths, limit=None):
-    """The documents of some files, so many bytes of JSON at most."""
+    """Yields the documents of some files, up to `limit` bytes of JSON."""
     size = 0
     for number, (title, place, paragraph) in enumerate(paragraphs(paths)):
         made = document(number, title, place, paragraph)
@@ -107,7 +107,8 @@ def documents(paths, limit=None):
 
 
 def positions_of(value):
-    """The words of a text or of several, each with its position: a text begins one behind the end of the one before."""
+    """Returns the words of one or several texts with their positions. There is a gap of one position between
+    two texts."""
     found, begin = [], 0
     for text in value if isinstance(value, list) else [value]:
         words = words_of(text)
@@ -117,7 +118,7 @@ def positions_of(value):
 
 
 def lists_of(docs, field):
-    """Each word of a field of texts: its documents, each with its positions."""
+    """Returns for each word of a text field its documents with its positions."""
     lists = {}
     for number, doc in enumerate(docs):
         for word, position in positions_of(doc[field]):

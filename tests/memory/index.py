@@ -1,7 +1,7 @@
 #!/usr/bin/env python3
-"""Runs `example`, which indexes texts, opens what was written and looks a word up, with each allocation refused in turn:
-it ends with the right lines, or, after some of these, by saying that memory was refused, or its writer, which is over
-memory. An index of several fields is one of the parts (`parts.py`)."""
+"""Runs `example`, which indexes texts, opens the index and looks up a word, and lets each allocation fail in
+turn. It must print the right lines, or a prefix of them and then an allocation failure or the failure of its
+writer, which writes to memory. `parts.py` covers an index of several fields."""
 import os
 import sys
 import tempfile
@@ -10,12 +10,13 @@ sys.dont_write_bytecode = True
 sys.path.insert(0, os.path.dirname(os.path.dirname(os.path.abspath(__file__))))
 import refusing
 
-# What the crates say of it, what a writer over memory does, and what a growth of the example's own does.
+# The messages of the crates, of a writer over memory, and of a growing value in the example itself.
 REFUSALS = (b'Error: out of memory\n', b'Error: the writer failed\n', b'Error: memory allocation failed\n')
 
 
 def is_lawful(done, right, was_refused):
-    """Whether a run that wasn't refused memory is the right one, and another ends by its refusal after some of the lines."""
+    """Returns whether a run without a failed allocation is right, and any other prints a prefix of the lines
+    and its error."""
     if not was_refused:
         return done.stdout == right and not done.stderr and done.returncode == 0
     lines = right.splitlines(keepends=True)

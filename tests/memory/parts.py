@@ -1,6 +1,6 @@
 #!/usr/bin/env python3
-"""Runs the parts that `ii_allocation_tests` puts together with each allocation refused in turn: each line has to be the right
-one, but for the one that says that memory was refused, or its writer, which is over memory."""
+"""Runs the parts of `ii_allocation_tests` and lets each allocation fail in turn. Each line must be the right
+one, except one that reports an allocation failure or the failure of its writer, which writes to memory."""
 import os
 import sys
 import tempfile
@@ -14,12 +14,13 @@ WITHOUT_WRITER = (b'index', b'walk', b'loaded', b'placed', b'deletes', b'reset')
 
 
 def may_say(name, line):
-    """Whether a part may say this of a refusal: those that write no file name no writer."""
+    """Returns whether a part may print this line after a failure. Parts that write no file must not report a
+    writer."""
     return line in [name + b': ' + refusal for refusal in REFUSALS[:1 if name in WITHOUT_WRITER else 2]]
 
 
 def refusals(got, right):
-    """How many lines say that they were refused, or None where a line is neither that nor the right one."""
+    """Returns how many lines report a failure, or None if a line is neither such a report nor right."""
     lines, wanted = got.split(b'\n'), right.split(b'\n')
     if len(lines) != len(wanted):
         return None

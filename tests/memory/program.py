@@ -1,6 +1,6 @@
 #!/usr/bin/env python3
-"""Runs the program with each allocation refused in turn: each line that it prints has to be the right one of its
-place, or `error 1`, which is the last; but where the index was refused, each look-up prints `error 1`."""
+"""Runs the program and lets each allocation fail in turn. Each line must be the right one, or `error 1` as
+the last line. If indexing failed, each lookup prints `error 1`."""
 import os
 import sys
 import tempfile
@@ -9,17 +9,18 @@ sys.dont_write_bytecode = True
 sys.path.insert(0, os.path.dirname(os.path.dirname(os.path.abspath(__file__))))
 import refusing
 
-# So many lines at the end answer look-ups, and an index call that comes after one.
+# The number of last lines that answer lookups, and an index call after a lookup.
 LOOKED_UP = 6
 
 
 def is_part(lines, wanted):
-    """Whether the lines are the wanted ones, or as many of them before an `error 1` that ends them."""
+    """Returns whether the lines are the wanted ones, or a prefix of them followed by a final `error 1`."""
     return lines == wanted or lines[-2:] == [b'error 1', b''] and lines[:-2] == wanted[:len(lines) - 2]
 
 
 def is_lawful(got, right):
-    """Whether the lines are the right ones, or those of a run whose index was refused, up to an `error 1` that ends them."""
+    """Returns whether the lines are right, or those of a run whose indexing failed, up to a final `error
+    1`."""
     lines, wanted = got.split(b'\n'), right.split(b'\n')
     first = len(wanted) - 1 - LOOKED_UP
     refused = [b'error 1' if line not in (b'error line', b'') and place >= first else line for place, line in enumerate(wanted)]

@@ -1,4 +1,5 @@
-// Loaded before the C library: refuses the allocation whose number REFUSE gives, and says so by a byte on descriptor 3.
+// Loaded before the C library. Fails the allocation with the number in REFUSE, and reports that by a byte on
+// descriptor 3.
 
 typedef unsigned long size_t;
 extern void *__libc_malloc(size_t size);

@@ -1,6 +1,6 @@
 #!/usr/bin/env python3
-"""Asks the program 10,000 random queries over random texts, numbers and JSON values: each answer has to be what a filter of
-the words says, one document after the other, as docs/PROGRAM.md has it. `program.py N SEED` asks N others."""
+"""Asks the program 10,000 random queries over random texts, numbers and JSON values. Each answer must be that
+of a plain filter over all documents, as docs/PROGRAM.md defines it. `program.py N SEED` asks N others."""
 import os
 import random
 import re
@@ -12,7 +12,7 @@ TOP = os.path.dirname(os.path.dirname(os.path.dirname(os.path.abspath(__file__))
 sys.path.insert(0, os.path.join(TOP, 'tools'))
 import programs
 
-# so many queries are asked of each index
+# the number of queries for each index
 ASKED = 500
 WORDS = ('a', 'b', 'c', 'the', 'sea', 'Sea', '7', '007', 'é1', 'x9')
 PATHS = ('k', 'k.l', 'deep.er.path')
@@ -20,12 +20,12 @@ BETWEEN = (' ', '  ', ', ', '. ', '-', '! ')
 
 
 def words(text):
-    """The words of a text."""
+    """Returns the words of a text."""
     return re.findall('[A-Za-z0-9\u0080-\U0010ffff]+', text)
 
 
 def spelled(chosen, draw):
-    """A text of these words."""
+    """Returns a text of these words."""
     text = ''
     for i, word in enumerate(chosen):
         text += (draw.choice(BETWEEN) if i else '') + word
@@ -33,7 +33,7 @@ def spelled(chosen, draw):
 
 
 class Index:
-    """Lines of an index, and for each document the texts at each place, as their words, and the numbers."""
+    """The lines of an index, and for each document the words of its texts and its numbers at each place."""
 
     def __init__(self, draw):
         self.lines, self.texts, self.numbers = [], {}, {}
@@ -46,7 +46,7 @@ class Index:
             doc += 1 if draw.random() < 0.8 else draw.randrange(1, 200)
 
     def add(self, doc, draw):
-        """One line of a document."""
+        """Adds one line for a document."""
         kind = draw.random()
         if kind < 0.6:
             most = 300 if draw.random() < 0.03 else 12
@@ -67,17 +67,17 @@ class Index:
             self.numbers.setdefault(path, {}).setdefault(doc, set()).add(number)
 
     def with_phrase(self, place, phrase):
-        """The documents in one of whose texts at a place these words stand one behind the other."""
+        """Returns the documents with a text at a place in which these words follow one another."""
         return {doc for doc, texts in self.texts.get(place, {}).items()
                 if any(text[i:i + len(phrase)] == phrase for text in texts for i in range(len(text)))}
 
     def with_number(self, place, number):
-        """The documents with a number at a place."""
+        """Returns the documents with a number at a place."""
         return {doc for doc, numbers in self.numbers.get(place, {}).items() if number in numbers}
 
 
 def literal(index, draw):
-    """A word, a phrase or a number, and the documents that have it."""
+    """Returns a word, a phrase or a number, and the documents that have it."""
     place = draw.choice(('', 'text', 'text', 'num') + PATHS)
     if place == 'num':
         number = draw.randrange(11)
@@ -95,7 +95,7 @@ def literal(index, draw):
 
 
 def query(index, draw, depth):
-    """A query, as it stands between parentheses, and the documents that match it."""
+    """Returns a query, as written between parentheses, and the documents that match it."""
     form = draw.random()
     if depth == 0 or form < 0.25:
         return literal(index, draw)
@@ -105,7 +105,7 @@ def query(index, draw, depth):
     found = set().union(*(docs for _, docs in parts))
     if form < 0.8:
         return draw.choice((' OR ', ' ')).join(text for text, _ in parts), found
-    # one that is left out, wherever it stands among those beside one another
+    # an excluded part, at any place among the others
     text, docs = part(index, draw, depth)
     texts = [text for text, _ in parts]
     texts.insert(draw.randrange(len(texts) + 1), draw.choice(('-', 'NOT ')) + text)
@@ -113,13 +113,13 @@ def query(index, draw, depth):
 
 
 def part(index, draw, depth):
-    """A literal, or a query in parentheses."""
+    """Returns a literal, or a query in parentheses."""
     text, docs = query(index, draw, depth - 1)
     return (text, docs) if re.fullmatch(r'[^ ]+|[^" ]*"[^"]*"', text) and '(' not in text else (f'({text})', docs)
 
 
 def all_of(index, draw, depth):
-    """Parts that a document has to match all, but those behind a minus."""
+    """Returns parts of which a document must match all, except those after a minus."""
     text, found = part(index, draw, depth)
     for _ in range(draw.randrange(1, 3)):
         other, docs = part(index, draw, depth)
@@ -131,13 +131,13 @@ def all_of(index, draw, depth):
 
 
 def row(index, draw):
-    """A thousand words, phrases and numbers, and the documents that have one of them."""
+    """Returns a thousand words, phrases and numbers, and the documents that have one of them."""
     parts = [literal(index, draw) for _ in range(1000)]
     return draw.choice((' ', ' OR ')).join(text for text, _ in parts), set().union(*(docs for _, docs in parts))
 
 
 def asked(index, draw):
-    """A query, and its answer."""
+    """Returns a query and its answer."""
     text, docs = row(index, draw) if draw.random() < 0.01 else query(index, draw, draw.randrange(5))
     return text, ' '.join(map(str, sorted(docs))) or 'none'
 

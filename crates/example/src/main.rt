@@ -1,4 +1,4 @@
-//! Indexes three texts in memory and searches them: a program of your own looks like this.
+//! Indexes three texts in memory and searches them, as a program of your own would.
 #![tactic(auto)]
 
 mod places;

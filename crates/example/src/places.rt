@@ -1,4 +1,4 @@
-// Where a word stands in the texts.
+// Where a word occurs in the texts.
 ghost use Rattle.std.specs.Prelude.{◌<◌, length};
 
 use nequllpa::{DocSet, Field, OpenIndex, Postings, TERMINATED, Term};

@@ -8,7 +8,7 @@ use nequllpa::{
 };
 use std::alloc::Global;
 
-// The fields, and the index of the texts in the order of their documents.
+// Returns the schema, and the index of the texts in the order of their documents.
 pub(crate) fn indexed(alloc: Global) -> Result<(Schema, OpenIndex)>
     ensures some { IfOk result (λ both. 0 < length both.1.readers) }
     ensures fields { IfOk result (λ both. length both.1.readers ≡ length both.0) }

@@ -1,9 +1,9 @@
--- Even documents one after the other.
+-- Consecutive even documents.
 use Rattle.std.proofs.Common.{◌≡◌, ℕ, zero, suc, ◌+◌, ◌*◌, ◌<◌, ◌≤◌, true, List, [], ◌∷◌, ◌++◌, length, refl, sym, ap, ◌∙◌, arith}
 use Rattle.std.proofs.lemmas.Bool.{le-leb, lt-ltb}
 use Rattle.ii_base.specs.Entries.{ascend_from, are_documents}
 
--- so many even documents from a place on
+-- `n` even documents, starting at `first`
 abbrev pub evens : ℕ → ℕ → List ℕ
 evens first zero = []
 evens first (suc n) = first ∷ evens (first + 2) n

@@ -1,7 +1,7 @@
 -- The keys a, ab and b ascend.
 use Rattle.std.specs.Prelude.{[], ◌∷◌, refl}
 use Rattle.ii_termdict.specs.ReadBack.{AreAscending}
-use Rattle.ii_termdict.specs.ReadBackLemmas.{none_ascend, ascending_more, last_key, no_last_key}
+use Rattle.ii_termdict.proofs.ReadBackLemmas.{none_ascend, ascending_more, last_key, no_last_key}
 
 pub one_key : AreAscending ((97 ∷ []) ∷ [])
 one_key = ascending_more [] (97 ∷ []) [] none_ascend (no_last_key []) refl

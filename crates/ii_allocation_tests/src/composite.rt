@@ -5,7 +5,7 @@ use ii_io::{CompositeFile, CompositeWrite, CountingWriter, Fault, Field};
 use std::alloc::Global;
 use std::io::Write;
 
-/// A composite file of two bodies is written and opened; then three fields are asked for.
+/// Writes and opens a composite file of two bodies, and reads three fields.
 pub fn read_back(alloc: Global) -> Result<String, Fault> {
     let file = written(alloc)?;
     let mut text = String::new(alloc);
@@ -22,7 +22,7 @@ pub fn read_back(alloc: Global) -> Result<String, Fault> {
     Ok(text)
 }
 
-// A copy of the file of two bodies.
+// Writes the file of two bodies, opens it, and returns a copy.
 fn written(alloc: Global) -> Result<CompositeFile, Fault> {
     let mut composite = CompositeWrite::wrap(alloc, CountingWriter::wrap(Vec::new(alloc)));
     let written = write_two(&mut composite);
@@ -31,7 +31,7 @@ fn written(alloc: Global) -> Result<CompositeFile, Fault> {
     Ok(CompositeFile::open(alloc, Bytes::from_vec(writer.finish())?)?.clone()?)
 }
 
-// Bodies of the fields 7 and 1.
+// Writes bodies of fields 7 and 1.
 fn write_two<W: Write>(composite: &mut CompositeWrite<W>) -> Result<(), Fault>
     requires { composite.old.starts ≡ [] }
 {

@@ -2,7 +2,7 @@ use crate::walked::three;
 use ii_base::{AliveBitSet, Fault};
 use std::alloc::Global;
 
-/// Of three documents those are counted that are alive, one of them being deleted.
+/// Counts the alive documents of three, one of which is deleted.
 pub fn read_back(alloc: Global) -> Result<String, Fault> {
     let cursor = three()?;
     let alive = AliveBitSet::from_deleted_docs(alloc, &[2], 12)?;

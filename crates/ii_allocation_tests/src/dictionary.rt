@@ -7,8 +7,8 @@ use ii_termdict::{TermDictionary, TermDictionaryBuilder, TermInfo};
 use std::alloc::Global;
 use std::io::Write;
 
-/// A dictionary of three keys is built and opened; then each is looked up by its place, and a key
-/// that isn't there.
+/// Builds and opens a dictionary of three keys, and looks up each by its ordinal. Then looks up a missing
+/// key.
 pub fn read_back(alloc: Global) -> Result<String, Fault> {
     let terms = built(alloc)?;
     let mut text = String::new(alloc);
@@ -22,7 +22,7 @@ pub fn read_back(alloc: Global) -> Result<String, Fault> {
     Ok(text)
 }
 
-// The dictionary of three keys.
+// Builds the dictionary of three keys.
 fn built(alloc: Global) -> Result<TermDictionary, Fault> {
     let writer = CountingWriter::wrap(Vec::new(alloc));
     let mut builder = TermDictionaryBuilder::create(alloc, writer);
@@ -32,7 +32,7 @@ fn built(alloc: Global) -> Result<TermDictionary, Fault> {
     TermDictionary::open(Bytes::from_vec(writer.finish())?)
 }
 
-// The keys a, ab and b.
+// Inserts the keys a, ab and b.
 fn insert_three<W: Write>(builder: &mut TermDictionaryBuilder<W>) -> Result<(), Fault>
     requires fresh { (builder.old.keys ≡ []) × (builder.old.infos ≡ []) }
     ensures whole { builder.new.closed ≡ false → length builder.new.keys ≡ length builder.new.infos }
@@ -45,7 +45,7 @@ fn insert_three<W: Write>(builder: &mut TermDictionaryBuilder<W>) -> Result<(), 
     builder.insert_value(&term(3, 30, 30))
 }
 
-// A term without positions.
+// Returns the info of a term without positions.
 fn term(doc_freq: u32, start: u32, len: u32) -> TermInfo
     requires near { start ≤ 1000 }
     requires short { len ≤ 1000 }
@@ -59,7 +59,7 @@ fn term(doc_freq: u32, start: u32, len: u32) -> TermInfo
     }
 }
 
-// Adds what is kept of a term.
+// Appends the info of a term.
 fn push_term(text: &mut String, info: Option<TermInfo>) -> Result<(), Fault> {
     let Some(info) = info else {
         write!(text, " not there")?;

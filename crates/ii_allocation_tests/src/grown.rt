@@ -4,11 +4,11 @@ use ii_base::{Fault, Field, JsonPathWriter};
 use ii_indexing::{IndexingTerm, Recorder, TfAndPositionRecorder};
 use std::alloc::Global;
 
-// So long that what it is added to has to grow.
+// A text so long that appending it needs an allocation.
 const LONG: &str = "a text of sixty-four letters and more, so that no first room for it is enough";
 
-/// Each thing that grows is begun, and grows once more. Where memory for the second step is refused, it has
-/// to be what it was after the first one.
+/// Lets a path, a term and a recorder grow twice. If the second step fails, the value must be as after the
+/// first.
 pub fn read_back(alloc: Global) -> Result<String, Fault> {
     let mut text = String::new(alloc);
     push_path(alloc, &mut text)?;
@@ -17,7 +17,8 @@ pub fn read_back(alloc: Global) -> Result<String, Fault> {
     Ok(text)
 }
 
-// Adds how many bytes a thing has. A refusal is handed on where the thing stayed, and told where it didn't.
+// Appends the length of a value. Returns the error of a step if the value is unchanged, and reports a change
+// otherwise.
 fn push(
     text: &mut String,
     name: &str,
@@ -58,7 +59,7 @@ fn push_term(alloc: Global, text: &mut String) -> Result<(), Fault> {
     push(text, "indexed term", step, stays, term.len_bytes())
 }
 
-// How many positions a document has, each of five bytes. One that was refused for memory is taken once more.
+// Records two positions of five bytes each. A position that failed is recorded again.
 fn push_recorder(alloc: Global, text: &mut String) -> Result<(), Fault> {
     let mut recorder = TfAndPositionRecorder::new(alloc);
     recorder.new_doc(3)?;
@@ -81,7 +82,7 @@ fn push_recorder(alloc: Global, text: &mut String) -> Result<(), Fault> {
     }
 }
 
-// Whether a document takes a position that was refused, and stays the same.
+// Returns whether a document accepts a position that failed before, and stays the current one.
 fn takes_again(recorder: &mut TfAndPositionRecorder, position: u32) -> bool
     requires { IsSome recorder.old.pending }
 {

@@ -14,8 +14,8 @@ use std::alloc::Global;
 
 const FULL: IndexRecordOption = IndexRecordOption::WithFreqsAndPositions;
 
-/// Texts, numbers, bytes and a JSON value of two documents are indexed and opened; then one of each is looked
-/// up, a word that isn't there, and the paths of the JSON field.
+/// Indexes texts, numbers, bytes and a JSON value in two documents and opens the index. Then looks up one of
+/// each, a missing word, and the paths of the JSON field.
 pub fn read_back(alloc: Global) -> Result<String, Fault> {
     let index = opened(alloc)?;
     let mut text = String::new(alloc);
@@ -23,7 +23,7 @@ pub fn read_back(alloc: Global) -> Result<String, Fault> {
     Ok(text)
 }
 
-// Adds what is found in each of four fields, and the paths of the last one with how many terms they have.
+// Appends what is found in each of four fields, and the paths of the last one with their number of terms.
 fn push_found(alloc: Global, text: &mut String, index: &OpenIndex) -> Result<(), Fault>
     requires { length index.now.readers ≡ 4 }
 {
@@ -44,14 +44,14 @@ fn push_found(alloc: Global, text: &mut String, index: &OpenIndex) -> Result<(),
     Ok(())
 }
 
-// The word at the path of the value.
+// Builds the term of the word at the path of the JSON value.
 fn word_at_path(alloc: Global) -> Result<Term, Fault> {
     let mut serializer = JsonTermSerializer::new(alloc);
     serializer.append_term("a\u{1}b", ValueType::Str, b"be")?;
     Term::from_field_bytes(alloc, Field::from_field_id(3), serializer.as_bytes())
 }
 
-/// The index of all calls.
+/// Builds and opens the index of all calls.
 pub fn opened(alloc: Global) -> Result<OpenIndex, Fault>
     ensures { IfOk result (λ index. length index.readers ≡ 4) }
 {
@@ -59,7 +59,7 @@ pub fn opened(alloc: Global) -> Result<OpenIndex, Fault>
     index_in_ram(alloc, schema, 2, calls, &AsciiTokenizer)
 }
 
-// Texts with positions and norms, numbers with norms, bytes without, and JSON values.
+// Builds a schema: text with positions and norms, numbers with norms, bytes without norms, and JSON.
 fn fields(alloc: Global) -> Result<Schema, Fault>
     ensures four { IfOk result (λ schema. length schema ≡ 4) }
     ensures texts { IfOk result (λ schema. Takes schema 0 types.Str) }
@@ -79,7 +79,7 @@ fn fields(alloc: Global) -> Result<Schema, Fault>
     Ok(Schema::new(entries))
 }
 
-// The calls, in the order of their documents.
+// Builds the calls, ordered by document.
 fn calls(alloc: Global) -> Result<Vec<IndexCall>, Fault>
     ensures { IfOk result (λ calls. (schema : List SchemaEntry) → Takes schema 0 types.Str → Takes schema 1 types.U64 → Takes schema 2 types.Bytes → Takes schema 3 types.Json → MayAllBeIndexed schema 2 calls.items) }
 {
@@ -95,7 +95,7 @@ fn calls(alloc: Global) -> Result<Vec<IndexCall>, Fault>
     Ok(calls)
 }
 
-// A text and a number at two paths.
+// Builds a value with a text and a number at two paths.
 fn nested(alloc: Global) -> Result<JsonValue, Fault> {
     let text = String::from_str(alloc, "to be")?;
     let mut below = Vec::new(alloc);
@@ -106,7 +106,7 @@ fn nested(alloc: Global) -> Result<JsonValue, Fault> {
     Ok(JsonValue::Object(members))
 }
 
-// A text of a document.
+// Builds a call with a text.
 fn text(alloc: Global, doc: u32, text: &str) -> Result<IndexCall, Fault>
     ensures doc { IfOk result (λ call. doc_of call ≡ doc) }
     ensures field { IfOk result (λ call. (field_of call ≡ 0) × (type_of call ≡ types.Str)) }
@@ -115,12 +115,12 @@ fn text(alloc: Global, doc: u32, text: &str) -> Result<IndexCall, Fault>
     Ok(IndexCall::Text(doc, Field::from_field_id(0), text))
 }
 
-/// The term of a word.
+/// Builds the term of a word.
 pub fn word(alloc: Global, word: &str) -> Result<Term, Fault> {
     Term::from_field_text(alloc, Field::from_field_id(0), word)
 }
 
-// Adds each document of a term that was made, with its count and positions.
+// Appends each document of a term with its count and positions.
 fn push_postings(
     alloc: Global,
     text: &mut String,

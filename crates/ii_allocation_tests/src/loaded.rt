@@ -4,8 +4,8 @@ use ii_docset::{DocId, DocSet, TERMINATED};
 use ii_reader::LoadedPostings;
 use std::alloc::Global;
 
-/// Three documents are copied, and loaded into memory. Where the copy is refused, the cursor has to stand
-/// where it stood, and where loading is, at one of them or behind the last.
+/// Copies a cursor over three documents, and loads it into memory. If the copy fails, the cursor must not
+/// move; if loading fails, it must be at one of the documents or at the end.
 pub fn read_back(alloc: Global) -> Result<String, Fault> {
     let mut cursor = three()?;
     let copied = match cursor.clone() {
@@ -21,7 +21,7 @@ pub fn read_back(alloc: Global) -> Result<String, Fault> {
     Ok(format!(in alloc; " {doc_freq} to come {first} then {second}")?)
 }
 
-// The first two documents that were loaded.
+// Returns the first two loaded documents.
 fn first_two(loaded: Result<LoadedPostings, Fault>) -> Result<(DocId, DocId), Fault> {
     let mut loaded = loaded?;
     Ok((loaded.doc(), loaded.advance()))

@@ -1,5 +1,5 @@
-//! Parts of the index put together: what was read back is printed, or the fault of a call that was
-//! refused. The tests of memory run it with each allocation refused in turn.
+//! Runs calls of all parts of an index and prints what they read back, or the fault of a call that failed.
+//! The tests of memory run it once for each allocation, which then fails.
 #![tactic(auto)]
 
 mod composite;
@@ -26,7 +26,7 @@ fn main(rt: HostRuntime) -> ExitCode {
     }
 }
 
-// A line for each part.
+// Prints a line for each part.
 fn report_all(rt: &HostRuntime) -> io::Result<()> {
     report(rt, "composite", composite::read_back(rt.alloc()))?;
     report(rt, "schema", schema::read_back(rt.alloc()))?;
@@ -42,7 +42,7 @@ fn report_all(rt: &HostRuntime) -> io::Result<()> {
     report(rt, "reset", reset::read_back(rt.alloc()))
 }
 
-// Prints what was read back, or the fault.
+// Prints what a part read back, or the fault.
 fn report(rt: &HostRuntime, name: &str, answer: Result<String, Fault>) -> io::Result<()> {
     match answer {
         Ok(text) => println!(rt; "{name}:{text}"),

@@ -4,7 +4,7 @@ use ii_base::{CountingWriter, Fault, Field, Part};
 use ii_fieldnorm::{FieldNormReader, FieldNormReaders, FieldNormsSerializer, FieldNormsWriter};
 use std::alloc::Global;
 
-/// Norms of four documents are recorded, written and opened.
+/// Records, writes and opens the norms of four documents.
 pub fn read_back(alloc: Global) -> Result<String, Fault> {
     let reader = opened(alloc, written(alloc)?)?;
     let mut text = String::new(alloc);
@@ -15,7 +15,7 @@ pub fn read_back(alloc: Global) -> Result<String, Fault> {
     Ok(text)
 }
 
-// Norms of the one field that has them, as a file.
+// Writes the norms of the one field that has them.
 fn written(alloc: Global) -> Result<Bytes, Fault> {
     let mut norms = FieldNormsWriter::for_schema(alloc, &two_fields(alloc)?)?;
     norms.record(0, Field::from_field_id(0), 13)?;
@@ -27,7 +27,7 @@ fn written(alloc: Global) -> Result<Bytes, Fault> {
     Ok(Bytes::from_vec(writer.finish())?)
 }
 
-// The norms of that field, by copies of all readers and of its own.
+// Opens the norms of that field, copying the readers and its reader.
 fn opened(alloc: Global, bytes: Bytes) -> Result<FieldNormReader, Fault> {
     let readers = FieldNormReaders::open(alloc, bytes)?.clone()?;
     let Some(reader) = readers.get_field(Field::from_field_id(0))? else {

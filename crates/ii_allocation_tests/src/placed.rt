@@ -8,12 +8,12 @@ use std::alloc::Global;
 
 const FULL: IndexRecordOption = IndexRecordOption::WithFreqsAndPositions;
 
-// Document 0, in which a term stands at 0 and 4.
+// Document 0, with a term at positions 0 and 4.
 static POSTINGS: [u8; 2] = [0x80, 0x82];
 
 static POSITIONS: [u8; 3] = [0x80, 0x80, 0x84];
 
-// A cursor over it.
+// Opens a cursor over it.
 fn two_positions() -> Result<SegmentPostings, Fault>
     ensures { IfOk result (λ cursor. cursor.rest ≡ record { doc = 0; term_freq = 2; positions = 0 ∷ 4 ∷ [] } ∷ []) }
 {
@@ -25,8 +25,8 @@ fn two_positions() -> Result<SegmentPostings, Fault>
     }
 }
 
-/// Positions are added to a number, and put in place of one. Where memory is refused, what was added to has
-/// to be what it was, what was filled has to be empty, and the cursor has to stand where it stood.
+/// Appends positions to a list, then replaces another list with them. After an allocation failure the first
+/// list must be unchanged, the second one empty, and the cursor at the same document.
 pub fn read_back(alloc: Global) -> Result<String, Fault> {
     let mut cursor = two_positions()?;
     let mut added = Vec::with_capacity(alloc, 1)?;

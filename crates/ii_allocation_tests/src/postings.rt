@@ -9,11 +9,11 @@ const COUNT: u32 = 300;
 
 const TERM_FREQ: u32 = 3;
 
-// Two full blocks, with an entry of 12 bytes each.
+// Two full blocks with an entry of 12 bytes each.
 const SKIP_LIST_SIZE: usize = 24;
 
-/// The postings of the first 300 even documents, with a count of 3 each, are written as a field
-/// with positions has them, and their skip list is walked.
+/// Writes the postings of the first 300 even documents, with count 3, for a field with positions. Then walks
+/// their skip list.
 pub fn read_back(alloc: Global) -> Result<String, Fault> {
     let bytes = written(alloc, COUNT)?;
     let Some((_, start)) = vint::read_u64(&bytes) else {
@@ -26,7 +26,7 @@ pub fn read_back(alloc: Global) -> Result<String, Fault> {
     walked(alloc, skip)
 }
 
-// What the skip list tells of its three blocks.
+// Lists the three blocks of the skip list.
 fn walked(alloc: Global, skip: &[u8]) -> Result<String, Fault>
     requires { 24 ≤ length skip.now }
 {
@@ -40,7 +40,7 @@ fn walked(alloc: Global, skip: &[u8]) -> Result<String, Fault>
     Ok(text)
 }
 
-// Adds what the skip list tells of a block.
+// Appends a block of the skip list.
 fn push_block(text: &mut String, reader: &SkipReader) -> Result<(), Fault> {
     let place = reader.byte_offset();
     match reader.block_info() {
@@ -62,7 +62,7 @@ fn push_block(text: &mut String, reader: &SkipReader) -> Result<(), Fault> {
     Ok(())
 }
 
-// What is written of so many even documents, with their counts.
+// Returns what is written for this many even documents with their counts.
 fn written(alloc: Global, count: u32) -> Result<Vec<u8>, Fault>
     requires { count ≤ 1000 }
 {

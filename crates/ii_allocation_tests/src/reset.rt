@@ -8,7 +8,7 @@ use std::alloc::Global;
 
 const FULL: IndexRecordOption = IndexRecordOption::WithFreqsAndPositions;
 
-/// Cursors are given another list by a reader. Where memory is refused, they have to be over no documents.
+/// Resets cursors to another list. After an allocation failure they must be empty.
 pub fn read_back(alloc: Global) -> Result<String, Fault> {
     let index = opened(alloc)?;
     let term = word(alloc, "be")?;
@@ -26,7 +26,7 @@ pub fn read_back(alloc: Global) -> Result<String, Fault> {
     }
 }
 
-// How many documents a cursor has, or nothing where it has some although memory was refused.
+// Returns the number of documents of a cursor, or `None` if it isn't empty after a failure.
 fn of_documents(reader: &InvertedIndexReader, info: &TermInfo) -> Result<Option<u32>, Fault> {
     let mut cursor = three()?;
     let step = reader.reset_postings_from_terminfo(info, FULL, &mut cursor);
@@ -37,7 +37,7 @@ fn of_documents(reader: &InvertedIndexReader, info: &TermInfo) -> Result<Option<
     Ok(Some(cursor.doc_freq()))
 }
 
-// The same of a cursor over blocks.
+// Returns the same for a block cursor.
 fn of_blocks(
     reader: &InvertedIndexReader,
     term: &Term,

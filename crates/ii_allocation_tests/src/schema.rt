@@ -4,7 +4,7 @@ ghost use Rattle.ii_fieldnorm.specs.Buffers.{empty_buffers};
 use ii_base::{Fault, FieldEntry, IndexRecordOption, Schema, ValueType};
 use std::alloc::{AllocError, Global};
 
-/// A schema is made, and its fields are gone over.
+/// Builds a schema and lists its fields.
 pub fn read_back(alloc: Global) -> Result<String, Fault> {
     let schema = two_fields(alloc)?;
     let mut text = String::new(alloc);
@@ -15,7 +15,7 @@ pub fn read_back(alloc: Global) -> Result<String, Fault> {
     Ok(text)
 }
 
-/// One field of texts with norms, and one of numbers without.
+/// Builds a schema of one text field with norms and one number field without.
 pub fn two_fields(alloc: Global) -> Result<Schema, AllocError>
     ensures { IfOk result (λ schema. empty_buffers schema ≡ Some [] ∷ None ∷ []) }
 {

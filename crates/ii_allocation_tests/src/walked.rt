@@ -12,10 +12,10 @@ const BASIC: IndexRecordOption = IndexRecordOption::Basic;
 // Documents 0, 2 and 10.
 static THREE: [u8; 3] = [0x80, 0x82, 0x88];
 
-// Where a cursor over them stands after so many of the calls.
+// The document of a cursor over them, by the number of calls made.
 const PLACES: [DocId; 7] = [0, 0, 2, 2, 10, 10, TERMINATED];
 
-/// A cursor over them.
+/// Opens a cursor over them.
 pub fn three() -> Result<SegmentPostings, Fault>
     ensures { IfOk result (λ cursor. cursor.rest ≡ document 0 ∷ document 2 ∷ document 10 ∷ []) }
 {
@@ -26,8 +26,8 @@ pub fn three() -> Result<SegmentPostings, Fault>
     }
 }
 
-/// A walk to the end of three documents. Where memory is refused inside it, its answers have to be those
-/// of the calls before, and the cursor has to stand where these left it.
+/// Walks to the end of three documents. After an allocation failure, the answers and the current document
+/// must be those of the calls made before it.
 pub fn read_back(alloc: Global) -> Result<String, Fault> {
     let mut cursor = three()?;
     let calls = [
@@ -50,7 +50,7 @@ pub fn read_back(alloc: Global) -> Result<String, Fault> {
     Ok(format!(in alloc; " {} calls to the end", answers.len())?)
 }
 
-// Whether these are the answers to the first of the calls.
+// Returns whether these are the answers to the first calls.
 fn are_of_first(answers: &[CursorAnswer]) -> bool {
     let want = [
         CursorAnswer::Doc(0),

@@ -1,4 +1,4 @@
--- Where the runs of a text lie.
+-- The offsets of the runs of a text.
 use Rattle.std.proofs.Common.{◌≡◌, ℕ, zero, suc, ◌+◌, ◌-◌, ◌<◌, ◌≤◌, Bool, true, false, not, ◌&&◌, ◌||◌, List, [], ◌∷◌, ◌++◌, length, length-drop, drop, get_or, nat_eq, nat_le, refl, ap, arith, ◌∙◌, Some, None, rules}
 use Rattle.std.specs.List.{prefix_len, range_with_len, slice_index}
 use Rattle.std.specs.Prelude.{IsSome, if◌then◌else◌}
@@ -141,6 +141,6 @@ by_some false x some = absurd (search rules)
 pub some_run : {X : Type 0} (text : List ℕ) (start end : ℕ) (x : X) → IsSome (if is_run text start end then Some x else None) → is_run text start end ≡ true
 some_run text start end x some = by_some (is_run text start end) x some
 
--- what stands between the beginning of a run and its end is a run
+-- the bytes between the start of a run and its end are a run
 pub is_run_here : (text : List ℕ) (i n : ℕ) → begins_run text i ≡ true → n ≡ length (run_at text i) → is_run text i (i + n) ≡ true
 is_run_here text i n begins len = rw (begins, eq-eqb (i + n) (i + length (run_at text i)) (omega (arith, len))) refl

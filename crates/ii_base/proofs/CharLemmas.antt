@@ -9,7 +9,7 @@ use Rattle.std.proofs.lemmas.Str.{encode_ascii, inside_one, IsCharBoundary-from_
 use Rattle.std.specs.Str.{IsCharBoundary, IsUtf8}
 use Rattle.ii_base.specs.Paths.{segment_bytes}
 
--- no byte of a character past ASCII is ASCII
+-- no byte of a non-ASCII character is ASCII
 pub past_ascii : (c : ℕ) → 128 ≤ c → All (λ b. 128 ≤ b) (encode c)
 past_ascii c high =
     All-from_get_or (λ b. 128 ≤ b) (encode c) 0 (λ i within. ⊎_elim (λ low.
@@ -27,7 +27,7 @@ pub expanded_dot : (c : ℕ) (text rest : List ℕ) → text ≡ encode c ++ res
 unfolding encode
 expanded_dot c text rest is dot = rw (is, dot) refl
 
--- A segment is added to a path: what is written, and what is to come, make up the whole.
+-- A segment is appended to a path: the bytes written and the remaining ones are the complete segment.
 pub record IsExpanding (before segment path rest : List ℕ) : Type 0 where
   pub whole : path ++ segment_bytes true rest ≡ before ++ segment_bytes true segment
   pub front : take (length before) path ≡ before
@@ -49,7 +49,7 @@ expanding_more before segment path text rest piece is next = record {
         let within : length before ≤ length path = omega (arith, ap length front, length-take (length before) path) in
         take-append-le (length before) path piece within ∙ front
 
--- a text may be cut behind a text that it begins with
+-- a text may be cut after a prefix that is a text
 pub cut_behind_front : (bytes front : List ℕ) (n : ℕ) → IsUtf8 bytes → IsUtf8 front → take n bytes ≡ front → n ≡ length front → IsCharBoundary bytes n
 cut_behind_front bytes front n whole utf8 is len =
     let within : n ≤ length bytes = omega (arith, len, ap length is, length-take n bytes) in

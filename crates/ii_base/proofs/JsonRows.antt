@@ -1,4 +1,4 @@
--- Worked rows of JSON values and their keys, each computed.
+-- Computed examples of JSON values and their keys.
 use Rattle.std.specs.Prelude.{◌≡◌, ℕ, zero, suc, ◌+◌, ◌++◌, ◌^◌, [], ◌∷◌, List, codes, replicate, negsuc, true, false, refl}
 use Rattle.ii_io.specs.declared.faults.LeafKind.TheVariants as kinds
 use Rattle.ii_base.specs.declared.schema.value_type.ValueType.TheVariants as types
@@ -16,7 +16,7 @@ pub names_of_bands : json_leaves false (one_member (codes "bands") (array (item 
     ≡ (codes "bands" ++ 1 ∷ codes "band_name", text_leaf (codes "Elliot Smith")) ∷ (codes "bands" ++ 1 ∷ codes "band_name", text_leaf (codes "The Who")) ∷ []
 names_of_bands = refl
 
--- a key that stands there twice, and one that holds byte 0
+-- a key that occurs twice, and one that holds byte 0
 pub keys_of_an_object : json_leaves false (object (member (codes "a") (one_member (codes "b") (number 1)) (member (codes "a") (number 2) (member (codes "c" ++ 0 ∷ []) (number 3) no_members))))
     ≡ (codes "a" ++ 1 ∷ codes "b", value_leaf types.I64 (2 ^ 63 + 1)) ∷ (codes "a", value_leaf types.I64 (2 ^ 63 + 2)) ∷ []
 keys_of_an_object = refl
@@ -65,7 +65,7 @@ float_is_reached = refl
 pub float_is_left_out : json_leaves false (object (member (codes "a") (number 1) (member (codes "b" ++ 0 ∷ []) (leaf (unsupported kinds.Float)) no_members))) ≡ (codes "a", value_leaf types.I64 (2 ^ 63 + 1)) ∷ []
 float_is_left_out = refl
 
--- nothing in so many arrays, one in the other
+-- nested arrays with nothing inside
 abbrev in_arrays : ℕ → Json
 in_arrays zero = null
 in_arrays (suc n) = array (item (in_arrays n) no_items)

@@ -1,4 +1,4 @@
--- A path grows by a segment, and is cut at its segments' places.
+-- A path grows by a segment, and is cut at the starts of its segments.
 use Rattle.std.proofs.Common.{◌≡◌, ℕ, suc, ◌+◌, ◌-◌, ◌<◌, ◌≤◌, Bool, not, List, [], ◌∷◌, ◌++◌, length, length-append, append_assoc, take, get_or, refl, sym, ap, subst, arith, ◌∙◌, ◌==◌}
 use mir.Val.{bool_byte}
 use Rattle.std.specs.List.{slice_index, slice_range}
@@ -7,7 +7,7 @@ use Rattle.std.proofs.lemmas.Bool.{ne_eqb}
 use Rattle.std.proofs.lemmas.List.{take_more, take_all, same_from_push, get_or-append-add}
 use Rattle.ii_base.specs.Paths.{IsPathOf, behind_separator, cut_at, joined_segments, segment_starts}
 
--- a segment behind these
+-- a segment after these
 abbrev pub separated : List (List ℕ) → List ℕ → List ℕ
 separated [] s = s
 separated (x ∷ xs) s = 1 ∷ s

@@ -1,4 +1,4 @@
--- Worked rows of paths, each computed.
+-- Computed examples of paths.
 use Rattle.std.specs.Prelude.{◌≡◌, ◌++◌, [], ◌∷◌, codes, true, false, refl}
 use Rattle.ii_base.specs.Paths.{segments_of, path_bytes}
 

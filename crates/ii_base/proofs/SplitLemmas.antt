@@ -75,7 +75,7 @@ at_kept_char c rest =
     let some : 0 < length (encode c) = omega (arith, length-encode c, (len_utf8_bounds c).0) in
     ⊎_elim (λ low. rw (encode_ascii c low) (at_byte c true rest refl refl)) (λ high. at_kept_bytes (encode c) rest some (past_ascii c high)) (cases_lt c 128)
 
--- A text is split: the segments that are whole, the one that goes on, and those of the rest.
+-- A text is split into the complete segments, the current one, and those of the remaining bytes.
 pub record IsSplitting (text : List ℕ) (segments : List (List ℕ)) (segment rest : List ℕ) : Type 0 where
   pub whole : segments_of text ≡ segments ++ in_front segment (segments_of rest)
 

@@ -1,4 +1,4 @@
--- Worked rows, each computed.
+-- Computed examples.
 use Rattle.std.specs.Prelude.{◌≡◌, ◌++◌, [], ◌∷◌, codes, replicate, pos, negsuc, true, refl}
 use Rattle.ii_base.specs.AsciiWords.{ascii_words}
 use Rattle.ii_base.specs.Values.{flipped, number_of_bool, u64_bytes}

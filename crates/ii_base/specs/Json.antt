@@ -13,7 +13,7 @@ use Rattle.ii_base.specs.declared.schema.value_type.ValueType.TheVariants as typ
 use Rattle.ii_base.specs.Paths.{has_zero, joined_segments, segment_bytes}
 use Rattle.ii_base.specs.Values.{flipped, number_of_bool, whole_seconds}
 
--- What a leaf gives: a text to be cut into tokens, a value of a type by its number, or nothing that can be indexed.
+-- What the index takes from a leaf: a text to tokenize, the number of a value of a type, or nothing.
 pub data Leaf : Type 0 where
   text_leaf : List ℕ → Leaf
   value_leaf : ValueType → ℕ → Leaf
@@ -34,7 +34,7 @@ mutual
     no_members : Members
     member : List ℕ → Json → Members → Members
 
--- The leaves of a value at a path, each with its path. A member whose key holds byte 0 is left out.
+-- The leaves of a value at a path, each with its path. A member whose key holds byte 0 is omitted.
 abbrev mutual
   pub leaves_below : Bool → List (List ℕ) → Json → List (List ℕ × Leaf)
   leaves_below expand_dots path null = []
@@ -51,7 +51,7 @@ abbrev mutual
   members_leaves expand_dots path (member k j ms) =
       (if has_zero k then [] else leaves_below expand_dots (path ++ segment_bytes expand_dots k ∷ []) j) ++ members_leaves expand_dots path ms
 
--- how many arrays and objects stand in one another
+-- the nesting depth of arrays and objects
 abbrev mutual
   pub depth : Json → ℕ
   depth null = 0
@@ -67,25 +67,25 @@ abbrev mutual
   members_depth no_members = 0
   members_depth (member k j ms) = max (depth j) (members_depth ms)
 
--- the leaves of a value, each with its path, in order; one that is too deep is a leaf that isn't taken
+-- the leaves of a value with their paths, in order; a value that is too deep is one unsupported leaf
 abbrev pub json_leaves : Bool → Json → List (List ℕ × Leaf)
 json_leaves expand_dots j = if nat_le (depth j) MAX_DEPTH then leaves_below expand_dots [] j else ([], unsupported kinds.Deep) ∷ []
 
--- an unsigned number is taken as a signed one where it fits
+-- the leaf of an unsigned number, a signed one if it fits
 abbrev pub u64_leaf : ℕ → Leaf
 u64_leaf n = if nat_lt n (2 ^ 63) then value_leaf types.I64 (flipped (pos n)) else value_leaf types.U64 n
 
--- what a program's value stands for
+-- the model of the elements of an array
 abbrev pub items_from : List Json → Items
 items_from [] = no_items
 items_from (j ∷ js) = item j (items_from js)
 
--- the members of an object, each name with what its value stands for
+-- the model of the members of an object
 abbrev pub members_from : List (String Global × Json) → Members
 members_from [] = no_members
 members_from (m ∷ ms) = member (string_bytes m.0) m.1 (members_from ms)
 
--- one layer of a program's value, what is in it being done
+-- one level of a value, given the models of its parts
 abbrev pub json_step : JsonValue-F Json → Json
 json_step JsonValue-F.Null = null
 json_step (JsonValue-F.Str s) = leaf (text_leaf (string_bytes s))
@@ -101,17 +101,17 @@ json_step JsonValue-F.Ip = leaf (unsupported kinds.Ip)
 json_step (JsonValue-F.Array v) = array (items_from v.items)
 json_step (JsonValue-F.Object v) = object (members_from v.items)
 
--- what a program's value stands for
+-- the model of a value
 abbrev pub json_of : JsonValue → Json
 json_of = fold-JsonValue Json json_step
 
--- what a program's leaf stands for
+-- the model of a leaf
 abbrev pub leaf_of : JsonLeaf → Leaf
 leaf_of (Text text) = text_leaf text.now
 leaf_of (Value t n) = value_leaf t n
 leaf_of (Unsupported kind) = unsupported kind
 
--- the leaf that a value is, if it is one
+-- the leaf of a value, if it is one
 abbrev pub leaf_at : Json → Option Leaf
 leaf_at null = None
 leaf_at (leaf l) = Some l

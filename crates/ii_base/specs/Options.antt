@@ -3,7 +3,7 @@ use Rattle.std.specs.Prelude.{Bool, true, false}
 use Rattle.ii_base.specs.declared.schema.index_record_option.IndexRecordOption.{IndexRecordOption}
 use Rattle.ii_base.specs.declared.schema.index_record_option.IndexRecordOption.TheVariants.{Basic, WithFreqs, WithFreqsAndPositions}
 
--- whether an option keeps counts
+-- whether an option keeps term frequencies
 abbrev pub has_freq : IndexRecordOption → Bool
 has_freq Basic = false
 has_freq WithFreqs = true
@@ -15,7 +15,7 @@ has_positions Basic = false
 has_positions WithFreqs = false
 has_positions WithFreqsAndPositions = true
 
--- the lesser of two
+-- the lesser of two options
 abbrev pub downgrade : IndexRecordOption → IndexRecordOption → IndexRecordOption
 downgrade Basic other = Basic
 downgrade WithFreqs Basic = Basic

@@ -1,4 +1,4 @@
--- What a schema says of its fields, which are numbered from 0.
+-- The fields of a schema, numbered from 0.
 use Rattle.std.specs.Prelude.{ℕ, Bool, ◌&&◌, List}
 use Rattle.ii_base.specs.declared.schema.value_type.ValueType.{ValueType}
 use Rattle.ii_base.specs.declared.schema.index_record_option.IndexRecordOption.{IndexRecordOption}
@@ -11,6 +11,6 @@ pub record SchemaEntry : Type 0 where
   pub has_fieldnorms : Bool
   pub expands_dots : Bool
 
--- whether a norm is kept for each document
+-- whether field norms are kept
 abbrev pub keeps_norms : SchemaEntry → Bool
 keeps_norms e = e.is_indexed && e.has_fieldnorms

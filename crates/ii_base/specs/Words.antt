@@ -1,9 +1,9 @@
--- Tokens of a text, and what is still to come of them.
+-- The tokens of a text, and the remaining ones of a stream.
 use Rattle.std.specs.Prelude.{ℕ, List, map, string_bytes, Option}
 use Rattle.ii_base.specs.declared.tokenizer.token.Token.{Token}
 use Rattle.ii_base.specs.declared.tokenizer.token_view.TokenView.{TokenView}
 
--- A token of a text: where its bytes stand there, from and to; its position; its bytes; how many positions it covers.
+-- A token of a text: its byte offsets, position, bytes, and how many positions it covers.
 pub record Word : Type 0 where
   pub offset_from : ℕ
   pub offset_to : ℕ
@@ -11,7 +11,7 @@ pub record Word : Type 0 where
   pub text : List ℕ
   pub position_length : ℕ
 
--- what a token tells
+-- the model of a token
 abbrev pub word_of : Token → Word
 word_of t = record {
   offset_from = t.offset_from;
@@ -21,7 +21,7 @@ word_of t = record {
   position_length = t.position_length;
 }
 
--- what a lent token tells
+-- the model of a borrowed token
 abbrev pub seen_word : TokenView → Word
 seen_word t = record {
   offset_from = t.offset_from;
@@ -31,11 +31,11 @@ seen_word t = record {
   position_length = t.position_length;
 }
 
--- what the tokens of a list tell
+-- the models of a list of tokens
 abbrev pub words_of : List Token → List Word
 words_of ts = map word_of ts
 
--- a list of tokens that is gone over: the current one, and those still to come
+-- the state of an iterator over a list: the current token, and the remaining ones
 pub record TokenListState : Type 0 where
   pub current : Option Word
   pub to_come : List Word

@@ -7,9 +7,7 @@ use ii_io::Fault;
 use std::alloc::Global;
 use std::marker::Model;
 
-/// Which documents of an index are alive. Clauses see a flag for each document.
-///
-/// It takes a byte a document.
+/// The set of alive documents of an index, one byte per document. Its model is a flag for each document.
 #[derive(Drop)]
 pub struct AliveBitSet {
     flags: Vec<bool>,
@@ -24,7 +22,8 @@ impl Model for AliveBitSet {
 }
 
 impl AliveBitSet {
-    /// All documents below `num_docs` are alive. `OutOfMemory` where there is no room for them.
+    /// Creates a set in which all documents below `num_docs` are alive. Returns `OutOfMemory` if allocation
+    /// fails.
     pub fn full(alloc: Global, num_docs: u32) -> Result<AliveBitSet, Fault>
         ensures ok { IfOk result (λ alive. alive ≡ replicate num_docs true) }
         ensures only { OnlyMemory result }
@@ -33,8 +32,8 @@ impl AliveBitSet {
         Ok(AliveBitSet { flags })
     }
 
-    /// All documents below `num_docs` are alive but for those of `docs`, which are any of them in any
-    /// order. `OutOfMemory` where there is no room for them.
+    /// Creates a set in which all documents below `num_docs` are alive except `docs`, which may be in any
+    /// order. Returns `OutOfMemory` if allocation fails.
     pub fn from_deleted_docs(
         alloc: Global,
         docs: &[u32],
@@ -51,7 +50,7 @@ impl AliveBitSet {
         Ok(AliveBitSet { flags })
     }
 
-    /// Whether a document is alive. It is one of those that were counted when the set was made.
+    /// Returns whether a document is alive. `doc` must be less than the `num_docs` of the set.
     pub fn is_alive(&self, doc: u32) -> bool
         requires { doc < length self.now }
         ensures { result ≡ slice_index_or self.now doc false }

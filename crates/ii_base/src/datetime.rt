@@ -1,3 +1,3 @@
-/// A date, in nanoseconds since the beginning of 1970, in UTC.
+/// A date, in nanoseconds since 1970-01-01 UTC.
 #[derive(Clone, Copy, Debug, Default, PartialEq, Eq, PartialOrd, Ord, Hash)]
 pub struct DateTime(pub i64);

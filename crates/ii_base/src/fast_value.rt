@@ -6,7 +6,7 @@ ghost use Rattle.ii_base.specs.Values.{flipped, number_of_bool};
 use crate::datetime::DateTime;
 use crate::schema::value_type::ValueType;
 
-/// A value that a number of 64 bits stands for, so that greater values have greater numbers.
+/// A value that is encoded as a 64-bit number, in an encoding that preserves the order.
 pub trait FastValue: Copy {
     ghost use Rattle.std.specs.Prelude.{ℕ};
 
@@ -14,16 +14,16 @@ pub trait FastValue: Copy {
 
     ghost type_of_values: { ValueType };
 
-    /// The number that stands for the value.
+    /// Returns the number that encodes the value.
     fn to_u64(self) -> u64
         ensures { result ≡ number self };
 
-    /// The type of such values.
+    /// Returns the type of such values.
     fn to_type() -> ValueType
         ensures { result ≡ type_of_values };
 }
 
-/// An unsigned number stands for itself.
+/// An unsigned number is its own encoding.
 impl FastValue for u64 {
     ghost number = { λ n. n };
 
@@ -38,7 +38,7 @@ impl FastValue for u64 {
     }
 }
 
-/// A signed number stands with its top bit flipped: 2^63 is added.
+/// A signed number is encoded with its top bit flipped: 2^63 is added.
 impl FastValue for i64 {
     ghost number = { flipped };
 
@@ -68,7 +68,7 @@ impl FastValue for bool {
     }
 }
 
-/// A date is its nanoseconds, a signed number.
+/// A date is encoded as its nanoseconds, a signed number.
 impl FastValue for DateTime {
     ghost number = { λ date. flipped date.0 };
 

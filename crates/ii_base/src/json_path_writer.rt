@@ -6,7 +6,7 @@ use ii_io::Fault;
 use std::alloc::Global;
 use std::marker::Model;
 
-/// Writes a path into a JSON value: its segments, with byte 1 before each but the first.
+/// Writes a path into a JSON value: its segments, separated by byte 1.
 #[derive(Drop)]
 pub struct JsonPathWriter {
     path: String,
@@ -26,7 +26,7 @@ impl Model for JsonPathWriter {
 }
 
 impl JsonPathWriter {
-    /// The path of no segments. Dots aren't expanded.
+    /// Creates the empty path. Dots aren't expanded.
     pub fn new(alloc: Global) -> JsonPathWriter
         ensures { result ≡ record { segments = []; expand_dots = false } }
     {
@@ -37,15 +37,15 @@ impl JsonPathWriter {
         }
     }
 
-    /// Whether each dot of a segment that is pushed from now on becomes byte 1.
+    /// Sets whether each dot in a segment pushed from now on becomes byte 1.
     pub fn set_expand_dots(&mut self, expand_dots: bool)
         ensures { self.new ≡ record self.old { expand_dots = expand_dots } }
     {
         self.expand_dots = expand_dots;
     }
 
-    /// Adds a segment, in which each dot becomes byte 1 if dots are expanded. `OutOfMemory` where
-    /// there is no room for it: the path then stays.
+    /// Appends a segment; each dot in it becomes byte 1 if dots are expanded. Returns `OutOfMemory`, and
+    /// leaves the path as it is, if allocation fails.
     pub fn push(&mut self, segment: &str) -> Result<(), Fault>
         ensures ok { OnOk result (self.new ≡ record self.old { segments = self.old.segments ++ segment_bytes self.old.expand_dots segment.now ∷ [] }) }
         ensures err { OnErr result (self.new ≡ self.old) }
@@ -62,7 +62,7 @@ impl JsonPathWriter {
         Ok(())
     }
 
-    /// Drops the last segment, if there is one.
+    /// Removes the last segment, if there is one.
     pub fn pop(&mut self)
         ensures { self.new ≡ record self.old { segments = take (length self.old.segments - 1) self.old.segments } }
     {
@@ -71,7 +71,7 @@ impl JsonPathWriter {
         }
     }
 
-    /// Drops all segments.
+    /// Removes all segments.
     pub fn clear(&mut self)
         ensures { self.new ≡ record self.old { segments = [] } }
     {
@@ -79,14 +79,14 @@ impl JsonPathWriter {
         self.starts.clear();
     }
 
-    /// The path.
+    /// Returns the path.
     pub fn as_str(&self) -> &str
         ensures { result.now ≡ joined_segments self.now.segments }
     {
         self.path.as_str()
     }
 
-    /// The path, by value. It takes no memory.
+    /// Returns the path by value, without an allocation.
     pub fn into_string(self) -> String
         ensures { string_bytes result ≡ joined_segments self.segments }
     {
@@ -94,8 +94,7 @@ impl JsonPathWriter {
     }
 }
 
-// Adds a segment to a path, behind byte 1 unless it is the first. A refusal leaves the path's bytes in
-// front.
+// Appends a segment, after byte 1 unless it is the first. An error leaves the old bytes as a prefix.
 fn append(path: &mut String, is_first: bool, expand_dots: bool, segment: &str) -> Result<(), Fault>
     ensures ok { OnOk result (string_bytes path.new ≡ string_bytes path.old ++ behind_separator is_first (segment_bytes expand_dots segment.now)) }
     ensures err { OnErr result (take (string_len path.old) (string_bytes path.new) ≡ string_bytes path.old) }
@@ -108,7 +107,7 @@ fn append(path: &mut String, is_first: bool, expand_dots: bool, segment: &str) -
     append_segment(path, expand_dots, segment)
 }
 
-// Adds a segment's bytes as they stand in a path. A refusal leaves the path's bytes in front.
+// Appends the encoded bytes of a segment. An error leaves the old bytes as a prefix.
 fn append_segment(path: &mut String, expand_dots: bool, segment: &str) -> Result<(), Fault>
     ensures ok { OnOk result (string_bytes path.new ≡ string_bytes path.old ++ segment_bytes expand_dots segment.now) }
     ensures err { OnErr result (take (string_len path.old) (string_bytes path.new) ≡ string_bytes path.old) }

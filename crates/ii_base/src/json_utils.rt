@@ -7,9 +7,8 @@ use ii_io::Fault;
 use std::alloc::Global;
 use std::mem;
 
-/// The segments of a path's text: a dot parts two of them, a backslash keeps the character behind it
-/// as it is, and a lone one at the end stands for nothing. `OutOfMemory` where there is no room for
-/// them.
+/// Splits the text of a path into segments, at dots. A backslash escapes the next character; at the end of
+/// the text it is ignored. Returns `OutOfMemory` if allocation fails.
 pub fn split_json_path(alloc: Global, path: &str) -> Result<Vec<String>, Fault>
     ensures ok { IfOk result (λ segments. map string_bytes segments.items ≡ segments_of path.now) }
     ensures only { OnlyMemory result }
@@ -35,7 +34,7 @@ pub fn split_json_path(alloc: Global, path: &str) -> Result<Vec<String>, Fault>
     Ok(segments)
 }
 
-// Adds the segments of a path's text.
+// Appends the segments in the text of a path.
 pub(crate) fn push_path(alloc: Global, writer: &mut JsonPathWriter, path: &str) -> Result<(), Fault>
     ensures ok { OnOk result (writer.new ≡ record writer.old { segments = writer.old.segments ++ map (segment_bytes writer.old.expand_dots) (segments_of path.now) }) }
     ensures only { OnlyMemory result }
@@ -47,9 +46,8 @@ pub(crate) fn push_path(alloc: Global, writer: &mut JsonPathWriter, path: &str) 
     Ok(())
 }
 
-/// The name of the column of a path in a JSON field: the field's name, and the segments of the path's
-/// text, with byte 1 before each; with dots expanded, each dot of a segment becomes byte 1.
-/// `OutOfMemory` where there is no room for it.
+/// Returns the column name of a path in a JSON field: the field's name and the segments, separated by byte
+/// 1. If `expand_dots`, each dot in a segment becomes byte 1. Returns `OutOfMemory` if allocation fails.
 pub fn encode_column_name(
     alloc: Global,
     field_name: &str,

@@ -7,10 +7,10 @@ use crate::fast_value::FastValue;
 use crate::schema::value_type::ValueType;
 use ii_io::LeafKind;
 
-/// How many arrays and objects of a value may stand in one another, that it be indexed.
+/// The maximum nesting depth of arrays and objects in a value that can be indexed.
 pub const MAX_DEPTH: usize = 128;
 
-/// A JSON value, with the further kinds of values that a document may hold in one.
+/// A JSON value, or another value that a document may hold within JSON.
 #[derive(Drop)]
 pub enum JsonValue {
     /// No value.
@@ -21,13 +21,13 @@ pub enum JsonValue {
     U64(u64),
     /// A signed number.
     I64(i64),
-    /// A truth value.
+    /// A boolean.
     Bool(bool),
-    /// A date, in nanoseconds since the beginning of 1970, in UTC.
+    /// A date, in nanoseconds since 1970-01-01 UTC.
     Date(i64),
-    /// A floating-point number, by the bits of its `f64`.
+    /// The bits of an `f64`.
     F64Bits(u64),
-    /// A text that is cut into tokens already.
+    /// A pre-tokenized text.
     PreTok,
     /// Bytes.
     Bytes,
@@ -37,18 +37,18 @@ pub enum JsonValue {
     Ip,
     /// Values in order.
     Array(Vec<JsonValue>),
-    /// Keys, each with a value, in order. A key may stand there more than once.
+    /// Keys with their values, in order. A key may occur more than once.
     Object(Vec<(String, JsonValue)>),
 }
 
-/// What a leaf of a JSON value gives to an index.
+/// What the index takes from a leaf of a JSON value.
 #[derive(Drop)]
 pub enum JsonLeaf<'a> {
-    /// A text, to be cut into tokens.
+    /// A text to tokenize.
     Text(&'a str),
-    /// A value of this type, by the number that stands for it.
+    /// A value of this type, with the number that encodes it.
     Value(ValueType, u64),
-    /// A value that an index doesn't take.
+    /// A value that the index doesn't support.
     Unsupported(LeafKind),
 }
 
@@ -56,8 +56,8 @@ impl JsonValue {
     ghost use Rattle.std.specs.Prelude.{option_map};
     ghost use Rattle.ii_base.specs.Json.{json_of, leaf_at, leaf_of};
 
-    /// The leaf that the value is, if it is one: not for no value, an array or an object. An unsigned
-    /// number that fits `i64` is a signed one, and a date is cut to whole seconds, toward zero.
+    /// Returns the leaf, or `None` for null, an array or an object. An unsigned number that fits `i64`
+    /// becomes a signed one. A date is truncated to whole seconds, toward zero.
     pub fn leaf(&self) -> Option<JsonLeaf<'_>>
         ensures { option_map leaf_of result ≡ leaf_at (json_of self.now) }
     {
@@ -79,8 +79,7 @@ impl JsonValue {
     }
 }
 
-/// Whether no more arrays and objects of a value stand in one another than so many. No more of them are
-/// looked at than these.
+/// Returns whether arrays and objects are nested at most `limit` deep, without descending further.
 #[cycle(within)]
 pub fn is_within(value: &JsonValue, limit: usize) -> bool
     ensures { result ≡ nat_le (depth (json_of value.now)) limit }
@@ -119,14 +118,14 @@ fn are_members_within(members: &Vec<(String, JsonValue)>, limit: usize) -> bool
 impl<'a> JsonLeaf<'a> {
     ghost use Rattle.ii_base.specs.Json.{leaf_of, value_leaf as the_value_leaf, u64_leaf};
 
-    // The leaf of a value.
+    // Returns the leaf of a value.
     fn of_value<T: FastValue>(val: T) -> JsonLeaf<'a>
         ensures { leaf_of result ≡ the_value_leaf T.type_of_values (T.number val) }
     {
         JsonLeaf::Value(T::to_type(), val.to_u64())
     }
 
-    // The leaf of an unsigned number.
+    // Returns the leaf of an unsigned number.
     fn of_u64(number: u64) -> JsonLeaf<'a>
         ensures { leaf_of result ≡ u64_leaf number }
     {
@@ -137,7 +136,7 @@ impl<'a> JsonLeaf<'a> {
     }
 }
 
-// Nanoseconds in whole seconds, toward zero.
+// Truncates nanoseconds to whole seconds, toward zero.
 fn in_seconds(nanoseconds: i64) -> i64
     ensures { result ≡ whole_seconds nanoseconds }
 {

@@ -1,5 +1,4 @@
-//! The index's own words for fields, which documents are alive, and the types of `ii_io`: faults,
-//! numbers, writers and readers, and composite files.
+//! Fields, terms, tokens, JSON values and the set of alive documents. It re-exports the types of `ii_io`.
 #![tactic(auto)]
 
 pub mod alive_bitset;

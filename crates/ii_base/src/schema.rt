@@ -13,7 +13,7 @@ pub mod schema_fields;
 pub mod term;
 pub mod value_type;
 
-/// The fields of an index, numbered from 0. Clauses see the list of their entries.
+/// The fields of an index, numbered from 0. Its model is the list of their entries.
 #[derive(Drop)]
 pub struct Schema {
     entries: Vec<FieldEntry>,
@@ -31,7 +31,7 @@ impl Model for Schema {
 }
 
 impl Schema {
-    /// A schema of these entries, fewer than 2^32, the first of which is field 0. It takes no memory.
+    /// Creates a schema of these entries, fewer than 2^32, without an allocation.
     pub fn new(entries: Vec<FieldEntry>) -> Schema
         requires { vec_len entries < 2 ^ 32 }
         ensures { result ≡ entries.items }
@@ -39,7 +39,7 @@ impl Schema {
         Schema { entries }
     }
 
-    /// The same schema. `OutOfMemory` where there is no room for it.
+    /// Clones the schema. Returns `OutOfMemory` if allocation fails.
     pub fn clone(&self) -> Result<Schema, Fault>
         ensures same { IfOk result (λ copy. copy ≡ self.now) }
         ensures only { OnlyMemory result }
@@ -48,7 +48,7 @@ impl Schema {
         Ok(Schema { entries })
     }
 
-    /// How many fields there are.
+    /// Returns the number of fields.
     pub fn num_fields(&self) -> usize
         ensures value { result ≡ length self.now }
         ensures bound { result < 2 ^ 32 }
@@ -56,7 +56,7 @@ impl Schema {
         self.entries.len()
     }
 
-    /// The entry of a field of this schema.
+    /// Returns the entry of a field of this schema.
     pub fn get_field_entry(&self, field: Field) -> &FieldEntry
         requires { field < length self.now }
         ensures { slice_get self.now field ≡ Some result.now }
@@ -64,7 +64,7 @@ impl Schema {
         &self.entries[field.field_id() as usize]
     }
 
-    /// The fields with their entries, in order.
+    /// Iterates over the fields with their entries, in order.
     pub fn fields(&self) -> SchemaFields<'_>
         ensures { result ≡ enumerate_from 0 self.now }
     {

@@ -3,10 +3,10 @@ use anyhow::Result;
 use ii_codes::{BlockDecoder, BlockEncoder, VIntEncoder};
 use std::time::{Duration, Instant};
 
-/// How many blocks are packed or unpacked in a round.
+/// The number of blocks packed or unpacked in a round.
 const BLOCKS: u32 = 20_000;
 
-/// How many vints a row has, the most that end a list.
+/// The number of vints in a row: the most that can end a list.
 const ROW: usize = 127;
 
 static WIDTHS: [(u32, &str); 6] = [
@@ -18,7 +18,7 @@ static WIDTHS: [(u32, &str); 6] = [
     (32, "32"),
 ];
 
-/// Prints what blocks of six widths take, and rows of vints of one byte and of two.
+/// Measures blocks of six widths, and rows of vints of one and two bytes.
 pub fn measure(rt: &HostRuntime) -> Result<()> {
     for (width, name) in WIDTHS {
         measure_width(rt, width, name)?;
@@ -27,8 +27,8 @@ pub fn measure(rt: &HostRuntime) -> Result<()> {
     measure_vints(rt, "two bytes", 10_000)
 }
 
-// Entries of a width, of which the first alone needs it: so values of a sorted block have 32 bits
-// at each width.
+// Returns entries of a width that only the first one needs, so that sorted values fit in 32 bits at each
+// width.
 fn entries(width: u32) -> [u32; 128] {
     let mut entries = [0u32; 128];
     let most = u32::MAX >> (32 - width.clamp(1, 32));
@@ -39,7 +39,7 @@ fn entries(width: u32) -> [u32; 128] {
     entries
 }
 
-// A block is packed, and then unpacked from its bytes with others after them, as it stands in a list.
+// Measures packing a block, and unpacking it with other bytes after it, as in a list.
 fn measure_width(rt: &HostRuntime, width: u32, name: &str) -> Result<()> {
     let block = entries(width);
     let mut encoder = BlockEncoder::new();
@@ -60,7 +60,7 @@ fn measure_width(rt: &HostRuntime, width: u32, name: &str) -> Result<()> {
     measure_unpacking(rt, name, &bytes, num_bits)
 }
 
-// The block is unpacked, and unpacked as sorted values.
+// Measures unpacking the block, as entries and as sorted values.
 fn measure_unpacking(rt: &HostRuntime, name: &str, bytes: &[u8], num_bits: u8) -> Result<()> {
     let mut decoder = BlockDecoder::with_val(0);
     let (mut unsorted, mut sorted) = (Duration::MAX, Duration::MAX);
@@ -85,7 +85,7 @@ fn print_block(rt: &HostRuntime, what: &str, width: &str, took: Duration) -> Res
     Ok(print_row(rt, [what, width, ": a block"], took, blocks, 512 * blocks)?)
 }
 
-// A row of vints, each of the same number, is read as the differences of sorted values.
+// Measures reading a row of equal vints as the differences of sorted values.
 fn measure_vints(rt: &HostRuntime, name: &str, difference: u32) -> Result<()> {
     let differences = [difference; ROW];
     let mut encoder = BlockEncoder::new();

@@ -7,13 +7,13 @@ use ii_termstore::TermInfoStore;
 use std::alloc::Global;
 use std::time::{Duration, Instant};
 
-/// How many entries the smaller bytes have, and the greater ones.
+/// The number of entries in the smaller and in the larger input.
 const COUNTS: [(u32, &str); 2] = [(5_000, "5,000"), (40_000, "40,000")];
 
-/// The formats, each with the bytes that cost most for their number.
+/// The formats, each with the bytes that cost most for their length.
 #[derive(Clone, Copy)]
 enum Format {
-    /// Blocks of documents of width 0: 128 documents for each 5 bytes.
+    /// Blocks of documents of width 0: 128 documents in 5 bytes.
     Documents,
     /// The same with counts of width 0.
     Counts,
@@ -21,7 +21,7 @@ enum Format {
     Positions,
     /// Fields that share one body.
     Composite,
-    /// Blocks of 256 terms that all name the same bits.
+    /// Blocks of 256 terms that all refer to the same bits.
     Store,
 }
 
@@ -33,8 +33,7 @@ const FORMATS: [(Format, &str); 5] = [
     (Format::Store, " blocks of terms of the same bits: a byte"),
 ];
 
-/// Prints what it takes to open bytes that cost the most for their number, so many of them and eight times
-/// as many.
+/// Measures opening the bytes that cost most for their length, and eight times as many.
 pub fn measure(rt: &HostRuntime) -> Result<()> {
     for (format, name) in FORMATS {
         for (count, number) in COUNTS {
@@ -56,7 +55,7 @@ fn measure_count(rt: &HostRuntime, format: Format, count: u32, name: [&str; 3]) 
     Ok(print_row(rt, name, least?, len, len)?)
 }
 
-// The bytes of a format, and those of positions.
+// Builds the bytes of a format, and those of positions.
 fn subject(alloc: Global, format: Format, count: u32) -> Result<(Bytes, Bytes), Fault> {
     let bytes = bytes_of(alloc, format, count)?;
     match widths(alloc, count) {
@@ -68,7 +67,7 @@ fn subject(alloc: Global, format: Format, count: u32) -> Result<(Bytes, Bytes), 
     }
 }
 
-// The least time of some rounds.
+// Returns the least time of all rounds.
 fn least_of(
     rt: &HostRuntime,
     format: Format,
@@ -97,7 +96,7 @@ fn bytes_of(alloc: Global, format: Format, count: u32) -> Result<Bytes, Fault> {
     Ok(Bytes::from_vec(bytes)?)
 }
 
-// Skip entries of full blocks without gaps, of so many bytes each, with these behind its code.
+// Appends skip entries of `size` bytes for full blocks without gaps; `rest` follows the width of each.
 fn push_blocks(bytes: &mut Vec<u8>, count: u32, size: u32, rest: &[u8]) -> Result<(), Fault> {
     write_u32_vint(count.saturating_mul(size), bytes)?;
     let mut last = 127u32;
@@ -110,7 +109,7 @@ fn push_blocks(bytes: &mut Vec<u8>, count: u32, size: u32, rest: &[u8]) -> Resul
     Ok(())
 }
 
-// A table of fields whose bodies are empty.
+// Appends a table of fields with empty bodies.
 fn push_fields(bytes: &mut Vec<u8>, count: u32) -> Result<(), Fault> {
     for id in 0..count {
         bytes.extend_from_slice(&id.to_le_bytes())?;
@@ -119,7 +118,7 @@ fn push_fields(bytes: &mut Vec<u8>, count: u32) -> Result<(), Fault> {
     Ok(bytes.extend_from_slice(&count.to_le_bytes())?)
 }
 
-// Metas of blocks of 256 terms with numbers of 7 bits, and the bits of one block, all of them 0.
+// Appends metas of blocks of 256 terms with numbers of 7 bits, and the bits of one block, all 0.
 fn push_metas(bytes: &mut Vec<u8>, count: u32) -> Result<(), Fault> {
     bytes.extend_from_slice(&(39 * u64::from(count)).to_le_bytes())?;
     bytes.extend_from_slice(&(256 * u64::from(count)).to_le_bytes())?;
@@ -130,7 +129,7 @@ fn push_metas(bytes: &mut Vec<u8>, count: u32) -> Result<(), Fault> {
     Ok(bytes.extend_from_slice(&[0; 672])?)
 }
 
-// The bytes of blocks of positions of width 0.
+// Returns the bytes of blocks of positions of width 0.
 fn widths(alloc: Global, count: u32) -> Result<Bytes, Fault> {
     let mut widths = Vec::new(alloc);
     write_u32_vint(count, &mut widths)?;

@@ -14,23 +14,23 @@ use std::time::{Duration, Instant};
 
 const FULL: IndexRecordOption = IndexRecordOption::WithFreqsAndPositions;
 
-/// How many documents are indexed, and how many words each one's text has.
+/// The number of documents, and below it the number of words of each.
 const DOCS: u32 = 10_000;
 
 const WORDS: u32 = 100;
 
-/// How many different words there are.
+/// The number of different words.
 const TERMS: u64 = 50_000;
 
-/// How many different ones there are where phrases are sought, so that each stands in most documents.
+/// The number of different words for phrases; each then occurs in most documents.
 const FREQUENT_TERMS: u64 = 50;
 
 const LOOK_UPS: u64 = 100_000;
 
-/// How often each thing is measured; the least time counts.
+/// The number of rounds; the least time counts.
 const ROUNDS: u32 = 3;
 
-/// Prints what it takes to index a million words, to open the files, and to look words up.
+/// Measures indexing a million words, opening the files, and looking up words.
 pub fn measure(rt: &HostRuntime) -> Result<()> {
     let mut least = [Duration::MAX; 3];
     let mut bytes = [0; 2];
@@ -65,8 +65,8 @@ fn print(rt: &HostRuntime, name: &str, took: Duration, items: u64, bytes: u64) -
     Ok(print_row(rt, [name, "", ""], took, items, bytes)?)
 }
 
-// What it takes to index texts, to open their files and to look words up, and how many bytes the texts and
-// the files have.
+// Returns the times to index texts, to open their files and to look up words; and the bytes of texts and
+// files.
 fn round(rt: &HostRuntime) -> Result<([Duration; 3], [u64; 2])> {
     let (texts, text_bytes) = texts(rt.alloc(), TERMS)?;
     let start = Instant::now(rt)?;
@@ -84,7 +84,7 @@ fn open_and_look_up(rt: &HostRuntime, files: Files) -> Result<(Duration, Duratio
     Ok((opening, look_up(rt, index.reader(Field::from_field_id(0)))?))
 }
 
-// What it takes to look words up.
+// Returns the time to look up words.
 fn look_up(rt: &HostRuntime, reader: &InvertedIndexReader) -> Result<Duration> {
     let mut state = 7;
     let mut terms = Vec::new(rt.alloc());
@@ -98,7 +98,7 @@ fn look_up(rt: &HostRuntime, reader: &InvertedIndexReader) -> Result<Duration> {
     Ok(start.elapsed(rt)?)
 }
 
-// The next of numbers that look drawn at random.
+// Returns the next pseudo-random number.
 fn drawn(state: &mut u64) -> u64 {
     *state = state
         .wrapping_mul(6_364_136_223_846_793_005)
@@ -106,7 +106,7 @@ fn drawn(state: &mut u64) -> u64 {
     (*state >> 33) % TERMS
 }
 
-// The texts, of so many different words, and how many bytes they have.
+// Builds the texts. Returns them and their number of bytes.
 fn texts(alloc: Global, terms: u64) -> Result<(Vec<String>, u64)>
     requires { 0 < terms }
 {
@@ -121,7 +121,7 @@ fn texts(alloc: Global, terms: u64) -> Result<(Vec<String>, u64)>
     Ok((texts, bytes))
 }
 
-// A text of words that are drawn.
+// Builds a text of random words.
 fn text(alloc: Global, state: &mut u64, terms: u64) -> Result<String>
     requires { 0 < terms }
 {
@@ -142,7 +142,7 @@ fn schema(alloc: Global) -> Result<Schema, Fault>
     Ok(Schema::new(entries))
 }
 
-/// The four files, in memory.
+/// The four files of an index, in memory.
 pub struct Files {
     terms: Bytes,
     postings: Bytes,
@@ -150,7 +150,7 @@ pub struct Files {
     fieldnorms: Bytes,
 }
 
-// So that each drop is a call.
+// Makes each drop a call.
 impl Drop for Files {
     fn drop(self) {
         let Files {
@@ -163,7 +163,7 @@ impl Drop for Files {
 }
 
 impl Files {
-    /// How many bytes they have together.
+    /// Returns their total number of bytes.
     pub fn len(&self) -> u64 {
         let terms = self.terms.len() as u64;
         let postings = self.postings.len() as u64;
@@ -191,7 +191,7 @@ fn file(writer: CountingWriter<Vec<u8>>) -> Result<Bytes, Fault> {
     Ok(Bytes::from_vec(writer.finish())?)
 }
 
-/// The files of what was indexed.
+/// Writes what was indexed to files in memory.
 pub fn written(alloc: Global, indexer: Indexer) -> Result<Files, Fault> {
     let writers = IndexWriters {
         terms: CountingWriter::wrap(Vec::new(alloc)),
@@ -225,7 +225,7 @@ fn indexed(alloc: Global, texts: Vec<String>) -> Result<Indexer, Fault> {
     Ok(indexer)
 }
 
-/// The term of a word.
+/// Builds the term of a word.
 pub fn word_term(alloc: Global, number: u64) -> Result<Term> {
     let mut word = String::new(alloc);
     write!(word, "w{number}")?;
@@ -233,7 +233,7 @@ pub fn word_term(alloc: Global, number: u64) -> Result<Term> {
     Ok(Term::from_field_text(alloc, field, word.as_str())?)
 }
 
-/// An index of texts of few different words.
+/// Builds and opens an index of texts with few different words.
 pub fn opened_words(alloc: Global) -> Result<OpenIndex>
     ensures { IfOk result (λ index. 0 < length index.readers) }
 {
@@ -242,7 +242,7 @@ pub fn opened_words(alloc: Global) -> Result<OpenIndex>
     Ok(files.opened(alloc)?)
 }
 
-/// A cursor over the postings of a word, with positions.
+/// Opens a cursor over the postings of a word, with positions.
 pub fn read_word(index: &OpenIndex, term: &Term) -> Result<Option<SegmentPostings>>
     requires { 0 < length index.now.readers }
 {

@@ -12,10 +12,10 @@ use std::alloc::Global;
 use std::fs;
 use std::time::{Duration, Instant};
 
-/// How many values are indexed, each in a document of its own.
+/// The number of values, each in its own document.
 const DOCS: u32 = 10_000;
 
-/// The keys of a value: the path of a leaf is the first one, byte 01 and another one, 40 bytes in all.
+/// The first key of each path; with byte 01 and a second key a path has 40 bytes.
 const OUTER: &str = "properties_of_a_page";
 
 const TITLE: &str = "title_as_it_appears";
@@ -28,8 +28,8 @@ const CHANGE: &str = "change_of_its_place";
 
 const PUBLIC: &str = "is_public_or_hidden";
 
-/// Prints what it takes to make and index values of five leaves and to write the index, and the memory that
-/// this takes at most beside what the program has before.
+/// Measures building and indexing values of five leaves and writing the index, and the peak memory that this
+/// adds.
 pub fn measure(rt: &HostRuntime) -> Result<()> {
     let before = peak_memory(rt)?;
     let mut least = Duration::MAX;
@@ -46,7 +46,7 @@ pub fn measure(rt: &HostRuntime) -> Result<()> {
     Ok(println!(rt; "| memory for it at most: a value | {memory} bytes | |")?)
 }
 
-// How many bytes of memory the program had at most so far, or 0 where the system doesn't tell.
+// Returns the peak memory of the program in bytes, or 0 if the system doesn't report it.
 fn peak_memory(rt: &HostRuntime) -> Result<u64> {
     let status = fs::read_to_string(rt, "/proc/self/status")?;
     for line in status.as_str().lines() {
@@ -81,7 +81,7 @@ fn indexed(alloc: Global) -> Result<Indexer> {
     Ok(indexer)
 }
 
-// A value of five leaves: two texts of two words, and three numbers.
+// Builds a value of five leaves: two texts of two words, and three numbers.
 fn value(alloc: Global, doc: u32) -> Result<JsonValue> {
     let number = u64::from(doc);
     let (title, author) = (number % 5_000, number % 300);
@@ -110,7 +110,7 @@ fn text(alloc: Global, number: u64) -> Result<JsonValue, Fault> {
     Ok(JsonValue::Str(format!(in alloc; "w{number} v{}", number / 2)?))
 }
 
-// Adds a member whose value was made.
+// Appends a member if its value was built.
 fn push(
     alloc: Global,
     members: &mut Vec<(String, JsonValue)>,

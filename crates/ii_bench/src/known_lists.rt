@@ -11,7 +11,7 @@ use std::time::{Duration, Instant};
 
 const POSITIONS: IndexRecordOption = IndexRecordOption::WithFreqsAndPositions;
 
-// The bytes of a list with one position in each of its documents.
+// A list with one position in each document.
 #[derive(Drop)]
 struct KnownList {
     doc_freq: u32,
@@ -19,8 +19,8 @@ struct KnownList {
     positions: Bytes,
 }
 
-/// Prints what it takes to open lists of 1, 1,000 and 1,000,000 documents, checked whole and known to
-/// open, without positions and with them.
+/// Measures opening lists of 1, 1,000 and 1,000,000 documents with validation and without, each without
+/// positions and with them.
 pub fn measure(rt: &HostRuntime) -> Result<()> {
     let docs = documents(rt.alloc(), 29, 1_000_000)?;
     measure_first(rt, &docs, 1, "1")?;
@@ -28,7 +28,7 @@ pub fn measure(rt: &HostRuntime) -> Result<()> {
     measure_first(rt, &docs, 1_000_000, "1,000,000")
 }
 
-// A list of so many of the documents.
+// Measures a list of the first `doc_freq` documents.
 fn measure_first(rt: &HostRuntime, docs: &[DocId], doc_freq: u32, name: &str) -> Result<()> {
     let docs = docs.get(..doc_freq as usize).unwrap_or(docs);
     let list = KnownList {
@@ -40,7 +40,7 @@ fn measure_first(rt: &HostRuntime, docs: &[DocId], doc_freq: u32, name: &str) ->
     measure_list(rt, &list, POSITIONS, [name, " documents with positions"])
 }
 
-// The bytes of so many positions, each the first of its document.
+// Writes one position for each of `count` documents.
 fn positions(alloc: Global, count: u32) -> Result<Bytes, Fault> {
     let mut output = CountingWriter::wrap(Vec::new(alloc));
     let mut writer = PositionWriter::new(alloc);
@@ -81,7 +81,7 @@ fn measure_list(
     )?)
 }
 
-// A list is opened, so that it is known to open, and opened as one that is known.
+// Returns the times to open a list with validation, and then without.
 fn open_twice(
     rt: &HostRuntime,
     list: &KnownList,

@@ -17,10 +17,10 @@ const BASIC: IndexRecordOption = IndexRecordOption::Basic;
 
 const FREQS: IndexRecordOption = IndexRecordOption::WithFreqs;
 
-/// How many documents a list has.
+/// The number of documents of a list.
 const DOCS: u32 = 1_000_000;
 
-/// Prints what it takes to write and walk lists of a million documents, of three densities.
+/// Measures writing and walking lists of a million documents, at three densities.
 pub fn measure(rt: &HostRuntime) -> Result<()> {
     measure_density(rt, "1", 1)?;
     measure_counts(rt)?;
@@ -28,7 +28,7 @@ pub fn measure(rt: &HostRuntime) -> Result<()> {
     measure_density(rt, "1/1000", 1999)
 }
 
-/// So many documents of a list, each by a random number below `spread` and 1 above the one before it.
+/// Returns `count` documents; the gap between two is a random number below `spread`.
 pub fn documents(alloc: Global, spread: u32, count: u32) -> Result<Vec<DocId>, AllocError>
     requires { 0 < spread }
 {
@@ -64,7 +64,7 @@ fn print_density(rt: &HostRuntime, density: &str, docs: &[DocId]) -> Result<()> 
     print(rt, ["walking, density ", density, ": a document"], walking)
 }
 
-// Documents are written with their counts, without norms and with them.
+// Measures writing documents with counts, without norms and with them.
 fn measure_counts(rt: &HostRuntime) -> Result<()> {
     let docs = documents(rt.alloc(), 1, DOCS)?;
     print_counts(rt, &docs)
@@ -94,7 +94,7 @@ fn write(rt: &HostRuntime, docs: &[DocId], record_option: IndexRecordOption) -> 
     Ok(least)
 }
 
-// A norm id for each document below their number.
+// Returns a norm id for each document.
 fn norm_ids(alloc: Global) -> Result<Bytes, AllocError> {
     let mut ids = Vec::new(alloc);
     for doc in 0..DOCS {
@@ -128,7 +128,7 @@ fn walk(rt: &HostRuntime, bytes: &Bytes) -> Result<Duration> {
     Ok(least)
 }
 
-/// The bytes of documents that ascend, each with a count of 1 where counts are recorded.
+/// Writes ascending documents; each has count 1 if counts are recorded.
 pub fn written(
     alloc: Global,
     docs: &[DocId],
@@ -137,7 +137,7 @@ pub fn written(
     written_by(alloc, docs, record_option, None, TERMINATED)
 }
 
-// The same with norms, if there are some, which answer for the documents below a limit.
+// Writes the same with optional norms, which cover the documents below `limit`.
 fn written_by(
     alloc: Global,
     docs: &[DocId],
@@ -165,7 +165,7 @@ fn written_by(
     Ok(Bytes::from_vec(output.finish())?)
 }
 
-// Whether documents ascend, below the end.
+// Returns whether documents ascend and are less than `TERMINATED`.
 fn ascend(docs: &[DocId]) -> bool
     ensures { result ≡ are_documents docs.now }
 {

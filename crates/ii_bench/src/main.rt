@@ -1,5 +1,5 @@
-//! Measures the crates by the clock, and prints a table of what they took, if it is given an argument.
-//! How long that is no contract says.
+//! Measures the crates by the clock and prints a table of the times, if it is given an argument. No contract
+//! states these times.
 #![tactic(auto)]
 
 mod blocks;

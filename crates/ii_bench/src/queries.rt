@@ -14,12 +14,12 @@ use std::time::{Duration, Instant};
 
 const BASIC: IndexRecordOption = IndexRecordOption::Basic;
 
-/// How many documents a frequent term has, and a rare one, both spread over 15,000,000.
+/// The numbers of documents of a frequent and a rare term, both spread over 15,000,000 documents.
 const FREQUENT: u32 = 1_000_000;
 
 const RARE: u32 = 10_000;
 
-// A list of documents, as it is written.
+// Writes a list of documents.
 fn list(rt: &HostRuntime, spread: u32, doc_freq: u32) -> Result<Bytes>
     requires { 0 < spread }
 {
@@ -31,7 +31,7 @@ fn open(list: &Bytes, doc_freq: u32) -> Result<SegmentPostings> {
     Ok(SegmentPostings::open(doc_freq, list.clone()?, None, BASIC, BASIC)?)
 }
 
-/// Prints what it takes to go over the documents of queries, beside loops by hand over the same cursors.
+/// Measures walking the matches of queries, compared with hand-written loops over the same cursors.
 pub fn measure(rt: &HostRuntime) -> Result<()> {
     measure_terms(rt)?;
     let index = opened_words(rt.alloc())?;
@@ -114,7 +114,7 @@ fn either_once(rt: &HostRuntime, first: &Bytes, other: &Bytes, in_turn: bool) ->
     Ok(start.elapsed(rt)?)
 }
 
-// How many documents a cursor has left, which is asked for each in turn, or for their number.
+// Counts the remaining documents, by one call or by advancing.
 fn count<C: DocSet>(cursor: &mut C, in_turn: bool) -> u32 {
     if !in_turn {
         return cursor.count_including_deleted();
@@ -139,7 +139,7 @@ fn either_by_hand_once(rt: &HostRuntime, first: &Bytes, other: &Bytes) -> Result
     Ok(start.elapsed(rt)?)
 }
 
-// How many documents one of two cursors has left.
+// Counts the documents that remain in either cursor.
 fn merge(first: &mut SegmentPostings, other: &mut SegmentPostings) -> u32 {
     let mut count = 0u32;
     let mut doc = first.doc();
@@ -183,7 +183,7 @@ fn print_phrase(rt: &HostRuntime, index: &OpenIndex, first: &Term, other: &Term)
     print(rt, row, least, docs)
 }
 
-// A phrase of a word, and another one if it is there.
+// Returns the time to find a phrase of a word and of another one, if that exists.
 fn phrase_once(
     rt: &HostRuntime,
     first: SegmentPostings,

@@ -1,10 +1,10 @@
 use std::io;
 use std::time::Duration;
 
-/// How often each thing is measured; the least time counts, since other programs only add to it.
+/// The number of rounds. The least time counts, since other programs only add to it.
 pub const ROUNDS: u32 = 7;
 
-/// A row, its name in parts: nanoseconds an item, in hundredths, and megabytes a second.
+/// Prints a row: the name in parts, nanoseconds per item in hundredths, and megabytes per second.
 pub fn print_row(
     rt: &HostRuntime,
     name: [&str; 3],

@@ -1,4 +1,4 @@
--- Laws of the whole check of a term's documents.
+-- Laws of the complete validation of a term's documents.
 use Rattle.std.proofs.Common.{◌≡◌, ℕ, zero, suc, ◌+◌, ◌*◌, ◌/◌, ◌<◌, Bool, true, false, ◌&&◌, List, [], ◌∷◌, ◌++◌, length, take, drop, get_or, Option, Some, None, eqb, eq-eqb, min, nat_le, nat_lt, refl, sym, ap, ◌∙◌, arith, is_some}
 use Rattle.std.proofs.lemmas.Bool.{eqb-true, ltb-true, and_parts}
 use Rattle.std.specs.List.{concat}
@@ -134,7 +134,7 @@ checked_all skip i least n end c =
 pub many_entries : (skip_info : IndexRecordOption) (blocks : ℕ) (skip_data body : List ℕ) → length (skip_list_of skip_info blocks skip_data body).entries ≡ blocks
 many_entries skip_info blocks skip_data body = length-map-range_with_len (λ k. entry_at skip_info (drop (entry_size skip_info * k) skip_data)) 0 blocks
 
--- A call was told of the block at which a reader stands, and of the bytes there.
+-- The arguments of a call: the block of a reader, and the bytes there.
 pub record Told (skip : SkipList) (reader : SkipReaderState) (offset : ℕ) (here : List ℕ) : Type 0 where
   pub offset_is : offset ≡ reader.byte_offset
   pub here_is : here ≡ drop offset skip.body
@@ -186,7 +186,7 @@ pub looked_at : (skip_info : IndexRecordOption) (doc_freq i least offset : ℕ) 
 looked_at skip_info doc_freq i least offset skip_data body here reader r t e h told found answered =
     sym (found ∙ fits_here (skip_list_of skip_info (doc_freq / 128) skip_data body) reader skip_info doc_freq i least offset here e h told) ∙ answered
 
--- the last document that the reader told of it is its entry's
+-- the last document that the reader returned is its entry's
 pub told_last : (skip_info : IndexRecordOption) (doc_freq i last : ℕ) (skip_data : List ℕ) (reader : SkipReaderState) → reader ≡ reader_at skip_info doc_freq (entries_at skip_info (doc_freq / 128) skip_data) i → i < doc_freq / 128 → last ≡ reader.last_doc_in_block
     → last ≡ (skip_entry (entries_at skip_info (doc_freq / 128) skip_data) i).last_doc
 told_last skip_info doc_freq i last skip_data reader e h last_is = last_is ∙ (at_full_block reader skip_info doc_freq i (entries_at skip_info (doc_freq / 128) skip_data) e h).last

@@ -1,4 +1,4 @@
--- Laws of postings that were checked.
+-- Laws of postings that were validated.
 use Rattle.std.proofs.Common.{◌≡◌, ℕ, zero, suc, ◌*◌, ◌/◌, ◌%◌, ◌<◌, ◌≤◌, Bool, true, false, ◌&&◌, List, [], length, drop, Option, Some, None, Result, Ok, Err, refl, sym, ap, ◌∙◌, arith, is_some, length-drop, nat_lt, nat_le, if◌then◌else◌}
 use Rattle.std.specs.Prelude.{IsOk, is_ok}
 use Rattle.std.specs.List.{list_all}
@@ -159,7 +159,7 @@ finds_known a known split = found_cases a (documents_at (skip_of a) (a.doc_freq 
 finds : (a : Asked) (reading : FreqReadingOption) → Checks a reading → Finds a
 finds a reading c = finds_known a (ap is_ok c.there) c.split
 
--- entries that have room for counts stand as the field records
+-- entries that hold term frequencies have the shape that the field records
 info_cases : (t : Bool) (recorded : IndexRecordOption) → has_freq (if t then Basic else recorded) ≡ true → (if t then Basic else recorded) ≡ recorded
 info_cases true recorded has = absurd (cc)
 info_cases false recorded has = refl

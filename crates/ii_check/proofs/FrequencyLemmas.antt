@@ -1,4 +1,4 @@
--- Laws of the whole check of a term's counts.
+-- Laws of the complete validation of a term's frequencies.
 use Rattle.std.proofs.Common.{◌≡◌, ℕ, suc, ◌+◌, ◌*◌, ◌/◌, ◌<◌, Bool, true, false, List, [], ◌∷◌, ◌++◌, length, drop, Option, Some, None, nat_lt, refl, sym, ap, ◌∙◌, arith, is_some}
 use Rattle.std.specs.List.{concat}
 use Rattle.ii_base.specs.declared.schema.index_record_option.IndexRecordOption.{IndexRecordOption}
@@ -19,7 +19,7 @@ use Rattle.ii_check.proofs.CheckLemmas.{Told}
 abbrev pub AreCheckedTo : SkipList → ℕ → Type 0
 AreCheckedTo skip i = (blocks : List (List ℕ)) × (each (block_freqs skip) i ≡ Some blocks)
 
--- a reader at a full block tells of its counts
+-- a reader at a full block determines its term frequencies
 pub freqs_here : (skip : SkipList) (reader : SkipReaderState) (doc_freq i offset : ℕ) (here : List ℕ) → reader ≡ reader_at skip.skip_info doc_freq skip.entries i → i < doc_freq / 128 → Told skip reader offset here
     → block_freqs_in skip.skip_info reader.block_info here ≡ block_freqs skip i
 freqs_here skip reader doc_freq i offset here e h told =

@@ -1,4 +1,4 @@
--- Bytes that are known to give postings.
+-- Bytes that are known to hold postings.
 use Rattle.std.proofs.Common.{◌≡◌, ℕ, ◌/◌, ◌<◌, ◌≤◌, Bool, ◌&&◌, ◌||◌, List, [], length, drop, nat_lt, refl, ◌∙◌, arith}
 use Rattle.std.specs.Prelude.{IsOk}
 use Rattle.std.proofs.lemmas.Bool.{lt-ltb}
@@ -10,7 +10,7 @@ use Rattle.ii_check.specs.FreqReading.{reading_by}
 use Rattle.ii_check.proofs.CheckLemmas.{many_entries}
 use Rattle.ii_check.proofs.CheckedPostingsLemmas.{Asked, Checks, finds_known, is_checked}
 
--- a full block tells whether counts are read
+-- a full block determines whether term frequencies are read
 reads_there : (recorded requested : Bool) (blocks n : ℕ) (after : List ℕ) → 0 < blocks → n ≡ blocks
     → reading_by recorded requested (recorded && (nat_lt 0 blocks || nat_lt 0 (length {A = ℕ} []))) ≡ reading_by recorded requested (recorded && (nat_lt 0 n || nat_lt 0 (length after)))
 reads_there recorded requested blocks n after some same =

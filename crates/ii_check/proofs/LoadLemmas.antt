@@ -1,4 +1,4 @@
--- The blocks of postings that were checked, as decoders load them.
+-- The blocks of validated postings, as decoders load them.
 use Rattle.std.proofs.Common.{◌≡◌, ℕ, ◌+◌, ◌-◌, ◌*◌, ◌/◌, ◌%◌, ◌<◌, ◌≤◌, Bool, true, false, List, [], length, take, drop, replicate, Option, Some, None, nat_le, nat_lt, refl, sym, ap, ◌∙◌, arith, is_some}
 use Rattle.std.specs.Option.{IsSome, option_map}
 use Rattle.std.proofs.lemmas.Bool.{ltb-true, ltb-false}
@@ -34,7 +34,7 @@ sorted_after strict offset w bytes vs rest e =
 abbrev pub FreqsThere : SkipReaderState → List ℕ → List ℕ → Type 0
 FreqsThere reader freqs after = (left : List ℕ) × (freqs_in reader.block_info after ≡ Some (block_of freqs reader.block, left))
 
--- The documents of the block at which a reader stands are at the front of bytes, and after them its counts where they are read.
+-- Bytes begin with the documents of a reader's block, and after them its frequencies if they are read.
 pub record IsThere (p : CheckedPostingsState) (reader : SkipReaderState) (here : List ℕ) : Type 0 where
   pub few : num_vints reader.block_info ≤ 128
   pub after : List ℕ
@@ -166,7 +166,7 @@ pub keeps_freqs : (o : Option (List ℕ)) (block : ℕ) (old new : BlockDecoderS
 keeps_freqs None block old new none same = same
 keeps_freqs (Some fs) block old new none same = absurd (cc)
 
--- The same in the words of a call that was told of the block, and lent the bytes there.
+-- The same, in the arguments of a call that borrows the bytes of the block.
 pub record IsTold (p : CheckedPostingsState) (block : ℕ) (info : BlockInfo) (before : ℕ) (here : List ℕ) : Type 0 where
   pub few : num_vints info ≤ 128
   pub after : List ℕ

@@ -1,4 +1,4 @@
--- The parts of a term's postings, as the check finds them.
+-- The parts of a term's postings, as validation finds them.
 use Rattle.std.proofs.Common.{◌≡◌, ℕ, ◌/◌, ◌%◌, ◌<◌, true, false, ◌&&◌, ◌||◌, List, length, drop, Option, Some, None, nat_lt, refl, sym, ap, ◌∙◌, is_some}
 use Rattle.ii_base.specs.Options.{has_freq}
 use Rattle.ii_io.specs.Vints.{u32s_at}

@@ -1,4 +1,4 @@
--- Laws of the check of a term's positions.
+-- Laws of the validation of a term's positions.
 use Rattle.std.proofs.Common.{◌≡◌, ℕ, ◌+◌, ◌-◌, ◌*◌, ◌^◌, ◌<◌, ◌≤◌, ◌/◌, Bool, true, false, ◌&&◌, List, [], ◌∷◌, ◌++◌, length, take, drop, get_or, nat_lt, nat_le, eqb, Option, Some, None, is_some, if◌then◌else◌, refl, sym, ap, ◌∙◌, arith, length-append, length-take, length-drop}
 use Rattle.std.specs.List.{sum, list_all}
 use Rattle.std.specs.Option.{IsSome, IfSome}
@@ -180,7 +180,7 @@ eqb_swap : (a b : ℕ) (t : Bool) → eqb b a ≡ t → eqb a b ≡ eqb b a
 eqb_swap a b true e = let same = eqb-true b a e in eq-eqb a b (sym same) ∙ sym e
 eqb_swap a b false e = ne_eqb a b (λ same. absurd (let other = eq-eqb b a (sym same) in cc)) ∙ sym e
 
--- the whole test, by the parts
+-- the complete test, by its parts
 abbrev pub are_all : List ℕ → List ℕ → Bool
 are_all counts deltas = eqb (length deltas) (sum counts) && list_all fit_u32 (positions_of counts deltas)
 
@@ -234,7 +234,7 @@ end_low freqs n block end deltas row s e all few =
     let row_sum = ap sum e in
     omega arith
 
--- what the end of the positions of a block tells
+-- what the end of the positions of a block says
 pub no_end : (t : Bool) (n : ℕ) → None ≡ (if t then Some n else None) → t ≡ false
 no_end true n e = absurd (cc)
 no_end false n e = refl
@@ -269,7 +269,7 @@ small_given (Some fs) bytes deltas n some read count many small =
     let fit = small_fits fs deltas small in
     rw (read, same, fit) refl
 
--- how many positions the counts say, by what the skip entries tell of the full blocks and by the counts of the last one
+-- how many positions the frequencies say, by the skip entries and by the frequencies of the last block
 pub counted_all : (p : CheckedPostingsState) (skip : SkipReaderState) (fs row : List ℕ) (offset n : ℕ) → HasDocuments p → IsAtBlock p skip → skip.block ≡ p.doc_freq / 128 → has_positions p.recorded ≡ true → p.postings.freqs ≡ Some fs → row ≡ block_of fs (p.doc_freq / 128)
     → offset ≡ skip.position_offset → n ≡ sum row → offset + n ≡ sum fs
 counted_all p skip fs row offset n has at end recorded e row_is offset_is n_is =

@@ -1,4 +1,4 @@
--- Seeks over the blocks of checked postings.
+-- Seeks over the blocks of validated postings.
 use Rattle.std.proofs.Common.{◌≡◌, ℕ, ◌+◌, ◌*◌, ◌/◌, ◌%◌, ◌<◌, ◌≤◌, Bool, true, false, ◌||◌, List, length, get_or, min, nat_lt, refl, sym, ap, ◌∙◌, arith}
 use Rattle.std.proofs.lemmas.Bool.{le-ltb, lt-ltb, ltb-true, ltb-false}
 use Rattle.ii_base.specs.declared.doc_id.TheConstants.{TERMINATED}
@@ -11,7 +11,7 @@ use Rattle.ii_check.specs.Check.{excludes_in}
 use Rattle.ii_check.specs.CheckedPostings.{CheckedPostingsState, AreGiven, IsAtBlock, IsSkipData, SeeksBlock, SeeksFreq, is_passed}
 use Rattle.ii_check.proofs.CheckedPostingsLemmas.{has_documents}
 
--- what a reader of the postings is lent
+-- what a reader of the postings borrows
 pub lent : (p : CheckedPostingsState) (skip : SkipReaderState) (bytes : List ℕ) → IsAtBlock p skip → IsSkipData p bytes
     → (entry_size skip.skip_info * (skip.doc_freq / 128) ≤ length bytes) × (skip ≡ reader_at skip.skip_info skip.doc_freq (entries_at skip.skip_info (skip.doc_freq / 128) bytes) skip.block)
 lent p skip bytes at d =
@@ -53,7 +53,7 @@ seeks_block p old new bytes target g at d s =
     let freq : old.doc_freq ≡ p.doc_freq = ap (λ (r : SkipReaderState). r.doc_freq) at.reader in
     seeks_given p target old.block new.block g (rw (info, freq, ← d.entries) at s)
 
--- what a reader tells of a block that isn't full
+-- what a reader returns about a block that isn't full
 rest_cases : (p : CheckedPostingsState) (skip : SkipReaderState) (target least : ℕ) (t : Bool) → IsAtBlock p skip → target ≤ TERMINATED → nat_lt skip.block (p.doc_freq / 128) ≡ t
     → (nat_lt skip.last_doc_in_block target || excludes_in least skip.block_info) ≡ true → skip.block < p.doc_freq / 128
 rest_cases p skip target least true at up test passed = ltb-true skip.block (p.doc_freq / 128) test
@@ -67,7 +67,7 @@ rest_cases p skip target least false at up test passed =
 pub full_where_passed : (p : CheckedPostingsState) (skip : SkipReaderState) (target least : ℕ) → IsAtBlock p skip → target ≤ TERMINATED → (nat_lt skip.last_doc_in_block target || excludes_in least skip.block_info) ≡ true → skip.block < p.doc_freq / 128
 full_where_passed p skip target least at up passed = rest_cases p skip target least (nat_lt skip.block (p.doc_freq / 128)) at up refl passed
 
--- a reader tells whether its block is passed
+-- a reader determines whether its block is passed
 pub passed_here : (p : CheckedPostingsState) (skip : SkipReaderState) (target least : ℕ) → AreGiven p → IsAtBlock p skip → skip.block < p.doc_freq / 128 → (nat_lt skip.last_doc_in_block target || excludes_in least skip.block_info) ≡ is_passed target least p.postings skip.block
 passed_here p skip target least g at full =
     let test = lt-ltb skip.block (p.doc_freq / 128) full in

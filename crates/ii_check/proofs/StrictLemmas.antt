@@ -1,4 +1,4 @@
--- A block of strict deltas ascends, so that its last document tells whether it fits.
+-- A block of strict deltas ascends, so that its last document decides whether it fits.
 use Rattle.std.proofs.Common.{◌≡◌, ℕ, ◌+◌, ◌*◌, ◌≤◌, Bool, true, ◌&&◌, List, [], ◌∷◌, length, get_or, eqb, nat_le, nat_lt, Option, Some, None, refl, ap, ◌∙◌, arith, ⊎_elim}
 use Rattle.std.proofs.Math.Bool.{and-false, and-true}
 use Rattle.std.proofs.lemmas.Bool.{cases_lt, le-leb, lt-ltb, le-ltb}

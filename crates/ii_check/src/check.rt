@@ -24,9 +24,9 @@ use ii_layout::{
     BlockInfo, SkipPlaces, SkipReader, bytes_from, split_into_skips_and_postings, sum_of,
 };
 
-/// Where the postings of a term lie in its bytes, and whether its counts are read; or the first part
-/// that is damaged. All documents are looked at before any counts. Those of a short list are then
-/// left in the decoders.
+/// Validates the postings of a term. Returns where they lie in its bytes and whether its term frequencies are
+/// read, or the first corrupt part. All documents are validated before any frequencies. Those of a short list
+/// are then left in the decoders.
 pub(crate) fn check_postings(
     doc_freq: u32,
     bytes: &[u8],
@@ -65,9 +65,9 @@ pub(crate) fn check_postings(
     Ok((places, reading))
 }
 
-/// The bytes after the documents of a term, or `None` where there are none: each block has to stand
-/// at its place, ending in its entry's last document, then the rest, all of them ascending strictly
-/// below `TERMINATED`. The last documents are then left in the decoder.
+/// Returns the bytes after the documents of a term, or `None` if the documents are corrupt. Each block must
+/// be at its place and end with its entry's last document. All documents must ascend strictly below
+/// `TERMINATED`. The last ones are then left in the decoder.
 fn after_documents<'a>(
     decoder: &mut BlockDecoder,
     doc_freq: u32,
@@ -102,9 +102,8 @@ fn after_documents<'a>(
     Some(bytes_from(bytes, used))
 }
 
-// Whether bytes begin with the full block at which a skip reader stands: one that ends in its
-// entry's last document, and ascends from `least` on. Strict deltas ascend, so that the block's last
-// document tells.
+// Returns whether bytes begin with the skip reader's full block: one that ends with its entry's last document
+// and ascends from `least` on. Strict deltas ascend, so the last document of such a block suffices.
 fn is_block(decoder: &mut BlockDecoder, skip: &SkipReader, least: DocId, bytes: &[u8]) -> bool
     ensures { result
         ≡ block_fits skip.now.block_info skip.now.last_doc_in_previous_block skip.now.last_doc_in_block least bytes.now }
@@ -138,7 +137,7 @@ fn is_block(decoder: &mut BlockDecoder, skip: &SkipReader, least: DocId, bytes: 
     ascend(decoder.output_array(), least)
 }
 
-// Whether each block of strict deltas after a last document begins at `least` or above.
+// Returns whether each block of strict deltas after `before` begins at `least` or above.
 fn comes_after(least: DocId, before: DocId) -> bool
     ensures { result ≡ nat_le least (least_first true before) }
 {
@@ -148,8 +147,8 @@ fn comes_after(least: DocId, before: DocId) -> bool
     u64::from(least) <= u64::from(before) + 1
 }
 
-// Whether bytes begin with a block of strict deltas after a last document, which ends in `last_doc`
-// and below the end.
+// Returns whether bytes begin with a block of strict deltas after `before` that ends with `last_doc`, below
+// `TERMINATED`.
 fn is_strict_block(bytes: &[u8], before: DocId, width: u8, last_doc: DocId) -> bool
     ensures { (least : ℕ) → least ≤ least_first true before
         → result ≡ fits_by (λ docs. slice_index docs 127 == last_doc && ascend_from least docs) (sorted_block_at true before width bytes.now) }
@@ -163,8 +162,8 @@ fn is_strict_block(bytes: &[u8], before: DocId, width: u8, last_doc: DocId) -> b
     last < TERMINATED
 }
 
-// How many bytes the last documents take that bytes begin with, and which ascend from `least` on; or
-// `None` where there are none. The decoder then holds them.
+// Returns how many bytes the last documents take, which must ascend from `least` on, or `None` if there are
+// none. The decoder then holds them.
 fn end_of_rest(
     decoder: &mut BlockDecoder,
     before: DocId,
@@ -187,13 +186,13 @@ fn end_of_rest(
     }
 }
 
-// Whether the documents ascend strictly, from a least one on and below the end.
+// Returns whether the documents ascend strictly, from `least` on and below `TERMINATED`.
 fn ascend(docs: &[DocId], least: DocId) -> bool
     ensures { result ≡ ascend_from least docs.now }
 {
     let mut next = least;
     let mut so_far = true;
-    // none ends the loop, so that several are compared at a time
+    // The loop never exits early, so that several documents are compared at once.
     for doc in docs {
         so_far = so_far & (*doc >= next) & (*doc < TERMINATED);
         next = doc.wrapping_add(1);
@@ -201,8 +200,8 @@ fn ascend(docs: &[DocId], least: DocId) -> bool
     so_far
 }
 
-// What is done with the counts of a term: it has some where its entries have room for them or, in a
-// short list, where a byte remains after the documents.
+// Returns what is done with the term frequencies of a term. It has some if its entries hold them or, in a
+// short list, if bytes follow the documents.
 pub(crate) fn freq_reading_option(
     skip_info: IndexRecordOption,
     requested_option: IndexRecordOption,
@@ -225,9 +224,9 @@ pub(crate) fn freq_reading_option(
     }
 }
 
-// Whether the counts of a term are there: those of each full block after its documents, with the sum
-// and the bound that its entry tells, and the others after the last documents. The last counts are then left in
-// the decoder.
+// Returns whether the term frequencies of a term are valid: those of each full block after its documents,
+// with the sum and the bound in its entry, and the others after the last documents. The last ones are then
+// left in the decoder.
 fn has_freqs(
     decoder: &mut BlockDecoder,
     doc_freq: u32,
@@ -252,8 +251,8 @@ fn has_freqs(
     are_rest_freqs(decoder, doc_freq % COMPRESSION_BLOCK_SIZE as u32, after)
 }
 
-// Whether the counts of a full block are there, after the documents that bytes begin with, with the sum
-// and the bound that are told.
+// Returns whether the term frequencies of a full block follow its documents at the front of the bytes, with
+// the sum and the bound of `block_info`.
 fn are_block_freqs(
     decoder: &mut BlockDecoder,
     skip_info: IndexRecordOption,
@@ -285,7 +284,7 @@ fn are_block_freqs(
     are_bounded(block_wand_term_freq, freqs)
 }
 
-// Whether counts have the sum that is told, where there is one.
+// Returns whether term frequencies have the sum `tf_sum`, if entries hold sums.
 fn has_sum(skip_info: IndexRecordOption, tf_sum: u32, freqs: &[u32]) -> bool
     requires { length freqs.now ≤ 128 }
     ensures { result ≡ has_sum skip_info tf_sum freqs.now }
@@ -297,7 +296,7 @@ fn has_sum(skip_info: IndexRecordOption, tf_sum: u32, freqs: &[u32]) -> bool
     }
 }
 
-// Whether no count is above a bound, of which 0 says nothing.
+// Returns whether no term frequency exceeds a bound; 0 means no bound.
 fn are_bounded(bound: u32, freqs: &[u32]) -> bool
     ensures { result ≡ bounds_counts bound freqs.now }
 {
@@ -312,7 +311,7 @@ fn are_bounded(bound: u32, freqs: &[u32]) -> bool
     true
 }
 
-// Whether bytes begin with so many counts. The decoder then holds them.
+// Returns whether bytes begin with `num_docs` term frequencies. The decoder then holds them.
 fn are_rest_freqs(decoder: &mut BlockDecoder, num_docs: u32, bytes: &[u8]) -> bool
     requires { num_docs < 128 }
     ensures has { result ≡ is_some (u32s_at num_docs bytes.now) }

@@ -23,9 +23,8 @@ use ii_codes::{BlockDecoder, COMPRESSION_BLOCK_SIZE};
 use ii_layout::{PositionReader, SkipPlaces, SkipReader, bytes_from, sum_of};
 use std::marker::Model;
 
-/// The bytes of a term that were found to hold its postings, so that each block can be read at its
-/// place without a refusal. Clauses see how many documents the term is in, what the bytes give, and
-/// whether counts are read.
+/// Holds the validated postings of a term, so that reading a block at its place can't fail. The model is the
+/// number of documents, the content of the bytes, and whether term frequencies are read.
 pub struct CheckedPostings {
     bytes: Bytes,
     record_option: IndexRecordOption,
@@ -35,7 +34,7 @@ pub struct CheckedPostings {
     freq_reading_option: FreqReadingOption,
 }
 
-// So that each drop is a call.
+// A drop has to be a call.
 impl Drop for CheckedPostings {
     fn drop(self) {
         let CheckedPostings {
@@ -66,11 +65,12 @@ impl Model for CheckedPostings {
 }
 
 impl CheckedPostings {
-    /// The postings of a term in `doc_freq` documents that `bytes` begin with, by the option that
-    /// its field records and the one that is requested; or the first part that is damaged. Two new
-    /// decoders are lent: they then hold the documents and the counts of the first block, and after a
-    /// refusal anything. The whole list is looked at, counts where they are read, and memory is never
-    /// taken. Bytes after what is read aren't looked at.
+    /// Validates the postings at the front of `bytes`, of a term in `doc_freq` documents, by the recorded and
+    /// the requested option. Returns the first corrupt part.
+    ///
+    /// Borrows two new decoders, which then hold the documents and the term frequencies of the first block.
+    /// After an error they hold anything. Validates the complete list, term frequencies only if they are
+    /// read. Never allocates, and ignores the bytes after what is read.
     pub fn open(
         doc_freq: u32,
         bytes: Bytes,
@@ -86,7 +86,7 @@ impl CheckedPostings {
         ensures doc_freq { IfOk result (λ checked. checked.doc_freq ≡ doc_freq) }
         ensures reading { IfOk result (λ checked. checked.freq_reading ≡ freq_reading_of requested_option checked.postings) }
 
-        // What the skip entries say, and the first block, which is decoded.
+        // What the skip entries hold, and the first block, which is decoded.
         ensures documents { IfOk result (λ checked. HasDocuments checked) }
         ensures first { IfOk result (λ checked. LoadsBlock checked.postings 0 (new_decoder TERMINATED) doc_decoder.new (new_decoder 1) freq_decoder.new) }
         ensures err { IfErr result (λ fault. postings record_option requested_option doc_freq bytes ≡ Err (part_of fault)) }
@@ -114,10 +114,11 @@ impl CheckedPostings {
         Ok(checked)
     }
 
-    /// The postings of a term in `doc_freq` documents that `bytes` are known to begin with, by the
-    /// option that its field records and the one that is requested. Two new decoders are lent: they
-    /// then hold the documents and the counts of the first block. No other block is looked at, however
-    /// long the list is, and memory is never taken.
+    /// Opens the postings that `bytes` are known to begin with, of a term in `doc_freq` documents, by the
+    /// recorded and the requested option.
+    ///
+    /// Borrows two new decoders, which then hold the documents and the term frequencies of the first block.
+    /// Reads no other block, however long the list is, and never allocates.
     pub fn open_known(
         doc_freq: u32,
         bytes: Bytes,
@@ -134,7 +135,7 @@ impl CheckedPostings {
         ensures doc_freq { result.doc_freq ≡ doc_freq }
         ensures reading { result.freq_reading ≡ freq_reading_of requested_option result.postings }
 
-        // What the skip entries say, and the first block, which is decoded.
+        // What the skip entries hold, and the first block, which is decoded.
         ensures documents { HasDocuments result }
         ensures first { LoadsBlock result.postings 0 (new_decoder TERMINATED) doc_decoder.new (new_decoder 1) freq_decoder.new }
     {
@@ -158,8 +159,8 @@ impl CheckedPostings {
         checked
     }
 
-    /// The postings of a term in no documents, by the option that its field records and the one that
-    /// is requested. It has no counts.
+    /// Creates the postings of a term in no documents, by the recorded and the requested option. It has no
+    /// term frequencies.
     pub fn empty(
         record_option: IndexRecordOption,
         requested_option: IndexRecordOption,
@@ -186,8 +187,8 @@ impl CheckedPostings {
         }
     }
 
-    // Leaves the decoders of a check of a short list, since they hold all of it; else makes them hold
-    // the first block, as new ones.
+    // Makes the decoders hold the first block, as new ones would. After the check of a short list they
+    // already do.
     fn first_block(&self, doc_decoder: &mut BlockDecoder, freq_decoder: &mut BlockDecoder)
         requires { self.now.doc_freq < 128 → LoadsBlock self.now.postings 0 (new_decoder TERMINATED) doc_decoder.old (new_decoder 1) freq_decoder.old }
         ensures { LoadsBlock self.now.postings 0 (new_decoder TERMINATED) doc_decoder.new (new_decoder 1) freq_decoder.new }
@@ -200,8 +201,7 @@ impl CheckedPostings {
         self.load_block(&self.skip_reader(), doc_decoder, freq_decoder);
     }
 
-    /// The same postings over the same bytes, which are shared. `OutOfMemory` where a growth was
-    /// refused.
+    /// Clones the postings. The bytes are shared. Returns `OutOfMemory` if an allocation fails.
     pub fn clone(&self) -> Result<CheckedPostings, Fault>
         ensures same { IfOk result (λ checked. checked ≡ self.now) }
         ensures only { OnlyMemory result }
@@ -217,42 +217,42 @@ impl CheckedPostings {
         })
     }
 
-    /// The option that the field of the term records.
+    /// Returns the option that the field of the term records.
     pub fn record_option(&self) -> IndexRecordOption
         ensures { result ≡ self.now.recorded }
     {
         self.record_option
     }
 
-    /// The option that was requested.
+    /// Returns the requested option.
     pub fn requested_option(&self) -> IndexRecordOption
         ensures { result ≡ self.now.requested }
     {
         self.requested_option
     }
 
-    /// How many documents the term is in.
+    /// Returns the number of documents of the term.
     pub fn doc_freq(&self) -> u32
         ensures { result ≡ self.now.doc_freq }
     {
         self.doc_freq
     }
 
-    /// Whether counts are read.
+    /// Returns whether term frequencies are read.
     pub fn freq_reading_option(&self) -> FreqReadingOption
         ensures { result ≡ self.now.freq_reading }
     {
         self.freq_reading_option
     }
 
-    /// Whether the term has counts, or would have some if it was in 128 documents.
+    /// Returns whether the term has term frequencies, or would have them if it was in 128 documents.
     pub fn has_freq(&self) -> bool
         ensures { result ≡ has_freq self.now.postings.skip.skip_info }
     {
         self.places.skip_info.has_freq()
     }
 
-    /// A skip reader at the first block.
+    /// Opens a skip reader at the first block.
     pub fn skip_reader(&self) -> SkipReader
         ensures at { IsAtBlock self.now result }
         ensures first { result.block ≡ 0 }
@@ -260,7 +260,7 @@ impl CheckedPostings {
         SkipReader::new(self.skip_data(), self.doc_freq, self.places.skip_info)
     }
 
-    /// Goes on to the next block; after the last one it stays at an empty one.
+    /// Moves to the next block; after the last one there is an empty one, where it stays.
     pub fn advance(&self, skip: &mut SkipReader)
         requires { IsAtBlock self.now skip.old }
         ensures at { IsAtBlock self.now skip.new }
@@ -269,8 +269,8 @@ impl CheckedPostings {
         skip.advance(self.skip_data());
     }
 
-    /// Goes on to the first block, from the current one on, whose last document isn't below `target`,
-    /// or else to the last block; from there on it stays. Answers whether it moved.
+    /// Moves to the first block, from the current one on, whose last document is at least `target`, or else
+    /// to the last block. If it is already there, or after it, it doesn't move. Returns whether it moved.
     pub fn seek(&self, skip: &mut SkipReader, target: DocId) -> bool
         requires at { IsAtBlock self.now skip.old }
         requires up_to { target ≤ TERMINATED }
@@ -281,9 +281,9 @@ impl CheckedPostings {
         skip.seek(self.skip_data(), target)
     }
 
-    /// Goes on to the first block behind the current one, which is full, that neither ends below `target`
-    /// nor has only counts below `least`, as its bound says; or else to the documents after the full
-    /// blocks.
+    /// Moves past the current block, which is full, to the first one that may match: it ends at or above
+    /// `target`, and its bound allows a term frequency of at least `least`. If there is none it moves to the
+    /// documents after the full blocks.
     pub fn seek_with_freq(&self, skip: &mut SkipReader, target: DocId, least: u32)
         requires at { IsAtBlock self.now skip.old }
         requires full { skip.old.block < self.now.doc_freq / 128 }
@@ -291,7 +291,7 @@ impl CheckedPostings {
         ensures at { IsAtBlock self.now skip.new }
         ensures seeks { SeeksFreq target least self.now.postings skip.old.block skip.new.block }
     {
-        // that each entry tells of its block, for the proof
+        // For the proof: what each entry holds about its block.
         let _entries = self.skip_data();
         self.advance(skip);
         while is_passed(skip, target, least) {
@@ -299,10 +299,10 @@ impl CheckedPostings {
         }
     }
 
-    /// A reader of the positions that `bytes` hold, where both options have them, counts are read and
-    /// bytes are given; or `Positions` where they hold none: not as many as the counts say, or one
-    /// that passes `u32::MAX`. All of them are looked at, and memory is never taken. Elsewhere the
-    /// bytes aren't looked at.
+    /// Opens the positions in `bytes`, if both options have positions, term frequencies are read and bytes
+    /// are given. Else the bytes are ignored. Validates all positions, and never allocates.
+    ///
+    /// Returns `Positions` if they are not as many as the term frequencies say, or one exceeds `u32::MAX`.
     pub fn open_positions(
         &self,
         bytes: Option<Bytes>,
@@ -326,8 +326,8 @@ impl CheckedPostings {
         self.open_counted_positions(bytes, freq_decoder.output_array())
     }
 
-    /// A reader of the positions that `bytes` hold, as `open_positions` gives it, by the counts of the
-    /// last block, which has fewer than 128.
+    /// Opens the positions in `bytes` as `open_positions` does, given the term frequencies of the last block,
+    /// which are fewer than 128.
     pub fn open_counted_positions(
         &self,
         bytes: Option<Bytes>,
@@ -353,7 +353,7 @@ impl CheckedPostings {
         if reader.len() != u128::from(self.num_positions(last_freqs)) {
             return Err(LayoutFault::Damaged(Part::Positions));
         }
-        // no position passes the sum of all deltas
+        // No position exceeds the sum of all deltas.
         if reader.has_small_sum() {
             return Ok(Some(reader));
         }
@@ -363,9 +363,9 @@ impl CheckedPostings {
         Ok(Some(reader.anew()))
     }
 
-    /// A reader of the positions that `bytes` are known to hold, where both options have them, counts
-    /// are read and bytes are given. The width of each of its blocks is looked at, and no positions but
-    /// the last ones; memory is never taken. Elsewhere the bytes aren't looked at.
+    /// Opens the positions that `bytes` are known to hold, if both options have positions, term frequencies
+    /// are read and bytes are given. Else the bytes are ignored. Reads the width of each block and the last
+    /// positions only. Never allocates.
     pub fn open_known_positions(&self, bytes: Option<Bytes>) -> Option<PositionReader>
         requires { IsSome (deltas_if (has_positions (downgrade self.now.recorded self.now.requested)) self.now.postings.freqs bytes) }
         ensures ok { deltas_if (has_positions (downgrade self.now.recorded self.now.requested)) self.now.postings.freqs bytes
@@ -384,8 +384,8 @@ impl CheckedPostings {
         }
     }
 
-    // How many positions the counts say: the skip entries tell it of the full blocks, to which come
-    // the counts of the last one.
+    // Returns the number of positions by the term frequencies: the sums in the skip entries, plus the
+    // frequencies of the last block.
     fn num_positions(&self, last_freqs: &[u32]) -> u64
         requires recorded { has_positions self.now.recorded ≡ true }
         requires read { IsSome self.now.postings.freqs }
@@ -399,7 +399,7 @@ impl CheckedPostings {
         skip.position_offset() + sum_of(last_freqs)
     }
 
-    // Whether positions are read where they are given.
+    // Returns whether positions are read if they are given.
     fn reads_positions(&self) -> bool
         ensures { result ≡ (has_positions (downgrade self.now.recorded self.now.requested) && is_some self.now.postings.freqs) }
     {
@@ -409,7 +409,7 @@ impl CheckedPostings {
             && self.freq_reading_option.is_read()
     }
 
-    // Whether a reader has the positions of the term, as many as its counts say.
+    // Returns whether a reader has the positions of the term, as many as its term frequencies say.
     fn are_positions(&self, reader: &mut PositionReader) -> bool
         requires { IsSome self.now.postings.freqs }
         ensures are { IfSome self.now.postings.freqs (λ freqs. result
@@ -420,7 +420,7 @@ impl CheckedPostings {
         let mut doc_decoder = BlockDecoder::with_val(TERMINATED);
         let mut freq_decoder = BlockDecoder::with_val(NO_FREQ);
         let mut end = 0;
-        // the last block has fewer documents
+        // The last block has fewer documents.
         let blocks = self.doc_freq / COMPRESSION_BLOCK_SIZE as u32 + 1;
         for _block in 0..blocks {
             self.load_block(&skip, &mut doc_decoder, &mut freq_decoder);
@@ -433,8 +433,8 @@ impl CheckedPostings {
         u128::from(end) == reader.len()
     }
 
-    /// Decodes the block at which the skip reader stands: its documents, after which the entries are
-    /// `TERMINATED`, and its counts where they are read, after which they are 1.
+    /// Decodes the block of the skip reader: its documents, followed by `TERMINATED`, and its term
+    /// frequencies if they are read, followed by 1.
     pub fn load_block(
         &self,
         skip: &SkipReader,
@@ -453,7 +453,7 @@ impl CheckedPostings {
         decode_freqs(freq_decoder, info, bytes_from(bytes, used));
     }
 
-    // The bytes from the skip entries on.
+    // Returns the bytes from the skip entries on.
     fn skip_data(&self) -> &[u8]
         ensures entries { IsSkipData self.now result.now }
         ensures given { AreGiven self.now }
@@ -461,7 +461,7 @@ impl CheckedPostings {
         bytes_from(self.bytes.as_slice(), self.places.entries)
     }
 
-    // The bytes from the blocks on.
+    // Returns the bytes from the blocks on.
     fn body(&self) -> &[u8]
         ensures body { result.now ≡ self.now.postings.skip.body }
         ensures given { AreGiven self.now }

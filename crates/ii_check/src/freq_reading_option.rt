@@ -1,19 +1,19 @@
 ghost use Rattle.std.specs.Prelude.{◌≡◌};
 ghost use Rattle.ii_check.specs.CheckedPostings.{is_read};
 
-/// Whether the counts of a term are read with its documents.
+/// Whether the term frequencies of a term are read with its documents.
 #[derive(Clone, Copy, Debug, PartialEq, Eq)]
 pub enum FreqReadingOption {
-    /// The term has no counts.
+    /// The term has no term frequencies.
     NoFreq,
-    /// Its field records counts, and they weren't requested.
+    /// The field records term frequencies, but they weren't requested.
     SkipFreq,
-    /// They are read.
+    /// The term frequencies are read.
     ReadFreq,
 }
 
 impl FreqReadingOption {
-    /// Whether counts are read.
+    /// Returns whether term frequencies are read.
     pub fn is_read(self) -> bool
         ensures { result ≡ is_read self }
     {

@@ -10,9 +10,8 @@ use ii_codes::{BlockDecoder, COMPRESSION_BLOCK_SIZE};
 use ii_io::vint;
 use ii_layout::SkipPlaces;
 
-/// Where the postings of a term lie in bytes that are known to give them, and whether its counts are
-/// read. A short list is read into the decoders; of a longer one nothing is looked at but the number of
-/// bytes of its skip list.
+/// Returns where the known postings of a term lie in its bytes, and whether its term frequencies are read.
+/// Reads a short list into the decoders; of a longer one only the length of its skip list.
 pub(crate) fn known_postings(
     doc_freq: u32,
     bytes: &[u8],
@@ -43,7 +42,7 @@ pub(crate) fn known_postings(
     (places, reading)
 }
 
-// The places of the skip list of a term in 128 documents or more, which is known to be there.
+// Returns the places of the skip list of a term in 128 documents or more, which is known to exist.
 fn known_places(doc_freq: u32, bytes: &[u8], record_option: IndexRecordOption) -> SkipPlaces
     requires long { 128 ≤ doc_freq }
     requires there { IsSome (skip_list record_option (doc_freq / 128) bytes.now) }
@@ -61,7 +60,8 @@ fn known_places(doc_freq: u32, bytes: &[u8], record_option: IndexRecordOption) -
     }
 }
 
-// As which option entries stand in so many bytes: too few for counts mean that there are none.
+// Returns the option that gives the shape of the entries: `Basic` if `len` bytes are too few for term
+// frequencies.
 fn known_skip_info(record_option: IndexRecordOption, blocks: u32, len: u64) -> IndexRecordOption
     ensures { result ≡ skip_info_of record_option blocks len }
 {

@@ -1,4 +1,4 @@
-//! The whole check of a term's postings where they are opened, and what lends their blocks.
+//! Validates a term's postings completely when they are opened, and then gives their blocks.
 #![tactic(auto)]
 
 mod check;

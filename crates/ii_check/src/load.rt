@@ -8,11 +8,11 @@ use ii_base::{DocId, TERMINATED};
 use ii_codes::{BlockDecoder, VIntDecoder};
 use ii_layout::{BlockInfo, SkipReader};
 
-/// What stands in a decoder after the counts of a block, or in place of counts that aren't read.
+/// The padding in a decoder: after the term frequencies of a block, or where they aren't read.
 pub const NO_FREQ: u32 = 1;
 
-/// Decodes the documents of a block after a last document, and answers how many bytes they take. The
-/// entries after them are `TERMINATED`.
+/// Decodes the documents of a block after the document `before`, and returns how many bytes they take.
+/// `TERMINATED` follows them in the decoder.
 pub(crate) fn decode_docs(
     decoder: &mut BlockDecoder,
     block_info: BlockInfo,
@@ -37,8 +37,7 @@ pub(crate) fn decode_docs(
     }
 }
 
-/// Decodes the counts of a block, from the bytes after its documents on. The entries after them are
-/// 1.
+/// Decodes the term frequencies of a block from the bytes after its documents. 1 follows them in the decoder.
 pub(crate) fn decode_freqs(decoder: &mut BlockDecoder, block_info: BlockInfo, bytes: &[u8])
     requires few { num_vints block_info ≤ 128 }
     requires valid { IsSome (freqs_in block_info bytes.now) }
@@ -58,8 +57,8 @@ pub(crate) fn decode_freqs(decoder: &mut BlockDecoder, block_info: BlockInfo, by
     }
 }
 
-/// Whether the block at which a skip reader stands ends below `target`, or its bound says that each of its
-/// counts is below `least`.
+/// Returns whether the skip reader's block ends below `target`, or its bound says that each of its term
+/// frequencies is below `least`.
 pub(crate) fn is_passed(skip: &SkipReader, target: DocId, least: u32) -> bool
     ensures { result ≡ (nat_lt skip.now.last_doc_in_block target || excludes_in least skip.now.block_info) }
 {
@@ -75,7 +74,7 @@ pub(crate) fn is_passed(skip: &SkipReader, target: DocId, least: u32) -> bool
     }
 }
 
-// Whether a bound, of which 0 says nothing, is below a count.
+// Returns whether a bound is below a term frequency; 0 means no bound.
 fn excludes(bound: u32, least: u32) -> bool
     ensures { result ≡ excludes least bound }
 {

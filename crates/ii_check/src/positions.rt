@@ -6,8 +6,8 @@ ghost use Rattle.ii_check.specs.Positions.{suffice};
 use ii_codes::COMPRESSION_BLOCK_SIZE;
 use ii_layout::{PositionReader, sum_of};
 
-/// Where the positions of documents with these counts end, which begin at a place, or `None` where
-/// there are too few or one passes `u32::MAX`.
+/// Returns where the positions of documents with these term frequencies end, which begin at `start`. Returns
+/// `None` if there are too few or one exceeds `u32::MAX`.
 pub(crate) fn end_of_positions(
     reader: &mut PositionReader,
     start: u64,
@@ -32,7 +32,7 @@ pub(crate) fn end_of_positions(
     Some(end)
 }
 
-// Whether the last position of a document has 32 bits, whose deltas, so many, begin at a place.
+// Returns whether the last position of a document fits in 32 bits. Its `freq` deltas begin at `start`.
 fn position_fits(reader: &mut PositionReader, start: u64, freq: u32) -> bool
     requires inside { start + freq ≤ length reader.old.deltas }
     requires low { start + freq < 2 ^ 64 }

@@ -1,4 +1,4 @@
--- Rows of bits, written piece by piece and read back.
+-- Lists of bits, written piece by piece and read back.
 use Rattle.std.proofs.Common.{◌≡◌, ℕ, zero, suc, ◌+◌, ◌*◌, ◌/◌, ◌%◌, ◌^◌, ◌<◌, ◌≤◌, List, [], ◌∷◌, ◌++◌, length, take, drop, refl, sym, ap, ◌∙◌, arith, append_assoc, length-append}
 use Rattle.std.proofs.lemmas.List.{append-nil, length-take-le, take-append-drop, get_or_append_left, get_or-append-add, drop-append-le, drop-drop}
 use Rattle.std.proofs.lemmas.Nat.Bits.{bit_at-lt}
@@ -6,7 +6,7 @@ use Rattle.ii_codes.specs.Packed.{bit_in, bits_in, entries_in}
 use Rattle.ii_codes.specs.Bits.{low_bits, whole_bytes, bits_left, bits_bytes, WritesOneRow, ReadsFromItsPlace}
 use Rattle.ii_codes.proofs.PackedLemmas.{same_as_bits_in, entries_in-zero, entries_in-more, length-entries_in, bit_in-entries_in}
 use Rattle.ii_codes.proofs.PackedLaws.{bits_in_same, bits_in-append}
-use Rattle.ii_codes.specs.BitsLemmas.{length-low_bits, length-bits_left}
+use Rattle.ii_codes.proofs.BitsLemmas.{length-low_bits, length-bits_left}
 use Rattle.ii_codes.proofs.BitLemmas.{get_or-low_bits}
 
 -- entries of the front
@@ -30,7 +30,7 @@ bits_after p q place j n e =
     bits_in_same 1 1 (p ++ q) q place j n
     (λ i small. let there : place + i ≡ length p + (j + i) = omega arith in rw there (bit_after p q (j + i)))
 
--- a row after whole bytes
+-- bits after complete bytes
 aligned : (p q : List ℕ) (n m : ℕ) → length p ≡ n * 8 → entries_in 1 8 (n + m) (p ++ q) ≡ entries_in 1 8 n p ++ entries_in 1 8 m q
 aligned p q n zero h =
     let same : n + 0 ≡ n = omega arith in
@@ -41,7 +41,7 @@ aligned p q n (suc m) h =
     rw (one, other, entries_in-more 1 8 (n + m) (p ++ q), entries_in-more 1 8 m q, aligned p q n m h, bits_after p q ((n + m) * 8) (m * 8) 8 (omega arith))
     (append_assoc (entries_in 1 8 n p) (entries_in 1 8 m q) (bits_in 1 q (m * 8) 8 ∷ []))
 
--- a row in whole bytes and what is left
+-- bits as complete bytes and the remaining bits
 split_row : (xs : List ℕ) → xs ≡ take (length xs / 8 * 8) xs ++ bits_left xs
 split_row xs = sym (take-append-drop (length xs / 8 * 8) xs)
 

@@ -1,4 +1,4 @@
--- Laws of rows of single bits.
+-- Laws of lists of bits.
 use Rattle.std.proofs.Common.{◌≡◌, ℕ, zero, suc, ◌+◌, ◌-◌, ◌*◌, ◌/◌, ◌%◌, ◌^◌, ◌<◌, ◌≤◌, List, [], ◌∷◌, ◌++◌, length, take, drop, get_or, refl, sym, ap, ◌∙◌, arith, length-append, length-drop, min, ⊎_elim}
 use Rattle.std.specs.Prelude.{slice_set}
 use Rattle.std.proofs.lemmas.Bool.{cases_lt}
@@ -7,7 +7,7 @@ use Rattle.std.proofs.lemmas.List.{append-nil, same_lists, get_or_append_left, g
 use Rattle.std.specs.Int.{bit_at}
 use Rattle.ii_codes.specs.Packed.{bit_in, bits_in, entries_in}
 use Rattle.ii_codes.specs.Bits.{low_bits, whole_bytes, bits_left, bits_bytes}
-use Rattle.ii_codes.specs.BitsLemmas.{length-low_bits}
+use Rattle.ii_codes.proofs.BitsLemmas.{length-low_bits}
 use Rattle.ii_codes.proofs.PackedLemmas.{bits_in-lt, bit_at-bits_in, bits_in-push, same_as_bits_in, entries_in-zero, entries_in-more, read_more}
 
 pub get_or-low_bits : (w n i : ℕ) → i < w → get_or (low_bits w n) i 0 ≡ bit_at n i

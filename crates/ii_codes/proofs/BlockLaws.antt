@@ -1,4 +1,4 @@
--- Blocks that are written are read back.
+-- Written blocks are read back.
 use Rattle.std.proofs.Common.{◌≡◌, ℕ, zero, suc, ◌+◌, ◌-◌, ◌*◌, ◌^◌, ◌<◌, ◌≤◌, ◌≢◌, Bool, true, false, List, [], ◌∷◌, ◌++◌, length, get_or, Some, eqb, refl, sym, ap, ◌∙◌, arith, cond, length-append, add-one}
 use Rattle.std.proofs.lemmas.Bool.{le-leb, lt-ltb}
 use Rattle.std.proofs.lemmas.List.{drop_at, length-map}
@@ -8,7 +8,7 @@ use Rattle.ii_codes.specs.Sums.{fit_u32}
 use Rattle.ii_codes.proofs.PackedLaws.{length-packed, unpacked-packed, unpacked-append}
 use Rattle.ii_codes.proofs.WidthLemmas.{least_width-fits, least_width-least}
 
--- Values that may stand after a least one, each with its gap.
+-- Values that are at least the minimum at their place.
 pub record AreSpaced (gap least : ℕ) (vs : List ℕ) : Type 0 where
   pub first : 0 < length vs → least ≤ get_or vs 0 0
   pub others : (k : ℕ) → suc k < length vs → get_or vs k 0 + gap ≤ get_or vs (suc k) 0

@@ -171,7 +171,7 @@ pub wrapped_same : (gap n m : ℕ) (es : List ℕ) → n % 4294967296 ≡ m % 42
 wrapped_same gap n m [] h = refl
 wrapped_same gap n m (e ∷ es) h = cons_same (omega arith) (wrapped_same gap (n + e + gap) (m + e + gap) es (omega arith))
 
--- eight values after one, as they stand in 32 bits
+-- eight values after one, modulo 2 ^ 32
 abbrev pub after : ℕ → List ℕ → List ℕ
 after b sums = map (λ s. (b + s) % 4294967296) sums
 

@@ -1,4 +1,4 @@
--- How many values are read.
+-- The number of values that are read.
 use Rattle.std.proofs.Common.{◌≡◌, ℕ, zero, suc, ◌+◌, ◌*◌, Bool, List, [], ◌∷◌, length, Some, nat_le, refl, sym, ap, ◌∙◌}
 use Rattle.ii_io.specs.Steps.{needs}
 use Rattle.ii_io.specs.StepLemmas.{step-some, some-same}

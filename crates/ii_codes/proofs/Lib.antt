@@ -17,3 +17,4 @@ pub mod WideLaneLemmas
 pub mod WidthLemmas
 pub mod WindowLemmas
 pub mod WorkedRows
+pub mod BitsLemmas

@@ -19,7 +19,7 @@ entry_bits w row k =
     let same = rw whole at low in
     sym same ∙ sym (bit_in_at w k i row small))
 
--- The same with the place in the bytes, and how many bits stand in the word.
+-- The same with the place in the bytes, and the number of bits in the word.
 record IsPacking (w k end word bits : ℕ) (entries out : List ℕ) : Type 0 where
   pub place : end * 8 + bits ≡ k * w
   pub few : bits < 32
@@ -146,7 +146,7 @@ adding-written w g i word e x entries old new h full bytes =
     packed_up_to w (32 * g + i + 1) (4 * (g * w + i * w / 32) + 4) ((word + x) / 2 ^ 32) (i * w % 32 + w - 32) entries new
     (word_written w (32 * g + i) (4 * (g * w + i * w / 32)) (i * w % 32) (word + x) entries old new p.place p.few p.whole p.written h.narrow (more_of w g i word e x entries old h).0 full bytes)
 
--- 32 entries begin with a whole word
+-- 32 entries start with a complete word
 pub packing-starts : (w g : ℕ) (entries out : List ℕ) → take (4 * g * w) out ≡ entries_in w 8 (4 * g * w) entries → IsPackedUpTo w (32 * g + 0) 0 entries out
 packing-starts w g entries out h =
     let whole : 4 * ((32 * g + 0) * w / 32) ≡ 4 * g * w = omega arith in

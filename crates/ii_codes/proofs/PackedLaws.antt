@@ -1,4 +1,4 @@
--- What bytes hold, and what is read back of what is packed.
+-- Laws of the entries that bytes hold, and of reading packed entries back.
 use Rattle.std.proofs.Common.{◌≡◌, ℕ, suc, ◌+◌, ◌*◌, ◌/◌, ◌%◌, ◌^◌, ◌<◌, ◌≤◌, List, ◌++◌, length, get_or, sym, ap, ◌∙◌, arith}
 use Rattle.std.proofs.Math.Nat.{suc-mul, mul-le-mul_right}
 use Rattle.std.proofs.lemmas.Nat.{div_below}
@@ -55,7 +55,7 @@ pub bits_in_same : (v w : ℕ) (xs ys : List ℕ) (p q n : ℕ) → ((i : ℕ) �
 bits_in_same v w xs ys p q n h =
     same_as_bits_in w ys q n (bits_in v xs p n) (bits_in-lt v xs p n) (λ i small. bit_at-bits_in v xs p n i small ∙ h i small)
 
--- bits of the front are bits of the whole
+-- bits of a prefix are bits of the complete list
 pub bit_in-append : (w : ℕ) (xs ys : List ℕ) (j : ℕ) → 0 < w → j < length xs * w → bit_in w (xs ++ ys) j ≡ bit_in w xs j
 bit_in-append w xs ys j some h =
     ap (λ (x : ℕ). bit_at x (j % w)) (get_or_append_left xs ys 0 (j / w) (div_below j w (length xs) some h))

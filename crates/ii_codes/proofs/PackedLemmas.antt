@@ -1,4 +1,4 @@
--- Laws of rows of entries.
+-- Laws of lists of entries.
 use Rattle.std.proofs.Common.{◌≡◌, ℕ, zero, suc, ◌+◌, ◌*◌, ◌/◌, ◌%◌, ◌^◌, ◌<◌, ◌≤◌, List, [], ◌∷◌, ◌++◌, length, take, get_or, set, slice_index, refl, sym, ap, ◌∙◌, arith, add-one}
 use Rattle.std.proofs.Math.Nat.{pow-suc, suc-mul, mul-le-mul_right}
 use Rattle.std.proofs.Math.Pow.{pow_mono}

@@ -1,4 +1,4 @@
--- Laws of packing by pairs of neighbours.
+-- Laws of packing by pairs of neighbors.
 use Rattle.std.proofs.Common.{◌≡◌, ℕ, zero, suc, ◌+◌, ◌*◌, ◌/◌, ◌%◌, ◌^◌, ◌<◌, ◌≤◌, List, [], ◌∷◌, ◌++◌, length, take, get_or, refl, sym, ap, ◌∙◌, arith, append_assoc, append-nil}
 use Rattle.std.proofs.Math.Nat.{mod-eq_of_lt, mul-le-mul_right, pow-suc, suc-mul}
 use Rattle.std.proofs.Math.Pow.{pow_mono}

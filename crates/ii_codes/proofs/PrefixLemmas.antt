@@ -1,4 +1,4 @@
--- Laws of values that are summed up without a test of each.
+-- Laws of values that are summed without testing each.
 use Rattle.std.proofs.Common.{◌≡◌, ℕ, suc, ap, ◌+◌, ◌*◌, ◌%◌, ◌^◌, ◌<◌, ◌≤◌, Bool, true, false, ◌&&◌, List, [], ◌∷◌, ◌++◌, length, take, drop, map, get_or, set, nat_lt, refl, sym, ◌∙◌, arith, append_assoc, ⊎_elim}
 use Rattle.std.proofs.Math.Bool.{and-false, and-true}
 use Rattle.std.proofs.lemmas.Bool.{cases_lt, lt-ltb, le-ltb, ltb-true, and_parts}
@@ -9,7 +9,7 @@ use Rattle.std.specs.List.{sum}
 use Rattle.ii_codes.specs.Blocks.{values_from, unsorted_values}
 use Rattle.ii_codes.specs.Sums.{fit_u32}
 
--- the values as they stand in 32 bits
+-- the values modulo 2 ^ 32
 abbrev pub wrapped_from : ℕ → ℕ → List ℕ → List ℕ
 wrapped_from gap least es = map (λ v. v % 2 ^ 32) (values_from gap least es)
 
@@ -44,7 +44,7 @@ pub on_true : (b : Bool) {P : Type 0} → (b ≡ true → P) → OnTrue b P
 on_true true p = p refl
 on_true false p = tt
 
--- values that fit stand as they are
+-- values that fit are unchanged modulo 2 ^ 32
 pub fit_wrapped : (vs : List ℕ) → fit_u32 vs ≡ true → map (λ v. v % 2 ^ 32) vs ≡ vs
 fit_wrapped [] h = refl
 fit_wrapped (v ∷ vs) h =
@@ -67,7 +67,7 @@ pub summing-values : (gap least next k : ℕ) (es out : List ℕ) → IsSumming 
 summing-values gap least next k es out h done full =
     on_true (nat_lt next (2 ^ 32 + gap)) (λ fits. summing-all gap least next k es out h done full (sym (summing-fits gap least next k es out h done) ∙ fits))
 
--- the values one above entries, as they stand in 32 bits
+-- the values one more than entries, modulo 2 ^ 32
 abbrev pub wrapped_above : List ℕ → List ℕ
 wrapped_above es = map (λ v. v % 2 ^ 32) (unsorted_values true es)
 

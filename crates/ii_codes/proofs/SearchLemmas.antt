@@ -43,7 +43,7 @@ pub high_above : (target : ℕ) (xs : List ℕ) (i : ℕ) → IsNonDecreasing xs
 high_above target [] i h past inside = absurd (omega arith)
 high_above target (x ∷ xs) i h past inside = high_cases target x xs i (nat_lt x target) (λ k after within. high_above target xs k (sorted_tail x xs h) after within) h refl past inside
 
--- A search that is under way: what it looks for lies in so many places from its start on.
+-- The state of a search: the result is in a range of places from its start on.
 pub record IsSearching (target : ℕ) (xs : List ℕ) (start size : ℕ) : Type 0 where
   pub some : 0 < size
   pub within : start + size ≤ length xs

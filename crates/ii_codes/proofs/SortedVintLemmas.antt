@@ -1,4 +1,4 @@
--- Laws of rows of vints.
+-- Laws of vints.
 use Rattle.std.proofs.Common.{◌≡◌, ℕ, zero, suc, ◌+◌, ◌-◌, ◌*◌, ◌%◌, ◌^◌, ◌<◌, ◌≤◌, Bool, true, false, ◌&&◌, nat_lt, List, [], ◌∷◌, ◌++◌, length, take, drop, set, Option, Some, None, refl, sym, ap, ◌∙◌, arith, append_assoc, get_or}
 use Rattle.std.specs.Option.{option_map}
 use Rattle.std.specs.List.{flat_map, AllByRecursion}
@@ -62,11 +62,11 @@ first_in_front : (d n : ℕ) (rest : List ℕ) (o : Option (List ℕ × List ℕ
 first_in_front d n rest None = refl
 first_in_front d n rest (Some f) = refl
 
--- the next value stands
+-- the next value is there
 u32s_at-more : (n d : ℕ) (bytes rest : List ℕ) → Some (d, rest) ≡ u32_at bytes → u32s_at (suc n) bytes ≡ in_front (d ∷ []) (u32s_at n rest)
 u32s_at-more n d bytes rest e = rw (← e) (first_in_front d n rest (u32s_at n rest))
 
--- What a reader knows that has i values in its output, from so many bytes.
+-- The state of a reader with i values in its output, after some bytes.
 pub record IsReadingRow (bytes output : List ℕ) (i used : ℕ) : Type 0 where
   pub within : used ≤ length bytes
   pub row : u32s_at (length output) bytes ≡ in_front (take i output) (u32s_at (length output - i) (drop used bytes))
@@ -129,7 +129,7 @@ sorted_vints_at-more before n d bytes rest e = rw (u32s_at-more n d bytes rest e
 sorted_vints_at-none : (before n : ℕ) (bytes : List ℕ) → None ≡ u32_at bytes → sorted_vints_at before (suc n) bytes ≡ None
 sorted_vints_at-none before n bytes e = rw (u32s_at-none n bytes e) refl
 
--- What a reader of sorted values knows that has i values in its output, of which the last is this one, from so many bytes.
+-- The state of a reader of sorted values with i values in its output, the last value, and some bytes read.
 pub record IsReadingSums (offset last : ℕ) (bytes output : List ℕ) (i used : ℕ) : Type 0 where
   pub within : used ≤ length bytes
   pub row : sorted_vints_at offset (length output) bytes ≡ in_front (take i output) (sorted_vints_at last (length output - i) (drop used bytes))
@@ -185,7 +185,7 @@ until_end-none zero bytes h = refl
 until_end-none (suc n) [] h = refl
 until_end-none (suc n) (b ∷ bs) h = absurd (omega arith)
 
--- What a reader to the end knows that has k values in its output, from so many bytes.
+-- The state of a reader until the end with k values in its output, after some bytes.
 pub record IsReadingOn (bytes output : List ℕ) (k used : ℕ) : Type 0 where
   pub inside : used ≤ length bytes
   pub on : u32s_until_end (length output) bytes ≡ ends_with (take k output) (u32s_until_end (length output - k) (drop used bytes))

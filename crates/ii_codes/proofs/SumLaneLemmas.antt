@@ -45,7 +45,7 @@ added_all n k es lanes h done =
     let whole : 0 + sum_l lanes ≡ sum_l es = omega (arith, total) in
     whole ∙ sum_l-is es
 
--- 128 entries of so many bits
+-- 128 entries of a width
 entries_most : (w b : ℕ) (bytes : List ℕ) → w ≤ b → Each1 (λ (a : ℕ). a ≤ 2 ^ b - 1) (unpacked w bytes)
 entries_most w b bytes narrow =
     Each1-from_get_or (λ (a : ℕ). a ≤ 2 ^ b - 1) (unpacked w bytes) 0

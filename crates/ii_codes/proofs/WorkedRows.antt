@@ -1,4 +1,4 @@
--- Worked rows, each computed.
+-- Computed examples.
 use Rattle.std.specs.Prelude.{◌≡◌, ℕ, ◌*◌, [], ◌∷◌, ◌++◌, map, Some, None, replicate, true, false, refl}
 use Rattle.std.specs.List.{range_with_len}
 use Rattle.ii_codes.specs.Search.{count_below}

@@ -1,4 +1,4 @@
--- Rows of single bits, the lowest first.
+-- Lists of bits, the lowest first.
 use Rattle.std.specs.Prelude.{◌≡◌, ℕ, zero, suc, ◌+◌, ◌*◌, ◌/◌, ◌%◌, ◌^◌, ◌<◌, List, [], ◌∷◌, ◌++◌, length, drop}
 use Rattle.ii_codes.specs.Packed.{bits_in, entries_in}
 
@@ -7,19 +7,19 @@ abbrev pub low_bits : ℕ → ℕ → List ℕ
 low_bits zero n = []
 low_bits (suc w) n = n % 2 ∷ low_bits w (n / 2)
 
--- the bytes that bits fill wholly, and the bits that are left after those
+-- the complete bytes of bits
 unfoldable pub whole_bytes : List ℕ → List ℕ
 whole_bytes bits = entries_in 1 8 (length bits / 8) bits
 
--- the bits that make no whole byte
+-- the bits after the complete bytes
 abbrev pub bits_left : List ℕ → List ℕ
 bits_left bits = drop (length bits / 8 * 8) bits
 
--- the bytes of bits, with zero bits up to the end of the last byte
+-- the bytes of bits, padded with zeros
 unfoldable pub bits_bytes : List ℕ → List ℕ
 bits_bytes bits = entries_in 1 8 ((length bits + 7) / 8) bits
 
--- What bits give piece by piece is what they give as one row.
+-- Bits written piece by piece give the same bytes as all bits at once.
 abbrev pub WritesOneRow : Type 0
 WritesOneRow =
     (before more : List ℕ)
@@ -27,7 +27,7 @@ WritesOneRow =
     × (bits_left (bits_left before ++ more) ≡ bits_left (before ++ more))
     × (whole_bytes before ++ bits_bytes (bits_left before) ≡ bits_bytes before)
 
--- A number is read back from its place, whatever stands before and after.
+-- A number is read back from its place, whatever is before and after it.
 abbrev pub ReadsFromItsPlace : Type 0
 ReadsFromItsPlace =
     (before after rest : List ℕ) (w n : ℕ) → n < 2 ^ w

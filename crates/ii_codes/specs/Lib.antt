@@ -1,5 +1,4 @@
 pub mod Bits
-pub mod BitsLemmas
 pub mod BlockDecoder
 pub mod Blocks
 pub mod Packed

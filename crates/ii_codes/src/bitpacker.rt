@@ -7,7 +7,7 @@ use ii_io::{CountingWriter, Fault, LimitName};
 use std::io::Write;
 use std::marker::Model;
 
-/// How many bits `n` takes, from 0 to 64: 0 for 0.
+/// Returns the number of bits of `n`, from 0 to 64.
 pub fn compute_num_bits(n: u64) -> u8
     ensures value { result ≡ num_bits n }
     ensures most { result ≤ 64 }
@@ -16,8 +16,8 @@ pub fn compute_num_bits(n: u64) -> u8
     (u64::BITS - n.leading_zeros()) as u8
 }
 
-/// The number that `num_bits` bits of `bytes`, at most 56, make from bit `addr_bits` on, the lowest
-/// first. Bit `j` of bytes is bit `j % 8` of byte `j / 8`.
+/// Returns the number in `num_bits` bits of `bytes`, at most 56, from bit `addr_bits` on, the lowest first.
+/// Bit `j` is bit `j % 8` of byte `j / 8`.
 #[inline(always)]
 pub fn extract_bits(bytes: &[u8], addr_bits: usize, num_bits: u8) -> u64
     requires narrow { num_bits ≤ 56 }
@@ -28,9 +28,8 @@ pub fn extract_bits(bytes: &[u8], addr_bits: usize, num_bits: u8) -> u64
     super::packed::read_bits(bytes, addr_bits, num_bits)
 }
 
-/// Writes numbers of any widths as one row of bits, the lowest first, and each whole byte at once.
-/// What it has still to write are fewer than eight bits. Bytes that a fault kept from the writer are
-/// not written again.
+/// Writes numbers of any widths as consecutive bits, the lowest first. Complete bytes are written at once,
+/// so fewer than eight bits are pending. Bytes that were lost to an error are not written again.
 #[derive(Drop)]
 pub struct BitPacker {
     mini_buffer: u8,
@@ -49,7 +48,7 @@ impl Model for BitPacker {
 }
 
 impl BitPacker {
-    /// A packer with no bit to write.
+    /// Creates a packer without pending bits.
     pub fn new() -> BitPacker
         ensures { result ≡ [] }
     {
@@ -59,14 +58,14 @@ impl BitPacker {
         }
     }
 
-    /// Adds the `num_bits` lowest bits of `val`, at most 64, which has no others, and puts the bytes
-    /// that are then whole at the front of `whole`, which has room for 8. Answers how many they are.
+    /// Appends the `num_bits` lowest bits of `val`, at most 64; its other bits must be 0. Puts the complete
+    /// bytes at the start of `whole`, which must have room for 8, and returns their number.
     pub fn push(&mut self, val: u64, num_bits: u8, whole: &mut [u8]) -> usize
         requires narrow { num_bits ≤ 64 }
         requires fits { val < 2 ^ num_bits }
         requires room { 8 ≤ length whole.old }
 
-        // The whole bytes, and the bits that are left.
+        // The complete bytes, and the pending bits.
         ensures bytes { take result whole.new ≡ whole_bytes (self.old ++ low_bits num_bits val) }
         ensures count { result ≡ (length self.old + num_bits) / 8 }
         ensures few { result ≤ 8 }
@@ -84,8 +83,8 @@ impl BitPacker {
         usize::from(count)
     }
 
-    /// Puts the bits that are left, with zero bits up to the end of the byte, at the front of `last`.
-    /// Answers how many bytes they are, 0 or 1.
+    /// Puts the pending bits, padded with zeros, at the start of `last`. Returns the number of bytes, 0 or
+    /// 1.
     pub fn finish(&mut self, last: &mut [u8]) -> usize
         requires room { 0 < length last.old }
         ensures bytes { take result last.new ≡ bits_bytes self.old }
@@ -101,9 +100,11 @@ impl BitPacker {
         count
     }
 
-    /// Adds the `num_bits` lowest bits of `val`, at most 64, which has no others, and writes the
-    /// bytes that are then whole. Answers `Write` where the writer fails, and `Limit(Offset)` where
-    /// one of its counts would pass `u64::MAX`.
+    /// Appends the `num_bits` lowest bits of `val`, at most 64, and writes the complete bytes. The other
+    /// bits of `val` must be 0.
+    ///
+    /// Returns `Write` if the writer fails, and `Limit(Offset)` if one of its counts would exceed
+    /// `u64::MAX`.
     pub fn write<W: Write>(
         &mut self,
         val: u64,
@@ -121,8 +122,7 @@ impl BitPacker {
         output.write_all(&bytes[..count])
     }
 
-    /// Writes the bits that are left, with zero bits up to the end of the byte. Answers the faults
-    /// of `write`.
+    /// Writes the pending bits, padded with zeros. Returns the errors of `write`.
     pub fn flush<W: Write>(&mut self, output: &mut CountingWriter<W>) -> Result<(), Fault>
         ensures written { Writes output.old output.new (bits_bytes self.old) result }
         ensures left { self.new ≡ [] }
@@ -133,7 +133,7 @@ impl BitPacker {
         output.write_all(&byte[..count])
     }
 
-    /// Writes the bits that are left, as `flush` does.
+    /// Writes the pending bits, as `flush` does.
     pub fn close<W: Write>(&mut self, output: &mut CountingWriter<W>) -> Result<(), Fault>
         ensures written { Writes output.old output.new (bits_bytes self.old) result }
         ensures left { self.new ≡ [] }
@@ -153,7 +153,7 @@ impl Default for BitPacker {
     }
 }
 
-// Bit `place` of the `len` bits of `low` and those of `val` after them, 0 after all.
+// Returns bit `place` of the `len` bits of `low` followed by those of `val`, or 0 after all.
 fn bit_of(low: u8, len: u8, val: u64, num_bits: u8, place: u8) -> u8
     requires short { len < 8 }
     requires narrow { num_bits ≤ 64 }
@@ -168,7 +168,7 @@ fn bit_of(low: u8, len: u8, val: u64, num_bits: u8, place: u8) -> u8
     0
 }
 
-// Byte `j` of that row of bits.
+// Returns byte `j` of these bits.
 fn byte_of_bits(low: u8, len: u8, val: u64, num_bits: u8, j: u8) -> u8
     requires short { len < 8 }
     requires narrow { num_bits ≤ 64 }
@@ -182,12 +182,12 @@ fn byte_of_bits(low: u8, len: u8, val: u64, num_bits: u8, j: u8) -> u8
     byte
 }
 
-/// The law of writing: what is written piece by piece is what is written as one row of bits.
+/// Law of writing: numbers written one by one give the same bytes as all bits at once.
 pub fn writes_one_row()
     ensures { WritesOneRow }
 {}
 
-/// The law of reading: a number of a row is extracted from its place, whatever stands around it.
+/// Law of reading: a number is extracted from its place, whatever is around it.
 pub fn reads_from_its_place()
     ensures { ReadsFromItsPlace }
 {}

@@ -4,11 +4,11 @@ ghost use Rattle.ii_codes.specs.Search.{count_below};
 
 use super::COMPRESSION_BLOCK_SIZE;
 
-// So many comparisons tell 128 places apart.
+// The number of comparisons for 128 entries.
 const COMPARISONS: u32 = 7;
 
-/// How many of the 128 entries of `arr` lie below `target`. They don't fall, and the target isn't
-/// above the last one. Seven entries are compared with it, whatever these are.
+/// Returns how many of the 128 entries of `arr` are less than `target`, always with seven comparisons. The
+/// entries must not decrease, and the target must be at most the last one.
 pub fn branchless_binary_search(arr: &[u32; COMPRESSION_BLOCK_SIZE], target: u32) -> usize
     requires sorted { IsNonDecreasing arr.now }
     requires last { target ≤ slice_index arr.now 127 }

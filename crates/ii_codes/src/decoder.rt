@@ -10,11 +10,11 @@ ghost use Rattle.ii_io.specs.Vints.{u32s_at};
 
 use super::block_search::branchless_binary_search;
 use super::{COMPRESSION_BLOCK_SIZE, packed, vint};
-use ii_io::{LayoutFault, Part, GhostCounter};
+use ii_io::{GhostCounter, LayoutFault, Part};
 use std::alloc::AllocError;
 use std::marker::Model;
 
-/// The 128 values decoded last, the first `output_len` of them from bytes.
+/// The 128 values decoded last. The first `output_len` of them were decoded from bytes.
 #[derive(Drop)]
 pub struct BlockDecoder {
     output: [u32; COMPRESSION_BLOCK_SIZE],
@@ -34,7 +34,7 @@ impl Model for BlockDecoder {
 }
 
 impl BlockDecoder {
-    /// A decoder whose 128 entries are `val`, with nothing decoded.
+    /// Creates a decoder whose 128 entries are `val`, with nothing decoded.
     pub fn with_val(val: u32) -> BlockDecoder
         ensures { result ≡ record { output = replicate 128 val; output_len = 0; decodes = 0 } }
     {
@@ -45,7 +45,7 @@ impl BlockDecoder {
         }
     }
 
-    /// The values decoded last, at most 128.
+    /// Returns the values decoded last, at most 128.
     pub fn output_array(&self) -> &[u32]
         ensures values { result.now ≡ take self.now.output_len self.now.output }
         ensures len { length result.now ≡ self.now.output_len }
@@ -54,7 +54,7 @@ impl BlockDecoder {
         &self.output[..self.output_len]
     }
 
-    /// How many values were decoded last, at most 128.
+    /// Returns how many values were decoded last, at most 128.
     pub fn output_len(&self) -> usize
         ensures len { result ≡ self.now.output_len }
         ensures few { result ≤ 128 }
@@ -62,7 +62,8 @@ impl BlockDecoder {
         self.output_len
     }
 
-    /// The entry at `idx`, below 128; after the values decoded last it is padding.
+    /// Returns the entry at `idx`, which must be less than 128. Entries after the values decoded last are
+    /// padding.
     pub fn output(&self, idx: usize) -> u32
         requires { idx < 128 }
         ensures { result ≡ slice_index self.now.output idx }
@@ -70,8 +71,8 @@ impl BlockDecoder {
         self.output[idx]
     }
 
-    /// How many of the 128 entries lie below `target`. They don't fall, and the target isn't above the
-    /// last one. Nothing is decoded.
+    /// Returns how many of the 128 entries are less than `target`, without decoding. The entries must not
+    /// decrease, and the target must be at most the last one.
     pub fn seek_within_block(&self, target: u32) -> usize
         requires sorted { IsNonDecreasing self.now.output }
         requires last { target ≤ slice_index self.now.output 127 }
@@ -80,8 +81,9 @@ impl BlockDecoder {
         branchless_binary_search(&self.output, target)
     }
 
-    /// Decodes `num_els` values as `uncompress_vint_sorted` does, from any bytes. Where they hold no
-    /// such row the part `Documents` is damaged: nothing is held then, and the decode isn't counted.
+    /// Decodes `num_els` values from any bytes, as `uncompress_vint_sorted` does. Returns
+    /// `Damaged(Documents)` if the bytes are corrupt; the decoder is then empty, and the decode isn't
+    /// counted.
     pub fn try_uncompress_vint_sorted(
         &mut self,
         compressed_data: &[u8],
@@ -97,7 +99,7 @@ impl BlockDecoder {
         ensures len { OnOk result (self.new.output_len ≡ num_els) }
         ensures decodes { OnOk result (self.new.decodes ≡ self.old.decodes + decodes_of num_els) }
 
-        // When it is refused, and what stands then.
+        // When it fails, and the state after a failure.
         ensures refused { OnErr result (sorted_vints_at offset num_els compressed_data.now ≡ None) }
         ensures cleared { ClearsOnDamage Part.Documents self.old self.new result }
     {
@@ -112,8 +114,9 @@ impl BlockDecoder {
         self.finish(read, num_els, Part::Documents)
     }
 
-    /// Decodes `num_els` values as `uncompress_vint_unsorted` does, from any bytes. Where a vint is
-    /// missing the part `Frequencies` is damaged: nothing is held then, and the decode isn't counted.
+    /// Decodes `num_els` values from any bytes, as `uncompress_vint_unsorted` does. Returns
+    /// `Damaged(Frequencies)` if a vint is missing; the decoder is then empty, and the decode isn't
+    /// counted.
     pub fn try_uncompress_vint_unsorted(
         &mut self,
         compressed_data: &[u8],
@@ -128,7 +131,7 @@ impl BlockDecoder {
         ensures len { OnOk result (self.new.output_len ≡ num_els) }
         ensures decodes { OnOk result (self.new.decodes ≡ self.old.decodes + decodes_of num_els) }
 
-        // When it is refused, and what stands then.
+        // When it fails, and the state after a failure.
         ensures refused { OnErr result (u32s_at num_els compressed_data.now ≡ None) }
         ensures cleared { ClearsOnDamage Part.Frequencies self.old self.new result }
     {
@@ -142,9 +145,8 @@ impl BlockDecoder {
         self.finish(read, num_els, Part::Frequencies)
     }
 
-    /// Decodes values until the bytes end, at most 128, as `uncompress_vint_unsorted_until_end` does,
-    /// from any bytes. Where a vint is missing the part `Positions` is damaged: nothing is held then,
-    /// and the decode isn't counted.
+    /// Decodes at most 128 values from any bytes, as `uncompress_vint_unsorted_until_end` does. Returns
+    /// `Damaged(Positions)` if a vint is missing; the decoder is then empty, and the decode isn't counted.
     pub fn try_uncompress_vint_unsorted_until_end(
         &mut self,
         compressed_data: &[u8],
@@ -160,9 +162,9 @@ impl BlockDecoder {
         Ok(())
     }
 
-    /// Decodes the block of 128 values of `num_bits` bits that the bytes begin with: the deltas of
-    /// values that ascend from `offset` on, strictly where `strict_delta` is set. Answers how many
-    /// bytes it takes.
+    /// Decodes the block of 128 values of `num_bits` bits at the start of the bytes. The block holds the
+    /// deltas of ascending values after `offset`, strict ones if `strict_delta`. Returns its length in
+    /// bytes.
     pub fn uncompress_block_sorted(
         &mut self,
         compressed_data: &[u8],
@@ -184,9 +186,9 @@ impl BlockDecoder {
         }
     }
 
-    /// Decodes a block as `uncompress_block_sorted` does, from any bytes and of any width. Where the
-    /// width is above 32, bytes are missing or a value passes `u32::MAX`, the part `Documents` is
-    /// damaged: nothing is held then, and the decode isn't counted.
+    /// Decodes a block of any width from any bytes, as `uncompress_block_sorted` does. Returns
+    /// `Damaged(Documents)` if the width exceeds 32, bytes are missing or a value exceeds `u32::MAX`. The
+    /// decoder is then empty, and the decode isn't counted.
     pub fn try_uncompress_block_sorted(
         &mut self,
         compressed_data: &[u8],
@@ -214,8 +216,8 @@ impl BlockDecoder {
         self.finish(read, COMPRESSION_BLOCK_SIZE, Part::Documents)
     }
 
-    /// Decodes the block of 128 values of `num_bits` bits that the bytes begin with, each one more
-    /// than its entry where `minus_one_encoded` is set. Answers how many bytes it takes.
+    /// Decodes the block of 128 values of `num_bits` bits at the start of the bytes. If
+    /// `minus_one_encoded`, each value is one more than its entry. Returns its length in bytes.
     pub fn uncompress_block_unsorted(
         &mut self,
         compressed_data: &[u8],
@@ -236,9 +238,9 @@ impl BlockDecoder {
         }
     }
 
-    /// Decodes a block as `uncompress_block_unsorted` does, from any bytes and of any width. Where the
-    /// width is above 32, bytes are missing or a value passes `u32::MAX`, the part `Frequencies` is
-    /// damaged: nothing is held then, and the decode isn't counted.
+    /// Decodes a block of any width from any bytes, as `uncompress_block_unsorted` does. Returns
+    /// `Damaged(Frequencies)` if the width exceeds 32, bytes are missing or a value exceeds `u32::MAX`. The
+    /// decoder is then empty, and the decode isn't counted.
     pub fn try_uncompress_block_unsorted(
         &mut self,
         compressed_data: &[u8],
@@ -264,8 +266,7 @@ impl BlockDecoder {
         self.finish(read, COMPRESSION_BLOCK_SIZE, Part::Frequencies)
     }
 
-    // Ends a decode of so many values into the output, or clears what it left where the part is
-    // damaged.
+    // Finishes a decode of `num_els` values, or clears the output if the part is corrupt.
     fn finish(
         &mut self,
         read: Option<usize>,
@@ -290,7 +291,7 @@ impl BlockDecoder {
     }
 }
 
-// Counts a decode of so many values, if there are any.
+// Counts a decode of `num_els` values, if there are any.
 fn count(num_els: usize, decodes: &mut GhostCounter)
     ensures { decodes.new.value ≡ decodes.old.value + decodes_of num_els }
 {
@@ -299,7 +300,8 @@ fn count(num_els: usize, decodes: &mut GhostCounter)
     }
 }
 
-// Puts a row of sorted values in front of the output and the padding after them, and counts it.
+// Reads sorted values to the start of the output, fills the remaining entries with padding, and counts the
+// decode.
 fn read_sorted_row(
     compressed_data: &[u8],
     offset: u32,
@@ -325,7 +327,7 @@ fn read_sorted_row(
     Some(used)
 }
 
-// The same for values in any order.
+// The same for unsorted values.
 fn read_unsorted_row(
     compressed_data: &[u8],
     num_els: usize,
@@ -350,8 +352,12 @@ fn read_unsorted_row(
     Some(used)
 }
 
-// The same for values until the bytes end, at most 128. Answers how many these are.
-fn read_until_end(compressed_data: &[u8], output: &mut [u32], decodes: &mut GhostCounter) -> Option<usize>
+// The same for values until the bytes end, at most 128. Returns their number.
+fn read_until_end(
+    compressed_data: &[u8],
+    output: &mut [u32],
+    decodes: &mut GhostCounter,
+) -> Option<usize>
     requires { length output.old ≡ 128 }
     ensures read { option_map (λ n. take n output.new) result ≡ u32s_until_end 128 compressed_data.now }
     ensures few { IfSome result (λ n. n ≤ 128) }
@@ -391,12 +397,12 @@ impl Default for BlockDecoder {
     }
 }
 
-/// Decoding of rows of at most 128 values from vints.
+/// Decoding of at most 128 values from vints.
 pub trait VIntDecoder {
     ghost state: { Self → BlockDecoderState };
 
-    /// Decodes `num_els` values, each the sum of a vint and the value before it, beginning with
-    /// `offset`, and sets the entries after them to `padding`. Answers how many bytes they take.
+    /// Decodes `num_els` values, each the sum of a vint and the value before it, starting at `offset`.
+    /// Fills the entries after them with `padding`. Returns the number of bytes read.
     fn uncompress_vint_sorted(
         &mut self,
         compressed_data: &[u8],
@@ -413,8 +419,8 @@ pub trait VIntDecoder {
         ensures len { (state self.new).output_len ≡ num_els }
         ensures decodes { (state self.new).decodes ≡ (state self.old).decodes + decodes_of num_els };
 
-    /// Decodes `num_els` values, each a vint, and sets the entries after them to `padding`. Answers
-    /// how many bytes they take.
+    /// Decodes `num_els` vints, and fills the entries after them with `padding`. Returns the number of
+    /// bytes read.
     fn uncompress_vint_unsorted(
         &mut self,
         compressed_data: &[u8],
@@ -430,7 +436,7 @@ pub trait VIntDecoder {
         ensures len { (state self.new).output_len ≡ num_els }
         ensures decodes { (state self.new).decodes ≡ (state self.old).decodes + decodes_of num_els };
 
-    /// Decodes values, each a vint, until the bytes end, at most 128.
+    /// Decodes vints until the bytes end, at most 128.
     fn uncompress_vint_unsorted_until_end(&mut self, compressed_data: &[u8])
         requires valid { IsSome (u32s_until_end 128 compressed_data.now) }
         ensures read { Some (take (state self.new).output_len (state self.new).output) ≡ u32s_until_end 128 compressed_data.now }

@@ -14,23 +14,23 @@ const _: () = prove!(
     COMPRESSED_BLOCK_MAX_SIZE == COMPRESSION_BLOCK_SIZE * ii_io::vint::MAX_VINT_SIZE
 );
 
-/// The buffer of an encoder, which lends the bytes of what it encoded last.
+/// Encodes blocks into its buffer, and returns the encoded bytes borrowed from it.
 #[derive(Drop)]
 pub struct BlockEncoder {
     output: [u8; COMPRESSED_BLOCK_MAX_SIZE],
 }
 
 impl BlockEncoder {
-    /// An encoder that has encoded nothing.
+    /// Creates an encoder with an empty buffer.
     pub fn new() -> BlockEncoder {
         BlockEncoder {
             output: [0; COMPRESSED_BLOCK_MAX_SIZE],
         }
     }
 
-    /// The width, from 0 to 32, and the bytes of a block of 128 values that ascend strictly, packed
-    /// by strict deltas after `offset` in the least width. An offset other than 0 is below the
-    /// first value.
+    /// Packs a block of 128 strictly ascending values, by strict deltas after `offset`, in the least width.
+    /// Returns the width, from 0 to 32, and the bytes. An offset other than 0 must be less than the first
+    /// value.
     pub fn compress_block_sorted(&mut self, block: &[u32], offset: u32) -> (u8, &[u8])
         requires many { length block.now ≡ 128 }
         requires ascending { IsStrictlyIncreasing block.now }
@@ -43,8 +43,8 @@ impl BlockEncoder {
         (num_bits, &self.output[..size])
     }
 
-    /// The width, from 0 to 32, and the bytes of a block of 128 values, packed in the least width,
-    /// each less one where `minus_one_encoded` is set; none of them is 0 then.
+    /// Packs a block of 128 values in the least width, each minus one if `minus_one_encoded`; none may be 0
+    /// then. Returns the width, from 0 to 32, and the bytes.
     pub fn compress_block_unsorted(&mut self, block: &[u32], minus_one_encoded: bool) -> (u8, &[u8])
         requires many { length block.now ≡ 128 }
         requires positive { OnTrue minus_one_encoded ((k : ℕ) → k < 128 → 0 < slice_index block.now k) }
@@ -63,16 +63,16 @@ impl Default for BlockEncoder {
     }
 }
 
-/// Encoding of rows of at most 128 values as vints.
+/// Encoding of at most 128 values as vints.
 pub trait VIntEncoder {
-    /// The shortest vints of each value less the one before it, beginning with `offset`. The values
-    /// don't fall, and the first isn't below the offset.
+    /// Encodes the difference of each value to the one before it, starting at `offset`, as shortest vints.
+    /// The values must not decrease, and the first must be at least `offset`.
     fn compress_vint_sorted(&mut self, input: &[u32], offset: u32) -> &[u8]
         requires few { length input.now ≤ 128 }
         requires sorted { DoNotFall offset input.now }
         ensures { result.now ≡ sorted_vints offset input.now };
 
-    /// The shortest vints of the values.
+    /// Encodes the values as shortest vints.
     fn compress_vint_unsorted(&mut self, input: &[u32]) -> &[u8]
         requires few { length input.now ≤ 128 }
         ensures { result.now ≡ unsorted_vints input.now };

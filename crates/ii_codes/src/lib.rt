@@ -1,5 +1,4 @@
-//! The codes of blocks: rows of vints, packed blocks, the buffers that encode and decode them, the
-//! search in a block, and rows of bits.
+//! Compression of blocks: vints, bit packing, the encoder and decoder of blocks, and the search in a block.
 #![tactic(auto)]
 
 ghost use Rattle.std.specs.Prelude.{◌≡◌, ◌*◌};
@@ -17,10 +16,10 @@ pub use decoder::{BlockDecoder, VIntDecoder};
 pub use encoder::{BlockEncoder, VIntEncoder};
 pub use packed::last_of_sorted_block;
 
-/// How many values a block has.
+/// The number of values in a block.
 pub const COMPRESSION_BLOCK_SIZE: usize = 128;
 
-/// The number of bytes of a packed block whose entries have `num_bits` bits each.
+/// Returns the number of bytes of a packed block with `num_bits` bits per entry.
 pub fn compressed_block_size(num_bits: u8) -> usize
     ensures { result ≡ 16 * num_bits }
 {

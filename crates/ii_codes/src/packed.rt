@@ -18,10 +18,10 @@ use pairs::pack_narrow;
 mod lanes;
 mod pairs;
 
-/// A block of entries of 32 bits and sixteen bytes more.
+/// The size of a block of 32-bit entries and sixteen more bytes.
 const PADDED_BLOCK_SIZE: usize = 528;
 
-/// The first 64 bits of bytes as one number, the lowest first.
+/// Returns the first 64 bits as a little-endian number.
 #[inline(always)]
 fn window(bytes: &[u8]) -> u64
     requires { 8 ≤ length bytes.now }
@@ -30,7 +30,7 @@ fn window(bytes: &[u8]) -> u64
     LittleEndian::read_u64(bytes)
 }
 
-/// Fewer than eight bytes, and zero bytes after them.
+/// Pads fewer than eight bytes with zeros.
 #[cold]
 #[inline(never)]
 fn padded(bytes: &[u8]) -> [u8; 8]
@@ -42,7 +42,7 @@ fn padded(bytes: &[u8]) -> [u8; 8]
     window
 }
 
-/// The first 64 bits of bytes, where bits past their end are 0.
+/// Returns the first 64 bits as a number, padded with zeros at the end of the bytes.
 #[inline(always)]
 fn window_or_less(bytes: &[u8]) -> u64
     ensures { result ≡ bits_in 8 bytes.now 0 64 }
@@ -53,7 +53,7 @@ fn window_or_less(bytes: &[u8]) -> u64
     window(&padded(bytes))
 }
 
-/// The number that `width` bits of `bytes` make from bit `place` on, the lowest first.
+/// Returns the number in `width` bits of `bytes`, from bit `place` on, the lowest first.
 #[inline(always)]
 pub(crate) fn read_bits(bytes: &[u8], place: usize, width: u8) -> u64
     requires narrow { width ≤ 56 }
@@ -64,7 +64,7 @@ pub(crate) fn read_bits(bytes: &[u8], place: usize, width: u8) -> u64
     (window >> (place % 8)) % (1 << width)
 }
 
-/// Entry `i` of the eight whose first bit is that of byte `group * width`.
+/// Returns entry `i` of the eight that start at byte `group * width`.
 #[inline(always)]
 fn entry_of(bytes: &[u8], width: usize, group: usize, i: usize) -> u32
     requires narrow { width ≤ 32 }
@@ -78,8 +78,8 @@ fn entry_of(bytes: &[u8], width: usize, group: usize, i: usize) -> u32
     ((window >> (bit % 8)) % (1 << width)) as u32
 }
 
-/// Unpacks entries of a width that is known where this is compiled, so that shifts are constants,
-/// each raised by `more`. Eight bytes more than the block's are at hand.
+/// Unpacks entries, each plus `more`. The width is known at compile time, so shifts are constants. `bytes`
+/// must have eight bytes more than the block.
 #[inline(never)]
 fn unpack_width<const W: usize>(bytes: &[u8], more: u32, output: &mut [u32])
     requires narrow { W ≤ 32 }
@@ -95,7 +95,7 @@ fn unpack_width<const W: usize>(bytes: &[u8], more: u32, output: &mut [u32])
     }
 }
 
-/// Unpacks entries, each raised by `more`, where sixteen bytes more than the block's are at hand.
+/// Unpacks entries, each plus `more`. `bytes` must have sixteen bytes more than the block.
 fn unpack_from(bytes: &[u8], width: u8, more: u32, output: &mut [u32])
     requires narrow { width ≤ 32 }
     requires enough { 16 * width + 16 ≤ length bytes.now }
@@ -141,7 +141,7 @@ fn unpack_from(bytes: &[u8], width: u8, more: u32, output: &mut [u32])
     }
 }
 
-/// A block, and zero bytes after it.
+/// Pads a block with zeros.
 fn padded_block(bytes: &[u8]) -> [u8; PADDED_BLOCK_SIZE]
     requires { length bytes.now ≤ 512 }
     ensures { result ≡ bytes.now ++ replicate (528 - length bytes.now) 0 }
@@ -151,7 +151,7 @@ fn padded_block(bytes: &[u8]) -> [u8; PADDED_BLOCK_SIZE]
     block
 }
 
-/// Puts the 128 entries of `width` bits that `bytes` begin with into `output`, each raised by `more`.
+/// Unpacks the 128 entries of `width` bits at the start of `bytes`, each plus `more`.
 pub(crate) fn unpack(bytes: &[u8], width: u8, more: u32, output: &mut [u32])
     requires narrow { width ≤ 32 }
     requires enough { 16 * width ≤ length bytes.now }
@@ -168,7 +168,7 @@ pub(crate) fn unpack(bytes: &[u8], width: u8, more: u32, output: &mut [u32])
     unpack_from(&padded_block(&bytes[..size]), width, more, output);
 }
 
-/// Writes a word of 32 bits at byte `end`, the lowest byte first.
+/// Writes a 32-bit word at byte `end`, little-endian.
 #[inline(always)]
 fn put_word(output: &mut [u8], end: usize, word: u32)
     requires { end + 4 ≤ length output.old }
@@ -177,8 +177,8 @@ fn put_word(output: &mut [u8], end: usize, word: u32)
     LittleEndian::write_u32(&mut output[end..], word);
 }
 
-/// Adds eight of the 32 entries that begin at byte `4 * group * W` to `left`, which has the bits
-/// after the last whole word, and writes the words that are then whole. Answers the bits after them.
+/// Packs eight of the 32 entries of a group, whose bytes start at `4 * group * W`. `left` holds the bits
+/// after the last complete word. Writes the words that are complete, and returns the bits after them.
 #[inline(always)]
 fn pack_eight<const W: usize>(
     entries: &[u32],
@@ -209,8 +209,8 @@ fn pack_eight<const W: usize>(
     word
 }
 
-/// Packs entries of a width that is known where this is compiled, so that shifts are constants:
-/// 32 entries fill as many words of 32 bits as a width has bits.
+/// Packs entries of a width that is known at compile time, so that shifts are constants: 32 entries fill
+/// `W` words of 32 bits.
 #[inline(never)]
 fn pack_width<const W: usize>(entries: &[u32], output: &mut [u8])
     requires many { length entries.now ≡ 128 }
@@ -226,8 +226,7 @@ fn pack_width<const W: usize>(entries: &[u32], output: &mut [u8])
     }
 }
 
-/// Puts the bytes of 128 entries that fit in `width` bits in front of `output`; what stands behind them
-/// may change.
+/// Packs 128 entries of `width` bits into the start of `output`. The bytes after them may change.
 fn pack(entries: &[u32], width: u8, output: &mut [u8])
     requires many { length entries.now ≡ 128 }
     requires narrow { width ≤ 32 }
@@ -272,7 +271,7 @@ fn pack(entries: &[u32], width: u8, output: &mut [u8])
     }
 }
 
-/// The least width that holds each entry, at most 32.
+/// Returns the least width that holds each entry, at most 32.
 pub(crate) fn least_width_of(entries: &[u32]) -> u8
     ensures value { result ≡ least_width entries.now }
     ensures narrow { result ≤ 32 }
@@ -285,14 +284,14 @@ pub(crate) fn least_width_of(entries: &[u32]) -> u8
     (u32::BITS - all.leading_zeros()) as u8
 }
 
-/// How far a value of a sorted block is above the one before it at least.
+/// Returns the minimum difference between neighbors in a sorted block.
 fn gap_of(strict: bool) -> u64
     ensures { result ≡ gap_of strict }
 {
     if strict { 1 } else { 0 }
 }
 
-/// The least first value of a sorted block after `offset`.
+/// Returns the minimum first value of a sorted block after `offset`.
 fn least_first(strict: bool, offset: u32) -> u64
     ensures { result ≡ least_first strict offset }
 {
@@ -303,9 +302,9 @@ fn least_first(strict: bool, offset: u32) -> u64
     }
 }
 
-/// Unpacks entries as `unpack_width` does and makes them the values of a sorted block, of which the
-/// first is at least `least` and each other one at least `gap` above the one before it. False where
-/// a value passes `u32::MAX`: since values don't fall, the last one tells.
+/// Unpacks the values of a sorted block. The first is at least `least`, and each other is at least `gap`
+/// more than the one before it. Returns false if a value exceeds `u32::MAX`. Only the last one is tested,
+/// because values don't decrease.
 #[inline(never)]
 fn sorted_width<const W: usize>(bytes: &[u8], gap: u64, least: u64, output: &mut [u32]) -> bool
     requires narrow { W ≤ 32 }
@@ -327,7 +326,7 @@ fn sorted_width<const W: usize>(bytes: &[u8], gap: u64, least: u64, output: &mut
     next < (1 << 32) + gap
 }
 
-/// Unpacks values of a sorted block, where sixteen bytes more than the block's are at hand.
+/// Unpacks the values of a sorted block. `bytes` must have sixteen bytes more than the block.
 fn sorted_from(bytes: &[u8], width: u8, gap: u64, least: u64, output: &mut [u32]) -> bool
     requires narrow { width ≤ 32 }
     requires enough { 16 * width + 16 ≤ length bytes.now }
@@ -374,7 +373,7 @@ fn sorted_from(bytes: &[u8], width: u8, gap: u64, least: u64, output: &mut [u32]
     }
 }
 
-/// Puts the values of the sorted block of `width` bits that `bytes` begin with into `output`.
+/// Unpacks the values of the sorted block of `width` bits at the start of `bytes`.
 fn sorted_values(bytes: &[u8], width: u8, gap: u64, least: u64, output: &mut [u32]) -> bool
     requires narrow { width ≤ 32 }
     requires enough { 16 * width ≤ length bytes.now }
@@ -391,8 +390,8 @@ fn sorted_values(bytes: &[u8], width: u8, gap: u64, least: u64, output: &mut [u3
     sorted_from(&padded_block(&bytes[..size]), width, gap, least, output)
 }
 
-/// The sum of the 128 entries of `width` bits that `bytes` begin with: in lanes where these are
-/// narrow and sixteen bytes more are at hand.
+/// Returns the sum of the 128 entries of `width` bits at the start of `bytes`. Uses SIMD lanes if the
+/// entries are narrow and there are sixteen more bytes.
 fn sum_of(bytes: &[u8], width: u8) -> u64
     requires narrow { width ≤ 32 }
     requires enough { 16 * width ≤ length bytes.now }
@@ -441,9 +440,9 @@ fn sum_of(bytes: &[u8], width: u8) -> u64
     sum
 }
 
-/// The last value of the block of 128 values of `num_bits` bits that the bytes begin with, sorted
-/// after `offset` as `BlockDecoder::try_uncompress_block_sorted` says: the sum of its entries tells
-/// it. `None` where that call refuses.
+/// Returns the last value of the block of 128 values of `num_bits` bits at the start of the bytes. It is
+/// computed from the sum of the entries, without decoding. Returns `None` if
+/// `BlockDecoder::try_uncompress_block_sorted` would fail.
 pub fn last_of_sorted_block(
     compressed_data: &[u8],
     offset: u32,
@@ -466,7 +465,7 @@ pub fn last_of_sorted_block(
     Some(last as u32)
 }
 
-/// Adds one to each entry. False where one is `u32::MAX`.
+/// Adds one to each entry. Returns false if one is `u32::MAX`.
 fn add_one(output: &mut [u32]) -> bool
     ensures fits { result ≡ fit_u32 (unsorted_values true output.old) }
     ensures values { OnTrue result (output.new ≡ unsorted_values true output.old) }
@@ -479,7 +478,7 @@ fn add_one(output: &mut [u32]) -> bool
     fits
 }
 
-/// The entries of values that ascend strictly after `offset`, by strict deltas.
+/// Returns the strict deltas of values that ascend strictly after `offset`.
 fn strict_deltas(block: &[u32], offset: u32) -> [u32; COMPRESSION_BLOCK_SIZE]
     requires many { length block.now ≡ 128 }
     requires ascending { IsStrictlyIncreasing block.now }
@@ -494,7 +493,7 @@ fn strict_deltas(block: &[u32], offset: u32) -> [u32; COMPRESSION_BLOCK_SIZE]
     entries
 }
 
-/// The values, each less one.
+/// Returns the values, each minus one.
 fn less_one(block: &[u32]) -> [u32; COMPRESSION_BLOCK_SIZE]
     requires many { length block.now ≡ 128 }
     requires positive { (k : ℕ) → k < 128 → 0 < slice_index block.now k }
@@ -507,8 +506,8 @@ fn less_one(block: &[u32]) -> [u32; COMPRESSION_BLOCK_SIZE]
     entries
 }
 
-/// Packs 128 values that ascend strictly after `offset` into the front of `output`, by strict
-/// deltas in the least width. Answers the width, from 0 to 32, and the number of bytes.
+/// Packs 128 values that ascend strictly after `offset` into the start of `output`, by strict deltas in the
+/// least width. Returns the width, from 0 to 32, and the number of bytes.
 pub(crate) fn pack_sorted(block: &[u32], offset: u32, output: &mut [u8]) -> (u8, usize)
     requires many { length block.now ≡ 128 }
     requires ascending { IsStrictlyIncreasing block.now }
@@ -527,8 +526,8 @@ pub(crate) fn pack_sorted(block: &[u32], offset: u32, output: &mut [u8]) -> (u8,
     (width, compressed_block_size(width))
 }
 
-/// Packs 128 values into the front of `output` in the least width, each less one where
-/// `minus_one` is set. Answers the width, from 0 to 32, and the number of bytes.
+/// Packs 128 values into the start of `output` in the least width, each minus one if `minus_one`. Returns
+/// the width, from 0 to 32, and the number of bytes.
 pub(crate) fn pack_unsorted(block: &[u32], minus_one: bool, output: &mut [u8]) -> (u8, usize)
     requires many { length block.now ≡ 128 }
     requires positive { OnTrue minus_one ((k : ℕ) → k < 128 → 0 < slice_index block.now k) }
@@ -549,9 +548,11 @@ pub(crate) fn pack_unsorted(block: &[u32], minus_one: bool, output: &mut [u8]) -
     (width, compressed_block_size(width))
 }
 
-/// Puts the values of the sorted block of `width` bits that `bytes` begin with into `output`, and
-/// answers how many bytes it has. `None` where the width is above 32, bytes are missing or a value passes
-/// `u32::MAX`; nothing is then known of `output`. What was unpacked is counted.
+/// Unpacks the values of the sorted block of `width` bits at the start of `bytes`, and returns its length
+/// in bytes. Counts a successful decode.
+///
+/// Returns `None` if the width exceeds 32, bytes are missing or a value exceeds `u32::MAX`. The contents of
+/// `output` are then unspecified.
 pub(crate) fn unpack_sorted(
     bytes: &[u8],
     offset: u32,
@@ -582,10 +583,11 @@ pub(crate) fn unpack_sorted(
     }
 }
 
-/// Puts the values of the unsorted block of `width` bits that `bytes` begin with into `output`, one
-/// more than each entry where `minus_one` is set, and answers how many bytes it has. `None` where
-/// the width is above 32, bytes are missing or a value passes `u32::MAX`; nothing is then known of
-/// `output`. What was unpacked is counted.
+/// Unpacks the values of the unsorted block of `width` bits at the start of `bytes`, and returns its length
+/// in bytes. If `minus_one`, each value is one more than its entry. Counts a successful decode.
+///
+/// Returns `None` if the width exceeds 32, bytes are missing or a value exceeds `u32::MAX`. The contents of
+/// `output` are then unspecified.
 pub(crate) fn unpack_unsorted(
     bytes: &[u8],
     width: u8,
@@ -625,20 +627,20 @@ pub(crate) fn unpack_unsorted(
     }
 }
 
-/// The law of packed bytes: bytes hold the entries that are unpacked from them and no others, and
-/// entries that fit are held by the bytes that they are packed into.
+/// Law of packing: bytes hold exactly the entries that are unpacked from them, and packed bytes hold the
+/// entries that were packed, if these fit.
 pub fn holds_what_is_packed()
     ensures unpacked { HoldsWhatIsUnpacked }
     ensures packed { HoldsWhatIsPacked }
 {}
 
-/// The law of widths: the least width holds all entries, and no lesser one does.
+/// Law of widths: the least width holds all entries, and no lesser one does.
 pub fn holds_from_least_width()
     ensures { HoldsFromLeastWidth }
 {}
 
-/// The law of blocks: one that is written is read back by its width, and by its offset where it is
-/// sorted, whatever follows.
+/// Law of blocks: a written block is read back from its width, and its offset if it is sorted, whatever
+/// follows.
 pub fn reads_what_is_packed()
     ensures sorted { ReadsSortedBlocks }
     ensures unsorted { ReadsUnsortedBlocks }

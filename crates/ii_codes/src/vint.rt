@@ -7,8 +7,8 @@ ghost use Rattle.ii_codes.specs.UnsortedVints.{unsorted_vints, u32s_until_end, R
 
 use ii_io::vint;
 
-/// Writes the shortest vints of each value less the one before it, beginning with `offset`, to the
-/// front of `output`, and lends what was written.
+/// Writes the difference of each value to the one before it, starting at `offset`, as shortest vints to the
+/// start of `output`. Returns the bytes written.
 pub fn compress_sorted<'a>(input: &[u32], output: &'a mut [u8], offset: u32) -> &'a [u8]
     requires room { 5 * length input.now ≤ length output.old }
     requires sorted { DoNotFall offset input.now }
@@ -33,7 +33,7 @@ fn write_sorted(input: &[u32], output: &mut [u8], offset: u32) -> usize
     end
 }
 
-/// Writes the shortest vints of the values to the front of `output`, and lends what was written.
+/// Writes the values as shortest vints to the start of `output`, and returns the bytes written.
 pub fn compress_unsorted<'a>(input: &[u32], output: &'a mut [u8]) -> &'a [u8]
     requires room { 5 * length input.now ≤ length output.old }
     ensures { result.now ≡ unsorted_vints input.now }
@@ -45,8 +45,8 @@ pub fn compress_unsorted<'a>(input: &[u32], output: &'a mut [u8]) -> &'a [u8]
     &output[..end]
 }
 
-/// Reads as many values as `output` has room for, each the sum of a vint and the value before it,
-/// beginning with `offset`. Answers how many bytes they take.
+/// Fills `output` with values, each the sum of a vint and the value before it, starting at `offset`.
+/// Returns the number of bytes read.
 pub fn uncompress_sorted(compressed_data: &[u8], output: &mut [u32], offset: u32) -> usize
     requires valid { IsSome (sorted_vints_at offset (length output.old) compressed_data.now) }
     ensures value { Some (output.new, drop result compressed_data.now)
@@ -59,8 +59,8 @@ pub fn uncompress_sorted(compressed_data: &[u8], output: &mut [u32], offset: u32
     }
 }
 
-/// Reads as `uncompress_sorted` does, from any bytes: `None` where a vint is missing, or a value
-/// passes `u32::MAX`.
+/// Reads any bytes as `uncompress_sorted` does. Returns `None` if a vint is missing, or a value exceeds
+/// `u32::MAX`.
 pub(crate) fn try_uncompress_sorted(
     compressed_data: &[u8],
     output: &mut [u32],
@@ -86,7 +86,7 @@ pub(crate) fn try_uncompress_sorted(
     Some(used)
 }
 
-/// Reads as many values as `output` has room for. Answers how many bytes they take.
+/// Fills `output` with vints. Returns the number of bytes read.
 pub fn uncompress_unsorted(compressed_data: &[u8], output: &mut [u32]) -> usize
     requires valid { IsSome (u32s_at (length output.old) compressed_data.now) }
     ensures value { Some (output.new, drop result compressed_data.now)
@@ -99,7 +99,7 @@ pub fn uncompress_unsorted(compressed_data: &[u8], output: &mut [u32]) -> usize
     }
 }
 
-/// Reads as `uncompress_unsorted` does, from any bytes: `None` where a vint is missing.
+/// Reads any bytes as `uncompress_unsorted` does. Returns `None` if a vint is missing.
 pub(crate) fn try_uncompress_unsorted(compressed_data: &[u8], output: &mut [u32]) -> Option<usize>
     ensures value { option_map (λ used. (output.new, drop used compressed_data.now)) result
         ≡ u32s_at (length output.old) compressed_data.now }
@@ -116,7 +116,7 @@ pub(crate) fn try_uncompress_unsorted(compressed_data: &[u8], output: &mut [u32]
     Some(used)
 }
 
-/// Reads values until the bytes end, at most as many as `output` has room for. Answers how many.
+/// Reads vints until the bytes or `output` end, and returns their number.
 pub fn uncompress_unsorted_until_end(compressed_data: &[u8], output: &mut [u32]) -> usize
     requires valid { IsSome (u32s_until_end (length output.old) compressed_data.now) }
     ensures value { Some (take result output.new) ≡ u32s_until_end (length output.old) compressed_data.now }
@@ -128,7 +128,7 @@ pub fn uncompress_unsorted_until_end(compressed_data: &[u8], output: &mut [u32])
     }
 }
 
-/// Reads as `uncompress_unsorted_until_end` does, from any bytes: `None` where a vint is missing.
+/// Reads any bytes as `uncompress_unsorted_until_end` does. Returns `None` if a vint is missing.
 pub(crate) fn try_uncompress_unsorted_until_end(
     compressed_data: &[u8],
     output: &mut [u32],
@@ -151,7 +151,7 @@ pub(crate) fn try_uncompress_unsorted_until_end(
     Some(output.len())
 }
 
-/// Reads a number as `ii_io::vint::read_u32` does, of which most have one byte or two.
+/// Reads a vint as `ii_io::vint::read_u32` does, fast for one or two bytes.
 #[inline(always)]
 fn read_u32(bytes: &[u8]) -> Option<(u32, usize)>
     ensures value { option_map (λ read. (read.0, drop read.1 bytes.now)) result ≡ u32_at bytes.now }
@@ -169,7 +169,7 @@ fn read_u32(bytes: &[u8]) -> Option<(u32, usize)>
     read_long_u32(bytes)
 }
 
-// Reads one of more bytes, apart from the loops.
+// Reads a longer vint, outside the loops.
 #[cold]
 #[inline(never)]
 fn read_long_u32(bytes: &[u8]) -> Option<(u32, usize)>
@@ -179,12 +179,12 @@ fn read_long_u32(bytes: &[u8]) -> Option<(u32, usize)>
     vint::read_u32(bytes)
 }
 
-/// The law of rows of vints: what is written is read back, whatever follows.
+/// Law of sorted vints: written values are read back, whatever follows.
 pub fn reads_sorted_vints_back()
     ensures { ReadsSortedVintsBack }
 {}
 
-/// The same law of values in any order.
+/// Law of unsorted vints: the same for values in any order.
 pub fn reads_unsorted_vints_back()
     ensures { ReadsUnsortedVintsBack }
 {}

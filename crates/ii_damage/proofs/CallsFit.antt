@@ -17,30 +17,27 @@ use Rattle.ii_definitions.specs.IndexCalls.{MayAllBeIndexed, MayBeIndexed, call_
 use Rattle.ii_definitions.specs.JsonKeys.{type_of_code, type_under}
 use Rattle.ii_definitions.specs.Tokens.{Piece, begin_after, call_pieces, kept_words, leaf_pieces, piece_tokens, piece_tokens_from, pieces_of, tokens_after, tokens_of, word_token}
 use Rattle.ii_definitions.proofs.KeyLaws.{type_in_key}
-use Rattle.ii_damage.specs.Damages.{is_text_key}
+use Rattle.ii_damage.specs.Damages.{is_key_of_text}
 use Rattle.ii_damage.specs.Fits.{AllFit, Fits}
 use Rattle.ii_damage.proofs.JsonLeaves.{IsCleanLeaf, clean_leaves}
+use Rattle.ii_definitions.proofs.ListLaws.{all_both}
 
 -- Keys with a prefix are those of texts, or the prefix is that of a value.
 abbrev FitsKeys : ValueType → Bool → List ℕ → Type 0
-FitsKeys t true prefix = (key : List ℕ) → is_text_key t (prefix ++ key) ≡ true
-FitsKeys t false prefix = is_text_key t prefix ≡ false
+FitsKeys t true prefix = (key : List ℕ) → is_key_of_text t (prefix ++ key) ≡ true
+FitsKeys t false prefix = is_key_of_text t prefix ≡ false
 
 -- A piece fits a schema.
 record FitsPiece (entries : List SchemaEntry) (num_docs : ℕ) (p : Piece) : Type 0 where
   below : p.doc < num_docs
   keys : IfSome (slice_get entries p.field) (λ (e : SchemaEntry). FitsKeys e.value_type p.is_text p.prefix)
 
-all_append : {X : Type 0} (P : X → Type 0) (xs ys : List X) → AllByRecursion P xs → AllByRecursion P ys → AllByRecursion P (xs ++ ys)
-all_append P [] ys first second = second
-all_append P (x ∷ xs) ys first second = (first.0, all_append P xs ys first.1 second)
-
 words_fit : (entries : List SchemaEntry) (num_docs : ℕ) (p : Piece) (begin : ℕ) (ws : List Word) → p.doc < num_docs
     → IfSome (slice_get entries p.field) (λ (e : SchemaEntry). FitsKeys e.value_type true p.prefix) → AllFit entries num_docs (map (word_token p begin) ws)
 words_fit entries num_docs p begin [] below keys = tt
 words_fit entries num_docs p begin (w ∷ ws) below keys = (record { below = below; kind = by (slice_get entries p.field) keys }, words_fit entries num_docs p begin ws below keys)
   where
-    by : (o : Option SchemaEntry) → IfSome o (λ (e : SchemaEntry). FitsKeys e.value_type true p.prefix) → IfSome o (λ (e : SchemaEntry). true ≡ is_text_key e.value_type (p.prefix ++ w.text))
+    by : (o : Option SchemaEntry) → IfSome o (λ (e : SchemaEntry). FitsKeys e.value_type true p.prefix) → IfSome o (λ (e : SchemaEntry). true ≡ is_key_of_text e.value_type (p.prefix ++ w.text))
     by None keys = tt
     by (Some e) keys = sym (keys w.text)
 
@@ -49,14 +46,14 @@ piece_fits : (entries : List SchemaEntry) (num_docs : ℕ) (p : Piece) (begin : 
 piece_fits entries num_docs p begin true below keys = words_fit entries num_docs p begin (kept_words p.words) below keys
 piece_fits entries num_docs p begin false below keys = (record { below = below; kind = by (slice_get entries p.field) keys }, tt)
   where
-    by : (o : Option SchemaEntry) → IfSome o (λ (e : SchemaEntry). FitsKeys e.value_type false p.prefix) → IfSome o (λ (e : SchemaEntry). false ≡ is_text_key e.value_type p.prefix)
+    by : (o : Option SchemaEntry) → IfSome o (λ (e : SchemaEntry). FitsKeys e.value_type false p.prefix) → IfSome o (λ (e : SchemaEntry). false ≡ is_key_of_text e.value_type p.prefix)
     by None keys = tt
     by (Some e) keys = sym keys
 
 pieces_fit : (entries : List SchemaEntry) (num_docs : ℕ) (earlier ps : List Piece) → AllByRecursion (FitsPiece entries num_docs) ps → AllFit entries num_docs (tokens_after earlier ps)
 pieces_fit entries num_docs earlier [] fit = tt
 pieces_fit entries num_docs earlier (p ∷ ps) fit =
-    all_append (Fits entries num_docs) (piece_tokens earlier p) (tokens_after (earlier ++ p ∷ []) ps)
+    all_both (Fits entries num_docs) (piece_tokens earlier p) (tokens_after (earlier ++ p ∷ []) ps)
     (piece_fits entries num_docs p (begin_after earlier p) p.is_text fit.0.below fit.0.keys) (pieces_fit entries num_docs (earlier ++ p ∷ []) ps fit.1)
 
 known_code : (t : ValueType) → type_of_code (code_of t) ≡ Some t
@@ -99,7 +96,7 @@ leaves_fit : (entries : List SchemaEntry) (num_docs doc field : ℕ) (analyze : 
 leaves_fit entries num_docs doc field analyze [] below has clean = tt
 leaves_fit entries num_docs doc field analyze (l ∷ ls) below has clean =
     subst (AllByRecursion (FitsPiece entries num_docs)) (sym (flat_map-cons (leaf_pieces analyze doc field) l ls))
-    (all_append (FitsPiece entries num_docs) (leaf_pieces analyze doc field l) (flat_map (leaf_pieces analyze doc field) ls) (leaf_fits entries num_docs doc field analyze l below has clean.0) (leaves_fit entries num_docs doc field analyze ls below has clean.1))
+    (all_both (FitsPiece entries num_docs) (leaf_pieces analyze doc field l) (flat_map (leaf_pieces analyze doc field) ls) (leaf_fits entries num_docs doc field analyze l below has clean.0) (leaves_fit entries num_docs doc field analyze ls below has clean.1))
 
 -- what a call gives fits
 call_fits : (entries : List SchemaEntry) (num_docs : ℕ) (analyze : List ℕ → List Word) (c : IndexCall) (expand_dots : Bool) → doc_of c < num_docs → HasType entries (field_of c) (type_of c)
@@ -118,7 +115,7 @@ calls_give entries num_docs analyze [] may = tt
 calls_give entries num_docs analyze (c ∷ cs) may =
     let takes = may.0.takes in
     subst (AllByRecursion (FitsPiece entries num_docs)) (sym (flat_map-cons (call_pieces analyze) (call_of entries c) (map (call_of entries) cs)))
-    (all_append (FitsPiece entries num_docs) (call_pieces analyze (call_of entries c)) (pieces_of analyze (map (call_of entries) cs))
+    (all_both (FitsPiece entries num_docs) (call_pieces analyze (call_of entries c)) (pieces_of analyze (map (call_of entries) cs))
     (call_fits entries num_docs analyze c (expands_dots_in entries (field_of c)) may.0.below (takes.entry, takes.found, takes.typed)) (calls_give entries num_docs analyze cs may.1))
 
 -- the tokens of calls that may be made fit

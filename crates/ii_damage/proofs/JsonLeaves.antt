@@ -15,6 +15,7 @@ use Rattle.ii_base.specs.declared.json_value.JsonValue.TheOpen.{JsonValue-F}
 use Rattle.ii_base.specs.declared.json_value.JsonValue.TheFolds.{fold-roll-JsonValue, ind-JsonValue}
 use Rattle.ii_base.specs.declared.json_value.TheConstants.{MAX_DEPTH}
 use Rattle.ii_base.specs.declared.schema.value_type.ValueType.TheVariants as types
+use Rattle.ii_definitions.proofs.ListLaws.{all_both}
 
 -- A leaf is no value with the type of texts.
 abbrev pub IsPlainLeaf : Leaf → Type 0
@@ -111,10 +112,6 @@ clean_more : (ss : List (List ℕ)) (s : List ℕ) → AreCleanSegments ss → h
 clean_more [] s clean none = (none, tt)
 clean_more (t ∷ ss) s clean none = (clean.0, clean_more ss s clean.1 none)
 
-all_append : {X : Type 0} (P : X → Type 0) (xs ys : List X) → AllByRecursion P xs → AllByRecursion P ys → AllByRecursion P (xs ++ ys)
-all_append P [] ys first second = second
-all_append P (x ∷ xs) ys first second = (first.0, all_append P xs ys first.1 second)
-
 one_member : (b : Bool) (ls : List (List ℕ × Leaf)) → (b ≡ false → AllByRecursion IsCleanLeaf ls) → AllByRecursion IsCleanLeaf (if b then [] else ls)
 one_member true ls clean = tt
 one_member false ls clean = clean refl
@@ -129,12 +126,12 @@ mutual
   clean_items : (expand_dots : Bool) (path : List (List ℕ)) (is : Items) → AreCleanSegments path → HavePlainLeaves is → AllByRecursion IsCleanLeaf (items_leaves expand_dots path is)
   clean_items expand_dots path no_items clean plain = tt
   clean_items expand_dots path (item j is) clean plain =
-      all_append IsCleanLeaf (leaves_below expand_dots path j) (items_leaves expand_dots path is) (clean_below expand_dots path j clean plain.0) (clean_items expand_dots path is clean plain.1)
+      all_both IsCleanLeaf (leaves_below expand_dots path j) (items_leaves expand_dots path is) (clean_below expand_dots path j clean plain.0) (clean_items expand_dots path is clean plain.1)
 
   clean_members : (expand_dots : Bool) (path : List (List ℕ)) (ms : Members) → AreCleanSegments path → MembersHavePlainLeaves ms → AllByRecursion IsCleanLeaf (members_leaves expand_dots path ms)
   clean_members expand_dots path no_members clean plain = tt
   clean_members expand_dots path (member k j ms) clean plain =
-      all_append IsCleanLeaf (if has_zero k then [] else leaves_below expand_dots (path ++ segment_bytes expand_dots k ∷ []) j) (members_leaves expand_dots path ms)
+      all_both IsCleanLeaf (if has_zero k then [] else leaves_below expand_dots (path ++ segment_bytes expand_dots k ∷ []) j) (members_leaves expand_dots path ms)
       (one_member (has_zero k) (leaves_below expand_dots (path ++ segment_bytes expand_dots k ∷ []) j) (λ none. clean_below expand_dots (path ++ segment_bytes expand_dots k ∷ []) j (clean_more path (segment_bytes expand_dots k) clean (clean_segment expand_dots k none)) plain.0))
       (clean_members expand_dots path ms clean plain.1)
 

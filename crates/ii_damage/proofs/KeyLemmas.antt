@@ -19,9 +19,6 @@ pub record IsAsking (entry : SchemaEntry) (reader : InvertedIndexReaderState) (t
   pub terms_are : terms ≡ record { entries = reader.terms; passed = ord }
   pub left : all_keep_counts entry reader ≡ kept_of entry (drop ord reader.terms)
 
-pub asking_first : (entry : SchemaEntry) (reader : InvertedIndexReaderState) (terms : TermStreamerState) → terms ≡ record { entries = reader.terms; passed = 0 } → IsAsking entry reader terms 0
-asking_first entry reader terms are = record { terms_are = are; left = refl }
-
 key_at : (entry : SchemaEntry) (es : List TermEntry) (ord : ℕ) (key : List ℕ) → Some key ≡ slice_get (entry_keys es) ord → kept_of entry (drop ord es) ≡ (keeps_counts entry key && kept_of entry (drop (suc ord) es))
 key_at entry [] zero key is = absurd (cc)
 key_at entry [] (suc ord) key is = absurd (cc)
@@ -48,20 +45,3 @@ asking_next entry reader terms next ord key low is next_is kept h =
 pub asking_stops : (entry : SchemaEntry) (reader : InvertedIndexReaderState) (terms : TermStreamerState) (ord : ℕ) (key : List ℕ) → Some key ≡ slice_get (entry_keys terms.entries) terms.passed → keeps_counts entry key ≡ false
     → IsAsking entry reader terms ord → false ≡ all_keep_counts entry reader
 asking_stops entry reader terms ord key is other h = sym (step entry reader terms ord key is h ∙ ap (λ (b : Bool). b && kept_of entry (drop (suc ord) reader.terms)) other)
-
--- no key is left
-pub asking_ends : (entry : SchemaEntry) (reader : InvertedIndexReaderState) (terms : TermStreamerState) (ord : ℕ) → length reader.terms ≤ ord → IsAsking entry reader terms ord → true ≡ all_keep_counts entry reader
-asking_ends entry reader terms ord end h = sym (h.left ∙ ap (kept_of entry) (drop-end ord reader.terms end))
-  where
-    drop-end : (i : ℕ) (es : List TermEntry) → length es ≤ i → drop i es ≡ []
-    drop-end zero [] h = refl
-    drop-end (suc i) [] h = refl
-    drop-end zero (e ∷ es) h = absurd (omega (arith, h))
-    drop-end (suc i) (e ∷ es) h = drop-end i es (omega (arith, h))
-
--- there is a key before the end
-pub asking_short : (entry : SchemaEntry) (reader : InvertedIndexReaderState) (terms : TermStreamerState) (ord : ℕ) → ord < length reader.terms → None ≡ slice_get (entry_keys terms.entries) terms.passed
-    → IsAsking entry reader terms ord → true ≡ all_keep_counts entry reader
-asking_short entry reader terms ord low none h =
-    let there : None ≡ slice_get (entry_keys reader.terms) ord = rw h.terms_are at none in
-    absurd (none_past reader.terms ord low (sym there))

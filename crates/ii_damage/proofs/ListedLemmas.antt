@@ -7,24 +7,21 @@ use Rattle.std.proofs.lemmas.List.Concat.{flat_map-cons}
 use Rattle.ii_io.specs.Composite.{table_of}
 use Rattle.ii_base.specs.Schema.{SchemaEntry}
 use Rattle.ii_reader.specs.InvertedIndexReader.{InvertedIndexReaderState}
-use Rattle.ii_damage.specs.Damages.{FoundDamageState, IndexFiles, all_keep_counts, count_damages, damages_of, field_damages, field_entries, kept_norms_damage, table_damages, tokens_damage, tokens_in}
+use Rattle.ii_damage.specs.Damages.{FoundDamageState, IndexFiles, all_keep_counts, count_damages, damages_of, field_damages, field_entries, kept_norms_damage, table_damages, tokens_damage, num_occurrences}
 
 -- the damages of the numbers of tokens of a field, one after the other
 pub counts_listed : (files : IndexFiles) (field : ℕ) (entry : SchemaEntry) (reader : InvertedIndexReaderState) (kept : Bool) (num_tokens : ℕ) (tokens norms : Option FoundDamageState) (first all : List FoundDamageState)
-    → is_some (table_of files.terms) ≡ true → kept ≡ all_keep_counts entry reader → num_tokens ≡ reader.num_tokens → tokens ≡ tokens_damage files field kept num_tokens (tokens_in (field_entries reader))
+    → is_some (table_of files.terms) ≡ true → kept ≡ all_keep_counts entry reader → num_tokens ≡ reader.num_tokens → tokens ≡ tokens_damage files field kept num_tokens (num_occurrences (field_entries reader))
     → norms ≡ kept_norms_damage files field entry kept (field_entries reader) → first ≡ [] ++ option_to_list tokens → all ≡ first ++ option_to_list norms → all ≡ count_damages files field entry reader
 counts_listed files field entry reader kept num_tokens tokens norms first all whole kept_is num_is tokens_is norms_is first_is all_is =
-    let t : tokens ≡ tokens_damage files field (all_keep_counts entry reader) reader.num_tokens (tokens_in (field_entries reader)) = rw (← kept_is, ← num_is) tokens_is in
+    let t : tokens ≡ tokens_damage files field (all_keep_counts entry reader) reader.num_tokens (num_occurrences (field_entries reader)) = rw (← kept_is, ← num_is) tokens_is in
     let n : norms ≡ kept_norms_damage files field entry (all_keep_counts entry reader) (field_entries reader) = rw (← kept_is) norms_is in
     rw whole (all_is ∙ ap (λ (l : List FoundDamageState). l ++ option_to_list norms) first_is ∙ ap (λ (o : Option FoundDamageState). option_to_list o ++ option_to_list norms) t
-    ∙ ap (λ (o : Option FoundDamageState). option_to_list (tokens_damage files field (all_keep_counts entry reader) reader.num_tokens (tokens_in (field_entries reader))) ++ option_to_list o) n)
+    ∙ ap (λ (o : Option FoundDamageState). option_to_list (tokens_damage files field (all_keep_counts entry reader) reader.num_tokens (num_occurrences (field_entries reader))) ++ option_to_list o) n)
 
 -- What a loop over the fields knows: the damages so far, in front of those of the fields that are left, are all.
 abbrev pub IsFinding : List SchemaEntry → IndexFiles → ℕ → List FoundDamageState → Type 0
 IsFinding entries files id found = damages_of entries files ≡ found ++ flat_map (field_damages files) (drop id (enumerate_from 0 entries))
-
-pub finding_first : (entries : List SchemaEntry) (files : IndexFiles) (found : List FoundDamageState) → found ≡ table_damages files → IsFinding entries files 0 found
-finding_first entries files found is = rw is refl
 
 pub field_at : (entries : List SchemaEntry) (n id : ℕ) (entry : SchemaEntry) → slice_get entries id ≡ Some entry → drop id (enumerate_from n entries) ≡ (n + id, entry) ∷ drop (suc id) (enumerate_from n entries)
 field_at [] n id entry is = absurd (cc)

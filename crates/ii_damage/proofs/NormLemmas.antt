@@ -9,23 +9,23 @@ use Rattle.ii_base.proofs.AsciiLemmas.{range_more}
 use Rattle.ii_base.specs.Entries.{Entry}
 use Rattle.ii_fieldnorm.specs.Norms.{id_of_norm, norm_of_id}
 use Rattle.ii_fieldnorm.proofs.NormLemmas.{id_of_norm-found}
-use Rattle.ii_damage.specs.Damages.{is_other_norm, other_norm, tokens_of_doc, u32_max}
+use Rattle.ii_damage.specs.Damages.{is_other_norm, other_norm, tokens_of_doc, max_u32}
 use Rattle.ii_damage.specs.Walked.{HasCounts}
 
-top : (m : ℕ) → u32_max ≤ m → id_of_norm m ≡ 255
+top : (m : ℕ) → max_u32 ≤ m → id_of_norm m ≡ 255
 unfolding norm_of_id
 top m h = id_of_norm-found m 255 (omega arith) (omega (arith, h)) (λ more. absurd (omega (arith, more)))
 
 -- the norm of more tokens than 32 bits count is that of the greatest number
-norm_capped : (n : ℕ) → id_of_norm (min n u32_max) ≡ id_of_norm n
-norm_capped n = by_case (nat_le n u32_max) refl
+norm_capped : (n : ℕ) → id_of_norm (min n max_u32) ≡ id_of_norm n
+norm_capped n = by_case (nat_le n max_u32) refl
   where
-    by_case : (b : Bool) → nat_le n u32_max ≡ b → id_of_norm (min n u32_max) ≡ id_of_norm n
-    by_case true is = ap id_of_norm (omega (arith, leb-true n u32_max is))
+    by_case : (b : Bool) → nat_le n max_u32 ≡ b → id_of_norm (min n max_u32) ≡ id_of_norm n
+    by_case true is = ap id_of_norm (omega (arith, leb-true n max_u32 is))
     by_case false is =
-        let over : u32_max ≤ n = grind (arith, is) in
-        let cut : min n u32_max ≡ u32_max = omega (arith, over) in
-        ap id_of_norm cut ∙ top u32_max (omega arith) ∙ sym (top n over)
+        let over : max_u32 ≤ n = grind (arith, is) in
+        let cut : min n max_u32 ≡ max_u32 = omega (arith, over) in
+        ap id_of_norm cut ∙ top max_u32 (omega arith) ∙ sym (top n over)
 
 -- No document before this one has another norm than that of its number of tokens.
 abbrev pub NoneBefore : ℕ → List ℕ → List ℕ → ℕ → Type 0
@@ -33,7 +33,7 @@ NoneBefore num_docs ids counts doc = (es : List Entry) → HasCounts num_docs es
 
 -- the norm of a document by its count
 norm_at : (num_docs : ℕ) (es : List Entry) (counts : List ℕ) (doc d : ℕ) → doc < num_docs → HasCounts num_docs es counts → id_of_norm (get_or counts doc d) ≡ id_of_norm (tokens_of_doc doc es)
-norm_at num_docs es counts doc d low has = ap id_of_norm (get_or_from_slice_get counts doc (min (tokens_of_doc doc es) u32_max) d (has.each doc low)) ∙ norm_capped (tokens_of_doc doc es)
+norm_at num_docs es counts doc d low has = ap id_of_norm (get_or_from_slice_get counts doc (min (tokens_of_doc doc es) max_u32) d (has.each doc low)) ∙ norm_capped (tokens_of_doc doc es)
 
 one_more : (p : ℕ → Bool) (doc : ℕ) → find p (range_with_len 0 doc) ≡ None → find p (range_with_len 0 (suc doc)) ≡ find p (doc ∷ [])
 one_more p doc none =

@@ -21,8 +21,9 @@ use Rattle.ii_definitions.proofs.GroupedLaws.{grouped_counted}
 use Rattle.ii_reader.specs.InvertedIndexReader.{InvertedIndexReaderState, ReaderHolds, term_of_file}
 use Rattle.ii_reader.proofs.ReaderLemmas.{list_held}
 use Rattle.ii_damage.specs.declared.damage.FieldPlaces.{FieldPlaces}
-use Rattle.ii_damage.specs.Damages.{all_keep_counts, field_entries, freqs_where, is_text_key, keeps_counts, list_damage, may_have, stray_in, term_damage, term_damages, term_entries, tokens_in, tokens_of_doc}
+use Rattle.ii_damage.specs.Damages.{all_keep_counts, field_entries, freqs_where, is_key_of_text, keeps_counts, list_damage, may_have, stray_in, term_damage, term_damages, term_entries, num_occurrences, tokens_of_doc}
 use Rattle.ii_damage.proofs.KeptLaws.{at_parts, cut_below, downgrade_same, filter_below, grouped_below, kind_kept, none_stray, occurs_at}
+use Rattle.ii_reader.proofs.DamageLemmas.{none_above}
 use Rattle.ii_damage.proofs.SumLaws.{HaveKeys, cut_less, cut_same, doc_weight, grouped_weight, keys_weight, sum_equal, sum_less, sum_parts, token_weight, weight, weight_in}
 
 -- A reader has the tokens of a field, which fit its entry.
@@ -31,15 +32,9 @@ pub record IsSoundField (num_docs field : ℕ) (entry : SchemaEntry) (reader : I
   pub holds : ReaderHolds field reader ts
   pub ascending : AreAscending (entry_keys reader.terms)
   pub below : AllByRecursion (λ (t : IndexToken). t.doc < num_docs) ts
-  pub texts : AllByRecursion (λ (t : IndexToken). t.field ≡ field → t.of_text ≡ is_text_key entry.value_type t.key) ts
+  pub texts : AllByRecursion (λ (t : IndexToken). t.field ≡ field → t.of_text ≡ is_key_of_text entry.value_type t.key) ts
 
-none_above : (k : List ℕ) (es : List TermEntry) → AllByRecursion (λ (y : List ℕ). slice_cmp nat_cmp k y ≡ Less) (entry_keys es) → info_under k es ≡ None
-none_above k [] below = refl
-none_above k (e ∷ es) below =
-    let apart : bytes_eq k e.0 ≡ false = sym (is_eq-slice_cmp k e.0) ∙ ap is_eq below.0 in
-    rw apart (none_above k es below.1)
-
--- what a look-up finds of each key holds of each entry
+-- what a lookup of each key satisfies, each entry satisfies
 pub each_by_key : (P : List ℕ → TermInfo → Type 0) (es : List TermEntry) → AreAscending (entry_keys es) → ((key : List ℕ) → IfSome (info_under key es) (P key)) → AllByRecursion (λ (e : TermEntry). P e.0 e.1) es
 unfolding IsStrictlySortedBy
 each_by_key P [] ascending known = tt
@@ -56,7 +51,8 @@ each_by_key P (e ∷ es) ascending known =
         let there : IfSome (cond (bytes_eq key e.0) (Some e.1) (info_under key es)) (P key) = known key in
         rw other at there
 
-all_map : {X : Type 0} (P Q : X → Type 0) (xs : List X) → ((x : X) → P x → Q x) → AllByRecursion P xs → AllByRecursion Q xs
+-- what implies another for each item implies it for all
+pub all_map : {X : Type 0} (P Q : X → Type 0) (xs : List X) → ((x : X) → P x → Q x) → AllByRecursion P xs → AllByRecursion Q xs
 all_map P Q [] more all = tt
 all_map P Q (x ∷ xs) more all = (more x all.0, all_map P Q xs more all.1)
 
@@ -128,13 +124,13 @@ listed_less test num_docs field entry reader ts sound =
         rw are (omega (arith, cut, all))
 
 -- the tokens of a key of texts are all of texts
-texts_at : (num_docs field : ℕ) (entry : SchemaEntry) (reader : InvertedIndexReaderState) (ts : List IndexToken) (key : List ℕ) → IsSoundField num_docs field entry reader ts → is_text_key entry.value_type key ≡ true
+texts_at : (num_docs field : ℕ) (entry : SchemaEntry) (reader : InvertedIndexReaderState) (ts : List IndexToken) (key : List ℕ) → IsSoundField num_docs field entry reader ts → is_key_of_text entry.value_type key ≡ true
     → AllByRecursion (λ (t : IndexToken). is_at field key t ≡ true → t.of_text ≡ true) ts
 texts_at num_docs field entry reader ts key sound text =
-    all_map (λ (t : IndexToken). t.field ≡ field → t.of_text ≡ is_text_key entry.value_type t.key) (λ (t : IndexToken). is_at field key t ≡ true → t.of_text ≡ true) ts
+    all_map (λ (t : IndexToken). t.field ≡ field → t.of_text ≡ is_key_of_text entry.value_type t.key) (λ (t : IndexToken). is_at field key t ≡ true → t.of_text ≡ true) ts
     (λ t told is.
     let parts = at_parts field key t is in
-    told parts.0 ∙ ap (is_text_key entry.value_type) parts.1 ∙ text)
+    told parts.0 ∙ ap (is_key_of_text entry.value_type) parts.1 ∙ text)
     sound.texts
 
 all_and : {X : Type 0} (p : X → Bool) (P : X → Type 0) (xs : List X) → list_all p xs ≡ true → AllByRecursion P xs → AllByRecursion (λ (x : X). (p x ≡ true) × P x) xs
@@ -156,7 +152,7 @@ listed_same test num_docs field entry reader ts sound kept =
     each : (e : TermEntry) → (keeps_counts entry e.0 ≡ true) × GivesKey field reader ts e → sum_by (weight test) (term_entries reader e) ≡ sum_by (token_weight test) (tokens_at field e.0 ts)
     each e both =
         let us = tokens_at field e.0 ts in
-        let parts = and_parts (has_freq entry.option) (is_text_key entry.value_type e.0) both.0 in
+        let parts = and_parts (has_freq entry.option) (is_key_of_text entry.value_type e.0) both.0 in
         let kind = kind_kept reader.option field e.0 ts (texts_at num_docs field entry reader ts e.0 sound parts.1) in
         let option : downgrade (kind_of reader.option us) reader.option ≡ reader.option = ap (λ (o : IndexRecordOption). downgrade o reader.option) kind ∙ downgrade_same reader.option in
         let keeps : has_freq (downgrade (kind_of reader.option us) reader.option) ≡ true = ap has_freq option ∙ ap has_freq sound.option_is ∙ parts.0 in
@@ -165,15 +161,15 @@ listed_same test num_docs field entry reader ts sound kept =
 
 -- a sound field may have its number of tokens
 pub tokens_fit : (num_docs field : ℕ) (entry : SchemaEntry) (reader : InvertedIndexReaderState) (ts : List IndexToken) → IsSoundField num_docs field entry reader ts
-    → may_have (all_keep_counts entry reader) reader.num_tokens (tokens_in (field_entries reader)) ≡ true
+    → may_have (all_keep_counts entry reader) reader.num_tokens (num_occurrences (field_entries reader)) ≡ true
 tokens_fit num_docs field entry reader ts sound = by_kept (all_keep_counts entry reader) refl
   where
-    by_kept : (b : Bool) → all_keep_counts entry reader ≡ b → may_have b reader.num_tokens (tokens_in (field_entries reader)) ≡ true
-    by_kept true kept = eq-eqb reader.num_tokens (tokens_in (field_entries reader)) (sound.holds.counted ∙ sym (listed_same (λ _. true) num_docs field entry reader ts sound kept))
+    by_kept : (b : Bool) → all_keep_counts entry reader ≡ b → may_have b reader.num_tokens (num_occurrences (field_entries reader)) ≡ true
+    by_kept true kept = eq-eqb reader.num_tokens (num_occurrences (field_entries reader)) (sound.holds.counted ∙ sym (listed_same (λ _. true) num_docs field entry reader ts sound kept))
     by_kept false kept =
         let less = listed_less (λ _. true) num_docs field entry reader ts sound in
         let counted : reader.num_tokens ≡ sum_by (weight_in (λ _. true) field) ts = sound.holds.counted in
-        le-leb (tokens_in (field_entries reader)) reader.num_tokens (omega (arith, less, counted))
+        le-leb (num_occurrences (field_entries reader)) reader.num_tokens (omega (arith, less, counted))
 
 -- and its documents have the tokens that its lists say, where counts are kept of each key
 pub doc_tokens : (num_docs field : ℕ) (entry : SchemaEntry) (reader : InvertedIndexReaderState) (ts : List IndexToken) (doc : ℕ) → IsSoundField num_docs field entry reader ts → all_keep_counts entry reader ≡ true

@@ -30,13 +30,10 @@ use Rattle.ii_reader.specs.InvertedIndexReader.{InvertedIndexReaderState, reader
 use Rattle.ii_store.specs.declared.name.Kind.{Kind}
 use Rattle.ii_damage.specs.declared.damage.ByteRange.{ByteRange}
 use Rattle.ii_damage.specs.Bodies.{body_in}
-use Rattle.ii_damage.specs.Damages.{FoundDamageState, IndexFiles, all_keep_counts, bytes_of_field, damages_of, field_damages, field_entries, field_reader, is_other_norm, is_text_key, norm_damage, norms_damage, other_norm, places_of, reader_damages, reader_in, table_damages, token_damage, tokens_of_doc}
+use Rattle.ii_damage.specs.Damages.{FoundDamageState, IndexFiles, all_keep_counts, bytes_of_field, damages_of, field_damages, field_entries, field_reader, is_other_norm, is_key_of_text, norm_damage, norms_damage, other_norm, field_places, reader_damages, reader_in, table_damages, token_damage, tokens_of_doc}
 use Rattle.ii_damage.specs.Fits.{AllFit, Fits}
-use Rattle.ii_damage.proofs.SoundFields.{IsSoundField, doc_tokens, no_term_damages, tokens_fit}
-
-all_map : {X : Type 0} (P Q : X → Type 0) (xs : List X) → ((x : X) → P x → Q x) → AllByRecursion P xs → AllByRecursion Q xs
-all_map P Q [] more all = tt
-all_map P Q (x ∷ xs) more all = (more x all.0, all_map P Q xs more all.1)
+use Rattle.ii_reader.proofs.IndexLemmas.{no_body}
+use Rattle.ii_damage.proofs.SoundFields.{IsSoundField, all_map, doc_tokens, no_term_damages, tokens_fit}
 
 -- what is made of something is made of something
 some_mapped : {A B : Type 0} (f : A → B) (o : Option A) (b : B) → option_map f o ≡ Some b → is_some o ≡ true
@@ -97,7 +94,7 @@ no_reader_damages : (entries : List SchemaEntry) (files : IndexFiles) (ts : List
     → slice_get entries field ≡ Some entry → IsSoundField files.num_docs field entry reader ts → reader_damages files field entry reader ≡ []
 no_reader_damages entries files ts field entry reader hold norms at sound =
     rw (
-      no_term_damages files.num_docs field entry reader ts (places_of files field) sound,
+      no_term_damages files.num_docs field entry reader ts (field_places files field) sound,
       valid_table files.terms hold.term_bodies hold.opened_terms,
       no_token_damage files ts field entry reader sound,
       no_norm_damage entries files ts field entry reader norms at sound,
@@ -108,9 +105,6 @@ no_reader_damages entries files ts field entry reader hold norms at sound =
 abbrev GivesSound : ℕ → ℕ → SchemaEntry → List IndexToken → Result InvertedIndexReaderState (Kind × Part) → Type 0
 GivesSound num_docs field entry ts found = (reader : InvertedIndexReaderState) × (found ≡ Ok reader) × IsSoundField num_docs field entry reader ts
 
-no_body : (n : ℕ) → false ≡ nat_lt 0 n → n ≡ 0
-no_body n e = let none = ltb-false 0 n (sym e) in omega (arith, none)
-
 none_ascending : AreAscending []
 unfolding IsStrictlySortedBy
 none_ascending = tt
@@ -119,7 +113,7 @@ ascending : (terms : List ℕ) (es : _) → dictionary terms ≡ Ok es → AreAs
 ascending terms es is = rw is at (keys_are_ascending terms (rw is refl))
 
 sound_bodies : (num_docs field : ℕ) (entry : SchemaEntry) (ts : List IndexToken) (t p q : Option (List ℕ)) → AllByRecursion (λ (u : IndexToken). u.doc < num_docs) ts
-    → AllByRecursion (λ (u : IndexToken). u.field ≡ field → u.of_text ≡ is_text_key entry.value_type u.key) ts
+    → AllByRecursion (λ (u : IndexToken). u.field ≡ field → u.of_text ≡ is_key_of_text entry.value_type u.key) ts
     → is_some t ≡ nat_lt 0 (field_count field ts) → is_some p ≡ nat_lt 0 (field_count field ts) → is_some q ≡ nat_lt 0 (field_count field ts)
     → ((terms postings positions : List ℕ) → t ≡ Some terms → p ≡ Some postings → q ≡ Some positions → HoldsField entry.option field terms postings positions ts)
     → GivesSound num_docs field entry ts (reader_in entry.option t p q)
@@ -135,9 +129,9 @@ sound_bodies num_docs field entry ts (Some t) (Some p) (Some q) below texts has_
     (reader, found, record { option_is = refl; holds = record { counted = refl; exact = holds.exact }; ascending = ascending t holds.entries holds.sorted; below = below; texts = texts })
 
 texts_of : (entries : List SchemaEntry) (num_docs field : ℕ) (entry : SchemaEntry) (ts : List IndexToken) → slice_get entries field ≡ Some entry → AllFit entries num_docs ts
-    → AllByRecursion (λ (u : IndexToken). u.field ≡ field → u.of_text ≡ is_text_key entry.value_type u.key) ts
+    → AllByRecursion (λ (u : IndexToken). u.field ≡ field → u.of_text ≡ is_key_of_text entry.value_type u.key) ts
 texts_of entries num_docs field entry ts at fit =
-    all_map (Fits entries num_docs) (λ (u : IndexToken). u.field ≡ field → u.of_text ≡ is_text_key entry.value_type u.key) ts
+    all_map (Fits entries num_docs) (λ (u : IndexToken). u.field ≡ field → u.of_text ≡ is_key_of_text entry.value_type u.key) ts
     (λ u fits same.
     let there : slice_get entries u.field ≡ Some entry = ap (slice_get entries) same ∙ at in
     rw there at fits.kind)

@@ -185,10 +185,6 @@ keys_weight test field es ascending (t ∷ ts) have =
     ∙ ap (λ (n : ℕ). weight_in test field t + n) (keys_weight test field es ascending ts have.1)
     ∙ sym (sum_by-cons (weight_in test field) t ts)
 
--- all tokens of a field, and those of a document
-pub field_weight : (field : ℕ) (ts : List IndexToken) → sum_by (weight_in (λ _. true) field) ts ≡ field_count field ts
-field_weight field ts = refl
-
 pub doc_weight : (doc field : ℕ) (ts : List IndexToken) → sum_by (weight_in (λ d. d == doc) field) ts ≡ doc_count doc field ts
 doc_weight doc field ts = sum_same (weight_in (λ d. d == doc) field) (λ (t : IndexToken). if (t.doc == doc) && (t.field == field) then 1 else 0) (λ t. both (t.doc == doc) (t.field == field)) ts
   where

@@ -11,17 +11,14 @@ use Rattle.ii_reader.specs.InvertedIndexReader.{InvertedIndexReaderState}
 use Rattle.ii_store.specs.declared.name.Kind.{Kind}
 use Rattle.ii_damage.specs.declared.checking.Totals.{Totals}
 use Rattle.ii_damage.specs.declared.walking.TermWalk.{TermWalk}
-use Rattle.ii_damage.specs.Damages.{FoundDamageState, IndexFiles, field_damages, field_entries, field_reader, u64_max}
+use Rattle.ii_damage.specs.Damages.{FoundDamageState, IndexFiles, field_damages, field_entries, field_reader, max_u64}
 use Rattle.ii_damage.specs.Totals.{AddsTotals, HasTotals, opened_reader, opened_readers}
-use Rattle.ii_damage.specs.Walked.{HasWalked, positions_in}
+use Rattle.ii_damage.specs.Walked.{HasWalked, num_positions}
 use Rattle.ii_damage.proofs.ListedLemmas.{IsFinding, field_at, finding_next, none_left}
 
-pub no_totals : HasTotals [] (record { terms = 0; postings = 0; positions = 0 })
-no_totals = record { terms = refl; postings = refl; positions = refl }
-
 -- one more reader, whose lists were walked
-pub one_total : (n terms : ℕ) (rs : List InvertedIndexReaderState) (r : InvertedIndexReaderState) (walk : TermWalk) (old new : Totals) → new.terms ≡ min (old.terms + terms) u64_max → new.postings ≡ min (old.postings + walk.postings) u64_max
-    → new.positions ≡ min (old.positions + walk.positions) u64_max → terms ≡ length r.terms → HasWalked n (field_entries r) walk → HasTotals rs old → HasTotals (rs ++ r ∷ []) new
+pub one_total : (n terms : ℕ) (rs : List InvertedIndexReaderState) (r : InvertedIndexReaderState) (walk : TermWalk) (old new : Totals) → new.terms ≡ min (old.terms + terms) max_u64 → new.postings ≡ min (old.postings + walk.postings) max_u64
+    → new.positions ≡ min (old.positions + walk.positions) max_u64 → terms ≡ length r.terms → HasWalked n (field_entries r) walk → HasTotals rs old → HasTotals (rs ++ r ∷ []) new
 one_total n terms rs r walk old new t p q is walked h = record {
   terms =
       let all : sum_by (λ (x : InvertedIndexReaderState). length x.terms) (rs ++ r ∷ []) ≡ sum_by (λ (x : InvertedIndexReaderState). length x.terms) rs + length r.terms = sum_by_push (λ (x : InvertedIndexReaderState). length x.terms) rs r in
@@ -33,22 +30,11 @@ one_total n terms rs r walk old new t p q is walked h = record {
       let here = walked.postings in
       omega (arith, p, all, before, here);
   positions =
-      let all : sum_by (λ (x : InvertedIndexReaderState). positions_in (field_entries x)) (rs ++ r ∷ []) ≡ sum_by (λ (x : InvertedIndexReaderState). positions_in (field_entries x)) rs + positions_in (field_entries r) = sum_by_push (λ (x : InvertedIndexReaderState). positions_in (field_entries x)) rs r in
+      let all : sum_by (λ (x : InvertedIndexReaderState). num_positions (field_entries x)) (rs ++ r ∷ []) ≡ sum_by (λ (x : InvertedIndexReaderState). num_positions (field_entries x)) rs + num_positions (field_entries r) = sum_by_push (λ (x : InvertedIndexReaderState). num_positions (field_entries x)) rs r in
       let before = h.positions in
       let here = walked.positions in
       omega (arith, q, all, before, here);
 }
-
--- the reader of a field whose bodies open is added
-pub adds_opened : (files : IndexFiles) (f : ℕ × SchemaEntry) (reader : InvertedIndexReaderState) (old new : Totals) → field_reader files f.0 f.1.option ≡ Ok reader → AddsTotals (reader ∷ []) old new → AddsTotals (option_to_list (opened_reader files f)) old new
-adds_opened files f reader old new found adds =
-    let one : opened_reader files f ≡ Some reader = ap result_ok found in
-    subst (λ (o : Option InvertedIndexReaderState). AddsTotals (option_to_list o) old new) (sym one) adds
-
-pub adds_none : (files : IndexFiles) (f : ℕ × SchemaEntry) (found : Kind × Part) (totals : Totals) → field_reader files f.0 f.1.option ≡ Err found → AddsTotals (option_to_list (opened_reader files f)) totals totals
-adds_none files f found totals is =
-    let none : opened_reader files f ≡ None = ap result_ok is in
-    λ rs h. rw none (subst (λ (l : List InvertedIndexReaderState). HasTotals l totals) (sym (append-nil rs)) h)
 
 -- What a loop over the fields knows of the totals: the readers so far, in front of those of the fields that are left, are all.
 pub record IsCounting (entries : List SchemaEntry) (files : IndexFiles) (id : ℕ) (found : List FoundDamageState) (old now : Totals) : Type 0 where
@@ -56,14 +42,6 @@ pub record IsCounting (entries : List SchemaEntry) (files : IndexFiles) (id : �
   pub done : List InvertedIndexReaderState
   pub whole : opened_readers entries files ≡ done ++ filter_map (opened_reader files) (drop id (enumerate_from 0 entries))
   pub adds : AddsTotals done old now
-
-pub counting_first : (entries : List SchemaEntry) (files : IndexFiles) (found : List FoundDamageState) (old : Totals) → IsFinding entries files 0 found → IsCounting entries files 0 found old old
-counting_first entries files found old finding = record {
-  finding = finding;
-  done = [];
-  whole = refl;
-  adds = λ rs h. subst (λ (l : List InvertedIndexReaderState). HasTotals l old) (sym (append-nil rs)) h;
-}
 
 front : (o : Option InvertedIndexReaderState) (rs : List InvertedIndexReaderState) → cons_option o rs ≡ option_to_list o ++ rs
 front None rs = refl

@@ -24,8 +24,8 @@ use Rattle.ii_reader.proofs.JsonLemmas.{entry_at, none_past}
 use Rattle.ii_damage.specs.declared.damage.Damage.{Damage}
 use Rattle.ii_damage.specs.declared.damage.FieldPlaces.{FieldPlaces}
 use Rattle.ii_damage.specs.declared.walking.TermWalk.{TermWalk}
-use Rattle.ii_damage.specs.Damages.{FoundDamageState, entries_read, field_entries, list_damage, of_term, stray_in, term_damage, term_damages, term_entries, tokens_in, tokens_of_doc, u32_max, u64_max, u128_max}
-use Rattle.ii_damage.specs.Walked.{HasWalked, positions_in, raised}
+use Rattle.ii_damage.specs.Damages.{FoundDamageState, entries_read, field_entries, list_damage, of_term, stray_in, term_damage, term_damages, term_entries, num_occurrences, tokens_of_doc, max_u32, max_u64, max_u128}
+use Rattle.ii_damage.specs.Walked.{HasWalked, num_positions, with_count}
 
 -- nothing is counted before the first list
 pub none_walked : (n : ℕ) (counts : Vec ℕ Global) → counts.items ≡ replicate n 0 → HasWalked n [] (record { counts = counts; tokens = 0; postings = 0; positions = 0 })
@@ -42,16 +42,16 @@ none_walked n counts is = record {
 }
 
 -- the count of a document after one more entry
-raised_by : (es : List Entry) (e : Entry) (doc : ℕ) → raised e.doc e.term_freq doc (min (tokens_of_doc doc es) u32_max) ≡ min (tokens_of_doc doc (es ++ e ∷ [])) u32_max
+raised_by : (es : List Entry) (e : Entry) (doc : ℕ) → with_count e.doc e.term_freq doc (min (tokens_of_doc doc es) max_u32) ≡ min (tokens_of_doc doc (es ++ e ∷ [])) max_u32
 raised_by es e doc = by_case (e.doc == doc) refl
   where
     sums : tokens_of_doc doc (es ++ e ∷ []) ≡ tokens_of_doc doc es + (if e.doc == doc then e.term_freq else 0)
     sums = sum_by_push (λ (x : Entry). if x.doc == doc then x.term_freq else 0) es e
 
-    by_case : (b : Bool) → (e.doc == doc) ≡ b → raised e.doc e.term_freq doc (min (tokens_of_doc doc es) u32_max) ≡ min (tokens_of_doc doc (es ++ e ∷ [])) u32_max
+    by_case : (b : Bool) → (e.doc == doc) ≡ b → with_count e.doc e.term_freq doc (min (tokens_of_doc doc es) max_u32) ≡ min (tokens_of_doc doc (es ++ e ∷ [])) max_u32
     by_case true same =
         let all : tokens_of_doc doc (es ++ e ∷ []) ≡ tokens_of_doc doc es + e.term_freq = rw same at sums in
-        let capped : min (min (tokens_of_doc doc es) u32_max + e.term_freq) u32_max ≡ min (tokens_of_doc doc es + e.term_freq) u32_max = omega arith in
+        let capped : min (min (tokens_of_doc doc es) max_u32 + e.term_freq) max_u32 ≡ min (tokens_of_doc doc es + e.term_freq) max_u32 = omega arith in
         rw (same, all) capped
     by_case false other =
         let all : tokens_of_doc doc (es ++ e ∷ []) ≡ tokens_of_doc doc es + 0 = rw other at sums in
@@ -59,12 +59,12 @@ raised_by es e doc = by_case (e.doc == doc) refl
         rw (other, all, same) refl
 
 -- one more entry is counted
-pub one_walked : (n : ℕ) (es : List Entry) (e : Entry) (old new : TermWalk) → new.tokens ≡ min (old.tokens + e.term_freq) u128_max → new.postings ≡ min (old.postings + 1) u64_max
-    → new.positions ≡ min (old.positions + length e.positions) u64_max → length new.counts.items ≡ length old.counts.items
-    → ((d : ℕ) → slice_get new.counts.items d ≡ option_map (raised e.doc e.term_freq d) (slice_get old.counts.items d)) → HasWalked n es old → HasWalked n (es ++ e ∷ []) new
+pub one_walked : (n : ℕ) (es : List Entry) (e : Entry) (old new : TermWalk) → new.tokens ≡ min (old.tokens + e.term_freq) max_u128 → new.postings ≡ min (old.postings + 1) max_u64
+    → new.positions ≡ min (old.positions + length e.positions) max_u64 → length new.counts.items ≡ length old.counts.items
+    → ((d : ℕ) → slice_get new.counts.items d ≡ option_map (with_count e.doc e.term_freq d) (slice_get old.counts.items d)) → HasWalked n es old → HasWalked n (es ++ e ∷ []) new
 one_walked n es e old new tokens postings positions many counts walked = record {
   tokens =
-      let all : tokens_in (es ++ e ∷ []) ≡ tokens_in es + e.term_freq = sum_by_push (λ (x : Entry). x.term_freq) es e in
+      let all : num_occurrences (es ++ e ∷ []) ≡ num_occurrences es + e.term_freq = sum_by_push (λ (x : Entry). x.term_freq) es e in
       let before = walked.tokens in
       omega (arith, tokens, all, before);
   postings =
@@ -72,12 +72,12 @@ one_walked n es e old new tokens postings positions many counts walked = record 
       let before = walked.postings in
       omega (arith, postings, all, before);
   positions =
-      let all : positions_in (es ++ e ∷ []) ≡ positions_in es + length e.positions = sum_by_push (λ (x : Entry). length x.positions) es e in
+      let all : num_positions (es ++ e ∷ []) ≡ num_positions es + length e.positions = sum_by_push (λ (x : Entry). length x.positions) es e in
       let before = walked.positions in
       omega (arith, positions, all, before);
   counts = record {
     many = many ∙ walked.counts.many;
-    each = λ doc low. counts doc ∙ ap (option_map (raised e.doc e.term_freq doc)) (walked.counts.each doc low) ∙ ap (λ (c : ℕ). Some c) (raised_by es e doc);
+    each = λ doc low. counts doc ∙ ap (option_map (with_count e.doc e.term_freq doc)) (walked.counts.each doc low) ∙ ap (λ (c : ℕ). Some c) (raised_by es e doc);
   };
 }
   where
@@ -97,15 +97,6 @@ pub record IsWalkingList (num_docs doc_freq i : ℕ) (list rest : List Entry) (s
 pub record WalksList (num_docs : ℕ) (list : List Entry) (stray : Option ℕ) (old now : TermWalk) : Type 0 where
   pub found : stray ≡ stray_in num_docs list
   pub walked : (n : ℕ) (es : List Entry) → HasWalked n es old → HasWalked n (es ++ list) now
-
-pub list_first : (num_docs doc_freq : ℕ) (list : List Entry) (old : TermWalk) → length list ≡ doc_freq → IsWalkingList num_docs doc_freq 0 list list None old old
-list_first num_docs doc_freq list old many = record {
-  done = [];
-  whole = refl;
-  found = refl;
-  many = omega (arith, many);
-  walked = λ n es walked. subst (λ (xs : List Entry). HasWalked n xs old) (sym (append-nil es)) walked;
-}
 
 strays_on : (num_docs : ℕ) (e : Entry) (more : List Entry) (stray : Option ℕ)
     → option_or stray (stray_in num_docs (e ∷ more)) ≡ option_or (option_or stray (if nat_le num_docs e.doc then Some e.doc else None)) (stray_in num_docs more)
@@ -222,13 +213,6 @@ terms_over num_docs places reader terms ord found old now end h =
     drop-end (suc i) [] h = refl
     drop-end zero (e ∷ es) h = absurd (omega (arith, h))
     drop-end (suc i) (e ∷ es) h = drop-end i es (omega (arith, h))
-
--- there is a term before the end
-pub terms_short : (num_docs : ℕ) (places : FieldPlaces) (reader : InvertedIndexReaderState) (terms : TermStreamerState) (ord : ℕ) (found : List FoundDamageState) (old now : TermWalk) → ord < length reader.terms
-    → None ≡ slice_get (entry_keys terms.entries) terms.passed → IsWalkingTerms num_docs places reader terms ord found old now → ⊥
-terms_short num_docs places reader terms ord found old now low none h =
-    let there : None ≡ slice_get (entry_keys reader.terms) ord = rw h.terms_are at none in
-    none_past reader.terms ord low (sym there)
 
 -- a list that opens is that of its term
 pub walked_by : (reader : InvertedIndexReaderState) (option : IndexRecordOption) (info : TermInfo) (cursor : SegmentPostingsState) (old now : TermWalk) → option ≡ reader.option → OpensTerm reader option info cursor

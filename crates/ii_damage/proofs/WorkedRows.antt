@@ -12,7 +12,7 @@ use Rattle.ii_store.specs.declared.name.Kind.TheVariants.{Terms, Postings, Posit
 use Rattle.ii_termstore.specs.declared.term_info.TermInfo.{TermInfo}
 use Rattle.ii_damage.specs.declared.damage.Damage.TheVariants as damages
 use Rattle.ii_damage.specs.declared.damage.FieldPlaces.{FieldPlaces}
-use Rattle.ii_damage.specs.Damages.{bytes_of_damage, keeps_counts, list_damage, may_have, tokens_in, tokens_of_doc}
+use Rattle.ii_damage.specs.Damages.{bytes_of_damage, keeps_counts, list_damage, may_have, num_occurrences, tokens_of_doc}
 
 abbrev json : SchemaEntry
 json = record { name = codes "j"; value_type = Json; option = WithFreqs; is_indexed = true; has_fieldnorms = false; expands_dots = false }
@@ -40,7 +40,7 @@ less_than_counted = refl
 abbrev entries : List Entry
 entries = counted 0 2 ∷ counted 3 1 ∷ counted 4 5 ∷ []
 
-pub tokens_of_entries : tokens_in entries ≡ 8
+pub tokens_of_entries : num_occurrences entries ≡ 8
 tokens_of_entries = refl
 
 pub tokens_of_one : tokens_of_doc 3 entries ≡ 1

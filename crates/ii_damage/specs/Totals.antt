@@ -5,8 +5,8 @@ use Rattle.std.specs.Result.{result_ok}
 use Rattle.ii_base.specs.Schema.{SchemaEntry}
 use Rattle.ii_reader.specs.InvertedIndexReader.{InvertedIndexReaderState}
 use Rattle.ii_damage.specs.declared.checking.Totals.{Totals}
-use Rattle.ii_damage.specs.Damages.{IndexFiles, field_entries, field_reader, u64_max}
-use Rattle.ii_damage.specs.Walked.{positions_in}
+use Rattle.ii_damage.specs.Damages.{IndexFiles, field_entries, field_reader, max_u64}
+use Rattle.ii_damage.specs.Walked.{num_positions}
 
 -- the reader of a field, if its bodies open
 abbrev pub opened_reader : IndexFiles → ℕ × SchemaEntry → Option InvertedIndexReaderState
@@ -16,12 +16,12 @@ opened_reader files f = result_ok (field_reader files f.0 f.1.option)
 abbrev pub opened_readers : List SchemaEntry → IndexFiles → List InvertedIndexReaderState
 opened_readers entries files = filter_map (opened_reader files) (enumerate_from 0 entries)
 
--- Totals are the numbers of terms of readers, and of documents and positions of their lists that open, each at most `u64::MAX`.
+-- Totals are the sums over readers of terms, documents and positions, each at most `u64::MAX`.
 pub record HasTotals (readers : List InvertedIndexReaderState) (t : Totals) : Type 0 where
-  pub terms : t.terms ≡ min (sum_by (λ (r : InvertedIndexReaderState). length r.terms) readers) u64_max
-  pub postings : t.postings ≡ min (sum_by (λ (r : InvertedIndexReaderState). length (field_entries r)) readers) u64_max
-  pub positions : t.positions ≡ min (sum_by (λ (r : InvertedIndexReaderState). positions_in (field_entries r)) readers) u64_max
+  pub terms : t.terms ≡ min (sum_by (λ (r : InvertedIndexReaderState). length r.terms) readers) max_u64
+  pub postings : t.postings ≡ min (sum_by (λ (r : InvertedIndexReaderState). length (field_entries r)) readers) max_u64
+  pub positions : t.positions ≡ min (sum_by (λ (r : InvertedIndexReaderState). num_positions (field_entries r)) readers) max_u64
 
--- What was walked of readers was added to totals.
+-- What was walked of more readers was added to the totals.
 abbrev pub AddsTotals : List InvertedIndexReaderState → Totals → Totals → Type 0
 AddsTotals more old new = (readers : List InvertedIndexReaderState) → HasTotals readers old → HasTotals (readers ++ more) new

@@ -1,26 +1,26 @@
--- What a walk over lists has counted.
+-- Counts of a walk over lists.
 use Rattle.std.specs.Prelude.{◌≡◌, ℕ, ◌+◌, ◌<◌, ◌==◌, if◌then◌else◌, List, length, min, Some, slice_get}
 use Rattle.std.specs.List.{sum_by}
 use Rattle.ii_base.specs.Entries.{Entry}
 use Rattle.ii_damage.specs.declared.walking.TermWalk.{TermWalk}
-use Rattle.ii_damage.specs.Damages.{tokens_in, tokens_of_doc, u32_max, u64_max, u128_max}
+use Rattle.ii_damage.specs.Damages.{num_occurrences, tokens_of_doc, max_u32, max_u64, max_u128}
 
--- how many positions entries have
-abbrev pub positions_in : List Entry → ℕ
-positions_in es = sum_by (λ (e : Entry). length e.positions) es
+-- the number of positions of all entries
+abbrev pub num_positions : List Entry → ℕ
+num_positions es = sum_by (λ (e : Entry). length e.positions) es
 
--- Counts are the numbers of tokens that each of `num_docs` documents has in these entries, at most `u32::MAX`.
+-- `counts` holds the number of tokens of each document in these entries, at most `u32::MAX`.
 pub record HasCounts (num_docs : ℕ) (es : List Entry) (counts : List ℕ) : Type 0 where
   pub many : length counts ≡ num_docs
-  pub each : (doc : ℕ) → doc < num_docs → slice_get counts doc ≡ Some (min (tokens_of_doc doc es) u32_max)
+  pub each : (doc : ℕ) → doc < num_docs → slice_get counts doc ≡ Some (min (tokens_of_doc doc es) max_u32)
 
 -- A walk in an index of `num_docs` documents has counted these entries.
 pub record HasWalked (num_docs : ℕ) (es : List Entry) (w : TermWalk) : Type 0 where
-  pub tokens : w.tokens ≡ min (tokens_in es) u128_max
-  pub postings : w.postings ≡ min (length es) u64_max
-  pub positions : w.positions ≡ min (positions_in es) u64_max
+  pub tokens : w.tokens ≡ min (num_occurrences es) max_u128
+  pub postings : w.postings ≡ min (length es) max_u64
+  pub positions : w.positions ≡ min (num_positions es) max_u64
   pub counts : HasCounts num_docs es w.counts.items
 
--- the count of a document after one more of a list: that of another document stays
-abbrev pub raised : ℕ → ℕ → ℕ → ℕ → ℕ
-raised doc term_freq d count = if doc == d then min (count + term_freq) u32_max else count
+-- the count of document `d` after `term_freq` more tokens of document `doc`
+abbrev pub with_count : ℕ → ℕ → ℕ → ℕ → ℕ
+with_count doc term_freq d count = if doc == d then min (count + term_freq) max_u32 else count

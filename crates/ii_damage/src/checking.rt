@@ -1,4 +1,4 @@
-//! Looking through all files of an index for what is damaged.
+//! Finds the damages in all files of an index.
 ghost use Rattle.std.specs.Prelude.{◌≡◌, ◌++◌, ℕ, List, OnOk, IfOk, [], if◌then◌else◌, length, map, ◌∷◌};
 ghost use Rattle.std.specs.Option.{option_to_list};
 ghost use Rattle.ii_io.specs.Faults.{OnlyMemory};
@@ -11,7 +11,7 @@ ghost use Rattle.ii_definitions.specs.declared.index_call.IndexCall.{IndexCall};
 ghost use Rattle.ii_base.specs.Words.{Word};
 ghost use Rattle.ii_reader.specs.InvertedIndexReader.{InvertedIndexReaderState};
 ghost use Rattle.ii_store.specs.Index.{view};
-ghost use Rattle.ii_damage.specs.Damages.{count_damages, damages_of, field_damages, field_entries, files_of, reader_damages, table_damage, table_damages, unopened};
+ghost use Rattle.ii_damage.specs.Damages.{count_damages, damages_of, field_damages, field_entries, index_files, reader_damages, table_damage, table_damages, unopened};
 ghost use Rattle.ii_damage.specs.Fits.{AllFit, TokensOfCallsFit};
 ghost use Rattle.ii_damage.specs.Totals.{AddsTotals, HasTotals, opened_reader, opened_readers};
 ghost use Rattle.ii_damage.specs.Walked.{HasWalked};
@@ -26,7 +26,7 @@ use ii_reader::InvertedIndexReader;
 use ii_store::{Kind, StoredIndex};
 use std::alloc::Global;
 
-/// How much of an index was walked, each number at most `u64::MAX`.
+/// How much of an index was walked; each number stops at `u64::MAX`.
 #[derive(Clone, Copy, Debug, PartialEq, Eq)]
 pub struct Totals {
     pub terms: u64,
@@ -46,7 +46,7 @@ impl Totals {
         }
     }
 
-    // Counts what was walked of a field.
+    // Adds what was walked of a field.
     #[tactic(auto, using(crate::proofs::TotalsLemmas::one_total))]
     fn add(&mut self, terms: usize, walk: &TermWalk)
         ensures { (n : ℕ) (rs : List InvertedIndexReaderState) (r : InvertedIndexReaderState) → terms ≡ length r.terms → HasWalked n (field_entries r) walk.now → HasTotals rs self.old → HasTotals (rs ++ r ∷ []) self.new }
@@ -57,21 +57,21 @@ impl Totals {
     }
 }
 
-/// Finds the damages of an index over a schema, in the order of `damages_of`: files whose table is not
-/// valid; then of each field its bodies that don't open, or the terms whose list doesn't open or has a
-/// document that is not in the index, or, where there are none of these, the number of its tokens and the
-/// norms. Counts in `totals` what was walked. Fails only with `OutOfMemory`.
+/// Finds the damages of an index over a schema, in the order of `damages_of`. First come files whose table is
+/// not valid, then each field in order. A field's damages are its bodies that don't open, or its terms whose
+/// list doesn't open or has a document that is not in the index. Where there are none of these, they are the
+/// number of its tokens and its norms. Adds to `totals` what was walked. Fails only with `OutOfMemory`.
 ///
-/// Files that hold tokens which fit the schema, and their norms, have no damages, and so it is of the tokens
-/// of all calls that may be indexed: what `write_index` wrote.
+/// Files that hold tokens which fit the schema, and their norms, have no damages. The files that
+/// `write_index` wrote are such files, since the tokens of all calls that may be indexed fit.
 pub fn find_damages(
     alloc: Global,
     schema: &Schema,
     stored: StoredIndex,
     totals: &mut Totals,
 ) -> Result<Vec<FoundDamage>, Fault>
-    ensures found { IfOk result (λ found. found.items ≡ damages_of schema.now (files_of (view stored))) }
-    ensures totals { OnOk result (HasTotals [] totals.old → HasTotals (opened_readers schema.now (files_of (view stored))) totals.new) }
+    ensures found { IfOk result (λ found. found.items ≡ damages_of schema.now (index_files (view stored))) }
+    ensures totals { OnOk result (HasTotals [] totals.old → HasTotals (opened_readers schema.now (index_files (view stored))) totals.new) }
     // what was written has no damages
     ensures sound { (ts : List IndexToken) → HoldTokens (option_of schema.now) stored.terms.items stored.postings.items stored.positions.items ts
         → HoldNorms schema.now stored.num_docs stored.fieldnorms.items ts → AllFit schema.now stored.num_docs ts → IfOk result (λ found. found.items ≡ []) }
@@ -86,7 +86,7 @@ pub fn find_damages(
     found
 }
 
-// The damages of files that are open.
+// Finds the damages of open files.
 fn damages_of(
     alloc: Global,
     schema: &Schema,
@@ -106,7 +106,7 @@ fn damages_of(
     Ok(found)
 }
 
-// The damages of the tables.
+// Finds the damages of the tables.
 fn table_damages(alloc: Global, files: &WalkedFiles) -> Result<Vec<FoundDamage>, Fault>
     ensures found { IfOk result (λ found. found.items ≡ table_damages files.now) }
     ensures only { OnlyMemory result }
@@ -119,7 +119,7 @@ fn table_damages(alloc: Global, files: &WalkedFiles) -> Result<Vec<FoundDamage>,
     Ok(found)
 }
 
-// Adds the damage of a file with no valid table.
+// Adds the damage of a file whose table is not valid.
 fn push_table(found: &mut Vec<FoundDamage>, files: &WalkedFiles, kind: Kind) -> Result<(), Fault>
     ensures found { OnOk result (found.new.items ≡ found.old.items ++ option_to_list (table_damage files.now kind)) }
     ensures only { OnlyMemory result }
@@ -158,7 +158,7 @@ fn push_field(
     }
 }
 
-// Adds the damage of a field whose bodies don't open, unless it is that of a table.
+// Adds the damage of a field whose bodies don't open, unless the file's table is damaged.
 fn push_unopened(
     found: &mut Vec<FoundDamage>,
     files: &WalkedFiles,
@@ -178,7 +178,7 @@ fn push_unopened(
     Ok(())
 }
 
-// The damages of a field whose bodies open.
+// Finds the damages of a field whose bodies open.
 fn reader_damages(
     alloc: Global,
     files: &WalkedFiles,
@@ -198,7 +198,7 @@ fn reader_damages(
     found
 }
 
-// The damages of a field whose lists are walked.
+// Walks the lists of a field and returns its damages.
 fn walked_damages(
     alloc: Global,
     files: &WalkedFiles,
@@ -220,7 +220,7 @@ fn walked_damages(
     Ok(found)
 }
 
-// The damages of the numbers of tokens of a field.
+// Finds the damages of a field's number of tokens and norms.
 fn count_damages(
     alloc: Global,
     files: &WalkedFiles,

@@ -1,9 +1,9 @@
-//! Comparing the numbers of tokens that an index keeps with those of its lists.
+//! Compares the numbers of tokens that an index stores with those of its lists.
 ghost use Rattle.std.specs.Prelude.{◌≡◌, ◌<◌, ℕ, IfOk, IfSome, List, Some, length, min};
 ghost use Rattle.ii_io.specs.Faults.{OnlyMemory};
 ghost use Rattle.ii_base.specs.Entries.{Entry};
 ghost use Rattle.ii_base.specs.Schema.{keeps_norms};
-ghost use Rattle.ii_damage.specs.Damages.{kept_norms_damage, may_have, norms_damage, other_norm, tokens_damage, u128_max};
+ghost use Rattle.ii_damage.specs.Damages.{kept_norms_damage, may_have, norms_damage, other_norm, tokens_damage, max_u128};
 ghost use Rattle.ii_damage.specs.Walked.{HasCounts};
 
 use crate::damage::{ByteRange, Damage, FoundDamage};
@@ -12,10 +12,10 @@ use ii_base::{DocId, Fault, Field, FieldEntry};
 use ii_fieldnorm::fieldnorm_to_id;
 use ii_store::Kind;
 
-// How many bytes the number of a field's tokens takes.
+// The size of a field's number of tokens, in bytes.
 const TOKEN_COUNT_SIZE: u64 = 8;
 
-// The damage of the number of tokens that a field begins with, where its lists have some, capped at
+// Returns the damage of a field's stored number of tokens, where its lists have `tokens`, capped at
 // `u128::MAX`.
 pub(crate) fn tokens_damage(
     files: &WalkedFiles,
@@ -24,7 +24,7 @@ pub(crate) fn tokens_damage(
     num_tokens: u64,
     tokens: u128,
 ) -> Option<FoundDamage>
-    ensures { (listed : ℕ) → tokens ≡ min listed u128_max → result ≡ tokens_damage files.now field all_kept num_tokens listed }
+    ensures { (listed : ℕ) → tokens ≡ min listed max_u128 → result ≡ tokens_damage files.now field all_kept num_tokens listed }
 {
     if may_have(all_kept, num_tokens, tokens) {
         return None;
@@ -35,9 +35,9 @@ pub(crate) fn tokens_damage(
     Some(FoundDamage::of_field(field, Kind::Postings, damage, bytes))
 }
 
-// Whether a field may have this number of tokens when its lists have some.
+// Returns whether a field may store `num_tokens` when its lists have `tokens`.
 fn may_have(all_kept: bool, num_tokens: u64, tokens: u128) -> bool
-    ensures { (listed : ℕ) → tokens ≡ min listed u128_max → result ≡ may_have all_kept num_tokens listed }
+    ensures { (listed : ℕ) → tokens ≡ min listed max_u128 → result ≡ may_have all_kept num_tokens listed }
 {
     if all_kept {
         return u128::from(num_tokens) == tokens;
@@ -45,7 +45,7 @@ fn may_have(all_kept: bool, num_tokens: u64, tokens: u128) -> bool
     tokens <= u128::from(num_tokens)
 }
 
-// The damage of the norms of a field that keeps them, where its documents have these numbers of tokens.
+// Returns the damage of the norms of a field that keeps them; `counts` are its documents' numbers of tokens.
 pub(crate) fn kept_norms_damage(
     files: &WalkedFiles,
     field: Field,
@@ -73,14 +73,14 @@ pub(crate) fn kept_norms_damage(
     Ok(norms_damage(num_docs, field, body, all_kept, counts, ids.as_slice()))
 }
 
-// Whether a field keeps norms.
+// Returns whether a field keeps norms.
 fn keeps_norms(entry: &FieldEntry) -> bool
     ensures { result ≡ keeps_norms entry.now }
 {
     entry.is_indexed() & entry.has_fieldnorms()
 }
 
-// The damage of the norms of a field whose documents have these numbers of tokens.
+// Returns the damage of a field's norms; `counts` are its documents' numbers of tokens.
 fn norms_damage(
     num_docs: DocId,
     field: Field,
@@ -107,7 +107,7 @@ fn norms_damage(
     Some(FoundDamage::of_field(field, Kind::FieldNorms, damage, bytes))
 }
 
-// The first document whose norm is not that of its number of tokens.
+// Returns the first document whose norm is not that of its number of tokens.
 fn other_norm(num_docs: DocId, ids: &[u8], counts: &[u32]) -> Option<DocId>
     requires ids { length ids.now ≡ num_docs }
     requires counts { length counts.now ≡ num_docs }

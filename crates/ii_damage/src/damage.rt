@@ -1,4 +1,4 @@
-//! Damages of an index: what is wrong, and where.
+//! Damages of an index, and where they are.
 ghost use Rattle.std.specs.Prelude.{◌≡◌, IfOk, None};
 ghost use Rattle.std.specs.Option.{option_map};
 ghost use Rattle.ii_damage.specs.Damages.{bytes_of_damage, of_field, of_term, shifted};
@@ -13,27 +13,27 @@ use thiserror::Error;
 /// What is wrong with a part of an index.
 #[derive(Clone, Copy, Debug, PartialEq, Eq, Error)]
 pub enum Damage {
-    /// The bytes don't hold this part.
+    /// The bytes of this part are corrupt.
     #[error("damaged {0}")]
     Part(Part),
     /// A list has a document that is not in the index.
     #[error("document {0} is not in the index")]
     Document(DocId),
-    /// A field counts another number of tokens than its terms have.
+    /// The field's stored number of tokens differs from that of its terms.
     #[error("the field counts {0} tokens, but its terms have {1}")]
     Tokens(u64, u128),
     /// A field that keeps norms has none.
     #[error("the field norms are missing")]
     NoNorms,
-    /// The number of norms is not that of documents.
+    /// The number of norms differs from the number of documents.
     #[error("{0} field norms, which is not the number of documents")]
     Norms(u64),
-    /// A document has this many tokens of a field, and the norm of another number.
+    /// A document has this many tokens in a field, but the norm of another number.
     #[error("document {0} has {1} tokens, but its norm is that of another number")]
     Norm(DocId, u32),
 }
 
-/// The bytes of a file from `start` to before `end`.
+/// A range of bytes of a file; `end` is exclusive.
 #[derive(Clone, Copy, Debug, PartialEq, Eq)]
 pub struct ByteRange {
     pub start: u64,
@@ -41,7 +41,7 @@ pub struct ByteRange {
 }
 
 impl ByteRange {
-    // The bytes from one place to another after the first `start` bytes of a file.
+    // Returns the bytes from `first` to `last`, counted from byte `start` of a file.
     pub(crate) fn shifted(start: u64, first: u64, last: u64) -> ByteRange
         ensures { result ≡ shifted start first last }
     {
@@ -52,20 +52,20 @@ impl ByteRange {
     }
 }
 
-/// Where the terms of a field, its lists and its positions are in their files.
+/// Where the terms, lists and positions of a field are in their files.
 #[derive(Clone, Copy, Debug, PartialEq, Eq)]
 pub struct FieldPlaces {
     pub field: Field,
-    /// The body of its terms.
+    /// The body of the terms.
     pub terms: ByteRange,
-    /// The first byte of its lists of documents.
+    /// The first byte of the posting lists.
     pub lists: u64,
-    /// The first byte of its positions.
+    /// The first byte of the positions.
     pub positions: u64,
 }
 
 impl FieldPlaces {
-    // The file and the bytes that a damage of a term concerns.
+    // Returns the file and the bytes of a damage of a term.
     pub(crate) fn bytes_of(&self, info: &TermInfo, damage: Damage) -> (Kind, ByteRange)
         ensures { result ≡ bytes_of_damage self.now info.now damage }
     {
@@ -89,8 +89,8 @@ impl FieldPlaces {
     }
 }
 
-/// A damage of an index, and where it is: the file, the field and the key of the term, as far as it is a
-/// damage of a field or of a term, and the bytes of the file.
+/// A damage of an index and its place: the file and its bytes, and the field and the key of the term if the
+/// damage belongs to one.
 pub struct FoundDamage {
     kind: Kind,
     field: Option<Field>,
@@ -99,7 +99,7 @@ pub struct FoundDamage {
     bytes: ByteRange,
 }
 
-// So that each drop is a call.
+// Makes each drop a call.
 impl Drop for FoundDamage {
     fn drop(self) {
         let FoundDamage {
@@ -128,7 +128,7 @@ impl Model for FoundDamage {
 }
 
 impl FoundDamage {
-    // A damage of a file.
+    // Creates a damage of a file.
     pub(crate) fn of_file(kind: Kind, damage: Damage, bytes: ByteRange) -> FoundDamage
         ensures { result ≡ record { kind = kind; field = None; key = None; damage = damage; bytes = bytes } }
     {
@@ -141,7 +141,7 @@ impl FoundDamage {
         }
     }
 
-    // A damage of a field.
+    // Creates a damage of a field.
     pub(crate) fn of_field(
         field: Field,
         kind: Kind,
@@ -159,7 +159,7 @@ impl FoundDamage {
         }
     }
 
-    // A damage of the term with a key.
+    // Creates a damage of the term with a key.
     pub(crate) fn of_term(
         alloc: Global,
         places: &FieldPlaces,
@@ -180,21 +180,21 @@ impl FoundDamage {
         })
     }
 
-    /// The file that is damaged.
+    /// Returns the damaged file.
     pub fn kind(&self) -> Kind
         ensures { result ≡ self.now.kind }
     {
         self.kind
     }
 
-    /// The field, unless the table of the file is damaged.
+    /// Returns the field, unless the table of the file is damaged.
     pub fn field(&self) -> Option<Field>
         ensures { result ≡ self.now.field }
     {
         self.field
     }
 
-    /// The key of the term, if a term is damaged.
+    /// Returns the key of the term, if a term is damaged.
     pub fn key(&self) -> Option<&[u8]>
         ensures { option_map (λ key. key.now) result ≡ self.now.key }
     {
@@ -204,14 +204,14 @@ impl FoundDamage {
         }
     }
 
-    /// What is wrong.
+    /// Returns what is wrong.
     pub fn damage(&self) -> Damage
         ensures { result ≡ self.now.damage }
     {
         self.damage
     }
 
-    /// The bytes of the file that the damage concerns.
+    /// Returns the bytes of the file that are damaged.
     pub fn bytes(&self) -> ByteRange
         ensures { result ≡ self.now.bytes }
     {

@@ -1,4 +1,4 @@
-//! A file of an index, whatever it holds: the bodies of its fields, and where in it they are.
+//! A file of an index, whatever it holds: the bodies of its fields and their places.
 ghost use Rattle.std.specs.Prelude.{◌≡◌, ◌-◌, ◌==◌, IfOk, List, Some, drop, is_some, length};
 ghost use Rattle.std.specs.List.{find};
 ghost use Rattle.ii_io.specs.declared.composite_file.place.Place.{Place};
@@ -14,13 +14,13 @@ use ii_io::{BinarySerializable, CompositeFile, Fault, Field};
 use std::alloc::Global;
 use std::marker::Model;
 
-/// A file of an index as it is, and the bodies of its fields if its table is valid. Its model is the bytes.
+/// A file of an index, and the bodies of its fields if its table is valid. Its model is the bytes.
 pub struct FieldBodies {
     bytes: Bytes,
     bodies: Option<CompositeFile>,
 }
 
-// So that each drop is a call.
+// Makes each drop a call.
 impl Drop for FieldBodies {
     fn drop(self) {
         let FieldBodies {
@@ -66,15 +66,15 @@ impl FieldBodies {
         }
     }
 
-    /// Returns whether its table is valid.
+    /// Returns whether the table is valid.
     pub fn has_valid_table(&self) -> bool
         ensures { result ≡ is_some (table_of self.now) }
     {
         self.bodies.is_some()
     }
 
-    /// Returns the body of a field, or `None` where the file has none or its table is damaged. Fails only
-    /// with `OutOfMemory`, where the file's buffer can't be shared once more.
+    /// Returns the body of a field, or `None` if the file doesn't have it or its table is damaged. Fails only
+    /// with `OutOfMemory`.
     pub fn body(&self, field: Field) -> Result<Option<Bytes>, Fault>
         ensures body { IfOk result (λ body. body ≡ body_in field (composite self.now)) }
         ensures only { OnlyMemory result }
@@ -95,7 +95,7 @@ impl FieldBodies {
         }
     }
 
-    /// Returns where the body of a field is in the file: all of the file where it has no such body.
+    /// Returns the range of a field's body, or the complete file if there is no such body.
     pub fn place(&self, field: Field) -> ByteRange
         ensures { result ≡ bytes_of_field field self.now }
     {
@@ -112,7 +112,7 @@ impl FieldBodies {
     }
 }
 
-// The place of a field in the table at the end of a file, where that is one.
+// Returns the place of a field in the table at the end of a file, if that is valid.
 #[tactic(auto, using(crate::proofs::TableLemmas::no_table, crate::proofs::TableLemmas::table_short, crate::proofs::TableLemmas::table_places))]
 fn place_of(file: &[u8], field: Field) -> Option<Place>
     ensures { (places : List Place) → table_of file.now ≡ Some places → result ≡ find (λ (p : Place). p.field == field) places }
@@ -129,7 +129,7 @@ fn place_of(file: &[u8], field: Field) -> Option<Place>
     place_in(table, count, field)
 }
 
-// The last four bytes of a file, or all where it has fewer.
+// Returns the last four bytes of a file, or all if it is shorter.
 fn footer_of(file: &[u8]) -> &[u8]
     ensures { result.now ≡ drop (length file.now - 4) file.now }
 {
@@ -137,7 +137,7 @@ fn footer_of(file: &[u8]) -> &[u8]
     footer
 }
 
-// The first place of a field among the first `count` of a table.
+// Returns the first place of a field among the first `count` of a table.
 #[tactic(auto, using(crate::proofs::TableLemmas::seeking_first, crate::proofs::TableLemmas::seeking_short, crate::proofs::TableLemmas::seeking_here, crate::proofs::TableLemmas::seeking_on, crate::proofs::TableLemmas::seeking_ended))]
 fn place_in(table: &[u8], count: u32, field: Field) -> Option<Place>
     ensures { (places : List Place) → places_at count table.now ≡ Some places → result ≡ find (λ (p : Place). p.field == field) places }

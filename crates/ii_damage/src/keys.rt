@@ -1,12 +1,12 @@
-//! Of which keys counts are kept.
+//! Says for which keys an index stores term frequencies.
 ghost use Rattle.std.specs.Prelude.{◌≡◌, length};
 ghost use Rattle.ii_definitions.specs.JsonKeys.{is_json, is_path_byte, path_in, type_in, type_under};
-ghost use Rattle.ii_damage.specs.Damages.{all_keep_counts, is_text_key, keeps_counts};
+ghost use Rattle.ii_damage.specs.Damages.{all_keep_counts, is_key_of_text, keeps_counts};
 
 use ii_base::{FieldEntry, ValueType};
 use ii_reader::InvertedIndexReader;
 
-// Whether counts are kept of each key of a field.
+// Returns whether term frequencies are stored for each key of a field.
 pub(crate) fn all_keep_counts(entry: &FieldEntry, reader: &InvertedIndexReader) -> bool
     ensures { result ≡ all_keep_counts entry.now reader.now }
 {
@@ -22,21 +22,21 @@ pub(crate) fn all_keep_counts(entry: &FieldEntry, reader: &InvertedIndexReader) 
     true
 }
 
-// Whether counts are kept of a key of a field.
+// Returns whether term frequencies are stored for a key of a field.
 fn keeps_counts(entry: &FieldEntry, key: &[u8]) -> bool
     ensures { result ≡ keeps_counts entry.now key.now }
 {
-    entry.index_record_option().has_freq() & is_text_key(entry.value_type(), key)
+    entry.index_record_option().has_freq() & is_key_of_text(entry.value_type(), key)
 }
 
-// Whether a key of a field is that of a text.
-fn is_text_key(value_type: ValueType, key: &[u8]) -> bool
-    ensures { result ≡ is_text_key value_type key.now }
+// Returns whether a key of a field belongs to a text.
+fn is_key_of_text(value_type: ValueType, key: &[u8]) -> bool
+    ensures { result ≡ is_key_of_text value_type key.now }
 {
     type_under(value_type, key).to_code() == ValueType::Str.to_code()
 }
 
-// The type of what is under a key: in a JSON field the key has it.
+// Returns the type of a key's value: in a JSON field the key holds it.
 fn type_under(value_type: ValueType, key: &[u8]) -> ValueType
     ensures { result ≡ type_under value_type key.now }
 {
@@ -55,14 +55,14 @@ fn is_path_byte(byte: u8) -> bool
     byte != 0
 }
 
-// How long the path is that a key begins with.
+// Returns the length of the path at the start of a key.
 fn path_len(key: &[u8]) -> usize
     ensures { result ≡ length (path_in key.now) }
 {
     key.iter().take_while(|b| is_path_byte(**b)).count()
 }
 
-// The type that a key has after its path.
+// Returns the type that a key holds after its path.
 #[tactic(auto, unfolding(ii_definitions::specs::JsonKeys::type_in))]
 fn type_in(key: &[u8]) -> Option<ValueType>
     ensures { result ≡ type_in key.now }

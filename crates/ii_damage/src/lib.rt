@@ -1,5 +1,5 @@
-//! Finding what is damaged in the files of an index, whatever they hold: each field is read on its own, and
-//! each of its lists walked.
+//! Finds what is damaged in the files of an index, whatever they hold. It reads each field separately and
+//! walks each of its lists.
 #![tactic(auto)]
 
 pub mod checking;

@@ -1,8 +1,8 @@
-//! The files of an index, whatever they hold, opened field by field.
+//! Opens the files of an index field by field, whatever they hold.
 ghost use Rattle.std.specs.Prelude.{◌≡◌, IfOk};
 ghost use Rattle.ii_io.specs.Faults.{OnlyMemory};
 ghost use Rattle.ii_store.specs.Index.{view};
-ghost use Rattle.ii_damage.specs.Damages.{field_reader, file_of, files_of, places_of, reader_in};
+ghost use Rattle.ii_damage.specs.Damages.{field_reader, file_bytes, index_files, field_places, reader_in};
 ghost use Rattle.ii_damage.specs.Opened.{Opens};
 
 use crate::damage::FieldPlaces;
@@ -15,10 +15,10 @@ use ii_termdict::TermDictionary;
 use std::alloc::Global;
 use std::marker::Model;
 
-// How many bytes the number of a field's tokens takes, before all lists.
+// The size of a field's number of tokens, which precedes all lists, in bytes.
 const TOKEN_COUNT_SIZE: u64 = 8;
 
-/// The files of an index, each as it is.
+/// The files of an index, as they are.
 pub struct WalkedFiles {
     num_docs: DocId,
     terms: FieldBodies,
@@ -27,7 +27,7 @@ pub struct WalkedFiles {
     fieldnorms: FieldBodies,
 }
 
-// So that each drop is a call.
+// Makes each drop a call.
 impl Drop for WalkedFiles {
     fn drop(self) {
         let WalkedFiles {
@@ -54,19 +54,19 @@ impl Model for WalkedFiles {
     } };
 }
 
-/// What the bodies of a field give.
+/// The result of opening the bodies of a field.
 #[derive(Drop)]
 pub enum OpenedField {
     /// The reader of the field.
     Reader(InvertedIndexReader),
-    /// The file that is damaged, and its first damaged part.
+    /// The damaged file and its first damaged part.
     Damaged(Kind, Part),
 }
 
 impl WalkedFiles {
     /// Opens the files of an index. Fails only with `OutOfMemory`.
     pub fn open(alloc: Global, stored: StoredIndex) -> Result<WalkedFiles, Fault>
-        ensures files { IfOk result (λ files. files ≡ files_of (view stored)) }
+        ensures files { IfOk result (λ files. files ≡ index_files (view stored)) }
         ensures only { OnlyMemory result }
     {
         let StoredIndex {
@@ -93,9 +93,9 @@ impl WalkedFiles {
         self.num_docs
     }
 
-    /// Returns the file of a kind that has bodies; that of the terms for the schema, which has none.
+    /// Returns the file of a kind. For the schema, which has no bodies, it returns the file of terms.
     pub fn file(&self, kind: Kind) -> &FieldBodies
-        ensures { result.now ≡ file_of self.now kind }
+        ensures { result.now ≡ file_bytes self.now kind }
     {
         match kind {
             Kind::Schema | Kind::Terms => &self.terms,
@@ -105,9 +105,9 @@ impl WalkedFiles {
         }
     }
 
-    /// Returns where the terms, the lists and the positions of a field are.
+    /// Returns where the terms, lists and positions of a field are.
     pub fn places(&self, field: Field) -> FieldPlaces
-        ensures { result ≡ places_of self.now field }
+        ensures { result ≡ field_places self.now field }
     {
         let postings = self.postings.place(field);
         FieldPlaces {
@@ -118,8 +118,8 @@ impl WalkedFiles {
         }
     }
 
-    /// Returns the reader of a field, or the file that is damaged and its first damaged part. Fails only
-    /// with `OutOfMemory`.
+    /// Opens a field: returns its reader, or the damaged file and its first damaged part. Fails only with
+    /// `OutOfMemory`.
     pub fn open_field(&self, field: Field, option: IndexRecordOption) -> Result<OpenedField, Fault>
         ensures opened { IfOk result (Opens (field_reader self.now field option)) }
         ensures only { OnlyMemory result }
@@ -137,7 +137,7 @@ impl WalkedFiles {
     }
 }
 
-// The reader of the three bodies of a field, or the file that is damaged and its first damaged part.
+// Opens the three bodies of a field: returns the reader, or the damaged file and its first damaged part.
 fn open_bodies(
     terms: Bytes,
     postings: Bytes,

@@ -1,4 +1,4 @@
-//! Walking every list of a field.
+//! Walks every posting list of a field.
 ghost use Rattle.std.specs.Prelude.{◌≡◌, ◌++◌, ◌∷◌, ◌&&◌, [], ℕ, IfOk, List, OnOk, drop, filter, length, min, nat_le, if◌then◌else◌, slice_get, nat_lt};
 ghost use Rattle.std.specs.List.{filter_map};
 ghost use Rattle.std.specs.Option.{option_map, option_or, option_to_list};
@@ -6,8 +6,8 @@ ghost use Rattle.ii_docset.specs.Cursor.{IsCurrent};
 ghost use Rattle.ii_io.specs.Faults.{OnlyMemory};
 ghost use Rattle.ii_base.specs.Entries.{Entry};
 ghost use Rattle.ii_reader.specs.InvertedIndexReader.{term_of_file};
-ghost use Rattle.ii_damage.specs.Damages.{entries_read, field_entries, list_damage, of_term, stray_in, term_damages, u32_max};
-ghost use Rattle.ii_damage.specs.Walked.{HasWalked, raised};
+ghost use Rattle.ii_damage.specs.Damages.{entries_read, field_entries, list_damage, of_term, stray_in, term_damages, max_u32};
+ghost use Rattle.ii_damage.specs.Walked.{HasWalked, with_count};
 
 use crate::damage::{Damage, FieldPlaces, FoundDamage};
 use ii_base::{DocId, Fault, TERMINATED};
@@ -16,7 +16,7 @@ use ii_reader::{InvertedIndexReader, SegmentPostings};
 use ii_termdict::TermInfo;
 use std::alloc::{AllocError, Global};
 
-/// What the lists of a field that were walked have.
+/// What the walked lists of a field hold.
 #[derive(Drop)]
 pub struct TermWalk {
     /// The tokens of each document, at most `u32::MAX`.
@@ -30,7 +30,7 @@ pub struct TermWalk {
 }
 
 impl TermWalk {
-    /// Creates a walk of no list, in an index of `num_docs` documents.
+    /// Creates a walk over no lists, in an index of `num_docs` documents.
     #[tactic(auto, using(crate::proofs::WalkedLemmas::none_walked))]
     pub fn new(alloc: Global, num_docs: DocId) -> Result<TermWalk, AllocError>
         ensures { IfOk result (HasWalked num_docs []) }
@@ -43,8 +43,8 @@ impl TermWalk {
         })
     }
 
-    /// Walks the lists of all terms of a field, with counts and positions, and returns the damages of the
-    /// terms in the order of their keys. Fails only with `OutOfMemory`.
+    /// Walks the lists of all terms of a field, with counts and positions. Returns the damages of the terms
+    /// in the order of their keys. Fails only with `OutOfMemory`.
     pub fn walk_terms(
         &mut self,
         alloc: Global,
@@ -69,7 +69,7 @@ impl TermWalk {
         Ok(found)
     }
 
-    // Walks the list of a term, and returns what is wrong with it.
+    // Walks the list of a term and returns what is wrong with it.
     fn walk_term(
         &mut self,
         reader: &InvertedIndexReader,
@@ -91,7 +91,7 @@ impl TermWalk {
         }
     }
 
-    // Walks a list, and returns its first document that is not in the index.
+    // Walks a list and returns its first document that is not in the index.
     fn walk_list(
         &mut self,
         cursor: &mut SegmentPostings,
@@ -135,7 +135,7 @@ impl TermWalk {
         Ok(())
     }
 
-    // Counts a document of a list, in which the term occurs `term_freq` times, at `num_positions` positions.
+    // Counts a document of a list with its term frequency and number of positions.
     #[tactic(auto, using(crate::proofs::WalkedLemmas::one_walked))]
     fn add(&mut self, doc: DocId, term_freq: u32, num_positions: usize)
         ensures { (n : ℕ) (es : List Entry) (e : Entry) → doc ≡ e.doc → term_freq ≡ e.term_freq → num_positions ≡ length e.positions → HasWalked n es self.old → HasWalked n (es ++ e ∷ []) self.new }
@@ -147,10 +147,10 @@ impl TermWalk {
     }
 }
 
-// Adds to the count of a document, if the index has it.
+// Adds to the count of a document, if it is in the index.
 fn add_count(counts: &mut [u32], doc: DocId, term_freq: u32)
     ensures length { length counts.new ≡ length counts.old }
-    ensures counts { (d : ℕ) → slice_get counts.new d ≡ option_map (raised doc term_freq d) (slice_get counts.old d) }
+    ensures counts { (d : ℕ) → slice_get counts.new d ≡ option_map (with_count doc term_freq d) (slice_get counts.old d) }
 {
     let doc = doc as usize;
     if doc >= counts.len() {
@@ -159,7 +159,7 @@ fn add_count(counts: &mut [u32], doc: DocId, term_freq: u32)
     counts[doc] = counts[doc].saturating_add(term_freq);
 }
 
-// The first document that is not in the index, if one was found or this is one.
+// Returns `stray` if there is one, or `doc` if it is not in the index.
 fn first_stray(stray: Option<DocId>, doc: DocId, num_docs: DocId) -> Option<DocId>
     ensures { result ≡ option_or stray (if nat_le num_docs doc then Some doc else None) }
 {

@@ -6,7 +6,7 @@ use Rattle.ii_base.specs.Paths.{has_zero}
 use Rattle.ii_base.specs.Values.{json_key}
 use Rattle.ii_definitions.specs.JsonKeys.{is_path_byte, path_in, type_in, type_of_code}
 
--- the path is what stands before the first byte 0
+-- the path is what comes before the first byte 0
 pub path_of_key : (path key : List ℕ) → has_zero path ≡ false → path_in (json_key path key) ≡ path
 path_of_key [] key none = refl
 path_of_key (b ∷ bs) key none = by (b == 0) refl (path_of_key bs key)
@@ -24,7 +24,7 @@ code_at (b ∷ bs) code key =
     let next : length (b ∷ bs) + 1 ≡ suc (length bs + 1) = omega (arith) in
     ap (slice_get (b ∷ json_key bs (code ∷ key))) next ∙ code_at bs code key
 
--- and the letter behind it tells the type
+-- the letter after the path determines the type
 pub type_in_key : (path : List ℕ) (code : ℕ) (key : List ℕ) → has_zero path ≡ false → type_in (json_key path (code ∷ key)) ≡ type_of_code code
 unfolding type_in
 type_in_key path code key none = rw (path_of_key path (code ∷ key) none, code_at path code key) refl

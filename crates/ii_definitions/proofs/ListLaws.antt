@@ -1,4 +1,4 @@
--- What holds of the items of two lists holds of those of both.
+-- What holds for the items of two lists holds for those of both together.
 use Rattle.std.proofs.Common.{List, [], ◌∷◌, ◌++◌}
 use Rattle.std.specs.List.{AllByRecursion}
 

@@ -4,7 +4,7 @@ use Rattle.ii_base.specs.declared.schema.index_record_option.IndexRecordOption.{
 use Rattle.ii_base.specs.Options.{has_freq, has_positions}
 use Rattle.ii_base.specs.Entries.{Entry}
 
--- an entry without what an option doesn't keep: each count is then 1, and there are no positions
+-- an entry reduced to what an option keeps: else term frequency 1 and no positions
 abbrev pub cut_entry : IndexRecordOption → Entry → Entry
 cut_entry option e = record {
   doc = e.doc;

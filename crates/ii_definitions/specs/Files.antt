@@ -11,7 +11,7 @@ use Rattle.ii_layout.specs.TermList.{term_list}
 use Rattle.ii_definitions.specs.Tokens.{IndexToken}
 use Rattle.ii_definitions.specs.Postings.{field_count, grouped, key_postings, occurs, tokens_at}
 
--- A range lies in bytes.
+-- A range lies within bytes.
 abbrev pub LiesIn : List ℕ → Range ℕ → Type 0
 LiesIn bytes range = (range.start ≤ range.end) × (range.end ≤ length bytes)
 
@@ -29,7 +29,7 @@ pub record HoldsTerm (option : IndexRecordOption) (field : ℕ) (key postings po
       term_list option requested info.doc_freq (bytes_in postings info.postings_range) (Some (bytes_in positions info.positions_range))
       ≡ Ok (key_postings option field key requested ts)
 
--- The bodies of a field hold its tokens: how many there are, exactly the keys that occurred, and the postings of each.
+-- The bodies of a field hold its number of tokens, exactly the keys that occurred, and the postings of each.
 pub record HoldsField (option : IndexRecordOption) (field : ℕ) (terms postings positions : List ℕ) (ts : List IndexToken) : Type 0 where
   pub entries : List TermEntry
   pub postings_body : List ℕ

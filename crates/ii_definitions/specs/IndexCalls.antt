@@ -1,4 +1,4 @@
--- What an index call is to index.
+-- The content of an index call.
 use Rattle.std.specs.Prelude.{◌≡◌, ℕ, ◌<◌, Bool, true, false, List, Some, slice_get, string_bytes, unwrap_or}
 use Rattle.std.specs.Option.{option_map}
 use Rattle.std.specs.List.{AllByRecursion}
@@ -13,7 +13,7 @@ use Rattle.ii_definitions.specs.Tokens.{Call, Content, leaves, text, words, valu
 use Rattle.ii_definitions.specs.declared.index_call.IndexCall.{IndexCall}
 use Rattle.ii_definitions.specs.declared.index_call.IndexCall.TheVariants.{Text, Tokens, U64, I64, Bool as Truth, Bytes, Ip, Json}
 
--- the number that stands for a number or a truth value, 0 for any other value
+-- the number that represents a number or a boolean, or 0 for any other value
 abbrev pub number_in : IndexCall → ℕ
 number_in (Text doc field t) = 0
 number_in (Tokens doc field tokens) = 0
@@ -24,7 +24,7 @@ number_in (Bytes doc field bytes) = 0
 number_in (Ip doc field address) = 0
 number_in (Json doc field v) = 0
 
--- the document of a call, and the field
+-- the document of a call
 abbrev pub doc_of : IndexCall → ℕ
 doc_of (Text doc field t) = doc
 doc_of (Tokens doc field tokens) = doc
@@ -46,7 +46,7 @@ field_of (Bytes doc field bytes) = field
 field_of (Ip doc field address) = field
 field_of (Json doc field v) = field
 
--- what is to be indexed, where the dots of keys are expanded or not
+-- what is to be indexed, with or without expanding the dots of keys
 abbrev pub content_of : Bool → IndexCall → Content
 content_of expand_dots (Text doc field t) = text (string_bytes t)
 content_of expand_dots (Tokens doc field tokens) = words tokens.to_come
@@ -57,11 +57,11 @@ content_of expand_dots (Bytes doc field bytes) = value bytes.items
 content_of expand_dots (Ip doc field address) = value (bytes_high_first 16 address)
 content_of expand_dots (Json doc field v) = leaves (json_leaves expand_dots (json_of v))
 
--- whether dots of keys are expanded in a field of a schema
+-- whether the dots of keys are expanded in a field of a schema
 abbrev pub expands_dots_in : List SchemaEntry → ℕ → Bool
 expands_dots_in entries field = unwrap_or (option_map (λ (e : SchemaEntry). e.expands_dots) (slice_get entries field)) false
 
--- a call to a field where dots are expanded or not, and one to a field of a schema
+-- a call to a field, with or without expanding dots
 abbrev pub call_with : Bool → IndexCall → Call
 call_with expand_dots c = record { doc = doc_of c; field = field_of c; content = content_of expand_dots c }
 
@@ -69,7 +69,7 @@ call_with expand_dots c = record { doc = doc_of c; field = field_of c; content =
 abbrev pub call_of : List SchemaEntry → IndexCall → Call
 call_of entries c = call_with (expands_dots_in entries (field_of c)) c
 
--- the type of its value
+-- the type of a call's value
 abbrev pub type_of : IndexCall → ValueType
 type_of (Text doc field t) = types.Str
 type_of (Tokens doc field tokens) = types.Str
@@ -87,12 +87,12 @@ pub record Takes (entries : List SchemaEntry) (field : ℕ) (value_type : ValueT
   pub indexed : entry.is_indexed ≡ true
   pub typed : entry.value_type ≡ value_type
 
--- A call may be made: its document is one of so many, and its field takes its value.
+-- A call is valid: its document is less than `num_docs`, and its field takes its value.
 pub record MayBeIndexed (entries : List SchemaEntry) (num_docs : ℕ) (c : IndexCall) : Type 0 where
   pub below : doc_of c < num_docs
   pub takes : Takes entries (field_of c) (type_of c)
 
--- Calls may be made one after the other: no document lies below the one before.
+-- Calls are valid one after the other: document ids don't decrease.
 pub record MayAllBeIndexed (entries : List SchemaEntry) (num_docs : ℕ) (calls : List IndexCall) : Type 0 where
   pub each : AllByRecursion (MayBeIndexed entries num_docs) calls
   pub ordered : IsNonDecreasingBy doc_of calls

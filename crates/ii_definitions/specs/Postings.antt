@@ -20,24 +20,24 @@ tokens_at field key ts = filter (is_at field key) ts
 abbrev pub entry_of : IndexToken → Entry
 entry_of t = record { doc = t.doc; term_freq = 1; positions = t.position ∷ [] }
 
--- one more token before the entries: in the first one if it is of that document, else in an entry of its own
+-- the entries with an earlier token: in the first entry if it has that document, else in a new entry
 abbrev pub with_token : IndexToken → List Entry → List Entry
 with_token t [] = entry_of t ∷ []
 with_token t (e ∷ es) =
     if e.doc == t.doc then record { doc = e.doc; term_freq = e.term_freq + 1; positions = t.position ∷ e.positions } ∷ es
     else entry_of t ∷ e ∷ es
 
--- the tokens document by document
+-- the tokens grouped by document
 abbrev pub grouped : List IndexToken → List Entry
 grouped [] = []
 grouped (t ∷ ts) = with_token t (grouped ts)
 
--- An entry has at least one position, and as many as its count says.
+-- An entry has at least one position, and as many as its term frequency.
 pub record IsCounted (e : Entry) : Type 0 where
   pub many : length e.positions ≡ e.term_freq
   pub some : 0 < e.term_freq
 
--- what is kept of a key with these tokens: of a value's key documents alone, whatever the field records
+-- what is kept of a key with these tokens: for a value's key only documents
 abbrev pub kind_of : IndexRecordOption → List IndexToken → IndexRecordOption
 kind_of option [] = option
 kind_of option (t ∷ ts) = if t.of_text then option else Basic
@@ -46,7 +46,7 @@ kind_of option (t ∷ ts) = if t.of_text then option else Basic
 abbrev pub postings_from : IndexRecordOption → IndexRecordOption → List IndexToken → List Entry
 postings_from option requested ts = map (cut_entry (downgrade (kind_of option ts) requested)) (grouped ts)
 
--- the postings of a key in a field that records by this option, as far as they are requested
+-- the postings of a key in a field with this option, as far as they are requested
 abbrev pub key_postings : IndexRecordOption → ℕ → List ℕ → IndexRecordOption → List IndexToken → List Entry
 key_postings option field key requested ts = postings_from option requested (tokens_at field key ts)
 
@@ -54,10 +54,10 @@ key_postings option field key requested ts = postings_from option requested (tok
 abbrev pub occurs : ℕ → List ℕ → List IndexToken → Bool
 occurs field key ts = list_any (is_at field key) ts
 
--- how many tokens a field has, and a document in a field
+-- the number of tokens of a field
 abbrev pub field_count : ℕ → List IndexToken → ℕ
 field_count field ts = count_by (λ (t : IndexToken). t.field == field) ts
 
--- how many tokens a document has in a field
+-- the number of tokens of a document in a field
 abbrev pub doc_count : ℕ → ℕ → List IndexToken → ℕ
 doc_count doc field ts = count_by (λ (t : IndexToken). (t.doc == doc) && (t.field == field)) ts

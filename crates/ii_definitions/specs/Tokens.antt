@@ -5,7 +5,7 @@ use Rattle.ii_base.specs.Json.{Leaf, text_leaf, unsupported, value_leaf}
 use Rattle.ii_base.specs.Values.{json_key, text_key, typed_key}
 use Rattle.ii_base.specs.Words.{Word}
 
--- what a call is to index
+-- what a call indexes
 pub data Content : Type 0 where
   text : List ℕ → Content
   words : List Word → Content
@@ -17,7 +17,7 @@ pub record Call : Type 0 where
   pub field : ℕ
   pub content : Content
 
--- A token stands under a key of a field, at a position of a document.
+-- A token is under a key of a field, at a position of a document.
 pub record IndexToken : Type 0 where
   pub doc : ℕ
   pub field : ℕ
@@ -25,7 +25,7 @@ pub record IndexToken : Type 0 where
   pub position : ℕ
   pub of_text : Bool
 
--- A text, or one value; a leaf of a JSON value has a path. A text's words stand under keys that begin with the prefix; a value's key is the prefix.
+-- A text or one value. A text's words have keys with the prefix; a value's key is the prefix.
 pub record Piece : Type 0 where
   pub doc : ℕ
   pub field : ℕ
@@ -34,7 +34,7 @@ pub record Piece : Type 0 where
   pub is_text : Bool
   pub words : List Word
 
--- a longer word is left out
+-- the length of the longest indexed word
 abbrev pub max_token_len : ℕ
 max_token_len = 65530
 
@@ -42,11 +42,11 @@ max_token_len = 65530
 abbrev pub kept_words : List Word → List Word
 kept_words ws = filter (λ (w : Word). nat_le (length w.text) max_token_len) ws
 
--- the end of a text that begins at a place: the greatest end of a kept word and where the text began, plus 1
+-- the end of a text that begins at a place: the greatest of the begin and its kept words' ends, plus 1
 abbrev pub end_after : ℕ → List Word → ℕ
 end_after begin ws = fold (λ (end : ℕ) (w : Word). max end (begin + w.position + w.position_length)) begin (kept_words ws) + 1
 
--- texts of one document under one prefix of a field
+-- whether two texts have the same document, field and prefix
 abbrev pub is_same_group : Piece → Piece → Bool
 is_same_group p q = q.is_text && (q.doc == p.doc) && (q.field == p.field) && bytes_eq q.prefix p.prefix
 
@@ -76,7 +76,7 @@ abbrev pub tokens_after : List Piece → List Piece → List IndexToken
 tokens_after earlier [] = []
 tokens_after earlier (p ∷ ps) = piece_tokens earlier p ++ tokens_after (earlier ++ p ∷ []) ps
 
--- a text whose words stand under keys with a prefix, and a value under its key
+-- a text whose words have keys with a prefix
 abbrev pub text_at : ℕ → ℕ → List ℕ → List Word → Piece
 text_at doc field prefix ws = record { doc = doc; field = field; path = None; prefix = prefix; is_text = true; words = ws }
 
@@ -88,7 +88,7 @@ value_at doc field key = record { doc = doc; field = field; path = None; prefix 
 abbrev pub at_path : List ℕ → Piece → Piece
 at_path path p = record p { path = Some path }
 
--- what a leaf of a JSON value gives, by what an analyzer makes of a text
+-- the piece of a leaf of a JSON value, given an analyzer of texts
 abbrev pub leaf_pieces : (List ℕ → List Word) → ℕ → ℕ → List ℕ × Leaf → List Piece
 leaf_pieces analyze doc field (path, text_leaf t) = at_path path (text_at doc field (json_key path (text_key [])) (analyze t)) ∷ []
 leaf_pieces analyze doc field (path, value_leaf t n) = at_path path (value_at doc field (json_key path (typed_key t n))) ∷ []
@@ -101,11 +101,11 @@ content_pieces analyze c (words ws) = text_at c.doc c.field [] ws ∷ []
 content_pieces analyze c (value key) = value_at c.doc c.field key ∷ []
 content_pieces analyze c (leaves ls) = flat_map (leaf_pieces analyze c.doc c.field) ls
 
--- what a call gives: texts and values, each under its prefix
+-- the pieces of a call: texts and values, each with its prefix
 abbrev pub call_pieces : (List ℕ → List Word) → Call → List Piece
 call_pieces analyze c = content_pieces analyze c c.content
 
--- what calls give, one after the other
+-- the pieces of calls, one after the other
 abbrev pub pieces_of : (List ℕ → List Word) → List Call → List Piece
 pieces_of analyze calls = flat_map (call_pieces analyze) calls
 

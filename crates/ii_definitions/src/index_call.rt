@@ -3,29 +3,30 @@ ghost use Rattle.ii_definitions.specs.IndexCalls.{doc_of, field_of, number_in};
 
 use ii_base::{DocId, FastValue, Field, JsonValue, TokenList};
 
-/// What is to be indexed: a document, a field, and a value of the field's type.
+/// An input to index: a document, a field, and a value of the field's type.
 #[derive(Drop)]
 pub enum IndexCall {
-    /// A text, which an analyzer cuts into tokens.
+    /// A text, which an analyzer splits into tokens.
     Text(DocId, Field, String),
-    /// The tokens that are still to come of a list, for a field of texts.
+    /// The remaining tokens of a list, for a text field.
     Tokens(DocId, Field, TokenList),
-    /// An unsigned number.
+    /// An unsigned integer.
     U64(DocId, Field, u64),
-    /// A signed number.
+    /// A signed integer.
     I64(DocId, Field, i64),
-    /// A truth value.
+    /// A boolean.
     Bool(DocId, Field, bool),
     /// Bytes.
     Bytes(DocId, Field, Vec<u8>),
     /// An IP address.
     Ip(DocId, Field, u128),
-    /// A JSON value: its texts are cut by the analyzer, and stand with its other leaves under their paths.
+    /// A JSON value. The analyzer splits its texts, which are indexed under their paths like its other
+    /// leaves.
     Json(DocId, Field, JsonValue),
 }
 
 impl IndexCall {
-    /// The document.
+    /// Returns the document.
     pub fn doc(&self) -> DocId
         ensures { result ≡ doc_of self.now }
     {
@@ -41,7 +42,7 @@ impl IndexCall {
         }
     }
 
-    /// The field.
+    /// Returns the field.
     pub fn field(&self) -> Field
         ensures { result ≡ field_of self.now }
     {
@@ -57,7 +58,7 @@ impl IndexCall {
         }
     }
 
-    /// The number of 64 bits that stands for a number or a truth value, 0 for any other value.
+    /// Returns the 64-bit number that represents a number or a boolean, or 0 for any other value.
     pub fn number(&self) -> u64
         ensures { result ≡ number_in self.now }
     {

@@ -1,6 +1,6 @@
-//! What an index holds: index calls and their tokens, the postings of a key, and what three files say of
-//! them. But for the type of an index call, definitions alone, which the crates that write and that read
-//! share.
+//! Defines the content of an index: index calls and their tokens, the postings of a key, and what three files
+//! say about them. Apart from the type of an index call it holds only definitions, which writing and reading
+//! crates share.
 #![tactic(auto)]
 
 pub mod index_call;

@@ -5,27 +5,27 @@ use ii_reader::{BlockSegmentPostings, SegmentPostings};
 use ii_slow_reader::{Damage, Listed, Mode, read_list};
 use std::alloc::Global;
 
-/// How many cases were looked at, and in how many the two readers differed.
+/// The number of cases, and in how many of them the two readers differ.
 #[derive(Clone, Copy)]
 pub struct DifferenceCounts {
-    /// Openings.
+    /// How many cases were opened.
     pub cases: u64,
-    /// Of these, where the answers differ.
+    /// In how many of them the answers differ.
     pub differences: u64,
 }
 
 impl DifferenceCounts {
-    /// Counts a case, in which the readers agree or don't.
+    /// Counts a case.
     pub fn add(&mut self, agrees: bool) {
         self.cases = self.cases.saturating_add(1);
         self.differences = self.differences.saturating_add(u64::from(!agrees));
     }
 }
 
-/// What a field may record, and a reader request.
+/// What a field may record, or a reader request.
 pub const MODES: [Mode; 3] = [Mode::Documents, Mode::Counts, Mode::Positions];
 
-/// The option that a mode is.
+/// Returns the option for a mode.
 pub fn option_of(mode: Mode) -> IndexRecordOption {
     match mode {
         Mode::Documents => IndexRecordOption::Basic,
@@ -34,7 +34,7 @@ pub fn option_of(mode: Mode) -> IndexRecordOption {
     }
 }
 
-/// Whether a fault names the part that the slow reader names.
+/// Returns whether a fault names the part that the slow reader names.
 pub fn names(fault: Fault, damage: Damage) -> bool {
     let want = match damage {
         Damage::Skip => Part::Skip,
@@ -50,7 +50,7 @@ pub fn names(fault: Fault, damage: Damage) -> bool {
     fault == Fault::Damaged(want)
 }
 
-/// Opens a list for each pair of options.
+/// Opens a list with each pair of options and counts the results.
 pub fn judge_list(
     alloc: Global,
     doc_freq: u32,
@@ -68,12 +68,12 @@ pub fn judge_list(
     Ok(())
 }
 
-/// Bytes that may be shared.
+/// Copies bytes into shared ones.
 pub fn shared(alloc: Global, bytes: &[u8]) -> Result<Bytes, Fault> {
     Ok(Bytes::from_vec(Vec::from_slice(alloc, bytes)?)?)
 }
 
-// Whether a cursor over documents, counts and positions goes over what the slow reader reads.
+// Returns whether a cursor gives the documents, counts and positions that the slow reader reads.
 fn same_cursor(
     alloc: Global,
     doc_freq: u32,
@@ -103,7 +103,7 @@ fn same_cursor(
     }
 }
 
-// The same of a cursor over blocks, which has no positions.
+// Returns the same for a block cursor, which has no positions.
 fn same_blocks(
     alloc: Global,
     doc_freq: u32,
@@ -124,7 +124,7 @@ fn same_blocks(
     }
 }
 
-/// Whether a cursor has these documents, counts and positions, and then ends.
+/// Returns whether a cursor gives exactly these documents, counts and positions.
 pub fn goes_over(
     alloc: Global,
     cursor: &mut SegmentPostings,
@@ -148,7 +148,7 @@ pub fn goes_over(
     Ok(cursor.doc() == TERMINATED && list.positions.len() == used)
 }
 
-// Whether these are the next positions of a list, of which there are none where they aren't read.
+// Returns whether these are the next positions of a list.
 fn are_next(found: &[u32], list: &Listed, used: &mut usize) -> bool {
     for position in found {
         if list.positions.as_slice().get(*used).copied() != Some(u64::from(*position)) {
@@ -159,7 +159,7 @@ fn are_next(found: &[u32], list: &Listed, used: &mut usize) -> bool {
     true
 }
 
-// Whether the blocks of a cursor have these documents and counts, and then end.
+// Returns whether a block cursor gives exactly these documents and counts.
 fn goes_over_blocks(blocks: &mut BlockSegmentPostings, list: &Listed) -> bool {
     let docs = list.docs.as_slice();
     for (block, chunk) in docs.chunks(128).enumerate() {
@@ -177,7 +177,7 @@ fn goes_over_blocks(blocks: &mut BlockSegmentPostings, list: &Listed) -> bool {
     blocks.block_len() == 0
 }
 
-// The count of a document of a list.
+// Returns the count of a document of a list.
 fn count_of(list: &Listed, place: usize) -> u64 {
     if !list.has_counts {
         return 1;
@@ -185,7 +185,7 @@ fn count_of(list: &Listed, place: usize) -> u64 {
     list.counts.as_slice().get(place).copied().unwrap_or(0)
 }
 
-// Whether a block has this document with this count at a place.
+// Returns whether a block has this document and count at a place.
 fn has_entry(blocks: &BlockSegmentPostings, place: usize, doc: u64, count: u64) -> bool {
     if place >= blocks.block_len() || place >= 128 {
         return false;

@@ -1,6 +1,6 @@
 ghost use Rattle.std.specs.Prelude.{◌≡◌, length, IfOk};
 
-use crate::compare::{MODES, DifferenceCounts, goes_over, names, option_of, shared};
+use crate::compare::{DifferenceCounts, MODES, goes_over, names, option_of, shared};
 use ii_base::{CompositeFile, Fault, Field, FieldEntry, IndexRecordOption, Schema};
 use ii_fieldnorm::FieldNormReader;
 use ii_reader::{InvertedIndexReader, OpenIndex, open_index};
@@ -12,7 +12,7 @@ use ii_termdict::TermDictionary;
 use ii_termstore::{TermInfo, TermInfoStore};
 use std::alloc::Global;
 
-/// Whether a composite file has the same bodies by both readers.
+/// Returns whether both readers find the same bodies in a composite file, or report the same corrupt part.
 pub fn same_composite(alloc: Global, bytes: &[u8]) -> Result<bool, Fault> {
     let bodies = read_composite(alloc, bytes)?;
     match (CompositeFile::open(alloc, shared(alloc, bytes)?), bodies) {
@@ -22,7 +22,7 @@ pub fn same_composite(alloc: Global, bytes: &[u8]) -> Result<bool, Fault> {
     }
 }
 
-// Whether a file has these bodies, and none of other low fields.
+// Returns whether a file has these bodies, and no others among the fields 0 to 8.
 fn same_bodies(file: &CompositeFile, bytes: &[u8], bodies: &[Body]) -> Result<bool, Fault> {
     let mut same = true;
     for body in bodies {
@@ -51,7 +51,7 @@ fn same_body(
     }
 }
 
-/// Whether a store has the same terms by both readers.
+/// Returns whether both readers find the same terms in a store.
 pub fn same_store(alloc: Global, bytes: &[u8]) -> Result<bool, Fault> {
     let infos = read_store(alloc, bytes)?;
     match (TermInfoStore::open(shared(alloc, bytes)?), infos) {
@@ -72,7 +72,7 @@ fn has_infos(store: &TermInfoStore, infos: &[Info]) -> bool {
     same
 }
 
-// Whether this is kept of a term.
+// Returns whether a term info has these values.
 fn is_info(found: &TermInfo, info: Info) -> bool {
     u64::from(found.doc_freq) == info.docs
         && found.postings_range.start as u64 == info.postings_start
@@ -81,7 +81,7 @@ fn is_info(found: &TermInfo, info: Info) -> bool {
         && found.positions_range.end as u64 == info.positions_end
 }
 
-/// Whether a dictionary has the same keys and terms by both readers.
+/// Returns whether both readers find the same keys and terms in a dictionary.
 pub fn same_dictionary(alloc: Global, bytes: &[u8]) -> Result<bool, Fault> {
     match (
         TermDictionary::open(shared(alloc, bytes)?),
@@ -112,15 +112,19 @@ fn has_entries(terms: &TermDictionary, entries: &[Entry<'_>]) -> bool {
     same
 }
 
-/// Opens an index of one field by each option.
-pub fn judge_index(alloc: Global, files: Files<'_>, counts: &mut DifferenceCounts) -> Result<(), Fault> {
+/// Opens an index of one field with each option and counts the results.
+pub fn judge_index(
+    alloc: Global,
+    files: Files<'_>,
+    counts: &mut DifferenceCounts,
+) -> Result<(), Fault> {
     for recorded in MODES {
         counts.add(same_index(alloc, files, recorded)?);
     }
     Ok(())
 }
 
-// One field of texts with norms.
+// Builds a schema of one text field with norms.
 fn one_text(alloc: Global, option: IndexRecordOption) -> Result<Schema, Fault>
     ensures { IfOk result (λ schema. length schema ≡ 1) }
 {
@@ -130,7 +134,7 @@ fn one_text(alloc: Global, option: IndexRecordOption) -> Result<Schema, Fault>
     Ok(Schema::new(entries))
 }
 
-// Whether an index of a field that records so much has the same terms, lists and norms by both readers.
+// Returns whether both readers find the same terms, lists and norms in an index.
 fn same_index(alloc: Global, files: Files<'_>, recorded: Mode) -> Result<bool, Fault> {
     let schema = one_text(alloc, option_of(recorded))?;
     let opened = open_index(
@@ -148,7 +152,7 @@ fn same_index(alloc: Global, files: Files<'_>, recorded: Mode) -> Result<bool, F
     }
 }
 
-// Whether the first field of an index is this one.
+// Returns whether the first field of an index has these contents.
 fn same_field(
     alloc: Global,
     index: &OpenIndex,
@@ -173,7 +177,7 @@ fn same_field(
     Ok(same)
 }
 
-// Whether a term has the same list, or is refused for the same part.
+// Returns whether both readers find the same list of a term, or report the same corrupt part.
 fn same_term(
     alloc: Global,
     reader: &InvertedIndexReader,
@@ -196,7 +200,7 @@ fn same_term(
     }
 }
 
-// Whether norms have these ids.
+// Returns whether norms have these ids.
 fn has_norms(norms: &FieldNormReader, ids: Option<&[u8]>) -> bool {
     let Some(ids) = ids else {
         return false;

@@ -1,7 +1,7 @@
-//! Opens damaged lists, stores, dictionaries, composite files and indexes by the readers and by the slow
-//! reader, and counts where the two differ: each cut of some of them and each change of one byte, where they
-//! have more than 100 bytes, or another number that is given, each change of one bit; or, where two numbers
-//! are given, so many changed at random from a seed on.
+//! Opens damaged lists, stores, dictionaries, composite files and indexes with the readers and with the slow
+//! reader, and counts where they differ. It tries each cut and each change of one byte; in subjects of more
+//! than 100 bytes (or the number given) each change of one bit. With two numbers, a count and a seed, the
+//! damage is random.
 #![tactic(auto)]
 
 mod compare;
@@ -12,7 +12,7 @@ mod subjects;
 use anyhow::{Context, Result};
 use std::env;
 
-// What has no more bytes is changed in each way.
+// Up to this number of bytes, each change of a byte is tried.
 const LONGEST: u64 = 100;
 
 fn main(rt: HostRuntime) -> Result<()> {
@@ -26,6 +26,9 @@ fn main(rt: HostRuntime) -> Result<()> {
         [longest] => mutate::each_change(rt.alloc(), *longest)?,
         _ => mutate::each_change(rt.alloc(), LONGEST)?,
     };
-    println!(rt; "{} cases, {} differences", counts.cases, counts.differences)?;
+    println!(rt;
+        "{} cases, {} differences",
+        counts.cases, counts.differences
+    )?;
     Ok(())
 }

@@ -10,7 +10,7 @@ const NONE: DifferenceCounts = DifferenceCounts {
     differences: 0,
 };
 
-// A part of bytes that are read together, nothing where there is none.
+// Returns part `at`, or nothing if it doesn't exist.
 fn part_of(parts: &[Vec<u8>], at: usize) -> &[u8] {
     match parts.get(at) {
         Some(part) => part.as_slice(),
@@ -18,8 +18,13 @@ fn part_of(parts: &[Vec<u8>], at: usize) -> &[u8] {
     }
 }
 
-// Reads bytes both ways.
-fn judge(alloc: Global, kind: Kind, parts: &[Vec<u8>], counts: &mut DifferenceCounts) -> Result<(), Fault> {
+// Reads bytes with both readers and counts the result.
+fn judge(
+    alloc: Global,
+    kind: Kind,
+    parts: &[Vec<u8>],
+    counts: &mut DifferenceCounts,
+) -> Result<(), Fault> {
     let (first, second) = (part_of(parts, 0), part_of(parts, 1));
     match kind {
         Kind::List(doc_freq) => judge_list(alloc, doc_freq, first, second, counts)?,
@@ -40,7 +45,7 @@ fn judge(alloc: Global, kind: Kind, parts: &[Vec<u8>], counts: &mut DifferenceCo
     Ok(())
 }
 
-// The parts of a subject, to be changed.
+// Copies the parts of a subject.
 fn copied(alloc: Global, subject: &Subject) -> Result<Vec<Vec<u8>>, Fault> {
     let mut parts = Vec::new(alloc);
     for part in subject.parts.as_slice() {
@@ -49,8 +54,8 @@ fn copied(alloc: Global, subject: &Subject) -> Result<Vec<Vec<u8>>, Fault> {
     Ok(parts)
 }
 
-/// Each subject as it is, with each cut of one of its parts, and with each change of one byte; of a subject of
-/// more than `longest` bytes with each change of one bit.
+/// Judges each subject unchanged, with each cut of a part, and with each change of one byte. In a subject of
+/// more than `longest` bytes it changes single bits instead of bytes.
 pub fn each_change(alloc: Global, longest: u64) -> Result<DifferenceCounts, Fault> {
     let mut counts = NONE;
     for subject in &SUBJECTS {
@@ -68,7 +73,7 @@ pub fn each_change(alloc: Global, longest: u64) -> Result<DifferenceCounts, Faul
     Ok(counts)
 }
 
-// Each change of a byte of one part, or of a bit.
+// Judges each change of a byte of one part, or of a bit.
 fn changed(
     alloc: Global,
     subject: &Subject,
@@ -89,8 +94,13 @@ fn changed(
     Ok(())
 }
 
-// Each cut of one part.
-fn cut(alloc: Global, subject: &Subject, at: usize, counts: &mut DifferenceCounts) -> Result<(), Fault> {
+// Judges each cut of one part.
+fn cut(
+    alloc: Global,
+    subject: &Subject,
+    at: usize,
+    counts: &mut DifferenceCounts,
+) -> Result<(), Fault> {
     let mut parts = copied(alloc, subject)?;
     for _ in 0..part_of(parts.as_slice(), at).len() {
         if let Some(part) = parts.as_mut_slice().get_mut(at) {
@@ -101,29 +111,30 @@ fn cut(alloc: Global, subject: &Subject, at: usize, counts: &mut DifferenceCount
     Ok(())
 }
 
-// Changes the bits of a byte of a part; a second time changes them back.
+// Flips bits of a byte of a part; a second call restores them.
 fn alter_in(parts: &mut Vec<Vec<u8>>, at: usize, place: usize, change: u8) {
     if let Some(part) = parts.as_mut_slice().get_mut(at) {
         alter(part, place, change);
     }
 }
 
-// Changes the bits of a byte; a second time changes them back.
+// Flips bits of a byte; a second call restores them.
 fn alter(bytes: &mut Vec<u8>, place: usize, change: u8) {
     if let Some(byte) = bytes.as_mut_slice().get_mut(place) {
         *byte ^= change;
     }
 }
 
-// The state that a seed begins with, another one for each seed but the largest. None is 0, where the states would stay.
+// Returns the first state for a seed: different for all seeds except the largest, and never 0, which would
+// repeat.
 fn first_state(seed: u64) -> u64 {
     seed.wrapping_add(1)
         .wrapping_mul(0x9e37_79b9_7f4a_7c15)
         .max(1)
 }
 
-/// So many subjects, each with parts that were changed in up to four bytes, cut or prolonged, a list with
-/// another number of documents at times.
+/// Judges `count` subjects with random damage: up to four bytes changed, a part cut or one byte longer, and
+/// sometimes another number of documents for a list.
 pub fn at_random(alloc: Global, count: u64, seed: u64) -> Result<DifferenceCounts, Fault> {
     let mut counts = NONE;
     let mut state = first_state(seed);
@@ -138,7 +149,7 @@ pub fn at_random(alloc: Global, count: u64, seed: u64) -> Result<DifferenceCount
     Ok(counts)
 }
 
-// A subject with damage.
+// Judges a damaged subject.
 fn damaged(
     alloc: Global,
     subject: &Subject,
@@ -156,7 +167,7 @@ fn damaged(
     judge(alloc, kind, parts.as_slice(), counts)
 }
 
-// Another random number.
+// Returns the next random number.
 fn next(state: &mut u64) -> u64 {
     *state ^= *state << 13;
     *state ^= *state >> 7;
@@ -164,8 +175,7 @@ fn next(state: &mut u64) -> u64 {
     *state
 }
 
-// Damages a part: at every second time it stays as it is, else up to four bytes are changed, and it is cut, or
-// has a byte more.
+// Damages a part in half of the calls: changes up to four bytes, and may cut the part or append a byte.
 fn damage(bytes: &mut Vec<u8>, state: &mut u64) -> Result<(), Fault> {
     if next(state) % 2 == 0 {
         return Ok(());

@@ -1,7 +1,7 @@
-/// What bytes are read as.
+/// The format that bytes are read as.
 #[derive(Clone, Copy)]
 pub enum Kind {
-    /// A list of so many documents, by its postings and its positions.
+    /// A list with this many documents: postings and positions.
     List(u32),
     /// A composite file.
     Composite,
@@ -9,32 +9,32 @@ pub enum Kind {
     Store,
     /// A dictionary.
     Dictionary,
-    /// An index of one field, by its files of terms, postings, positions and norms.
+    /// An index of one field: the files of terms, postings, positions and norms.
     Index,
 }
 
-/// Bytes that are damaged in many ways.
+/// Bytes to be damaged in many ways.
 #[derive(Clone, Copy)]
 pub struct Subject {
-    /// What they are.
+    /// The format of the bytes.
     pub kind: Kind,
     /// The bytes, in up to four parts.
     pub parts: [&'static [u8]; 4],
 }
 
-/// All of them: lists of docs/FORMATS.md and of the worked rows, and other bytes.
+/// All subjects: lists of docs/FORMATS.md and of the worked rows, and other bytes.
 pub static SUBJECTS: [Subject; 24] = [
-    // Documents 0, 2, 10.
+    // Documents 0, 2 and 10.
     Subject {
         kind: Kind::List(3),
         parts: [&[0x80, 0x82, 0x88], &[], &[], &[]],
     },
-    // One too few.
+    // One document too few.
     Subject {
         kind: Kind::List(3),
         parts: [&[0x80, 0x82], &[], &[], &[]],
     },
-    // A document twice.
+    // A repeated document.
     Subject {
         kind: Kind::List(3),
         parts: [&[0x80, 0x80, 0x88], &[], &[], &[]],
@@ -59,7 +59,7 @@ pub static SUBJECTS: [Subject; 24] = [
         kind: Kind::List(128),
         parts: [&[0x85, 0x7F, 0x00, 0x00, 0x00, 0x40], &[], &[], &[]],
     },
-    // Another last document.
+    // The same with another last document in the skip entry.
     Subject {
         kind: Kind::List(128),
         parts: [&[0x85, 0x80, 0x00, 0x00, 0x00, 0x40], &[], &[], &[]],
@@ -77,7 +77,7 @@ pub static SUBJECTS: [Subject; 24] = [
             &[],
         ],
     },
-    // Two documents more.
+    // The same and two more documents.
     Subject {
         kind: Kind::List(130),
         parts: [
@@ -87,7 +87,7 @@ pub static SUBJECTS: [Subject; 24] = [
             &[],
         ],
     },
-    // A number of document 0.
+    // A number in document 0.
     Subject {
         kind: Kind::List(1),
         parts: [&[0x80], &[0x80], &[], &[]],
@@ -105,7 +105,7 @@ pub static SUBJECTS: [Subject; 24] = [
             &[],
         ],
     },
-    // Documents from 1 on.
+    // Documents starting at 1.
     Subject {
         kind: Kind::List(128),
         parts: [
@@ -130,7 +130,7 @@ pub static SUBJECTS: [Subject; 24] = [
             &[],
         ],
     },
-    // Documents 0 to 127, three times each.
+    // Documents 0 to 127 with count 3.
     Subject {
         kind: Kind::List(128),
         parts: [
@@ -144,7 +144,7 @@ pub static SUBJECTS: [Subject; 24] = [
             &[],
         ],
     },
-    // The same at 0, 1, 2.
+    // The same with positions 0, 1, 2.
     Subject {
         kind: Kind::List(128),
         parts: [
@@ -164,7 +164,7 @@ pub static SUBJECTS: [Subject; 24] = [
             &[],
         ],
     },
-    // 120 documents, four positions each.
+    // 120 documents with four positions each.
     Subject {
         kind: Kind::List(120),
         parts: [
@@ -248,7 +248,7 @@ pub static SUBJECTS: [Subject; 24] = [
             &[],
         ],
     },
-    // A store of two terms of nothing, which takes no bits.
+    // A store of two terms without postings, which takes no bits.
     Subject {
         kind: Kind::Store,
         parts: [
@@ -261,7 +261,7 @@ pub static SUBJECTS: [Subject; 24] = [
             &[],
         ],
     },
-    // A dictionary of no terms.
+    // A dictionary without terms.
     Subject {
         kind: Kind::Dictionary,
         parts: [&[0; 24], &[], &[], &[]],
@@ -305,7 +305,7 @@ pub static SUBJECTS: [Subject; 24] = [
             ],
         ],
     },
-    // The index of the number 5 in document 0: one key, and no positions.
+    // The index of the number 5 in document 0: one key and no positions.
     Subject {
         kind: Kind::Index,
         parts: [

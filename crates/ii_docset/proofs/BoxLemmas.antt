@@ -1,4 +1,4 @@
--- What a box of a `dyn` wants at a call.
+-- What a call through a boxed `dyn` requires.
 use Rattle.std.proofs.Common.{ℕ, List, ◌++◌}
 use mathlib.Core.List.{Mem, mem-append_right}
 

@@ -1,4 +1,4 @@
--- A buffer takes the documents of entries, one after the other.
+-- A buffer is filled with the documents of entries, in order.
 use Rattle.std.proofs.Common.{◌≡◌, ◌≢◌, ℕ, zero, suc, ◌+◌, ◌<◌, ◌≤◌, List, [], ◌∷◌, ◌++◌, length, take, drop, slice_set, refl, ap, arith, add-one}
 use Rattle.std.proofs.lemmas.List.{drop-drop, length-drop, drop_all, take_all}
 use Rattle.ii_base.specs.declared.doc_id.TheConstants.{TERMINATED}

@@ -1,4 +1,4 @@
--- Laws of calls that are made one after the other.
+-- Laws of consecutive calls.
 use Rattle.std.proofs.Common.{◌≡◌, ℕ, zero, suc, ◌+◌, ◌<◌, ◌≤◌, Bool, false, List, [], ◌∷◌, ◌++◌, length, take, drop, map, get_or, refl, sym, ap, ◌∙◌, arith}
 use Rattle.std.specs.Prelude.{IsTrue}
 use Rattle.std.proofs.lemmas.List.{append-nil, append_assoc, drop_all, drop_more, length-append, length-map, map-append, take_at, take_more}
@@ -7,7 +7,7 @@ use Rattle.ii_docset.specs.declared.calls.CursorCall.{CursorCall}
 use Rattle.ii_docset.specs.Calls.{IsLawful, answer_of, answer_to, answers_to, asked_by, count_asked, counts_asked, num_asked, rest_after, rest_after_call}
 use Rattle.ii_base.specs.Entries.{Entry}
 
--- So many calls were made of a cursor, and answered so; it stands here.
+-- The state of a cursor after some calls, with their answers.
 pub record IsWalking (calls : List CursorCall) (one : Bool) (es : List Entry) (i : ℕ) (answers : List CursorAnswer) (here : List Entry) : Type 0 where
   pub lawful : IsLawful (drop i calls) one here
   pub told : map answer_of answers ++ answers_to (drop i calls) one here ≡ answers_to calls one es
@@ -63,7 +63,7 @@ told_all calls one es i answers here w ended =
     let none = drop_all i calls ended in
     sym (append-nil (map answer_of answers)) ∙ (rw none at w.told)
 
--- the rest that so many answers leave
+-- the remaining documents after the answered calls
 pub left_after : (calls : List CursorCall) (one : Bool) (es : List Entry) (i : ℕ) (answers : List CursorAnswer) (here : List Entry)
     → IsWalking calls one es i answers here → here ≡ rest_after (take (length (map answer_of answers)) calls) es
 left_after calls one es i answers here w = w.rest_is ∙ ap (λ (n : ℕ). rest_after (take n calls) es) (sym (length-map answers answer_of ∙ w.many))

@@ -1,4 +1,4 @@
--- Which documents of a list are alive.
+-- The alive documents of a list.
 use Rattle.std.specs.Prelude.{ℕ, ◌<◌, Bool, false, List, filter, length, slice_index_or}
 use Rattle.std.specs.List.{All}
 use Rattle.ii_base.specs.Entries.{Entry}
@@ -7,6 +7,6 @@ use Rattle.ii_base.specs.Entries.{Entry}
 abbrev pub IsCovered : List Bool → List Entry → Type 0
 IsCovered alive es = All (λ (e : Entry). e.doc < length alive) es
 
--- how many documents of the list are alive
+-- the number of documents of the list that are alive
 abbrev pub alive_in : List Bool → List Entry → ℕ
 alive_in alive es = length (filter (λ (e : Entry). slice_index_or alive e.doc false) es)

@@ -2,7 +2,7 @@ use crate::docset::{COLLECT_BLOCK_BUFFER_LEN, DocSet, SeekDangerResult};
 use crate::postings::Postings;
 use ii_base::{AliveBitSet, DocId, Fault};
 
-/// A boxed cursor is the cursor in the box.
+/// A boxed cursor behaves as the cursor in the box.
 impl<T: DocSet> DocSet for Box<T> {
     ghost rest = { λ s. T.rest s.value };
 
@@ -87,7 +87,7 @@ impl<T: Postings> Postings for Box<T> {
     }
 }
 
-/// A boxed cursor is the cursor in the box. Nothing is said of what is decoded through it.
+/// A boxed cursor behaves as the cursor in the box, without bounds on what it decodes.
 impl DocSet for Box<dyn DocSet> {
     ghost rest = { λ s. (DocSet-box s).rest s.value };
 
@@ -136,7 +136,7 @@ impl DocSet for Box<dyn DocSet> {
     }
 }
 
-/// A boxed cursor is the cursor in the box. Nothing is said of what is decoded through it.
+/// A boxed cursor behaves as the cursor in the box, without bounds on what it decodes.
 impl DocSet for Box<dyn Postings> {
     ghost rest = { λ s. (Postings-box s).DocSet.rest s.value };
 

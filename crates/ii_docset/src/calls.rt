@@ -3,34 +3,34 @@ use ii_base::DocId;
 /// A call of a cursor.
 #[derive(Clone, Copy, Debug, PartialEq, Eq)]
 pub enum CursorCall {
-    /// The current document.
+    /// Returns the current document.
     Doc,
-    /// To the next document.
+    /// Advances to the next document.
     Advance,
-    /// To the first document not below a target.
+    /// Seeks the first document that is at least this target.
     Seek(DocId),
-    /// The count of the current document.
+    /// Returns the term frequency of the current document.
     TermFreq,
-    /// The positions of the current document, each plus an offset.
+    /// Returns the positions of the current document, each plus this offset.
     Positions(u32),
 }
 
-/// What a call of a cursor answers.
+/// The answer to a call of a cursor.
 #[derive(Debug, PartialEq, Eq, Drop)]
 pub enum CursorAnswer {
-    /// The document on which the cursor stands after the call, or `TERMINATED`.
+    /// The current document after the call, or `TERMINATED`.
     Doc(DocId),
-    /// A count.
+    /// A term frequency.
     Freq(u32),
     /// Positions.
     Positions(Vec<u32>),
 }
 
-/// What a run of calls answered.
+/// The answers of a sequence of calls.
 #[derive(Debug, PartialEq, Eq, Drop)]
 pub struct Walk {
-    /// An answer for each call from the first one on.
+    /// An answer for each call, from the first one on.
     pub answers: Vec<CursorAnswer>,
-    /// Whether there is an answer for each call. It is false only where memory was refused.
+    /// Whether every call has an answer. False only if an allocation failed.
     pub complete: bool,
 }

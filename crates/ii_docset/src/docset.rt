@@ -5,36 +5,36 @@ ghost use Rattle.ii_docset.specs.Alive.{IsCovered, alive_in};
 
 use ii_base::{AliveBitSet, DocId, TERMINATED};
 
-/// How many documents `DocSet::fill_buffer` writes at most.
+/// The maximum number of documents that `DocSet::fill_buffer` writes.
 pub const COLLECT_BLOCK_BUFFER_LEN: usize = 64;
 
-/// What `DocSet::seek_danger` answers.
+/// The result of `DocSet::seek_danger`.
 #[derive(Clone, Copy, Debug, PartialEq, Eq)]
 pub enum SeekDangerResult {
     /// The target is the current document.
     Found,
-    /// The target is no document of the list. The first document above it, or `TERMINATED`.
+    /// The target isn't a document of the list. Holds the first greater document, or `TERMINATED`.
     SeekLowerBound(DocId),
 }
 
-/// A cursor over the documents of a list, in strictly ascending order.
+/// A cursor over a list of documents, in strictly ascending order.
 ///
-/// Its meaning is the rest of a list of entries, of which the first is the current one.
+/// Its model is the list of the remaining documents with their entries, the current one first.
 #[tactic(auto, using(crate::proofs::CursorLemmas::cursor_steps))]
 pub trait DocSet: Drop {
     ghost rest: { Self → List Entry };
 
-    // Whether counts aren't read, so that each is 1, also at the end.
+    // Whether term frequencies aren't read, so that each is 1, also at the end.
     ghost always_one: { Self → Bool } = { λ _. false };
 
-    // What calls that move the cursor from one state to another may have done, as a bound on what
-    // was decoded. It holds where nothing moved, and of one move after another, by the laws below.
+    // A bound on what was decoded by calls that moved the cursor from one state to another. It is reflexive
+    // and transitive, by the laws below.
     ghost went: { Self → Self → Type 0 } = { λ _ _. ⊤ };
 
-    // What `size_hint` and `cost` may answer.
+    // The possible results of `size_hint` and `cost`.
     ghost hints: { Self → ℕ → Type 0 } = { λ _ _. ⊤ };
 
-    /// Drops the current document, and answers the next one, or `TERMINATED` after the last.
+    /// Advances to the next document, and returns it, or `TERMINATED` after the last.
     fn advance(&mut self) -> DocId
         ensures doc { result ≡ doc_at (rest self.new) }
         ensures rest { rest self.new ≡ drop 1 (rest self.old) }
@@ -42,17 +42,17 @@ pub trait DocSet: Drop {
         ensures kind { always_one self.new ≡ always_one self.old }
         ensures work { went self.old self.new };
 
-    /// The current document, or `TERMINATED` after the last.
+    /// Returns the current document, or `TERMINATED` after the last.
     fn doc(&self) -> DocId
         ensures doc { result ≡ doc_at (rest self.now) }
         ensures sound { IsSound (rest self.now) };
 
-    /// A hint of how many documents the cursor goes over.
+    /// Returns an estimate of the number of documents.
     fn size_hint(&self) -> u32
         ensures { hints self.now result };
 
-    /// Drops the documents below `target`, and answers the first that is left, or `TERMINATED`. The
-    /// target is at most `TERMINATED`, and not below a current document.
+    /// Advances to the first document that is at least `target`, and returns it, or `TERMINATED`. The
+    /// target must be at most `TERMINATED`, and at least the current document, if there is one.
     fn seek(&mut self, target: DocId) -> DocId
         requires { IsTarget target (rest self.old) }
         ensures doc { result ≡ doc_at (rest self.new) }
@@ -68,9 +68,9 @@ pub trait DocSet: Drop {
         doc
     }
 
-    /// Drops the documents below `target`, and answers whether the target is the first that is left;
-    /// if not, which one is, or `TERMINATED`. The target may lie below the current document. It is at
-    /// most `TERMINATED`, which is answered by itself, and drops nothing.
+    /// Drops the documents less than `target`, and returns whether `target` is the first remaining one. If
+    /// not, returns the first remaining one, or `TERMINATED`. The target may be less than the current
+    /// document. At `TERMINATED`, it returns `TERMINATED` and drops nothing.
     fn seek_danger(&mut self, target: DocId) -> SeekDangerResult
         requires { target ≤ TERMINATED }
         ensures answer { IsDangerAnswer result target (rest self.new) }
@@ -94,8 +94,8 @@ pub trait DocSet: Drop {
         }
     }
 
-    /// Writes the documents that are left, up to 64 of them, to the front of `buffer`, drops them, and
-    /// answers how many they are. What stands in `buffer` after them stays.
+    /// Copies up to 64 remaining documents to the start of `buffer`, drops them, and returns how many. The
+    /// entries after them are unchanged.
     fn fill_buffer(&mut self, buffer: &mut [DocId; COLLECT_BLOCK_BUFFER_LEN]) -> usize
         ensures count { result ≡ min COLLECT_BLOCK_BUFFER_LEN (length (rest self.old)) }
         ensures filled { buffer.new ≡ docs_of (take COLLECT_BLOCK_BUFFER_LEN (rest self.old)) ++ drop (length (rest self.old)) buffer.old }
@@ -116,15 +116,14 @@ pub trait DocSet: Drop {
         buffer.len()
     }
 
-    /// A hint of what going over all documents costs.
+    /// Returns an estimate of the cost of iterating over all documents.
     fn cost(&self) -> u64
         ensures { hints self.now result }
     {
         u64::from(self.size_hint())
     }
 
-    /// How many of the documents that are left are alive; all are then dropped. The set has to tell of
-    /// each of them.
+    /// Counts the remaining documents that are alive, and drops all. The set must cover each of them.
     fn count(&mut self, alive_bitset: &AliveBitSet) -> u32
         requires { IsCovered alive_bitset.now (rest self.old) }
         ensures count { result ≡ alive_in alive_bitset.now (rest self.old) }
@@ -141,7 +140,7 @@ pub trait DocSet: Drop {
         count
     }
 
-    /// How many documents are left; they are then dropped.
+    /// Counts the remaining documents, and drops them.
     fn count_including_deleted(&mut self) -> u32
         ensures count { result ≡ length (rest self.old) }
         ensures rest { rest self.new ≡ [] }

@@ -6,11 +6,10 @@ use crate::docset::{DocSet, SeekDangerResult};
 use ii_base::{DocId, Fault, TERMINATED};
 use std::alloc::Global;
 
-/// The documents that both cursors have left, in ascending order. The first cursor is then at its
-/// end; the other one has dropped some of its documents.
+/// Returns the documents that remain in both cursors, in ascending order. This exhausts the first cursor,
+/// and advances the other one.
 ///
-/// `OutOfMemory` where the list of documents can't grow: the cursors then stand somewhere on their
-/// way.
+/// Returns `OutOfMemory` if the list can't grow. The cursors are then somewhere in between.
 pub fn intersect<A: DocSet, B: DocSet>(
     alloc: Global,
     first: &mut A,

@@ -2,10 +2,10 @@ use crate::docset::{COLLECT_BLOCK_BUFFER_LEN, DocSet, SeekDangerResult};
 use crate::postings::Postings;
 use ii_base::{AliveBitSet, DocId, Fault};
 
-/// A cursor that is lent: it is the cursor that it borrows, which goes on where this one stands.
+/// A borrowed cursor. Calls move the cursor that it borrows.
 #[derive(Drop)]
 pub struct Lent<'a, T> {
-    /// The cursor that is lent.
+    /// The borrowed cursor.
     pub inner: &'a mut T,
 }
 
@@ -19,7 +19,7 @@ impl<T: DocSet> DocSet for Lent<'_, T> {
 
     ghost hints = { λ s n. T.hints s.inner.now n };
 
-    // It stays the same cursor that is lent.
+    // Both states borrow the same cursor.
     ghost went = { λ a b. (b.inner.ghost_name ≡ a.inner.ghost_name) × T.went a.inner.now b.inner.now };
 
     ghost went_nowhere = { λ s. (refl, T.went_nowhere s.inner.now) };

@@ -1,4 +1,4 @@
-//! Cursors over the documents of a list, and over what a term has there.
+//! Cursors over documents, and over the term frequencies and positions in them.
 #![tactic(auto)]
 
 mod boxed;

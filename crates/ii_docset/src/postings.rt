@@ -6,26 +6,27 @@ ghost use Rattle.ii_docset.specs.Cursor.{IsCurrent, position_before, positions_a
 use crate::docset::DocSet;
 use ii_base::Fault;
 
-/// A cursor that tells counts and positions too.
+/// A cursor over documents with term frequencies and positions.
 ///
-/// Offsets are added to positions, and the sums have to lie below 2^32.
+/// Positions plus an offset must be less than 2^32.
 #[tactic(auto, using(crate::proofs::CursorLemmas::positions_fit))]
 pub trait Postings: DocSet {
-    // What calls that took the cursor from one state to another may have done, as a bound on what was
-    // decoded: so many of them asked for positions, of documents with these counts together. It holds
-    // of moves, which ask for none, and of calls one after another, by the laws below.
+    // A bound on what was decoded between two states, given the number of calls that read positions, and
+    // the sum of the term frequencies of their documents. Moves count as zero, and consecutive calls add
+    // up, by the laws below.
     ghost spent: { ℕ → ℕ → Self → Self → Type 0 } = { λ _ _ _ _. ⊤ };
 
-    /// How often the term occurs in the current document, or 1 where counts aren't read. Where they
-    /// are, there has to be a current document.
+    /// Returns the term frequency of the current document, or 1 if frequencies aren't read. If they are
+    /// read, there must be a current document.
     fn term_freq(&self) -> u32
         requires { IsTrue (Self.always_one self.now) ⊎ IsCurrent (Self.rest self.now) }
         ensures { result ≡ term_freq_at (Self.always_one self.now) (Self.rest self.now) };
 
-    /// Writes the positions of the current document, each plus `offset`, after what stands in `output`.
+    /// Appends the positions of the current document to `output`, each plus `offset`. The cursor doesn't
+    /// move.
     ///
-    /// `OutOfMemory` where `output` or a buffer of the cursor can't grow: `output` then holds what it
-    /// held, and the cursor stands where it stood.
+    /// Returns `OutOfMemory`, and leaves `output` as it is, if `output` or a buffer of the cursor can't
+    /// grow.
     fn append_positions_with_offset(
         &mut self,
         offset: u32,
@@ -40,11 +41,10 @@ pub trait Postings: DocSet {
         ensures kind { Self.always_one self.new ≡ Self.always_one self.old }
         ensures work { spent 1 (term_freq_at (Self.always_one self.old) (Self.rest self.old)) self.old self.new };
 
-    /// Puts the positions of the current document, each plus `offset`, in place of what stands in
-    /// `output`.
+    /// Replaces the contents of `output` with the positions of the current document, each plus `offset`.
+    /// The cursor doesn't move.
     ///
-    /// `OutOfMemory` where `output` or a buffer of the cursor can't grow: `output` is then empty, and
-    /// the cursor stands where it stood.
+    /// Returns `OutOfMemory`, and clears `output`, if `output` or a buffer of the cursor can't grow.
     fn positions_with_offset(&mut self, offset: u32, output: &mut Vec<u32>) -> Result<(), Fault>
         requires current { IsCurrent (Self.rest self.old) }
         requires fits { All (λ p. p + offset < 2 ^ 32) (positions_at (Self.rest self.old)) }
@@ -52,7 +52,7 @@ pub trait Postings: DocSet {
         ensures err { OnErr result (output.new.items ≡ []) }
         ensures only { OnlyMemory result }
 
-        // What stays, and what it cost.
+        // The state and the cost after the call.
         ensures rest { Self.rest self.new ≡ Self.rest self.old }
         ensures kind { Self.always_one self.new ≡ Self.always_one self.old }
         ensures work { spent 1 (term_freq_at (Self.always_one self.old) (Self.rest self.old)) self.old self.new }
@@ -61,10 +61,10 @@ pub trait Postings: DocSet {
         self.append_positions_with_offset(offset, output)
     }
 
-    /// Puts the positions of the current document in place of what stands in `output`.
+    /// Replaces the contents of `output` with the positions of the current document. The cursor doesn't
+    /// move.
     ///
-    /// `OutOfMemory` where `output` or a buffer of the cursor can't grow: `output` is then empty, and
-    /// the cursor stands where it stood.
+    /// Returns `OutOfMemory`, and clears `output`, if `output` or a buffer of the cursor can't grow.
     fn positions(&mut self, output: &mut Vec<u32>) -> Result<(), Fault>
         requires { IsCurrent (Self.rest self.old) }
         ensures ok { OnOk result (output.new.items ≡ positions_at (Self.rest self.old)) }
@@ -74,15 +74,16 @@ pub trait Postings: DocSet {
         ensures kind { Self.always_one self.new ≡ Self.always_one self.old }
         ensures work { spent 1 (term_freq_at (Self.always_one self.old) (Self.rest self.old)) self.old self.new }
     {
-        // The current document tells that its positions have 32 bits.
+        // The current document implies that its positions have 32 bits.
         let _doc = self.doc();
         self.positions_with_offset(0, output)
     }
 
-    /// Writes positions of the current document to the front of `output`, from the one at place `from`
-    /// on, as many as are left and have room, and answers how many they are. What stands in `output`
-    /// after them stays. `before` is the position before the one at `from`, or 0 where that is the
-    /// first. Memory is never taken, and the cursor stands where it stood.
+    /// Copies positions of the current document, starting at index `from`, to the start of `output`, and
+    /// returns how many. It copies as many as remain and fit; the bytes after them are unchanged.
+    ///
+    /// `before` is the position before index `from`, or 0 for the first. It doesn't allocate, and the
+    /// cursor doesn't move.
     fn read_positions(&mut self, from: usize, before: u32, output: &mut [u32]) -> usize
         requires current { IsCurrent (Self.rest self.old) }
         requires before { before ≡ position_before from (positions_at (Self.rest self.old)) }
@@ -100,8 +101,8 @@ pub trait Postings: DocSet {
     ghost spent_on: { (k m l n : ℕ) (a b c : Self) → spent k m a b → spent l n b c → spent (k + l) (m + n) a c };
 }
 
-/// Copies positions from place `from` on to the front of `output`, as many as are left and have room, and
-/// answers how many they are: what `Postings::read_positions` answers where positions lie in memory.
+/// Copies positions from memory as `Postings::read_positions` does: from index `from` to the start of
+/// `output`, as many as remain and fit. Returns how many.
 pub fn copy_positions(positions: &[u32], from: usize, output: &mut [u32]) -> usize
     ensures count { result ≡ min (length output.old) (length positions.now - from) }
     ensures read { output.new ≡ take (length output.old) (drop from positions.now) ++ drop (length positions.now - from) output.old }

@@ -5,15 +5,15 @@ use crate::docset::DocSet;
 use crate::lent::Lent;
 use ii_base::DocId;
 
-/// A cursor that says what one seek costs, however many documents it passes.
+/// A cursor with a bound on the cost of one seek, however many documents it skips.
 ///
-/// `DocSet::seek` has a body that goes by steps, so that its clause can say no more than what such steps
-/// cost; this one is for cursors that skip.
+/// The default `DocSet::seek` advances step by step, so its clause promises only the cost of these steps.
+/// This trait is for cursors that skip.
 pub trait SeekOnce: DocSet {
-    // What a single seek from one state to another may have done, as a bound on what was decoded.
+    // A bound on what a single seek from one state to another decoded.
     ghost sought: { Self → Self → Type 0 };
 
-    /// Goes on as `seek` does, in one seek.
+    /// Seeks as `DocSet::seek` does, in one seek.
     fn seek_once(&mut self, target: DocId) -> DocId
         requires { IsTarget target (Self.rest self.old) }
         ensures doc { result ≡ doc_at (Self.rest self.new) }
@@ -27,7 +27,7 @@ pub trait SeekOnce: DocSet {
 impl<T: SeekOnce> SeekOnce for Lent<'_, T> {
     ghost use Rattle.std.specs.Prelude.{◌≡◌};
 
-    // It stays the same cursor that is lent.
+    // Both states borrow the same cursor.
     ghost sought = { λ a b. (b.inner.ghost_name ≡ a.inner.ghost_name) × T.sought a.inner.now b.inner.now };
 
     fn seek_once(&mut self, target: DocId) -> DocId {

@@ -8,10 +8,10 @@ use crate::postings::Postings;
 use ii_base::Fault;
 use std::alloc::Global;
 
-/// Makes calls of a cursor, one after the other, and keeps what each answers.
+/// Makes calls of a cursor in order, and collects the answers. Each call must be allowed in the state that
+/// the calls before it leave.
 ///
-/// Each call has to be one that may be made where the calls before it leave the cursor. Where memory
-/// is refused the walk ends: each call that was made before has its answer, and the cursor stands where
+/// If an allocation fails, the walk ends. Every call made before has its answer, and the cursor is where
 /// these calls left it.
 #[tactic(auto, using(crate::proofs::WalkLemmas::may_walk, crate::proofs::WalkLemmas::walks_on))]
 pub fn walk<P: Postings>(alloc: Global, cursor: &mut P, calls: &[CursorCall]) -> Walk
@@ -20,7 +20,7 @@ pub fn walk<P: Postings>(alloc: Global, cursor: &mut P, calls: &[CursorCall]) ->
     ensures complete { IsTrue result.complete ↔ (length (answers_in result) ≡ length calls.now) }
     ensures beginning { answers_in result ≡ take (length (answers_in result)) (answers_to calls.now (P.always_one cursor.old) (P.rest cursor.old)) }
 
-    // Where the cursor stands then, and what the run cost.
+    // The state of the cursor, and the cost of the calls.
     ensures rest { IsTrue result.complete → P.rest cursor.new ≡ rest_after calls.now (P.rest cursor.old) }
     ensures left { P.rest cursor.new ≡ rest_after (take (length (answers_in result)) calls.now) (P.rest cursor.old) }
     ensures kind { P.always_one cursor.new ≡ P.always_one cursor.old }
@@ -28,7 +28,7 @@ pub fn walk<P: Postings>(alloc: Global, cursor: &mut P, calls: &[CursorCall]) ->
 {
     let mut answers = Vec::new(alloc);
     for call in calls {
-        // Room comes first, so that no call is made whose answer is lost.
+        // Capacity is reserved first, so that no answer is lost.
         let Ok(()) = answers.reserve(1) else {
             return Walk {
                 answers,
@@ -49,7 +49,7 @@ pub fn walk<P: Postings>(alloc: Global, cursor: &mut P, calls: &[CursorCall]) ->
     }
 }
 
-// Adds an answer for which there is room.
+// Appends an answer that fits the capacity.
 fn keep(answers: &mut Vec<CursorAnswer>, answer: CursorAnswer)
     requires { vec_len answers.old < vec_capacity answers.old }
     ensures { answers.new.items ≡ answers.old.items ++ answer ∷ [] }
@@ -60,7 +60,7 @@ fn keep(answers: &mut Vec<CursorAnswer>, answer: CursorAnswer)
     }
 }
 
-// One call. Where its answer found no memory the cursor stays.
+// Makes one call. The cursor doesn't move if the answer can't be allocated.
 fn make_call<P: Postings>(
     alloc: Global,
     cursor: &mut P,

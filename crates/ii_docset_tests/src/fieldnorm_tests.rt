@@ -15,7 +15,7 @@ use std::alloc::{AllocError, Global};
 use std::io::Write;
 use std::test::Fail;
 
-// Whether the id rises from one norm to the next right at each norm from the 43rd on.
+// Returns whether the id increases exactly at each norm of the table, from index 43.
 fn rises_at(norms: &[u32]) -> bool {
     let mut all = true;
     for (id, norm) in norms.iter().enumerate().skip(43) {
@@ -44,8 +44,7 @@ fn numbers_have_ids(rt: HostRuntime) {
     ids_approximate_from_below();
 }
 
-// How many documents the copy of a constant norm has, its norm of one of them, and the id of the first
-// one's.
+// Returns the number of documents of a constant reader's copy, the norm of `doc`, and the id of document 0.
 fn told_of_constant(fieldnorm: u32, doc: u32) -> Result<(u32, u32, u8), Fault> {
     let reader = FieldNormReader::constant(1_000_000, fieldnorm).clone()?;
     let num_docs = reader.num_docs();
@@ -61,7 +60,7 @@ fn constants_answer_for_any_document(rt: HostRuntime) {
     assert!(rt; (id, FieldNormReader::id_to_fieldnorm(72)) == (72, 280));
 }
 
-// One field of texts with norms, and one without.
+// Builds a schema of one text field with norms and one field without.
 fn two_fields(alloc: Global) -> Result<Schema, AllocError>
     ensures { IfOk result (λ schema. empty_buffers schema ≡ Some [] ∷ None ∷ []) }
 {
@@ -77,9 +76,8 @@ static TWO_NORMS: [u8; 26] = [
     0x0D, 2, 0, 0, 0, 0, 0, 0, 0, 0, 0, 0, 0, 0, 2, 0, 0, 0, 0, 0, 0, 0, 1, 0, 0, 0,
 ];
 
-// Whether what is written begins as the whole does where this call fails, whether it is all of it, and the
-// answer. Two documents are of the first field, one is of the second, which has no norms, and one of no
-// field.
+// Returns whether the bytes written are a prefix of the file, whether they are the complete file, and the
+// result. Field 0 has two documents, field 1 has no norms, and field 9 doesn't exist.
 fn written(alloc: Global, failing_call: u64) -> Result<([bool; 2], Result<(), Fault>), Fault> {
     let mut norms = FieldNormsWriter::for_schema(alloc, &two_fields(alloc)?)?;
     norms.record(0, Field::from_field_id(0), 13)?;
@@ -105,7 +103,7 @@ fn norms_are_written(rt: HostRuntime) {
     }
 }
 
-// How many documents a field has, if it has norms, and the norms of the first one and the last one.
+// Returns a field's number of documents and the norms of the first and last one, if it has norms.
 fn norms_of(readers: &FieldNormReaders, field: u32) -> Result<Option<(u32, u32, u32)>, Fault> {
     let Some(reader) = readers.get_field(Field::from_field_id(field))? else {
         return Ok(None);
@@ -127,7 +125,7 @@ fn norms_are_read(rt: HostRuntime) -> Result<(), Fail> {
     Ok(())
 }
 
-// The norm ids of field 0, as they are written.
+// Writes the norms and returns the norm ids of field 0.
 fn ids_of(alloc: Global, norms: &FieldNormsWriter) -> Result<Bytes, Fault>
     requires { length (norm_bodies norms.now) < 2 ^ 32 }
 {
@@ -147,8 +145,8 @@ static ONE_ID: [u8; 1] = [13];
 
 static TWO_IDS: [u8; 2] = [13, 0];
 
-// Whether two documents with two between them have their ids, whether only the first is left then, and
-// whether that and an empty one are.
+// Returns whether the ids are right with two documents skipped, after a cut to one document, and after an
+// empty document is added.
 fn fill_and_cut(alloc: Global) -> Result<[bool; 3], Fault> {
     let mut norms = FieldNormsWriter::for_schema(alloc, &two_fields(alloc)?)?;
     norms.record(0, Field::from_field_id(0), 13)?;
@@ -170,8 +168,8 @@ fn norms_are_filled_up_and_cut(rt: HostRuntime) -> Result<(), Fail> {
     Ok(())
 }
 
-// The readers of a file of a thousand fields, each with one document: the norm of field `f` is its number's
-// rest by 40, and stands at byte `f`. The last of them stands under the number `last`.
+// Opens a file of 1000 fields with one document each. Field `f` has the norm `f % 40` at byte `f`; the last
+// field has the id `last`.
 fn thousand_readers(alloc: Global, last: u32) -> Result<FieldNormReaders, Fault> {
     let mut bytes = Vec::new(alloc);
     for f in 0..1000u32 {
@@ -210,7 +208,7 @@ fn each_of_a_thousand_fields_is_read(rt: HostRuntime) -> Result<(), Fail> {
 
 static ONE: [u8; 1] = [1];
 
-// What a serializer answers to a field, and, where its writer fails, to it once more and to another one.
+// Serializes a field. If that fails, serializes it again and then another field.
 fn refusals<W: Write>(serializer: &mut FieldNormsSerializer<W>) -> [Result<(), Fault>; 3]
     requires { serializer.old.starts ≡ [] }
 {
@@ -223,8 +221,8 @@ fn refusals<W: Write>(serializer: &mut FieldNormsSerializer<W>) -> [Result<(), F
     [first, again, other]
 }
 
-// These answers where a call of the writer fails, that of closing, how many calls failed, and whether
-// nothing is written.
+// Returns these results when a call of the writer fails, the result of closing, the number of failed calls,
+// and whether nothing was written.
 fn answers_at(
     alloc: Global,
     failing_call: u64,
@@ -237,8 +235,7 @@ fn answers_at(
     (answers, answer, failed, writer.finish().bytes().is_empty())
 }
 
-// A write and a flush for the field; then a write for its place, one for the number of places, and a
-// flush.
+// The field is a write and a flush. The end is two writes (place, number of places) and a flush.
 #[test]
 fn a_serializer_flushes_and_is_closed_by_a_fault(rt: HostRuntime) {
     let (fine, write, closed) = (Ok(()), Err(Fault::Write), Err(Fault::SerializerClosed));

@@ -1,4 +1,4 @@
-//! Tests of `ii_docset` and `ii_fieldnorm`, by their public calls.
+//! Tests `ii_docset` and `ii_fieldnorm` through their public calls.
 #![tactic(auto)]
 
 #[cfg(test)]

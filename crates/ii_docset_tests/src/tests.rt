@@ -15,8 +15,7 @@ use std::alloc::{AllocError, Global};
 use std::marker::Model;
 use std::test::Fail;
 
-// A cursor over the documents below `end`, from `next` on: as small as one can be that takes the
-// default bodies.
+// A cursor over the documents from `next` to below `end`: a minimal implementation with the default bodies.
 #[derive(Drop)]
 struct Below {
     next: DocId,
@@ -62,8 +61,8 @@ impl DocSet for Below {
     }
 }
 
-// What the default bodies answer, called through the bound: the cost, and then the first document, the one
-// sought from 7 on, the next, how many are left, where the cursor stands, and how many are left then.
+// Returns what the default bodies answer: the cost, the first document, a seek to 7, the next document, a
+// count, the current document, and another count.
 fn default_answers<D: DocSet>(cursor: &mut D) -> (u64, [u32; 6])
     requires { IsTarget 7 (D.rest cursor.old) }
 {
@@ -77,7 +76,7 @@ fn default_answers<D: DocSet>(cursor: &mut D) -> (u64, [u32; 6])
     (cost, [first, seventh, next, rest, end, left])
 }
 
-// Goes on by a cursor of any kind that is lent.
+// Advances a borrowed cursor of any type.
 fn next_of(cursor: &mut dyn DocSet) -> DocId {
     cursor.advance()
 }
@@ -93,7 +92,7 @@ fn default_bodies_are_called(rt: HostRuntime) {
     assert!(rt; docs == [1, TERMINATED, TERMINATED]);
 }
 
-// How many documents go into a buffer, and where the cursor stands then.
+// Returns how many documents are written to a buffer, and the current document after that.
 fn fill<D: DocSet>(
     cursor: &mut D,
     buffer: &mut [DocId; COLLECT_BLOCK_BUFFER_LEN],
@@ -115,7 +114,7 @@ fn buffers_are_filled(rt: HostRuntime) -> Result<(), Fail> {
     Ok(())
 }
 
-// Documents 0, 2 and 10, with one position, one and two.
+// Documents 0, 2 and 10, with one, one and two positions.
 static PLACES: [Place; 3] = [
     Place {
         doc: 0,
@@ -137,7 +136,7 @@ fn three() -> ListPostings
     ListPostings::new(&PLACES)
 }
 
-// Calls of a cursor over them.
+// Runs seven calls on a cursor over these documents.
 fn row<P: Postings>(alloc: Global, cursor: &mut P) -> Walk
     requires { P.rest cursor.old ≡ record { doc = 0; term_freq = 1; positions = 3 ∷ [] } ∷ record { doc = 2; term_freq = 1; positions = 1 ∷ [] } ∷ record { doc = 10; term_freq = 2; positions = 4 ∷ 9 ∷ [] } ∷ [] }
 {
@@ -153,19 +152,19 @@ fn row<P: Postings>(alloc: Global, cursor: &mut P) -> Walk
     walk(alloc, cursor, &calls)
 }
 
-// These calls of a cursor in a box.
+// Runs these calls on a boxed cursor.
 fn row_boxed(alloc: Global) -> Result<Walk, AllocError> {
     let mut boxed = Box::new(alloc, three())?;
     Ok(row(alloc, &mut boxed))
 }
 
-// And of one of any kind.
+// Runs them on a `dyn Postings`.
 fn row_erased(alloc: Global) -> Result<Walk, AllocError> {
     let mut erased: Box<dyn Postings> = Box::new(alloc, three())?;
     Ok(row(alloc, &mut erased))
 }
 
-// Whether the walk is complete, and has the answers that are wanted.
+// Returns whether the walk is complete and has the expected answers.
 fn is_wanted(alloc: Global, walked: &Walk) -> Result<(bool, bool), AllocError> {
     let want = [
         CursorAnswer::Doc(2),
@@ -195,9 +194,8 @@ static ADDED: [u32; 2] = [8, 103];
 
 static FOUR_NINE: [u32; 2] = [4, 9];
 
-// Adds the positions of document 0 with 100 more to `added`, and puts those of document 10 in place of
-// what stands in `output`. Answers the document, and how many positions are then read from the second
-// one and from the first one on, each with three numbers of which these take the place.
+// Appends the positions of document 0, each plus 100, to `added`; replaces `output` with those of document
+// 10. Returns the document, then for reads from its second and first position their number and the buffer.
 fn tell_positions(
     added: &mut Vec<u32>,
     output: &mut Vec<u32>,
@@ -234,8 +232,7 @@ fn documents_are_common(rt: HostRuntime) -> Result<(), Fail> {
 
 static DELETED: [DocId; 3] = [10, 4, 10];
 
-// Whether documents 0 and 10 are alive where some are deleted, how many of the three are, and where
-// their cursor stands then; and how many are where none is deleted.
+// Counts alive documents with a set that has deletions, then with one that has none.
 #[test]
 fn living_documents_are_counted(rt: HostRuntime) -> Result<(), Fail> {
     let alive = AliveBitSet::from_deleted_docs(rt.alloc(), &DELETED, 12)?;

@@ -19,7 +19,7 @@ in_front cs r = r >>= λ more. Ok (cs ++ more)
 abbrev pub both : Result (List Call) Refusal → Result (List Call) Refusal → Result (List Call) Refusal
 both step rest = step >>= λ cs. in_front cs rest
 
--- These calls were added so far, and what is left of the whole is this.
+-- The calls that were added so far, and the remaining result.
 pub record IsAdding (es : List SchemaEntry) (doc : ℕ) (old now : List IndexCall) (all rest : Result (List Call) Refusal) : Type 0 where
   pub done : List Call
   pub added : Adds es doc old now done
@@ -67,6 +67,6 @@ module _ (es : List SchemaEntry) (doc : ℕ) where
   pub ends : (old now : List IndexCall) (all : Result (List Call) Refusal) → IsAdding es doc old now all (Ok []) → (cs : List Call) × (all ≡ Ok cs) × Adds es doc old now cs
   ends old now all t = (t.done ++ [], t.whole, subst (λ cs. Adds es doc old now cs) (sym (append-nil t.done)) t.added)
 
--- what stands at a place, and what is behind it
+-- the item at a place, and those after it
 pub drop_at : {A : Type 0} (xs : List A) (i : ℕ) (x : A) → slice_get xs i ≡ Some x → drop i xs ≡ x ∷ drop (i + 1) xs
 drop_at xs i x is = drop_more xs i x (slice_get_within xs i x is) ∙ ap (λ y. y ∷ drop (i + 1) xs) (get_or_from_slice_get xs i x x is)

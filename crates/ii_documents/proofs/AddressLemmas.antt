@@ -1,4 +1,4 @@
--- Which address a text writes, by std's grammar of addresses.
+-- Which address a text spells, by std's grammar of addresses.
 use Rattle.std.proofs.Common.{◌≡◌, ◌∙◌, ℕ, List, [], ◌∷◌, Some, None, append-nil, length, lit≤, refl, subst, sym}
 use Rattle.std.proofs.Math.Dec.{eqb-suc-zero}
 use Rattle.std.specs.Net.Grammar.{IsColonHex, IsDotted, IsIpv4Text, IsIpv6Text}
@@ -9,7 +9,7 @@ use Rattle.std.proofs.NetLemmas.Ipv4.{read_ipv4_complete, read_ipv4_sound}
 use Rattle.std.proofs.NetLemmas.Ipv6.{EndsGroups-nil, IsDotted-not_colon_hex, read_ipv6_complete, read_ipv6_sound}
 use Rattle.ii_documents.specs.Addresses.{mapped, segments_in}
 
--- a reader that leaves something, or reads nothing, has no whole value
+-- a reader that leaves something, or reads nothing, has no complete value
 not_whole : (r : Read (List ℕ)) → ((value : List ℕ) → r ≡ Some (value, []) → ⊥) → whole_value r ≡ None
 not_whole None none = refl
 not_whole (Some (value, [])) none = absurd (none value refl)
@@ -21,7 +21,7 @@ reads_v4 text octets h = rw append-nil at (read_ipv4_complete text octets [] h (
 reads_v6 : (text segments : List ℕ) → IsColonHex text segments → read_ipv6 text ≡ Some (segments, [])
 reads_v6 text segments h = rw append-nil at (read_ipv6_complete text segments [] h EndsGroups-nil)
 
--- what was read whole is spelled by the whole text
+-- what was read completely is spelled by the complete text
 spelled_v4 : (text octets : List ℕ) → read_ipv4 text ≡ Some (octets, []) → IsDotted text octets
 spelled_v4 text octets e =
     let s = read_ipv4_sound text octets [] e in

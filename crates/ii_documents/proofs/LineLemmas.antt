@@ -1,4 +1,4 @@
--- What a line says, value by value and field by field.
+-- What a line gives, value by value and field by field.
 use Rattle.std.proofs.Common.{◌≡◌, ◌+◌, ◌++◌, ◌∙◌, ℕ, Bool, true, false, List, [], ◌∷◌, Option, Some, Result, Ok, Err, ap, bytes_eq, map, refl, subst, sym, Bor, String, Global, string_bytes, nat_cmp}
 use Rattle.std.proofs.lemmas.List.{map-append}
 use Rattle.std.specs.List.{AllByRecursion, list_any, slice_get}
@@ -34,7 +34,7 @@ stranger es m rest e = rw e refl
 pub known : (es : List SchemaEntry) (m : Entry) (rest : List Entry) → named_so es (string_bytes m.0) ≡ true → unknown_name_in es (members_view (m ∷ rest)) ≡ unknown_name_in es (members_view rest)
 known es m rest e = rw e refl
 
--- what stands under a key
+-- the value under a key
 pub map_get : (r : Option (Bor Value)) (key : List ℕ) (es : List Entry) → option_map (λ x. x.now) r ≡ lookup (is_at (λ x. slice_cmp nat_cmp key (string_bytes x))) es → option_map (λ x. view x.now) r ≡ get_member key (members_view es)
 map_get r key es h = view_of_ref r ∙ ap (option_map view) h ∙ view-lookup key es
 
@@ -67,7 +67,7 @@ adds_value es doc field old new e d c found indexed is typed pushed =
       },
     )
 
--- the calls of a value, before those of the values behind it
+-- the calls of a value, before those of the later values
 call_first : (v : Result Call Refusal) (r : Result (List Call) Refusal) → (v >>= λ c. r >>= λ cs. Ok (c ∷ cs)) ≡ both (v >>= λ c. Ok (c ∷ [])) r
 call_first (Ok c) r = refl
 call_first (Err e) r = refl
@@ -75,12 +75,12 @@ call_first (Err e) r = refl
 pub items_first : (doc field : ℕ) (e : SchemaEntry) (d : Data) (ds : Items) → items_calls doc field e (item d ds) ≡ both (items_calls doc field e (item d no_items)) (items_calls doc field e ds)
 items_first doc field e d ds = call_first (value_call doc field e d) (items_calls doc field e ds)
 
--- the calls of a field, and those of the fields behind it
+-- the calls of a field, and those of the later fields
 pub fields_first : (doc : ℕ) (ms : Members) (field : ℕ) (es : List SchemaEntry) (e : SchemaEntry) (rest : List SchemaEntry) → es ≡ e ∷ rest
     → fields_calls doc ms field es ≡ both (field_calls doc field e (get_member e.name ms)) (fields_calls doc ms (field + 1) rest)
 fields_first doc ms field es e rest is = rw is refl
 
--- one entry stands at a place
+-- one entry at a place
 pub same_entry : (es : List SchemaEntry) (field : ℕ) (a b : SchemaEntry) → slice_get es field ≡ Some a → slice_get es field ≡ Some b → a ≡ b
 same_entry es field a b p q = inside (sym p ∙ q)
   where

@@ -1,4 +1,4 @@
--- What members say, by hand.
+-- What members give, by hand.
 use Rattle.std.proofs.Common.{◌≡◌, ℕ, true, false, [], ◌∷◌, Ok, Err, codes, refl}
 use Rattle.std.specs.Prelude.{negsuc}
 use Rattle.serde_json.specs.Data.{array, boolean, item, member, negative, no_items, no_members, null, number, object, string, unsigned}
@@ -31,7 +31,7 @@ truth : members_calls (entry types.Bool ∷ []) 2 (member (codes "a") (boolean t
 unfolding members_calls
 truth = refl
 
--- a number of 16 bits by its bytes, and -1 by the number that stands for it
+-- a 16-bit number by its bytes, and -1 by the number that represents it
 unsigned_number : members_calls (entry types.U64 ∷ []) 2 (member (codes "a") (number (unsigned 258)) no_members) ≡ Ok (call 2 (value (0 ∷ 0 ∷ 0 ∷ 0 ∷ 0 ∷ 0 ∷ 1 ∷ 2 ∷ [])) ∷ [])
 unfolding members_calls
 unsigned_number = refl

@@ -1,4 +1,4 @@
--- Which index calls a line of JSON says, by a schema.
+-- The index calls of a line of JSON, by a schema.
 use Rattle.std.specs.Prelude.{◌≡◌, ◌+◌, ℕ, Bool, true, false, List, [], ◌∷◌, ◌++◌, bytes_eq, map, if◌then◌else◌, Option, None, Some, option_map, ok_or, Result, Ok, Err, ⊤, string_bytes}
 use Rattle.std.specs.List.{AllByRecursion, list_any}
 use Rattle.std.specs.Int.{bytes_high_first}
@@ -24,7 +24,7 @@ use Rattle.ii_documents.specs.Addresses.{address_in}
 use Rattle.ii_documents.specs.JsonValues.{json_from}
 use Rattle.ii_documents.specs.Steps.{◌>>=◌}
 
--- Why a line is no document.
+-- Why a line is not a document.
 pub data Refusal : Type 0 where
   too_many_documents : Refusal
   not_json : Refusal
@@ -32,7 +32,7 @@ pub data Refusal : Type 0 where
   unknown_key : List ℕ → Refusal
   wrong_value : ℕ → ValueFault → Refusal
 
--- what a fault tells of the line
+-- what an error says about the line, if it isn't an allocation failure
 abbrev pub told_of_line : LineFault → Option Refusal
 told_of_line faults.OutOfMemory = None
 told_of_line faults.TooManyDocuments = Some too_many_documents
@@ -41,21 +41,21 @@ told_of_line faults.NotAnObject = Some not_an_object
 told_of_line (faults.UnknownKey key) = Some (unknown_key (string_bytes key))
 told_of_line (faults.WrongValue field fault) = Some (wrong_value field fault)
 
--- nothing is told, or that this is the answer
+-- An error says nothing about the line, or that this is its result.
 abbrev pub TellsOfLine : {Y : Type 0} → Option Refusal → Result Y Refusal → Type 0
 TellsOfLine None wanted = ⊤
 TellsOfLine (Some refusal) wanted = wanted ≡ Err refusal
 
--- a call answered this, by a view, unless there was no memory
+-- the result of a call, by a view, is as expected unless an allocation failed
 abbrev pub AnswersFromLine : {X Y : Type 0} → (X → Y) → Result X LineFault → Result Y Refusal → Type 0
 AnswersFromLine view (Ok x) wanted = wanted ≡ Ok (view x)
 AnswersFromLine view (Err e) wanted = TellsOfLine (told_of_line e) wanted
 
--- a number of 64 bits
+-- a 64-bit number
 abbrev pub number_content : ℕ → Content
 number_content n = value (u64_bytes n)
 
--- an unsigned number, and a signed one
+-- an unsigned number
 abbrev pub u64_content : Num → Result Content ValueFault
 u64_content n = ok_or (option_map number_content (as_u64 n)) value_faults.OutOfRange
 
@@ -72,11 +72,11 @@ bytes_from (Err e) = Err value_faults.NotHex
 abbrev pub address_content : List ℕ → Result Content ValueFault
 address_content t = ok_or (option_map (λ n. value (bytes_high_first 16 n)) (address_in t)) value_faults.NotAnAddress
 
--- a JSON value, where no number in it is a floating-point number
+-- a JSON value without floating-point numbers
 abbrev pub json_content : Bool → Data → Result Content ValueFault
 json_content expand_dots d = if has_float d then Err value_faults.Float else Ok (leaves (json_leaves expand_dots (json_from d)))
 
--- what a value is to a field of a type
+-- the content of a value for a field of a type
 abbrev pub content_in : ValueType → Bool → Data → Result Content ValueFault
 content_in types.Str dots d = ok_or (as_str d) value_faults.WrongType >>= λ t. Ok (text t)
 content_in types.U64 dots d = ok_or (as_number d) value_faults.WrongType >>= u64_content
@@ -87,7 +87,7 @@ content_in types.IpAddr dots d = ok_or (as_str d) value_faults.WrongType >>= add
 content_in types.Json dots d = json_content dots d
 content_in types.Date dots d = Err value_faults.WrongType
 
--- the call of a document for a value of a field
+-- the call of a document with the content of a field
 abbrev pub call_with_content : ℕ → ℕ → Result Content ValueFault → Result Call Refusal
 call_with_content doc field (Ok content) = Ok (record { doc = doc; field = field; content = content })
 call_with_content doc field (Err fault) = Err (wrong_value field fault)
@@ -96,7 +96,7 @@ call_with_content doc field (Err fault) = Err (wrong_value field fault)
 abbrev pub value_call : ℕ → ℕ → SchemaEntry → Data → Result Call Refusal
 value_call doc field e d = call_with_content doc field (content_in e.value_type e.expands_dots d)
 
--- The values of a field: null is none, and an array has several, but for a field of JSON values.
+-- The values of a field: none of null, several of an array, unless it is a JSON field.
 abbrev pub values_of : Bool → Data → Items
 values_of json null = no_items
 values_of json (boolean b) = item (boolean b) no_items
@@ -113,12 +113,12 @@ items_calls doc field e (item d ds) = do
   cs ← items_calls doc field e ds
   Ok (c ∷ cs)
 
--- the calls for what stands under the name of a field: none where it isn't indexed, or nothing stands there
+-- the calls for the value under the name of a field: none if it isn't indexed, or has no value
 abbrev pub field_calls : ℕ → ℕ → SchemaEntry → Option Data → Result (List Call) Refusal
 field_calls doc field e None = Ok []
 field_calls doc field e (Some d) = if e.is_indexed then items_calls doc field e (values_of (is_json e.value_type) d) else Ok []
 
--- the calls of a document for fields that are numbered from one on, one after the other
+-- the calls of a document for fields numbered from one on, one after the other
 abbrev pub fields_calls : ℕ → Members → ℕ → List SchemaEntry → Result (List Call) Refusal
 fields_calls doc ms field [] = Ok []
 fields_calls doc ms field (e ∷ es) = do
@@ -126,40 +126,40 @@ fields_calls doc ms field (e ∷ es) = do
   more ← fields_calls doc ms (field + 1) es
   Ok (cs ++ more)
 
--- the first key that no field has as its name
+-- the first key that is no field's name
 abbrev pub unknown_name_in : List SchemaEntry → Members → Option (List ℕ)
 unknown_name_in es no_members = None
 unknown_name_in es (member key d ms) = if list_any (λ (e : SchemaEntry). bytes_eq e.name key) es then unknown_name_in es ms else Some key
 
--- an unknown key is refused
+-- an error for an unknown key
 abbrev pub knows_names : Option (List ℕ) → Result (Unit {0}) Refusal
 knows_names None = Ok tt
 knows_names (Some key) = Err (unknown_key key)
 
--- the calls of a document whose members these are
+-- the calls of a document with these members
 unfoldable pub members_calls : List SchemaEntry → ℕ → Members → Result (List Call) Refusal
 members_calls es doc ms = do
   _ ← knows_names (unknown_name_in es ms)
   fields_calls doc ms 0 es
 
--- the calls of a document that a line says
+-- the calls of a document in a line
 unfoldable pub line_calls : List SchemaEntry → ℕ → List ℕ → Result (List Call) Refusal
 line_calls es doc line = do
   d ← ok_or (read line) not_json
   ms ← ok_or (as_object d) not_an_object
   members_calls es doc ms
 
--- A call is of a document, and its field takes its value.
+-- A call has this document, and its field takes its value.
 pub record IsOf (es : List SchemaEntry) (doc : ℕ) (c : IndexCall) : Type 0 where
   pub doc_is : doc_of c ≡ doc
   pub takes : Takes es (field_of c) (type_of c)
 
--- calls of a document were added, which are these
+-- These calls of a document were added.
 pub record Adds (es : List SchemaEntry) (doc : ℕ) (old new : List IndexCall) (cs : List Call) : Type 0 where
   pub calls : map (call_of es) new ≡ map (call_of es) old ++ cs
   pub each : AllByRecursion (IsOf es doc) old → AllByRecursion (IsOf es doc) new
 
--- a call added what was wanted, unless there was no memory or it was refused
+-- a call added what was expected, unless an allocation failed or it returned an error
 abbrev pub AddsAs : List SchemaEntry → ℕ → List IndexCall → List IndexCall → Result (Unit {0}) LineFault → Result (List Call) Refusal → Type 0
 AddsAs es doc old new (Ok _) wanted = (cs : List Call) × (wanted ≡ Ok cs) × Adds es doc old new cs
 AddsAs es doc old new (Err e) wanted = TellsOfLine (told_of_line e) wanted

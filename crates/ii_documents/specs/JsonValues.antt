@@ -1,4 +1,4 @@
--- What a JSON value of a line is to a field of JSON values.
+-- The value of a JSON field for a JSON value of a line.
 use Rattle.serde_json.specs.Data.{Data, Num}
 use Rattle.serde_json.specs.Data as given
 use Rattle.ii_io.specs.declared.faults.LeafKind.TheVariants as kinds

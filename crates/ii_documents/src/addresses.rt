@@ -1,11 +1,10 @@
-//! Addresses as texts.
+//! IP addresses as texts.
 ghost use Rattle.std.specs.Prelude.{◌≡◌};
 ghost use Rattle.ii_documents.specs.Addresses.{address_in};
 
 use std::net::{Ipv4Addr, Ipv6Addr};
 
-/// The address that a text writes, as a number of 128 bits; one of version 4 as the one of version 6 that
-/// stands for it, `::ffff:a.b.c.d`.
+/// Parses an IP address as a 128-bit number; an IPv4 address as its mapped IPv6 address `::ffff:a.b.c.d`.
 pub fn address_of(text: &str) -> Option<u128>
     ensures { result ≡ address_in text.now }
 {

@@ -11,23 +11,23 @@ use std::alloc::{AllocError, AllocFailed};
 use std::fmt;
 use thiserror::Error;
 
-/// Why a value isn't one of its field.
+/// Why a value is invalid for its field.
 #[derive(Clone, Copy, Debug, PartialEq, Eq)]
 pub enum ValueFault {
-    /// It is of another kind than the values of the field.
+    /// It has another type than the field.
     WrongType,
-    /// A number that the type of the field doesn't have.
+    /// The number is out of the range of the field's type.
     OutOfRange,
-    /// A text that isn't pairs of hexadecimal digits.
+    /// The text isn't pairs of hexadecimal digits.
     NotHex,
-    /// A text that writes no IP address.
+    /// The text isn't an IP address.
     NotAnAddress,
-    /// A JSON value with a floating-point number in it.
+    /// The JSON value contains a floating-point number.
     Float,
 }
 
 impl ValueFault {
-    // What it is called.
+    // Returns the message of the error.
     fn name(self) -> &'static str {
         match self {
             ValueFault::WrongType => "not of the type of the field",
@@ -45,10 +45,10 @@ impl fmt::Display for ValueFault {
     }
 }
 
-/// Why a line is no document.
+/// Why a line is not a document.
 #[derive(Debug, Drop, Error)]
 pub enum LineFault {
-    /// No memory was found.
+    /// An allocation failed.
     #[error("out of memory")]
     OutOfMemory,
     /// There are 2^31 - 1 documents already.
@@ -60,16 +60,16 @@ pub enum LineFault {
     /// The JSON value isn't an object.
     #[error("not an object")]
     NotAnObject,
-    /// A key that no field has as its name.
+    /// No field has this key as its name.
     #[error("unknown key {0}")]
     UnknownKey(String),
-    /// A value isn't one of its field.
+    /// A value is invalid for its field.
     #[error("{1}")]
     WrongValue(Field, ValueFault),
 }
 
 impl LineFault {
-    // Why a line wasn't read as JSON: it isn't JSON, or no memory was found.
+    // Converts a JSON error: the line isn't JSON, or an allocation failed.
     pub(crate) fn of_json(error: JsonError) -> LineFault
         ensures { (wanted : Result (List Call) Refusal) → (¬ IsMemory error → wanted ≡ Err not_json) → TellsOfLine (told_of_line result) wanted }
     {
@@ -79,7 +79,8 @@ impl LineFault {
         LineFault::NotJson(error)
     }
 
-    // Why the bytes of a field weren't read: they aren't hexadecimal digits, or no memory was found.
+    // Converts a hexadecimal error: the bytes of the field aren't hexadecimal digits, or an allocation
+    // failed.
     pub(crate) fn of_hex(field: Field, error: FromHexError) -> LineFault
         ensures { (wanted : Result Call Refusal) → (error ≢ FromHexError.OutOfMemory → wanted ≡ Err (wrong_value field ValueFault.NotHex)) → TellsOfLine (told_of_line result) wanted }
     {

@@ -1,4 +1,4 @@
-//! Lines of JSON as index calls.
+//! Converts lines of JSON to index calls.
 ghost use Rattle.std.specs.Prelude.{◌≡◌, ◌<◌, IfOk, Some, bytes_eq, length, map, option_map, slice_get, true};
 ghost use Rattle.std.specs.List.{AllByRecursion, list_any};
 ghost use Rattle.serde_json.specs.Data.{item, no_items};
@@ -16,16 +16,22 @@ use ii_docset::DocId;
 use serde_json::{Map, Value};
 use std::alloc::Global;
 
-/// The index calls of a document that a line says: an object, each of whose keys is the name of a field.
-/// Fields are taken in the order of the schema. `null` is no value; an array has several values of its
-/// field, one after the other, but for a field of JSON values, where it is one. A field that isn't indexed
-/// takes any value, and nothing is kept of it.
+/// Converts a line to the index calls of a document. The line must be an object whose keys are names of
+/// fields.
 ///
-/// Values of a field of texts are texts, of bytes texts of hexadecimal digits, of addresses texts that
-/// write an IP address of either version, of numbers and truth values these.
+/// Fields are taken in the order of the schema. `null` is no value. An array holds several values of its
+/// field, one after the other, but is one value of a JSON field. A field that isn't indexed takes any value,
+/// and ignores it.
 ///
-/// `NotJson`, `NotAnObject`, `UnknownKey` by the first key in the order of their bytes, `WrongValue` by the
-/// first value, fields in order. `OutOfMemory` where there is no room.
+/// Values of text fields are texts, of byte fields texts of hexadecimal digits, and of address fields texts
+/// of IPv4 or IPv6 addresses. Those of number and boolean fields are numbers and booleans.
+///
+/// # Errors
+///
+/// * `NotJson` or `NotAnObject` for the line.
+/// * `UnknownKey` with the first unknown key in the order of their bytes.
+/// * `WrongValue` for the first invalid value, in the order of fields.
+/// * `OutOfMemory` if an allocation fails.
 #[tactic(auto, unfolding(crate::specs::JsonLines::line_calls))]
 pub fn line_calls(
     alloc: Global,
@@ -46,7 +52,7 @@ pub fn line_calls(
     }
 }
 
-// The calls of a document whose members these are.
+// Converts the members of a document to its calls.
 #[tactic(auto, unfolding(crate::specs::JsonLines::members_calls))]
 fn members_calls(
     alloc: Global,
@@ -66,7 +72,7 @@ fn members_calls(
     Ok(calls)
 }
 
-// The first key that no field has as its name.
+// Returns the first key that is no field's name.
 fn unknown_key<'a>(schema: &Schema, members: &'a Map<String, Value>) -> Option<&'a str>
     ensures { option_map (λ key. key.now) result ≡ unknown_name_in schema.now (members_view members.now.entries) }
 {
@@ -78,7 +84,7 @@ fn unknown_key<'a>(schema: &Schema, members: &'a Map<String, Value>) -> Option<&
     None
 }
 
-// Whether a field has this name.
+// Returns whether a field has this name.
 fn has_name(schema: &Schema, name: &str) -> bool
     ensures { result ≡ list_any (λ (e : SchemaEntry). bytes_eq e.name name.now) schema.now }
 {
@@ -109,7 +115,7 @@ fn push_fields(
     Ok(())
 }
 
-// Adds the calls of a document for what stands under the name of a field.
+// Adds the calls of a document for the value under the name of a field.
 fn push_field(
     calls: &mut Vec<IndexCall>,
     alloc: Global,
@@ -141,7 +147,7 @@ fn push_field(
     }
 }
 
-// Whether a type is that of JSON values.
+// Returns whether a type is JSON.
 fn is_json(value_type: ValueType) -> bool
     ensures { result ≡ is_json value_type }
 {

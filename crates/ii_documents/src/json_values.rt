@@ -1,4 +1,4 @@
-//! JSON values of a line as those that an index takes.
+//! Converts JSON values of a line to those that an index takes.
 ghost use Rattle.std.specs.Prelude.{◌≡◌, IfOk, map};
 ghost use Rattle.serde_json.specs.Data as Data;
 ghost use Rattle.serde_json.specs.View.{items_view, members_view, number_view, view};
@@ -11,7 +11,7 @@ use serde_json::{Map, Number, Value};
 use std::alloc::{AllocError, Global};
 use std::num::f64_to_bits_with_nan;
 
-// The value that an index takes.
+// Converts a value to one that an index takes.
 #[cycle(json)]
 pub(crate) fn json_value(alloc: Global, value: &Value) -> Result<JsonValue, AllocError>
     ensures { IfOk result (λ v. json_of v ≡ json_from (view value.now)) }
@@ -52,7 +52,7 @@ fn json_members(
     Ok(values)
 }
 
-// A number; of a floating-point number its bits.
+// Converts a number; a floating-point number to its bits.
 fn json_number(number: &Number) -> JsonValue
     ensures { json_of result ≡ json_from (Data.number (number_view number.now)) }
 {
@@ -68,7 +68,7 @@ fn json_number(number: &Number) -> JsonValue
     }
 }
 
-// Whether a number in a value is a floating-point number.
+// Returns whether a value contains a floating-point number.
 #[cycle(float)]
 pub(crate) fn has_float(value: &Value) -> bool
     ensures { result ≡ has_float (view value.now) }

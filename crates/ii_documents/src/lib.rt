@@ -1,4 +1,5 @@
-//! Documents as lines of JSON: by a schema, which index calls each line says, or why it says none.
+//! Reads documents as lines of JSON. By a schema it converts each line to index calls, or reports why it
+//! can't.
 #![tactic(auto)]
 
 pub mod addresses;

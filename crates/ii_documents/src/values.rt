@@ -1,4 +1,4 @@
-//! Values of a line as index calls.
+//! Converts values of a line to index calls.
 ghost use Rattle.std.specs.Prelude.{◌≡◌, IfOk, Bool};
 ghost use Rattle.serde_json.specs.View.{view};
 ghost use Rattle.ii_base.specs.Schema.{SchemaEntry};
@@ -15,7 +15,7 @@ use ii_docset::DocId;
 use serde_json::Value;
 use std::alloc::Global;
 
-// The call of a document for a value of a field, which is an entry of a schema.
+// Converts a value of a field, which is an entry of a schema, to the call of a document.
 pub(crate) fn value_call(
     alloc: Global,
     doc: DocId,
@@ -38,7 +38,7 @@ pub(crate) fn value_call(
     }
 }
 
-// A text.
+// Converts a text.
 fn text_call(alloc: Global, doc: DocId, field: Field, value: &Value) -> Result<IndexCall, LineFault>
     ensures gives { (dots : Bool) → AnswersFromLine (λ c. call_with dots c) result (call_with_content doc field (content_in types.Str dots (view value.now))) }
     ensures typed { IfOk result (λ c. type_of c ≡ types.Str) }
@@ -50,7 +50,7 @@ fn text_call(alloc: Global, doc: DocId, field: Field, value: &Value) -> Result<I
     Ok(IndexCall::Text(doc, field, text))
 }
 
-// An unsigned number.
+// Converts an unsigned number.
 fn u64_call(doc: DocId, field: Field, value: &Value) -> Result<IndexCall, LineFault>
     ensures gives { (dots : Bool) → AnswersFromLine (λ c. call_with dots c) result (call_with_content doc field (content_in types.U64 dots (view value.now))) }
     ensures typed { IfOk result (λ c. type_of c ≡ types.U64) }
@@ -64,7 +64,7 @@ fn u64_call(doc: DocId, field: Field, value: &Value) -> Result<IndexCall, LineFa
     }
 }
 
-// A signed number.
+// Converts a signed number.
 fn i64_call(doc: DocId, field: Field, value: &Value) -> Result<IndexCall, LineFault>
     ensures gives { (dots : Bool) → AnswersFromLine (λ c. call_with dots c) result (call_with_content doc field (content_in types.I64 dots (view value.now))) }
     ensures typed { IfOk result (λ c. type_of c ≡ types.I64) }
@@ -78,7 +78,7 @@ fn i64_call(doc: DocId, field: Field, value: &Value) -> Result<IndexCall, LineFa
     }
 }
 
-// A truth value.
+// Converts a boolean.
 fn bool_call(doc: DocId, field: Field, value: &Value) -> Result<IndexCall, LineFault>
     ensures gives { (dots : Bool) → AnswersFromLine (λ c. call_with dots c) result (call_with_content doc field (content_in types.Bool dots (view value.now))) }
     ensures typed { IfOk result (λ c. type_of c ≡ types.Bool) }
@@ -89,7 +89,7 @@ fn bool_call(doc: DocId, field: Field, value: &Value) -> Result<IndexCall, LineF
     }
 }
 
-// Bytes, as a text of hexadecimal digits.
+// Converts a text of hexadecimal digits to bytes.
 fn bytes_call(
     alloc: Global,
     doc: DocId,
@@ -108,7 +108,7 @@ fn bytes_call(
     }
 }
 
-// An address, as a text.
+// Converts a text to an address.
 fn address_call(doc: DocId, field: Field, value: &Value) -> Result<IndexCall, LineFault>
     ensures gives { (dots : Bool) → AnswersFromLine (λ c. call_with dots c) result (call_with_content doc field (content_in types.IpAddr dots (view value.now))) }
     ensures typed { IfOk result (λ c. type_of c ≡ types.IpAddr) }
@@ -122,7 +122,7 @@ fn address_call(doc: DocId, field: Field, value: &Value) -> Result<IndexCall, Li
     }
 }
 
-// A JSON value with no floating-point number in it.
+// Converts a JSON value without floating-point numbers.
 fn json_call(alloc: Global, doc: DocId, field: Field, value: &Value) -> Result<IndexCall, LineFault>
     ensures gives { (dots : Bool) → AnswersFromLine (λ c. call_with dots c) result (call_with_content doc field (content_in types.Json dots (view value.now))) }
     ensures typed { IfOk result (λ c. type_of c ≡ types.Json) }

@@ -1,4 +1,4 @@
--- Laws of the buffers of a writer of norms.
+-- Laws of the buffers of a field norms writer.
 use Rattle.std.proofs.Common.{◌≡◌, ℕ, zero, suc, ◌+◌, ◌-◌, ◌^◌, ◌<◌, ◌≤◌, Bool, true, false, ◌==◌, IsTrue, IfSome, OnOk, is_err, List, [], ◌∷◌, ◌++◌, map, length, take, drop, get_or, set, Option, Some, None, Result, Ok, Err, OnErr, refl, sym, ap, ◌∙◌, length-append, append_assoc, arith}
 use Rattle.std.specs.List.{enumerate_from}
 use Rattle.std.specs.Option.{option_map}
@@ -11,10 +11,10 @@ use Rattle.std.proofs.lemmas.List.Edits.{map_over_more}
 use Rattle.std.proofs.lemmas.Bool.Decides.{nat_tests}
 use Rattle.ii_io.specs.declared.faults.Fault.{Fault}
 use Rattle.ii_io.specs.declared.composite_file.place.BodyStart.{BodyStart}
-use Rattle.ii_io.specs.CountingWriterLemmas.{wrote_nothing, Wrote-trans, memory_then, memory_refused_by}
+use Rattle.ii_io.proofs.WriteSteps.{wrote_nothing, Wrote-trans, memory_then, memory_refused_by}
 use Rattle.ii_io.specs.Composite.{Body, bodies_bytes}
 use Rattle.ii_io.specs.CompositeWrite.{CompositeWriteState, has_start, next_start}
-use Rattle.ii_io.specs.CompositeWriteLemmas.{HasBodies-more}
+use Rattle.ii_io.proofs.CompositeSteps.{HasBodies-more}
 use Rattle.ii_base.specs.Schema.{SchemaEntry}
 use Rattle.ii_fieldnorm.specs.Buffers.{Buffers, filled, filled_buffers, buffer_of, IsFilledFront, norm_bodies, norm_bodies_from, AreUnwritten, AddsBuffer, AddsNorms, WritesNorms, empty_buffer, buffer_bytes}
 
@@ -64,7 +64,7 @@ added_cases a b c front field (Some ids) place adds one =
       bodies = λ initial before has. rw (bodies, ← (append_assoc before (norm_bodies front) (body ∷ []))) (HasBodies-more initial b c (before ++ norm_bodies front) field ids (adds.bodies initial before has) one);
     }
 
--- What a writer of norms knows that has written the buffers of a front, or was refused from the first.
+-- The state of a writer after the first buffers were written, or failed at the first.
 pub record HasWritten (old new : CompositeWriteState) (front : Buffers) : Type 0 where
   pub adds : AddsNorms old new front
   pub closed : new.closed ≡ old.closed
@@ -92,7 +92,7 @@ all_made bs rest es none made =
     let whole = rw none at made in
     sym (append-nil bs) ∙ whole ∙ empty_entries 0 es
 
--- what stands after the bytes of a buffer and of those before it
+-- the bytes after a buffer and those before it
 bytes_after : ℕ → Buffers → ℕ → List ℕ
 bytes_after field [] i = []
 bytes_after field (b ∷ bs) zero = bodies_bytes (norm_bodies_from (field + 1) bs)
@@ -112,7 +112,7 @@ all_bytes field (Some ids ∷ bs) (suc i) b within here =
     ∙ sym (append_assoc ids (front ++ buffer_bytes b) rest)
     ∙ ap (λ (xs : List ℕ). xs ++ rest) (sym (append_assoc ids front (buffer_bytes b)))
 
--- a buffer after a front, which was written or refused
+-- a buffer after the first ones, which was written or failed
 stays_open : (old new : CompositeWriteState) (bytes : List ℕ) (result : Result (Unit {0}) Fault) (t : Bool) → old.closed ≡ t → false ≡ is_err result → WritesNorms old new bytes result → new.closed ≡ old.closed
 stays_open old new bytes (Err e) t is went w = absurd (cc)
 stays_open old new bytes (Ok u) false is went w = (w.writes is).1.ok ∙ sym is

@@ -1,4 +1,4 @@
--- Laws of norms.
+-- Laws of field norms.
 use Rattle.std.proofs.Common.{◌≡◌, ℕ, zero, suc, ◌+◌, ◌<◌, ◌≤◌, ◌⊎◌, inl, inr, Bool, true, false, ◌&&◌, cond, List, [], ◌∷◌, map, length, get_or, nat_le, nat_lt, refl, sym, ◌∙◌, ap, add-one, arith}
 use Rattle.std.proofs.lemmas.Bool.{leb-true, leb-false, ltb-true, and_parts}
 use Rattle.std.specs.List.{range_with_len}
@@ -11,7 +11,7 @@ are_ascending [] = true
 are_ascending (x ∷ []) = true
 are_ascending (x ∷ y ∷ ys) = nat_lt x y && are_ascending (y ∷ ys)
 
--- the table follows its rule, computed once over the whole
+-- the complete table follows its rule, computed once
 pub table_is_norms : FIELD_NORMS_TABLE ≡ norms
 unfolding norm_of_id
 table_is_norms = refl
@@ -46,7 +46,7 @@ ascends (x ∷ xs) i zero e order within = absurd (omega arith)
 ascends (x ∷ xs) zero (suc j) e order within = head_below x xs j e (omega arith)
 ascends (x ∷ xs) (suc i) (suc j) e order within = ascends xs i j (tail_ascends x xs e) (omega arith) (omega arith)
 
--- a greater byte stands for a greater number
+-- a greater id has a greater field norm
 pub norm_of_id-lt : (b c : ℕ) → b < c → c < 256 → norm_of_id b < norm_of_id c
 norm_of_id-lt b c order within =
     let first = get_or-norms 0 256 b (omega arith) in
@@ -87,7 +87,7 @@ found n (suc limit) b h low high =
     found_cases n limit b (nat_le (norm_of_id limit) n) refl (λ below. found n limit b below low (λ c above within. high c above (omega arith)))
     (at_or_below b limit h) low (λ below. high limit below (omega arith))
 
--- every later byte stands for a number above n, if the next one does
+-- every later id has a field norm greater than n, if the next one does
 later_above : (n b c : ℕ) → (b + 1 < 256 → n < norm_of_id (b + 1)) → c < 256 → (b + 1 ≡ c) ⊎ (b + 1 < c) → n < norm_of_id c
 later_above n b c next within (inl same) = rw (← same) (next (omega arith))
 later_above n b c next within (inr order) =

@@ -1,4 +1,4 @@
--- What a writer of norms writes, and how it is read back.
+-- The file that a field norms writer writes, and how it is read back.
 use Rattle.std.proofs.Common.{◌≡◌, ℕ, zero, suc, ◌+◌, ◌^◌, ◌<◌, ◌≤◌, Bool, true, false, ◌||◌, ◌==◌, nat_le, List, [], ◌∷◌, ◌++◌, length, Option, Some, None, Result, Ok, Err, IfSome, OnOk, IsErrOf, refl, ap, ◌∙◌, arith, ⊎_elim}
 use Rattle.std.proofs.lemmas.Bool.{le-leb}
 use Rattle.std.proofs.lemmas.Bool.Decides.{nat_tests}
@@ -6,10 +6,10 @@ use Rattle.std.proofs.lemmas.List.Folds.{list_all-append}
 use Rattle.ii_io.specs.declared.faults.Fault.{Fault}
 use Rattle.ii_io.specs.declared.faults.Fault.TheVariants.{OutOfMemory}
 use Rattle.ii_io.specs.CountingWriter.{CountingWriterState, WritesUnlessClosed, WritesInMemory}
-use Rattle.ii_io.specs.CountingWriterLemmas.{writes_then, memory_refused_by}
+use Rattle.ii_io.proofs.WriteSteps.{writes_then, memory_refused_by}
 use Rattle.ii_io.specs.Composite.{Body, body_of, bodies_bytes, fit_fields, places_from, table_bytes}
 use Rattle.ii_io.specs.CompositeWrite.{CompositeWriteState, has_start, starts_from, places_of, HasBodies, WroteComposite}
-use Rattle.ii_io.specs.CompositeWriteLemmas.{places_of-bodies}
+use Rattle.ii_io.proofs.CompositeSteps.{places_of-bodies}
 use Rattle.ii_fieldnorm.specs.Buffers.{Buffers, buffer_of, norm_bodies, norm_bodies_from, AreUnwritten, AddsNorms, WritesNorms, WroteNorms, rest_of_file}
 use Rattle.ii_fieldnorm.proofs.BufferLemmas.{eqb_below}
 
@@ -95,7 +95,7 @@ module _ (a b : CompositeWriteState) (new initial : CountingWriterState) (bs : B
       let end = k.refused step.1 in
       record { writes = λ still. absurd (cc); memory = λ none. absurd (let which = step.2 in cc); refused = λ _. (ap Err step.2, end.1 ∙ step.0) }
 
-  -- a buffer was refused, which closed the serializer
+  -- a buffer failed, which closed the serializer
   pub refused : (f : Fault) (bytes : List ℕ) (result : Result (Unit {0}) Fault) → WritesNorms a b norms (Err f) → WritesUnlessClosed b.closed b.writer new bytes result → WritesInMemory a.closed a.writer new (rest_of_file bodies bs) (Err f)
   refused f bytes result w k = refused_cases a.closed f bytes result refl w k
 

@@ -1,4 +1,4 @@
--- What a reader of norms answers from: a byte for each document, or one byte for all.
+-- The model of a field norms reader: one byte per document, or one byte for all.
 use Rattle.std.specs.Prelude.{ℕ, ◌<◌, ◌⊎◌, List, [], length, slice_index, unwrap_or, IsSome, Option, Some, None}
 use Rattle.ii_fieldnorm.specs.declared.reader.ReaderImplEnum.{ReaderImplEnum}
 use Rattle.ii_fieldnorm.specs.declared.reader.ReaderImplEnum.TheVariants.{FromData, Const}
@@ -8,19 +8,19 @@ pub record Norms : Type 0 where
   pub ids : List ℕ
   pub constant : Option ℕ
 
--- the norms of as many documents as there are bytes
+-- the field norms with these ids, one per document
 abbrev pub norms_of_ids : List ℕ → Norms
 norms_of_ids ids = record { num_docs = length ids; ids = ids; constant = None }
 
--- what a reader over bytes, or of one constant, answers from
+-- the model of a reader over bytes, or of a constant
 abbrev pub read_norms : ReaderImplEnum → Norms
 read_norms (FromData bytes) = norms_of_ids bytes
 read_norms (Const num_docs id) = record { num_docs = num_docs; ids = []; constant = Some id }
 
--- A constant answers for any document.
+-- A constant covers every document.
 abbrev pub CoversDoc : Norms → ℕ → Type 0
 CoversDoc norms doc = IsSome norms.constant ⊎ (doc < norms.num_docs)
 
--- the byte of a document
+-- the id of a document
 abbrev pub id_of_doc : Norms → ℕ → ℕ
 id_of_doc norms doc = unwrap_or norms.constant (slice_index norms.ids doc)

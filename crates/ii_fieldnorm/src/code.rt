@@ -1,8 +1,8 @@
 ghost use Rattle.std.specs.Prelude.{◌≡◌, ◌≤◌};
 ghost use Rattle.ii_fieldnorm.specs.Norms.{norm_of_id, id_of_norm, norms, IsGreatestNotAbove, ApproximatesFromBelow};
 
-/// The numbers that have an id, by their ids. Entry b is b below 32; from there on each eight
-/// entries are twice as far apart as the eight before.
+/// The field norms by id. The first 32 are their own ids. From there on, the gap between neighbors doubles
+/// every eight entries.
 pub const FIELD_NORMS_TABLE: [u32; 256] = [
     0,
     1,
@@ -262,7 +262,7 @@ pub const FIELD_NORMS_TABLE: [u32; 256] = [
     2_013_265_944,
 ];
 
-/// The number of an id.
+/// Returns the field norm with this id.
 pub fn id_to_fieldnorm(id: u8) -> u32
     ensures { result ≡ norm_of_id id }
 {
@@ -270,7 +270,7 @@ pub fn id_to_fieldnorm(id: u8) -> u32
     table[id as usize]
 }
 
-/// The id of a number: that of the greatest entry not above it.
+/// Returns the id of the greatest field norm that is at most `fieldnorm`.
 pub fn fieldnorm_to_id(fieldnorm: u32) -> u8
     ensures id { result ≡ id_of_norm fieldnorm }
     ensures below { norm_of_id result ≤ fieldnorm }
@@ -289,8 +289,8 @@ pub fn fieldnorm_to_id(fieldnorm: u32) -> u8
     low as u8
 }
 
-/// The laws of ids: the table follows its rule; the number of a number's id is not above it; ids
-/// keep the order of the numbers; and the id of an entry is its own.
+/// Laws of ids: the table follows its rule; a number's field norm is at most the number; ids preserve the
+/// order of numbers; and each field norm has its own id.
 pub fn ids_approximate_from_below()
     ensures table { FIELD_NORMS_TABLE ≡ norms }
     ensures ids { ApproximatesFromBelow }

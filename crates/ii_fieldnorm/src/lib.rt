@@ -1,4 +1,4 @@
-//! The norm of a document in a field, its number of tokens, kept in one byte.
+//! The field norm of a document: its number of tokens in a field, quantized to one byte.
 #![tactic(auto)]
 
 pub mod code;

@@ -11,7 +11,7 @@ use ii_base::{CompositeFile, DocId, Fault, Field, Part};
 use std::alloc::Global;
 use std::marker::Model;
 
-/// The norms of all fields that have them. Clauses see the bytes of each field.
+/// The field norms of all fields that have them. Its model is the bytes of each field.
 #[derive(Drop)]
 pub struct FieldNormReaders {
     composite: CompositeFile,
@@ -27,9 +27,10 @@ impl Model for FieldNormReaders {
 }
 
 impl FieldNormReaders {
-    /// Opens the norms file: a composite file whose bodies have a byte for each document.
+    /// Opens the field norms file: a composite file whose bodies have one byte per document. Memory is
+    /// allocated for the table alone.
     ///
-    /// `Damaged(Composite)` where the table is not valid. Memory is taken for the table alone.
+    /// Returns `Damaged(Composite)` if the table is corrupt.
     pub fn open(alloc: Global, bytes: Bytes) -> Result<FieldNormReaders, Fault>
         ensures opened { IfOk result (λ readers. composite bytes ≡ Some readers) }
         ensures damaged { IsErrOf result (Fault.Damaged Part.Composite) → composite bytes ≡ None }
@@ -40,9 +41,9 @@ impl FieldNormReaders {
         Ok(FieldNormReaders { composite })
     }
 
-    /// The reader of a field, if the file has its norms.
+    /// Returns the reader of a field, if the file has its field norms.
     ///
-    /// `Damaged(FieldNorms)` where there are more than `u32::MAX` of them, before memory is taken.
+    /// Returns `Damaged(FieldNorms)`, before any allocation, if there are more than `u32::MAX`.
     pub fn get_field(&self, field: Field) -> Result<Option<FieldNormReader>, Fault>
         ensures found { IfOk result (λ reader. reader ≡ option_map norms_of_ids (body_of field self.now)) }
         ensures damaged { IsErrOf result (Fault.Damaged Part.FieldNorms)
@@ -61,7 +62,7 @@ impl FieldNormReaders {
         }
     }
 
-    /// Readers over the same bytes.
+    /// Clones the readers, over the same bytes.
     pub fn clone(&self) -> Result<FieldNormReaders, Fault>
         ensures same { IfOk result (λ copy. copy ≡ self.now) }
         ensures only { OnlyMemory result }
@@ -77,15 +78,15 @@ enum ReaderImplEnum {
     Const(u32, u8),
 }
 
-/// The norms of a field.
+/// The field norms of a field.
 ///
-/// A norm stands for the number of tokens of a document in the field. It is the number of its id, so
-/// it is never above the number of tokens.
+/// A field norm approximates the number of tokens of a document in the field. It is decoded from a one-byte
+/// id, and is never greater than the number of tokens.
 pub struct FieldNormReader {
     norms: ReaderImplEnum,
 }
 
-// So that each drop is a call.
+// Makes each drop a call.
 impl Drop for FieldNormReader {
     fn drop(self) {
         let FieldNormReader { norms: _ } = self;
@@ -104,7 +105,7 @@ impl Model for FieldNormReader {
 }
 
 impl FieldNormReader {
-    /// A reader in which all of so many documents have the norm that stands for `fieldnorm`.
+    /// Creates a reader in which all documents have the field norm that approximates `fieldnorm`.
     pub fn constant(num_docs: u32, fieldnorm: u32) -> FieldNormReader
         ensures { result ≡ record { num_docs = num_docs; ids = []; constant = Some (id_of_norm fieldnorm) } }
     {
@@ -113,9 +114,9 @@ impl FieldNormReader {
         }
     }
 
-    /// A reader of these ids, one byte for each document.
+    /// Opens a reader of these ids, one byte per document.
     ///
-    /// `Damaged(FieldNorms)` where there are more than `u32::MAX`.
+    /// Returns `Damaged(FieldNorms)` if there are more than `u32::MAX`.
     pub fn open(ids: Bytes) -> Result<FieldNormReader, Fault>
         ensures opened { IfOk result (λ reader. reader ≡ norms_of_ids ids) }
         ensures exactly { IsOk result ↔ (length ids < 2 ^ 32) }
@@ -129,7 +130,7 @@ impl FieldNormReader {
         })
     }
 
-    /// How many documents there are.
+    /// Returns the number of documents.
     pub fn num_docs(&self) -> u32
         ensures { result ≡ self.now.num_docs }
     {
@@ -139,7 +140,7 @@ impl FieldNormReader {
         }
     }
 
-    /// The norm of a document.
+    /// Returns the field norm of a document.
     pub fn fieldnorm(&self, doc: DocId) -> u32
         requires { CoversDoc self.now doc }
         ensures { result ≡ norm_of_id (id_of_doc self.now doc) }
@@ -147,7 +148,7 @@ impl FieldNormReader {
         id_to_fieldnorm(self.fieldnorm_id(doc))
     }
 
-    /// The id of a document's norm.
+    /// Returns the id of a document's field norm.
     pub fn fieldnorm_id(&self, doc: DocId) -> u8
         requires { CoversDoc self.now doc }
         ensures { result ≡ id_of_doc self.now doc }
@@ -158,14 +159,14 @@ impl FieldNormReader {
         }
     }
 
-    /// The number of an id.
+    /// Returns the field norm with this id.
     pub fn id_to_fieldnorm(id: u8) -> u32
         ensures { result ≡ norm_of_id id }
     {
         id_to_fieldnorm(id)
     }
 
-    /// The id of a number: that of the greatest entry of the table not above it.
+    /// Returns the id of the greatest field norm that is at most `fieldnorm`.
     pub fn fieldnorm_to_id(fieldnorm: u32) -> u8
         ensures id { result ≡ id_of_norm fieldnorm }
         ensures below { norm_of_id result ≤ fieldnorm }
@@ -173,7 +174,7 @@ impl FieldNormReader {
         fieldnorm_to_id(fieldnorm)
     }
 
-    /// A reader over the same bytes.
+    /// Clones the reader, over the same bytes.
     pub fn clone(&self) -> Result<FieldNormReader, Fault>
         ensures same { IfOk result (λ copy. copy ≡ self.now) }
         ensures only { OnlyMemory result }

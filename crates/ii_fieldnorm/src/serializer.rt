@@ -8,9 +8,9 @@ use std::alloc::Global;
 use std::io::Write;
 use std::marker::Model;
 
-/// Writes the norms file: a composite file whose bodies have a byte for each document.
+/// Writes the field norms file: a composite file whose bodies have one byte per document.
 ///
-/// It is closed by the first call that is refused, and answers `SerializerClosed` from then on.
+/// The first call that fails closes the serializer; later calls return `SerializerClosed`.
 #[derive(Drop)]
 pub struct FieldNormsSerializer<W: Write> {
     composite_write: CompositeWrite<W>,
@@ -27,7 +27,7 @@ impl<W: Write> Model for FieldNormsSerializer<W> {
 }
 
 impl<W: Write> FieldNormsSerializer<W> {
-    /// A serializer over `writer`, whose places are counted from where that stands now.
+    /// Creates a serializer over `writer`. Places are counted from its current position.
     pub fn from_write(alloc: Global, writer: CountingWriter<W>) -> FieldNormsSerializer<W>
         ensures { result ≡ record { writer = writer; base = writer.written_bytes; starts = []; closed = false } }
     {
@@ -37,12 +37,14 @@ impl<W: Write> FieldNormsSerializer<W> {
         }
     }
 
-    /// Writes the norms of a field, which weren't written before, and flushes. There are at most
+    /// Writes the field norms of a field that wasn't written before, and flushes. There are at most
     /// `u32::MAX` fields.
     ///
-    /// `Write` where the writer fails, and a prefix of the norms is then written; `Limit(Offset)`
-    /// where a count of the writer would pass `u64::MAX`; `OutOfMemory` where the table can't grow,
-    /// and `SerializerClosed` after an earlier refusal: nothing is written then.
+    /// # Errors
+    ///
+    /// `Write` if the writer fails; a prefix of the field norms may have been written. `Limit(Offset)` if a
+    /// count of the writer would exceed `u64::MAX`. `OutOfMemory` if the table can't grow, and
+    /// `SerializerClosed` after an earlier error; nothing is written in these two cases.
     pub fn serialize_field(&mut self, field: Field, fieldnorms_data: &[u8]) -> Result<(), Fault>
         requires unwritten { self.old.closed ≡ false → has_start field self.old.starts ≡ false }
         requires few { self.old.closed ≡ false → length self.old.starts < 2 ^ 32 - 1 }
@@ -60,11 +62,13 @@ impl<W: Write> FieldNormsSerializer<W> {
         written
     }
 
-    /// Writes the table of the fields, flushes, and hands the writer back.
+    /// Writes the table of the fields and flushes, and returns the writer.
     ///
-    /// `Write` where the writer fails, and a prefix of the table is then written; `Limit(Offset)`
-    /// where a count of the writer would pass `u64::MAX`; `SerializerClosed` after an earlier refusal,
-    /// and nothing is written.
+    /// # Errors
+    ///
+    /// `Write` if the writer fails; a prefix of the table may have been written. `Limit(Offset)` if a count
+    /// of the writer would exceed `u64::MAX`. `SerializerClosed` after an earlier error; nothing is
+    /// written.
     pub fn close(self) -> (CountingWriter<W>, Result<(), Fault>)
         ensures written { WritesUnlessClosed self.closed self.writer result.0 (table_bytes (places_of self)) result.1 }
         ensures bodies { (initial : CountingWriterState) (bodies : List Body) → HasBodies initial self bodies

@@ -13,8 +13,8 @@ use std::alloc::{AllocError, Global};
 use std::io::Write;
 use std::marker::Model;
 
-/// Keeps a byte for each document of each field with norms. Clauses see, for each field of the
-/// schema, the bytes that it has so far, if it has norms.
+/// Collects one byte per document for each field with field norms. Its model is, for each field of the
+/// schema, the bytes so far, if it has field norms.
 #[derive(Drop)]
 pub struct FieldNormsWriter {
     buffers: Vec<NormBuffer>,
@@ -32,7 +32,7 @@ impl Model for FieldNormsWriter {
 }
 
 impl FieldNormsWriter {
-    /// The fields of a schema that are indexed and have norms, in order.
+    /// Returns the fields of a schema that are indexed and have field norms, in order.
     pub fn fields_with_fieldnorm(alloc: Global, schema: &Schema) -> Result<Vec<Field>, Fault>
         ensures fields { IfOk result (λ fields. fields.items ≡ norm_fields schema.now) }
         ensures only { OnlyMemory result }
@@ -46,7 +46,7 @@ impl FieldNormsWriter {
         Ok(fields)
     }
 
-    /// A writer with no document yet.
+    /// Creates a writer without documents.
     pub fn for_schema(alloc: Global, schema: &Schema) -> Result<FieldNormsWriter, Fault>
         ensures empty { IfOk result (λ writer. writer ≡ empty_buffers schema.now) }
         ensures only { OnlyMemory result }
@@ -59,11 +59,11 @@ impl FieldNormsWriter {
         Ok(FieldNormsWriter { buffers })
     }
 
-    /// Gives each field with norms exactly `max_doc` documents: missing ones get the norm 0, later
-    /// ones are cut off.
+    /// Resizes each field with field norms to exactly `max_doc` documents: missing ones get id 0, later
+    /// ones are removed.
     ///
-    /// `OutOfMemory` where a buffer can't grow; the fields before it are then filled, and the others
-    /// stay.
+    /// Returns `OutOfMemory` if a buffer can't grow. The fields before it are resized, the others
+    /// unchanged.
     pub fn fill_up_to_max_doc(&mut self, max_doc: DocId) -> Result<(), Fault>
         ensures ok { OnOk result (self.new ≡ filled_buffers max_doc self.old) }
         ensures err { OnErr result (IsFilledFront max_doc self.old self.new) }
@@ -75,10 +75,10 @@ impl FieldNormsWriter {
         Ok(())
     }
 
-    /// Records the norm of a document that lies after those of the field so far. Documents between
-    /// get the norm 0. For a field without norms it does nothing.
+    /// Records the field norm of a document after those of the field so far. Documents in between get id 0.
+    /// Does nothing for a field without field norms.
     ///
-    /// `OutOfMemory` where the buffer can't grow; nothing changes then.
+    /// Returns `OutOfMemory`, without a change, if the buffer can't grow.
     pub fn record(&mut self, doc: DocId, field: Field, fieldnorm: u32) -> Result<(), Fault>
         requires { IfSome (buffer_of field self.old) (λ ids. length ids ≤ doc) }
         ensures ok { OnOk result (self.new ≡ recorded_buffers field doc fieldnorm self.old) }
@@ -92,11 +92,11 @@ impl FieldNormsWriter {
         Ok(())
     }
 
-    /// Writes the bytes of each field with norms and closes the serializer, to which none of these
-    /// fields was written before; hands its writer back. There are at most `u32::MAX` fields in all.
+    /// Writes the bytes of each field with field norms, closes the serializer, and returns its writer. None
+    /// of these fields may have been written before. There are at most `u32::MAX` fields in all.
     ///
-    /// The faults are those of the serializer. Where there is one, a prefix of the bytes is written,
-    /// and nothing after `SerializerClosed`.
+    /// Returns the errors of the serializer. After an error a prefix of the bytes is written, and none
+    /// after `SerializerClosed`.
     pub fn serialize<W: Write>(
         &self,
         serializer: FieldNormsSerializer<W>,
@@ -118,7 +118,7 @@ impl FieldNormsWriter {
     }
 }
 
-// Writes the bytes of each field with norms. A closed serializer refuses the first of them.
+// Writes the bytes of each field with field norms. A closed serializer fails at the first one.
 fn write_buffers<W: Write>(
     serializer: &mut FieldNormsSerializer<W>,
     buffers: &[NormBuffer],
@@ -139,7 +139,7 @@ fn write_buffers<W: Write>(
     Ok(())
 }
 
-// Writes the bytes of a field that wasn't written, if it has norms.
+// Writes the bytes of an unwritten field, if it has field norms.
 fn write_buffer<W: Write>(
     serializer: &mut FieldNormsSerializer<W>,
     field: Field,
@@ -156,7 +156,7 @@ fn write_buffer<W: Write>(
     }
 }
 
-/// The bytes of a field, if it has norms.
+/// The bytes of a field, if it has field norms.
 #[derive(Drop)]
 struct NormBuffer {
     ids: Option<Vec<u8>>,
@@ -172,7 +172,7 @@ impl Model for NormBuffer {
 }
 
 impl NormBuffer {
-    // A buffer of no document.
+    // Creates a buffer without documents.
     fn new(alloc: Global, keeps_norms: bool) -> NormBuffer
         ensures { result ≡ (if keeps_norms then Some [] else None) }
     {
@@ -185,7 +185,7 @@ impl NormBuffer {
         }
     }
 
-    // The bytes so far.
+    // Returns the bytes so far.
     fn ids(&self) -> Option<&[u8]>
         ensures { option_copied result ≡ self.now }
     {
@@ -195,7 +195,7 @@ impl NormBuffer {
         }
     }
 
-    // Exactly so many documents.
+    // Resizes to `docs` documents.
     fn fill_up(&mut self, docs: u32) -> Result<(), AllocError>
         ensures ok { OnOk result (self.new ≡ option_map (filled docs) self.old) }
         ensures err { OnErr result (self.new ≡ self.old) }
@@ -206,7 +206,7 @@ impl NormBuffer {
         }
     }
 
-    // One document more.
+    // Appends one more document.
     fn record(&mut self, doc: DocId, fieldnorm: u32) -> Result<(), AllocError>
         requires { IfSome self.old (λ ids. length ids ≤ doc) }
         ensures ok { OnOk result (self.new ≡ option_map (recorded doc fieldnorm) self.old) }
@@ -219,7 +219,7 @@ impl NormBuffer {
     }
 }
 
-// Puts a byte at a place after the others, and 0 between.
+// Puts a byte at an index after the others, and 0 in between.
 fn record_id(ids: &mut Vec<u8>, place: usize, id: u8) -> Result<(), AllocError>
     requires after { vec_len ids.old ≤ place }
     requires room { place < 2 ^ 32 }

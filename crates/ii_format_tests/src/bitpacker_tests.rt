@@ -4,10 +4,10 @@ use std::alloc::Global;
 use std::io::Write;
 use std::test::Fail;
 
-// 321, 2 and 51, of 9, 2 and 6 bits.
+// 321, 2 and 51, in 9, 2 and 6 bits.
 const PACKED: [u8; 3] = [0x41, 0x9D, 0x01];
 
-// Packs these numbers, up to the first fault.
+// Packs these numbers until the first fault.
 fn pack<W: Write>(output: &mut CountingWriter<W>) -> Result<(), Fault> {
     let mut packer = BitPacker::new();
     packer.write(321, 9, output)?;
@@ -31,7 +31,7 @@ fn packs_and_extracts(rt: HostRuntime) -> Result<(), Fail> {
     Ok(())
 }
 
-// Packs numbers of all 64 bits.
+// Packs numbers of 64 bits.
 fn pack_most(output: &mut CountingWriter<Vec<u8>>) -> Result<(), Fault> {
     let mut packer = BitPacker::default();
     packer.write(1, 1, output)?;
@@ -71,7 +71,7 @@ fn extracts_up_to_56_bits(rt: HostRuntime) {
     assert!(rt; bits == [0, 1, 2, 6, 9, 64]);
 }
 
-// How that ends, and whether a beginning of the bytes was written.
+// Returns the result when a call fails, whether the bytes written are a prefix, and the failed calls.
 fn packed_until(alloc: Global, failing_call: u64) -> (Result<(), Fault>, bool, u64) {
     let mut output = CountingWriter::wrap(FailingWriter::new(alloc, failing_call));
     let answer = pack(&mut output);

@@ -1,6 +1,6 @@
 use ii_codes::branchless_binary_search;
 
-// How many values from the front on lie below a target, by the search, where it may be asked.
+// Returns how many values at the front are below a target, if the search may be called.
 fn searched(arr: &[u32; 128], target: u32) -> Option<usize> {
     if !arr.is_sorted() {
         return None;
@@ -26,7 +26,7 @@ fn targets_are_found(rt: HostRuntime) {
         );
     }
     repeats[100..].fill(2_147_483_647);
-    // each value below 20 stands five times
+    // each value below 20 occurs five times
     for (target, below) in [
         (0, 0),
         (1, 5),

@@ -9,7 +9,7 @@ use ii_layout::PostingsSerializer;
 use std::alloc::Global;
 use std::test::Fail;
 
-// Adds the documents below `count`, each with a count that is the last one and `step` more.
+// Appends the documents below `count`; each count is `step` above the previous one.
 fn add_below(
     serializer: &mut PostingsSerializer,
     count: u32,
@@ -28,8 +28,8 @@ fn add_below(
     Ok(())
 }
 
-// Writes the documents that norms have, at most 300, each with a count that is the last one and `step` more, the
-// first one from 1 to 300.
+// Writes all documents of the norms, at most 300; each count is `step` above the previous one. The first
+// count is from 1 to 300.
 fn write_term(
     alloc: Global,
     mode: IndexRecordOption,
@@ -46,7 +46,7 @@ fn write_term(
     serializer.close_term(count, output)
 }
 
-// What is written of them.
+// Returns what is written for them.
 fn written(
     alloc: Global,
     mode: IndexRecordOption,
@@ -58,7 +58,7 @@ fn written(
     Ok(output.finish())
 }
 
-// Of documents of so many tokens with a count, what blocks of a mode begin with, and how long they are.
+// A mode, a number of tokens with a count, how the block starts, and its length.
 static BLOCKS: [(IndexRecordOption, (u32, u32), &[u8], usize); 5] = [
     (
         IndexRecordOption::WithFreqs,
@@ -106,8 +106,7 @@ fn bounds_of_a_block_are_written(rt: HostRuntime) -> Result<(), Fail> {
     Ok(())
 }
 
-// The norms of 259 documents: the id of each pair is one less than that of the one before it, and the last three
-// have 0.
+// Returns norms of 259 documents: the id falls by one from each pair to the next; the last three have 0.
 fn falling_norms(alloc: Global) -> Result<FieldNormReader, Fault> {
     let mut ids = Vec::new(alloc);
     for doc in 0..256u32 {

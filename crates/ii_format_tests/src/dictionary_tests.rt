@@ -8,7 +8,7 @@ use ii_termdict::{TermDictionary, TermDictionaryBuilder, TermDictionaryWriter, T
 use std::alloc::Global;
 use std::test::Fail;
 
-// One key, `a`, in 3 documents with 3 bytes of postings. A function, so that no proof looks inside.
+// One key, `a`, in 3 documents with 3 bytes of postings. It is a function so that no proof unfolds it.
 fn one() -> [u8; 73] {
     [
         1, 0, 0, 0, 0, 0, 0, 0, 1, 0, 0, 0, 0, 0, 0, 0, 0x61, 0x27, 0, 0, 0, 0, 0, 0, 0, 1, 0, 0,
@@ -17,7 +17,7 @@ fn one() -> [u8; 73] {
     ]
 }
 
-// That dictionary with another byte at a place.
+// Returns that dictionary with one byte replaced.
 fn changed(place: usize, byte: u8) -> [u8; 73] {
     let mut bytes = one();
     if place < bytes.len() {
@@ -26,7 +26,7 @@ fn changed(place: usize, byte: u8) -> [u8; 73] {
     bytes
 }
 
-// Zeros with other bytes at some places.
+// Returns zeros with other bytes at some places.
 fn zeros_but(places: &[(usize, u8)]) -> [u8; 42] {
     let mut bytes = [0u8; 42];
     for (place, byte) in places {
@@ -37,7 +37,7 @@ fn zeros_but(places: &[(usize, u8)]) -> [u8; 42] {
     bytes
 }
 
-// What is kept of the key.
+// Returns the term info of the key.
 fn info() -> TermInfo
     ensures { result ≡ term_info_from 3 0 3 0 0 }
 {
@@ -48,7 +48,7 @@ fn info() -> TermInfo
     }
 }
 
-// Adds it.
+// Inserts the key.
 fn insert_one(builder: &mut TermDictionaryBuilder<FailingWriter>) -> Result<(), Fault>
     requires fresh { (builder.old.keys ≡ []) × (builder.old.infos ≡ []) }
     ensures whole { builder.new.closed ≡ false → length builder.new.keys ≡ length builder.new.infos }
@@ -57,7 +57,8 @@ fn insert_one(builder: &mut TermDictionaryBuilder<FailingWriter>) -> Result<(), 
     builder.insert_value(&info())
 }
 
-// How many bytes of that dictionary are written where a call fails, if no others are, and the answer.
+// Returns the number of bytes written when a call fails, if they are a prefix of that dictionary, and the
+// result.
 fn ending(alloc: Global, failing_call: u64) -> (Option<usize>, Result<(), Fault>) {
     let writer = CountingWriter::wrap(FailingWriter::new(alloc, failing_call));
     let mut builder = TermDictionaryBuilder::create(alloc, writer);
@@ -98,7 +99,7 @@ fn writes_no_keys(rt: HostRuntime) {
     assert!(rt; (is_written, finished) == (true, Ok(())));
 }
 
-// Whether the key stands at place 0, and none at 1, in a buffer and by itself.
+// Returns whether ordinal 0 gives the key and ordinal 1 gives none, in a buffer and as borrowed bytes.
 fn has_one_place(terms: &TermDictionary, key: &mut Vec<u8>) -> Result<[bool; 5], Fault> {
     let first = terms.ord_to_term(0, key)?;
     let is_a = key.as_slice() == A.as_slice();
@@ -109,13 +110,13 @@ fn has_one_place(terms: &TermDictionary, key: &mut Vec<u8>) -> Result<[bool; 5],
 
 static A: [u8; 1] = *b"a";
 
-// The dictionary of that key.
+// Opens the dictionary of that key.
 fn dictionary(alloc: Global) -> Result<TermDictionary, Fault> {
     TermDictionary::open(Bytes::copy_from_slice(alloc, &one())?)
 }
 
-// Where a stream has a first term: whether it goes on twice after that, whether its key is then still `a`, and
-// what is kept of it.
+// If a stream has a first term, returns whether two further steps succeed, whether the key is then still `a`,
+// and the term info.
 fn streamed(terms: &TermDictionary) -> Option<([bool; 2], bool, TermInfo)> {
     let mut stream = terms.stream();
     if !stream.advance() {
@@ -139,12 +140,12 @@ fn looks_keys_up(rt: HostRuntime) -> Result<(), Fail> {
     Ok(())
 }
 
-// The first n bytes.
+// Returns the first `n` bytes.
 fn front(bytes: &[u8], n: usize) -> &[u8] {
     if n <= bytes.len() { &bytes[..n] } else { bytes }
 }
 
-// What opening answers to some bytes.
+// Returns the result of opening some bytes.
 fn opened(alloc: Global, bytes: &[u8]) -> Result<usize, Fault> {
     let terms = TermDictionary::open(Bytes::copy_from_slice(alloc, bytes)?)?;
     Ok(terms.num_terms())
@@ -156,7 +157,7 @@ fn refuses_damaged_dictionaries(rt: HostRuntime) {
         Err(Fault::Damaged(Part::Dictionary)),
         Err(Fault::Damaged(Part::TermStore)),
     );
-    // the key twice, and once, over a store of no terms
+    // the key twice, and the key once over a store of no terms
     let twice = zeros_but(&[(0, 2), (8, 1), (16, 2), (24, 0x61), (25, 0x61)]);
     let without_terms = zeros_but(&[(0, 1), (8, 1), (16, 0x61)]);
     for (bytes, want) in [
@@ -194,8 +195,7 @@ fn refuses_corrupt_numbers(rt: HostRuntime) {
     }
 }
 
-// A writer of a dictionary whose only key, `a`, has its value, and what it answers where the writer's
-// call fails, to one call more, and then to each call.
+// Finishes a dictionary with one key. If that fails, finishes it again and inserts a key and a value.
 fn call_on(alloc: Global, failing_call: u64) -> Result<[Result<(), Fault>; 4], Fault> {
     let mut terms = TermDictionaryWriter::new(alloc);
     let info = TermInfo::default();

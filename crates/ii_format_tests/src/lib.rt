@@ -1,4 +1,4 @@
-//! Tests of `ii_codes`, `ii_layout`, `ii_termstore` and `ii_termdict`, by their public calls.
+//! Tests `ii_codes`, `ii_layout`, `ii_termstore` and `ii_termdict` through their public calls.
 #![tactic(auto)]
 
 #[cfg(test)]

@@ -4,7 +4,7 @@ ghost use Rattle.std.specs.List.Sorted.{IsStrictlyIncreasing};
 use ii_codes::{BlockDecoder, BlockEncoder, last_of_sorted_block};
 use ii_io::{LayoutFault, Part};
 
-// 128 values, each a step above the one before it.
+// Returns 128 values, each `step` above the previous one.
 fn stepped(first: u32, step: u32) -> [u32; 128]
     requires low { first ≤ 100 }
     requires forward { 0 < step }
@@ -19,7 +19,7 @@ fn stepped(first: u32, step: u32) -> [u32; 128]
     block
 }
 
-// The bytes of a block, and others after them.
+// Returns the bytes of a block with other bytes after them.
 pub(crate) fn with_others(bytes: &[u8]) -> [u8; 640] {
     let mut long = [0xAD; 640];
     for (place, byte) in bytes.iter().enumerate() {
@@ -30,7 +30,7 @@ pub(crate) fn with_others(bytes: &[u8]) -> [u8; 640] {
     long
 }
 
-// The values that a decoder holds, and 0 after them.
+// Returns the values of a decoder, with 0 after them.
 fn held(decoder: &BlockDecoder) -> [u32; 128] {
     let mut values = [0; 128];
     for (place, value) in decoder.output_array().iter().enumerate() {
@@ -41,10 +41,10 @@ fn held(decoder: &BlockDecoder) -> [u32; 128] {
     values
 }
 
-// What is read of bytes: how many they are, and all values; or the fault, and how many values are held then.
+// The result of a read: the number of bytes and all values, or the fault and the number of values held.
 pub(crate) type Read = Result<(usize, [u32; 128]), (LayoutFault, usize)>;
 
-// The same as a sorted block.
+// Reads bytes as a sorted block.
 pub(crate) fn sorted_values(bytes: &[u8], offset: u32, width: u8, strict_delta: bool) -> Read {
     let mut decoder = BlockDecoder::with_val(7);
     match decoder.try_uncompress_block_sorted(bytes, offset, width, strict_delta) {
@@ -53,7 +53,7 @@ pub(crate) fn sorted_values(bytes: &[u8], offset: u32, width: u8, strict_delta: 
     }
 }
 
-// The same as an unsorted one.
+// Reads bytes as an unsorted block.
 pub(crate) fn unsorted_values(bytes: &[u8], width: u8, minus_one: bool) -> Read {
     let mut decoder = BlockDecoder::with_val(7);
     match decoder.try_uncompress_block_unsorted(bytes, width, minus_one) {
@@ -62,8 +62,8 @@ pub(crate) fn unsorted_values(bytes: &[u8], width: u8, minus_one: bool) -> Read 
     }
 }
 
-// In what width a block is packed, in how many bytes, and whether it is read back of these and of others after
-// them.
+// Packs a block. Returns the width, the number of bytes, and whether it reads back with and without bytes
+// after it.
 fn packed(block: &[u32; 128], offset: u32) -> (u8, usize, bool)
     requires ascending { IsStrictlyIncreasing block.now }
     requires after { 0 < offset → offset < slice_index block.now 0 }
@@ -76,7 +76,7 @@ fn packed(block: &[u32; 128], offset: u32) -> (u8, usize, bool)
     (width, bytes.len(), same)
 }
 
-// Whether 128 threes are packed less one in two bits, and read back with other bytes after them.
+// Returns whether 128 threes pack minus one in two bits, and read back with other bytes after them.
 fn threes_are_read_back() -> bool {
     let threes = [3; 128];
     let mut encoder = BlockEncoder::default();
@@ -106,7 +106,7 @@ fn blocks_are_read_back(rt: HostRuntime) {
     assert!(rt; (blocks, threes_are_read_back()) == (want, true));
 }
 
-// Even numbers from 0 on, and all numbers from 1 on, by strict deltas, and the former by plain ones.
+// Even numbers from 0 and all numbers from 1, by strict deltas; the former also by plain deltas.
 static STRICT: [[u8; 16]; 2] = [
     [
         0xFE, 0xFF, 0xFF, 0xFF, 0xFF, 0xFF, 0xFF, 0xFF, 0xFF, 0xFF, 0xFF, 0xFF, 0xFF, 0xFF, 0xFF,
@@ -146,7 +146,7 @@ fn blocks_are_read(rt: HostRuntime) {
     assert!(rt; refused == [frequencies; 3]);
 }
 
-// What is read again, without a test, of blocks that may be read: a sorted one, and an unsorted one.
+// Reads a sorted and an unsorted block again with the unchecked calls, if the checked ones accept them.
 fn read_again(sorted: &[u8], unsorted: &[u8]) -> Option<[(usize, [u32; 128]); 2]> {
     let mut decoder = BlockDecoder::default();
     let Ok(_) = decoder.try_uncompress_block_sorted(sorted, 0, 0, true) else {

@@ -1,10 +1,10 @@
-// Each width, bit by bit: what the packed codes do at once is compared with these.
+// Compares the packed codes with a plain bit-by-bit reading at each width.
 ghost use Rattle.std.specs.Prelude.{◌≤◌};
 
 use crate::packed_tests::{Read, sorted_values, unsorted_values, with_others};
 use ii_codes::{BlockEncoder, last_of_sorted_block};
 
-// The entries of so many bits each, one bit after the other.
+// Unpacks entries of `width` bits, bit by bit.
 fn plain_unpack(bytes: &[u8], width: u8) -> [u32; 128]
     requires { width ≤ 32 }
 {
@@ -20,8 +20,8 @@ fn plain_unpack(bytes: &[u8], width: u8) -> [u32; 128]
     entries
 }
 
-// The values of a sorted block from 0 on by strict deltas, one more than each entry, and the last value by plain
-// deltas, where they have 32 bits.
+// Returns the sorted values by strict deltas, each entry plus one, and the last value by plain deltas. Each
+// is `None` if it doesn't fit in 32 bits.
 fn plain_values(entries: &[u32; 128]) -> (Option<[u32; 128]>, Option<[u32; 128]>, Option<u32>) {
     let mut values = Some([0u32; 128]);
     let mut raised = Some([0u32; 128]);
@@ -37,7 +37,7 @@ fn plain_values(entries: &[u32; 128]) -> (Option<[u32; 128]>, Option<[u32; 128]>
     (values, raised, u32::try_from(sum).ok())
 }
 
-// Values with another one at a place, where it has 32 bits.
+// Sets the value at a place, or returns `None` if it doesn't fit in 32 bits.
 fn with_value(values: Option<[u32; 128]>, place: usize, value: u64) -> Option<[u32; 128]> {
     let mut values = values?;
     let number = u32::try_from(value).ok()?;
@@ -47,8 +47,7 @@ fn with_value(values: Option<[u32; 128]>, place: usize, value: u64) -> Option<[u
     Some(values)
 }
 
-// Whether bytes are read as the entries, as sorted values, as values one more, and as their last one,
-// as one by one.
+// Returns whether the decoders agree with the plain reading: unsorted, sorted, plus one, and last value.
 fn are_read(bytes: &[u8], entries: &[u32; 128], width: u8, size: usize) -> bool {
     let (sorted, raised, last) = plain_values(entries);
     let mut all = read_of(unsorted_values(bytes, width, false), size) == Some(*entries);
@@ -57,7 +56,7 @@ fn are_read(bytes: &[u8], entries: &[u32; 128], width: u8, size: usize) -> bool 
     all && last_of_sorted_block(bytes, 0, width, false) == last
 }
 
-// The values that are read of so many bytes, if they are read.
+// Returns the values if the read succeeded and used `size` bytes.
 fn read_of(read: Read, size: usize) -> Option<[u32; 128]> {
     let Ok(read) = read else {
         return None;
@@ -66,8 +65,8 @@ fn read_of(read: Read, size: usize) -> Option<[u32; 128]> {
     if read.0 == size { Some(values) } else { None }
 }
 
-// Whether entries of a width, the last of them the largest, are packed and read as bit by bit, with no
-// byte after the block and with others after it.
+// Returns whether entries of a width pack and read as bit by bit, with and without bytes after the block.
+// Their largest entry comes last.
 fn agree(entries: &[u32; 128], width: u8) -> bool
     requires { width ≤ 32 }
 {

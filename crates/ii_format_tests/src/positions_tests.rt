@@ -5,7 +5,7 @@ use ii_layout::{PositionReader, PositionSerializer, PositionWriter};
 use std::alloc::{AllocError, Global};
 use std::test::Fail;
 
-// Parts, each so often.
+// Concatenates parts, each repeated `times` times.
 fn repeated(alloc: Global, parts: &[(&[u8], u32)]) -> Result<Vec<u8>, AllocError> {
     let mut bytes = Vec::new(alloc);
     for (part, times) in parts {
@@ -16,9 +16,8 @@ fn repeated(alloc: Global, parts: &[(&[u8], u32)]) -> Result<Vec<u8>, AllocError
     Ok(bytes)
 }
 
-// 120 documents with the deltas 1, 2, 3, 2: the widths of three blocks, four deltas of a block, and four vints;
-// three positions 0, 1, 2 in each of 128 documents: the widths of three blocks, and a part that stands 16 times;
-// and a term without deltas.
+// 120 documents with the deltas 1, 2, 3, 2: three widths, three blocks of repeated bytes, and vints. 128
+// documents with the positions 0, 1, 2: three widths, and a part repeated 16 times. A term without deltas.
 static TERMS: [(&[u8], u32); 6] = [
     (&[0x83, 2, 2, 2], 1),
     (&[0xB9], 96),
@@ -30,8 +29,8 @@ static TERMS: [(&[u8], u32); 6] = [
 
 static FOUR: [u32; 4] = [1, 2, 3, 2];
 
-// Writes these terms, a document of the second in two calls, and a delta of a term that isn't ended. Answers how
-// many bytes were written before the first one's end, at it, and at the second one's.
+// Writes these terms, then a delta of a term that stays open. Returns the bytes written before and after the
+// end of the first term, and after the end of the second.
 fn write_terms(serializer: &mut PositionSerializer<Vec<u8>>) -> Result<[u64; 3], Fault> {
     for _ in 0..120 {
         serializer.write_positions_delta(&FOUR)?;
@@ -50,7 +49,7 @@ fn write_terms(serializer: &mut PositionSerializer<Vec<u8>>) -> Result<[u64; 3],
     Ok([before, first, second])
 }
 
-// What is written of them, and how many bytes were told.
+// Returns the bytes written for them and the numbers of bytes reported.
 fn written_terms(alloc: Global) -> Result<(Vec<u8>, [u64; 3]), Fault> {
     let output = CountingWriter::wrap(Vec::new(alloc));
     let mut serializer = PositionSerializer::new(alloc, output);
@@ -70,7 +69,7 @@ fn deltas_are_written(rt: HostRuntime) -> Result<(), Fail> {
     Ok(())
 }
 
-// Reads deltas that are there, or puts nothing in.
+// Reads deltas if they exist; otherwise leaves `output` unchanged.
 fn read_if_there(reader: &mut PositionReader, offset: u64, output: &mut [u32]) -> bool {
     if u128::from(offset) + output.len() as u128 > reader.len() {
         return false;
@@ -79,17 +78,17 @@ fn read_if_there(reader: &mut PositionReader, offset: u64, output: &mut [u32]) -
     true
 }
 
-// Whether these deltas, at most four, are read from an offset on.
+// Returns whether these deltas, at most four, are read from an offset.
 fn are_read(reader: &mut PositionReader, offset: u64, wanted: &[u32]) -> bool {
     let mut output = [0; 4];
     let part = &mut output[..wanted.len().min(4)];
     read_if_there(reader, offset, part) && *part == *wanted
 }
 
-// Four deltas from an offset on that is two above a multiple of four.
+// Four deltas from an offset that is 2 modulo 4.
 static LATER: [u32; 4] = [3, 2, 1, 2];
 
-// Writes the first term by itself.
+// Writes the first term alone.
 fn write_first_term(alloc: Global, output: &mut CountingWriter<Vec<u8>>) -> Result<(), Fault> {
     let mut positions = PositionWriter::new(alloc);
     for _ in 0..120 {
@@ -98,8 +97,8 @@ fn write_first_term(alloc: Global, output: &mut CountingWriter<Vec<u8>>) -> Resu
     positions.close_term(output)
 }
 
-// Whether a copy of a reader reads from 382 on, how many deltas a reader anew of the same bytes has, and whether
-// that reads from 126 on.
+// Returns whether a copy of a reader reads from 382, the number of deltas of a new reader over the same
+// bytes, and whether that one reads from 126.
 fn reads_of_copy(reader: &PositionReader) -> Result<(bool, u128, bool), Fault> {
     let mut copy = reader.clone()?;
     let is_read = are_read(&mut copy, 382, &LATER);
@@ -114,7 +113,7 @@ fn deltas_are_read(rt: HostRuntime) -> Result<(), Fail> {
     let Ok(mut reader) = PositionReader::open(Bytes::from_vec(output.finish())?) else {
         panic!(rt; "refused");
     };
-    // more than there are, and none at the end
+    // deltas past the end, and none at the end
     let reads = [
         are_read(&mut reader, 470, &LATER),
         are_read(&mut reader, 3, &[2, 1, 2]),
@@ -126,7 +125,7 @@ fn deltas_are_read(rt: HostRuntime) -> Result<(), Fail> {
     Ok(())
 }
 
-// Whether all deltas of 0, 1 and 1, again and again, are read of three blocks.
+// Returns whether the deltas 0, 1, 1, repeated over three blocks, are all read.
 fn reads_thirds(reader: &mut PositionReader) -> bool {
     let mut all = [7; 384];
     if !read_if_there(reader, 0, &mut all) {
@@ -149,8 +148,7 @@ fn all_deltas_are_read(rt: HostRuntime) -> Result<(), Fail> {
     Ok(())
 }
 
-// What a serializer answers to deltas, to the end of their term, to one more, and to deltas again, and
-// how many bytes it tells then.
+// Writes deltas, closes the term twice and writes again. Returns the results and the bytes reported.
 fn call_four(serializer: &mut PositionSerializer<FailingWriter>) -> ([Result<(), Fault>; 4], u64) {
     let deltas = serializer.write_positions_delta(&FOUR);
     let end = serializer.close_term();
@@ -170,15 +168,15 @@ fn a_refused_writer_is_closed(rt: HostRuntime) {
     assert!(rt; (answer, output.failed_calls()) == (closed, 1));
 }
 
-// Writes a block of ones and two deltas more.
+// Writes a block of ones and two more deltas.
 fn write_some(serializer: &mut PositionSerializer<FailingWriter>) -> Result<(), Fault> {
     serializer.write_positions_delta(&[1; 128])?;
     serializer.write_positions_delta(&[2, 3])?;
     serializer.close_term()
 }
 
-// How writing them and closing end where a call fails, and how many bytes are written, if they are the
-// first of those that a writer has that does not fail.
+// Returns the results of writing and closing when a call fails. The last value is the number of bytes
+// written, if they are a prefix of the complete output.
 fn told_of_failing(
     alloc: Global,
     failing_call: u64,
@@ -216,13 +214,13 @@ fn a_failing_writer_is_told(rt: HostRuntime) {
     }
 }
 
-// Whether bytes are refused, and for their positions.
+// Returns whether opening fails with corrupt positions.
 fn is_damaged(alloc: Global, data: &[u8]) -> Result<bool, AllocError> {
     let opened = PositionReader::open(Bytes::copy_from_slice(alloc, data)?);
     Ok(matches!(opened, Err(LayoutFault::Damaged(Part::Positions))))
 }
 
-// What is damaged, and what isn't.
+// Bytes, and whether they are corrupt.
 static DAMAGED: [(&[u8], bool); 8] = [
     (&[], true),
     (&[0x80], false),
@@ -242,8 +240,8 @@ static DAMAGED: [(&[u8], bool); 8] = [
     (&[0x82, 0, 0], false),
 ];
 
-// Widths of a block, of how many bytes with its head, and whether that is damaged: a width above 32, and a block
-// that is cut.
+// The width of a block, the number of bytes with the head, and whether they are corrupt: a width above 32,
+// and a block that is cut.
 static BLOCKS: [(u8, usize, bool); 5] = [
     (33, 530, true),
     (32, 514, false),

@@ -11,7 +11,7 @@ use std::test::Fail;
 
 mod joined_terms;
 
-// Term `i` of a thousand.
+// Returns term `i` of a thousand.
 fn term(i: u32) -> TermInfo
     requires { i < 1000 }
     ensures { HasLengths result }
@@ -25,15 +25,14 @@ fn term(i: u32) -> TermInfo
     }
 }
 
-// The bytes that a store writes.
+// Returns the bytes that a store writes.
 fn bytes_of(alloc: Global, store: &mut JoinedTerms) -> Result<Vec<u8>, Fault> {
     let mut writer = CountingWriter::wrap(Vec::new(alloc));
     store.serialize(&mut writer)?;
     Ok(writer.finish())
 }
 
-// The bytes of a store of those terms, of which 256 make a block, that is written before its last term and after
-// it.
+// Returns the bytes of a store of those terms, 256 to a block. It is also written before its last term.
 fn thousand_terms(alloc: Global) -> Result<Vec<u8>, Fault> {
     let mut store = JoinedTerms::new(alloc);
     for i in 0..1000u32 {
@@ -45,13 +44,13 @@ fn thousand_terms(alloc: Global) -> Result<Vec<u8>, Fault> {
     bytes_of(alloc, &mut store)
 }
 
-// The two numbers at the front of a store.
+// Reads the two numbers at the front of a store.
 fn head(bytes: &[u8]) -> [Option<u64>; 2] {
     let mut rest = bytes;
     [u64::deserialize(&mut rest), u64::deserialize(&mut rest)]
 }
 
-// A term of a store, if it has so many.
+// Returns term `i` of a store, if it exists.
 fn info_at(infos: &TermInfoStore, i: u64) -> Option<TermInfo> {
     if i < infos.num_terms() as u64 {
         Some(infos.get(i))
@@ -78,7 +77,7 @@ fn stores_a_thousand_terms(rt: HostRuntime) -> Result<(), Fail> {
     Ok(())
 }
 
-// Some terms' meta.
+// Returns the meta of some terms.
 fn meta() -> TermInfoBlockMeta
     ensures { HasLengths result.ref_term_info }
 {
@@ -95,7 +94,7 @@ fn meta() -> TermInfoBlockMeta
     }
 }
 
-// How many bytes a meta takes, the meta at their front, and how many stand behind it.
+// Returns the number of bytes of a meta, the meta read from them, and how many bytes remain.
 fn read_meta(alloc: Global) -> Result<(usize, Option<TermInfoBlockMeta>, usize), Fault> {
     let mut writer = CountingWriter::wrap(Vec::new(alloc));
     meta().serialize(&mut writer)?;
@@ -112,7 +111,7 @@ fn metas_are_read_back(rt: HostRuntime) -> Result<(), Fail> {
     Ok(())
 }
 
-// A writer of so many terms.
+// Builds a writer with this many terms.
 fn many(alloc: Global, terms: u32) -> Result<JoinedTerms, Fault> {
     let mut store = JoinedTerms::new(alloc);
     for i in 0..terms {
@@ -121,9 +120,8 @@ fn many(alloc: Global, terms: u32) -> Result<JoinedTerms, Fault> {
     Ok(store)
 }
 
-// What a store of 300 terms answers where the writer's call fails: when it is written, written once more, and
-// given two terms more. Then how many bytes are written, or the greatest number where they aren't the first of the
-// whole store.
+// Serializes a store of 300 terms twice and writes two terms, while a call of the writer fails. Returns the
+// results and the number of bytes written, or `usize::MAX` if they aren't a prefix of the complete store.
 fn told_at(alloc: Global, k: u64, whole: &[u8]) -> Result<([Result<(), Fault>; 4], usize), Fault> {
     let mut store = many(alloc, 300)?;
     let mut writer = CountingWriter::wrap(FailingWriter::new(alloc, k));
@@ -159,7 +157,7 @@ fn stores_end_at_the_call_that_fails(rt: HostRuntime) -> Result<(), Fail> {
     Ok(())
 }
 
-// What writing something answers where a call fails, and how many bytes are written.
+// Returns the result of serializing a value when a call fails, and the number of bytes written.
 fn ending<T: BinarySerializable>(alloc: Global, k: u64, value: &T) -> (Result<(), Fault>, usize)
     requires { T.can_serialize value.now }
 {

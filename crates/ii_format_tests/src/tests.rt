@@ -17,7 +17,7 @@ use std::alloc::Global;
 use std::io::Write;
 use std::test::Fail;
 
-// Adds the documents below `count`, each with the same count.
+// Appends the documents below `count`, each with the same count.
 fn add_below(serializer: &mut PostingsSerializer, count: u32, term_freq: u32) -> Result<(), Fault>
     requires few { count ≤ 256 }
     requires some { 0 < term_freq }
@@ -32,7 +32,7 @@ fn add_below(serializer: &mut PostingsSerializer, count: u32, term_freq: u32) ->
     Ok(())
 }
 
-// Writes the documents below `count`, each with the count 3.
+// Writes the documents below `count`, each with count 3.
 fn write_below<W: Write>(
     alloc: Global,
     mode: IndexRecordOption,
@@ -46,7 +46,7 @@ fn write_below<W: Write>(
     serializer.close_term(count, output)
 }
 
-// What is written of 128 documents, each with the count 3.
+// Returns what is written for 128 documents with count 3.
 fn block(alloc: Global, mode: IndexRecordOption) -> Result<Vec<u8>, Fault> {
     let mut output = CountingWriter::wrap(Vec::new(alloc));
     write_below(alloc, mode, 128, &mut output)?;
@@ -55,7 +55,7 @@ fn block(alloc: Global, mode: IndexRecordOption) -> Result<Vec<u8>, Fault> {
 
 static COUNTS_BEGIN: [u8; 9] = [0x88, 0x7F, 0, 0, 0, 0x40, 2, 0, 0];
 
-// How blocks of each mode begin, and how long they are.
+// How blocks of each mode start, and their lengths.
 static BLOCKS: [(IndexRecordOption, &[u8], usize); 3] = [
     (IndexRecordOption::Basic, &[0x85, 0x7F, 0, 0, 0, 0x40], 6),
     (
@@ -85,8 +85,8 @@ fn blocks_are_written(rt: HostRuntime) -> Result<(), Fail> {
     Ok(())
 }
 
-// How writing 130 documents ends where a call fails, and how many bytes are written, if those are the first of
-// these.
+// Returns the result of writing 130 documents when a call fails, and the number of bytes written, if they are
+// a prefix of `right`.
 fn told_of_failing(
     alloc: Global,
     mode: IndexRecordOption,
@@ -132,7 +132,7 @@ fn a_failing_writer_is_told(rt: HostRuntime) {
     }
 }
 
-// Writes the documents 0, 2 and 10 as a term, with the counts `first`, 2 and 3.
+// Writes documents 0, 2 and 10 as a term, with the counts `first`, 2 and 3.
 fn write_three<W: Write>(
     serializer: &mut PostingsSerializer,
     first: u32,
@@ -150,8 +150,8 @@ fn write_three<W: Write>(
     serializer.close_term(3, output)
 }
 
-// Drops a document of an open term, and writes a term without counts, one without documents and one
-// with counts.
+// Discards a document of an open term. Then writes a term without counts, one without documents and one with
+// counts.
 fn write_terms(
     serializer: &mut PostingsSerializer,
     output: &mut CountingWriter<Vec<u8>>,
@@ -179,7 +179,7 @@ fn terms_are_written_one_after_the_other(rt: HostRuntime) -> Result<(), Fail> {
     Ok(())
 }
 
-// What is answered to the document that makes the sum of a block's counts too large, and to one more.
+// Returns the results for the document whose count makes the block's sum too large, and for the next one.
 fn answers_to_sum(alloc: Global) -> Result<[Result<(), Fault>; 2], Fault> {
     let mode = IndexRecordOption::WithFreqsAndPositions;
     let mut serializer = PostingsSerializer::new(alloc, mode, None);
@@ -191,7 +191,7 @@ fn answers_to_sum(alloc: Global) -> Result<[Result<(), Fault>; 2], Fault> {
     Ok([sum, serializer.write_doc(128, 1)])
 }
 
-// What a field answers to 128 documents with a count each.
+// Returns the result of writing 128 documents with the same count.
 fn answer_to_block(alloc: Global, mode: IndexRecordOption, term_freq: u32) -> Result<(), Fault>
     requires { 0 < term_freq }
 {
@@ -203,7 +203,7 @@ fn answer_to_block(alloc: Global, mode: IndexRecordOption, term_freq: u32) -> Re
 fn a_sum_of_counts_above_32_bits_is_refused(rt: HostRuntime) -> Result<(), Fail> {
     let limit = Err(Fault::Limit(LimitName::BlockFrequencySum));
     assert!(rt; answers_to_sum(rt.alloc())? == [limit, Err(Fault::SerializerClosed)]);
-    // one below it, and one in a field without positions
+    // a sum below the limit, and a field without positions
     let mode = IndexRecordOption::WithFreqsAndPositions;
     let other = [
         answer_to_block(rt.alloc(), mode, 33_554_431),
@@ -213,8 +213,8 @@ fn a_sum_of_counts_above_32_bits_is_refused(rt: HostRuntime) -> Result<(), Fail>
     Ok(())
 }
 
-// What is answered to a document, to the end of its term at which the writer fails, and to five calls
-// more.
+// Returns the results of writing a document, of closing its term while the writer fails, and of five more
+// calls.
 fn refusals(
     alloc: Global,
     output: &mut CountingWriter<FailingWriter>,
@@ -243,7 +243,7 @@ fn a_refused_serializer_is_closed(rt: HostRuntime) {
     let mut output = CountingWriter::wrap(FailingWriter::new(rt.alloc(), 1));
     let (answers, later) = refusals(rt.alloc(), &mut output);
     assert!(rt; answers == [Ok(()), Err(Fault::Write)]);
-    // each further call can be made, and is refused
+    // each further call may be made, and fails
     assert!(rt; later == [Err(Fault::SerializerClosed); 5]);
     assert!(rt; output.failed_calls() == 1);
 }
@@ -268,8 +268,8 @@ static BOUNDED_ENTRIES: [u8; 16] = [1, 0, 0, 0, 0x42, 3, 0x0D, 3, 5, 0, 0, 0, 0x
 
 static TOTAL: [u8; 6] = [0x80, 1, 0, 0, 1, 255];
 
-// Whether two entries have their bytes, how many are left once they are cleared, and whether such with
-// counts and bounds, and a sum with a bound, have theirs.
+// Returns whether two entries have the expected bytes, how many bytes remain after `clear`, and whether
+// entries with counts and bounds, and a sum with a bound, have theirs.
 fn written_entries(skip: &mut SkipSerializer) -> Result<(bool, usize, [bool; 2]), Fault> {
     skip.write_doc(1, 2)?;
     skip.write_doc(5, 5)?;
@@ -307,13 +307,13 @@ fn widths_and_bounds_have_bytes(rt: HostRuntime) {
     assert!(rt; (encode_block_wand_max_tf(254), counts) == (254, [254, u32::MAX]));
 }
 
-// The last document of a block and of the one before it, and where its bytes begin.
+// Returns the last document of a block and of the previous one, and the block's byte offset.
 fn place_of(skip: &SkipReader) -> (DocId, DocId, usize) {
     let (last, before) = (skip.last_doc_in_block(), skip.last_doc_in_previous_block());
     (last, before, skip.byte_offset())
 }
 
-// What two blocks are told as, and what then four ends, the last of them after a reset to no blocks.
+// Reads two blocks, then four times the state after them, the last after a reset to no blocks.
 fn read_entries() -> ([(DocId, DocId, usize); 4], [BlockInfo; 4]) {
     let mut skip = SkipReader::new(&TWO_ENTRIES, 259, IndexRecordOption::Basic);
     let first = place_of(&skip);
@@ -332,7 +332,7 @@ fn read_entries() -> ([(DocId, DocId, usize); 4], [BlockInfo; 4]) {
     )
 }
 
-// What two blocks with counts are told as, and what then three ends.
+// Reads two blocks with counts, then three times the state after them.
 fn read_counted() -> ([(DocId, DocId, usize); 3], [BlockInfo; 3]) {
     let mut skip = SkipReader::new(&BOUNDED_ENTRIES, 259, IndexRecordOption::WithFreqs);
     let first = place_of(&skip);
@@ -391,7 +391,7 @@ fn a_skip_list_is_split(rt: HostRuntime) {
         body: 13,
     });
     assert!(rt; split_into_skips_and_postings(128, &LONG_LIST, option) == places);
-    // a width of counts above 32, entries that are missing, and a size that passes the bytes
+    // a width of counts above 32, missing entries, and a size beyond the bytes
     let wide = split_into_skips_and_postings(128, &WIDE_COUNTS, IndexRecordOption::WithFreqs);
     let few = split_into_skips_and_postings(128, &FEW_ENTRIES, option);
     let cut = split_into_skips_and_postings(128, &CUT_LIST, IndexRecordOption::Basic);

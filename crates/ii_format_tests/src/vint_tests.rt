@@ -8,7 +8,7 @@ use ii_codes::vint::{
 use ii_codes::{BlockDecoder, BlockEncoder, VIntDecoder, VIntEncoder};
 use ii_io::{LayoutFault, Part};
 
-// The first four values of a decoder, the padding behind those that it holds included, and the last one.
+// Returns the first four outputs of a decoder, including padding, and the last one.
 fn first_four(decoder: &BlockDecoder) -> ([u32; 4], u32) {
     let first = [
         decoder.output(0),
@@ -34,7 +34,7 @@ fn encodes_sorted_vints(rt: HostRuntime) {
     assert!(rt; first_four(&decoder) == ([1, 3, 11, padding], padding));
 }
 
-// Differences of each length, and their sums.
+// Differences of each vint length, and their sums below.
 static DIFFERENCES: [u32; 8] = [
     127,
     128,
@@ -65,7 +65,7 @@ fn sums_up_vints_of_each_length(rt: HostRuntime) {
     let used = decoder.try_uncompress_vint_sorted(bytes, 0, 8, 0);
     assert!(rt; (used, bytes.len()) == (Ok(24), 24));
     assert!(rt; decoder.output_array() == SUMS.as_slice());
-    // up to the greatest number, and past it
+    // up to the largest number, and above it
     let most = decoder.try_uncompress_vint_sorted(bytes, u32::MAX - 541_098_236, 8, 0);
     assert!(rt; (most, decoder.output(7)) == (Ok(24), u32::MAX));
     let past = decoder.try_uncompress_vint_sorted(bytes, u32::MAX - 541_098_235, 8, 0);
@@ -88,7 +88,7 @@ fn encodes_unsorted_vints(rt: HostRuntime) {
     assert!(rt; (first, first_four(&decoder)) == (Ok(1), ([1, 9, 9, 9], 9)));
 }
 
-// All vints of bytes, at most 128 of them, and how it ends where there are none up to their end.
+// Bytes, the result of decoding up to 128 vints until their end, and the values.
 static UNTIL_END: [(&[u8], Result<(), LayoutFault>, &[u32]); 4] = [
     (&[0x83, 0x00, 0x82, 0x80], Ok(()), &[3, 256, 0]),
     (
@@ -112,7 +112,7 @@ fn decodes_unsorted_vints_until_the_end(rt: HostRuntime) {
     }
 }
 
-// Reads some vints by a decoder of any type, and answers how many bytes they take.
+// Reads vints with any decoder type. Returns the number of bytes read.
 fn read_by<D: VIntDecoder>(decoder: &mut D, bytes: &[u8], num_els: usize, padding: u32) -> usize
     requires few { num_els ≤ 128 }
     requires valid { IsSome (u32s_at num_els bytes.now) }
@@ -121,7 +121,7 @@ fn read_by<D: VIntDecoder>(decoder: &mut D, bytes: &[u8], num_els: usize, paddin
     decoder.uncompress_vint_unsorted(bytes, num_els, padding)
 }
 
-// Reads all vints by a decoder of any type.
+// Reads all vints with any decoder type.
 fn read_all_by<D: VIntDecoder>(decoder: &mut D, bytes: &[u8])
     requires { IsSome (u32s_until_end 128 bytes.now) }
     ensures { Some (take (D.state decoder.new).output_len (D.state decoder.new).output) ≡ u32s_until_end 128 bytes.now }
@@ -132,8 +132,8 @@ fn read_all_by<D: VIntDecoder>(decoder: &mut D, bytes: &[u8])
 // 1, 300 and 16384: 300 is 2 * 128 + 44, and 16384 is 128 * 128.
 static THREE_VINTS: [u8; 6] = [0x81, 0x2C, 0x82, 0x00, 0x00, 0x81];
 
-// Two sorted vints, behind 5, and two unsorted ones, with how many bytes they are, and how many there are in all,
-// with the first of them, as arrays are filled with them.
+// For two sorted vints after 5, two unsorted ones, and all: the bytes read (for all, the number of vints) and
+// the array.
 type Filled = ((usize, [u32; 2]), (usize, [u32; 2]), (usize, [u32; 4]));
 
 fn filled(bytes: &[u8]) -> Option<Filled> {
@@ -167,7 +167,7 @@ fn arrays_are_filled_with_vints(rt: HostRuntime) {
     assert!(rt; filled(&THREE_VINTS) == Some(want));
 }
 
-// The same by a decoder of any type: two vints with how many bytes they are, and all of them.
+// Decodes the same with any decoder type: two vints with the bytes read, and all of them.
 fn decoded(bytes: &[u8]) -> Option<((usize, [u32; 4], u32), [u32; 4])> {
     let mut decoder = BlockDecoder::default();
     let Ok(_) = decoder.try_uncompress_vint_unsorted(bytes, 2, 9) else {

@@ -14,12 +14,12 @@ use ii_io::{
 use std::alloc::Global;
 use std::io::{self, Cursor, Read, Write};
 
-// A body of the field 7 after a byte that was written before.
+// One byte, then a composite file with one body for field 7.
 static WRITTEN: [u8; 27] = [
     9, 5, 6, 7, 0, 0, 0, 0, 0, 0, 0, 0, 0, 0, 0, 2, 0, 0, 0, 0, 0, 0, 0, 1, 0, 0, 0,
 ];
 
-// Begins a body.
+// Starts a body.
 fn begin_body<W: Write>(composite: &mut CompositeWrite<W>) -> Result<(), Fault>
     requires { composite.old.starts ≡ [] }
     ensures { OnOk result (0 < length composite.new.starts) }
@@ -29,7 +29,7 @@ fn begin_body<W: Write>(composite: &mut CompositeWrite<W>) -> Result<(), Fault>
         .write_all(&[5])
 }
 
-// One body in two writes.
+// Writes one body in two writes.
 fn write_twice<W: Write>(composite: &mut CompositeWrite<W>) -> Result<(), Fault>
     requires { composite.old.starts ≡ [] }
 {
@@ -37,7 +37,7 @@ fn write_twice<W: Write>(composite: &mut CompositeWrite<W>) -> Result<(), Fault>
     composite.writer().write_all(&[6])
 }
 
-// Whether all of it is written where this call fails, and what writing it answers.
+// Returns whether the complete file is written when this call fails, and the result of writing it.
 fn composite_over(alloc: Global, failing_call: u64) -> (bool, Result<(), Fault>) {
     let mut writer = CountingWriter::wrap(FailingWriter::new(alloc, failing_call));
     let before = writer.write_all(&[9]);
@@ -50,7 +50,7 @@ fn composite_over(alloc: Global, failing_call: u64) -> (bool, Result<(), Fault>)
 
 static NO_BODIES: [u8; 4] = [0; 4];
 
-// The same of a file without bodies, to which no call fails.
+// Returns the same for a file without bodies, where no call fails.
 fn no_bodies(alloc: Global) -> (bool, Result<(), Fault>) {
     let none = CompositeWrite::wrap(alloc, CountingWriter::wrap(Vec::new(alloc)));
     let (writer, closed) = none.close();
@@ -60,7 +60,7 @@ fn no_bodies(alloc: Global) -> (bool, Result<(), Fault>) {
 
 #[test]
 fn composites_are_written(rt: HostRuntime) {
-    // The three writes before the table, one for the place, one for the number of places, and a flush.
+    // Three writes before the table, two for the table (a place, the number of places), and a flush.
     for k in 0..8 {
         let want = match k {
             0 | 7 => (true, Ok(())),
@@ -73,8 +73,8 @@ fn composites_are_written(rt: HostRuntime) {
     reads_composites_back();
 }
 
-// What is written: the five values, two numbers and a place, or so many empty bodies, of which the last has
-// this field, and the others have their number.
+// What to write: the five values; two numbers and a place; or this many empty bodies.
+// Each body's field is its number, except that the last body has the field given.
 #[derive(Clone, Copy)]
 enum What {
     Values,
@@ -111,7 +111,7 @@ fn write_values<W: Write>(writer: &mut CountingWriter<W>) -> Result<(), Fault> {
     Ok(())
 }
 
-// The bytes of these, how many were told, and what writing them answers.
+// Returns the bytes written, the number of bytes reported, and the result of writing.
 fn written(alloc: Global, what: What) -> (Vec<u8>, u64, Result<(), Fault>) {
     let mut writer = CountingWriter::wrap(Vec::new(alloc));
     let answer = match what {
@@ -123,7 +123,7 @@ fn written(alloc: Global, what: What) -> (Vec<u8>, u64, Result<(), Fault>) {
     (writer.finish(), told, answer)
 }
 
-// How long the bodies of three fields of a file are, and their bytes.
+// Lists the lengths and bytes of the bodies of three fields.
 fn bodies_of(alloc: Global, bytes: Bytes, fields: [u32; 3]) -> Result<String, Fault> {
     let file = CompositeFile::open(alloc, bytes)?;
     let mut told = String::new(alloc);
@@ -138,20 +138,20 @@ fn bodies_of(alloc: Global, bytes: Bytes, fields: [u32; 3]) -> Result<String, Fa
     Ok(told)
 }
 
-// The same of a file of so many empty bodies, of which the last has this field.
+// Lists the same for a file of 1000 empty bodies, of which the last has this field.
 fn many_bodies(alloc: Global, last: u32, fields: [u32; 3]) -> Result<String, Fault> {
     let (bytes, _, answer) = written(alloc, What::Bodies(1000, last));
     answer?;
     bodies_of(alloc, Bytes::from_vec(bytes)?, fields)
 }
 
-// Bodies of the fields 7 and 1.
+// Bodies of fields 7 and 1.
 static TWO_BODIES: [u8; 47] = [
     5, 6, 8, 7, 0, 0, 0, 0, 0, 0, 0, 0, 0, 0, 0, 2, 0, 0, 0, 0, 0, 0, 0, 1, 0, 0, 0, 2, 0, 0, 0, 0,
     0, 0, 0, 3, 0, 0, 0, 0, 0, 0, 0, 2, 0, 0, 0,
 ];
 
-// Whether this is told of bodies.
+// Returns whether the listing of bodies is `want`.
 fn is_told(told: Result<String, Fault>, want: &str) -> Result<bool, Fault> {
     Ok(told?.as_str() == want)
 }
@@ -175,17 +175,17 @@ static DAMAGED: [&'static [u8]; 9] = [
     &[0; 3],
     // no table
     &[1, 0, 0, 0],
-    // 20 times this count wraps to 4 in 32 bits.
+    // 20 times this count wraps to 4 in 32 bits
     &[0, 0, 0, 0, 0, 0, 0, 0, 0xCD, 0xCC, 0xCC, 0x0C],
     // a body that ends before its start
     &[
         5, 6, 0, 0, 0, 0, 2, 0, 0, 0, 0, 0, 0, 0, 1, 0, 0, 0, 0, 0, 0, 0, 1, 0, 0, 0,
     ],
-    // one that ends past all bodies
+    // a body that ends after all bodies
     &[
         5, 6, 0, 0, 0, 0, 0, 0, 0, 0, 0, 0, 0, 0, 3, 0, 0, 0, 0, 0, 0, 0, 1, 0, 0, 0,
     ],
-    // the greatest numbers
+    // the largest numbers
     &[
         5, 6, 0, 0, 0, 0, 255, 255, 255, 255, 255, 255, 255, 255, 255, 255, 255, 255, 255, 255,
         255, 255, 1, 0, 0, 0,
@@ -194,7 +194,7 @@ static DAMAGED: [&'static [u8]; 9] = [
     &[
         0, 0, 0, 0, 0, 0, 0, 0, 0, 0, 0, 0, 0, 0, 0, 0, 0, 0, 0, 1, 0, 0, 0,
     ],
-    // a field that is repeated
+    // a field that occurs twice
     &[
         7, 0, 0, 0, 0, 0, 0, 0, 0, 0, 0, 0, 0, 0, 0, 0, 0, 0, 0, 0, 7, 0, 0, 0, 0, 0, 0, 0, 0, 0,
         0, 0, 0, 0, 0, 0, 0, 0, 0, 0, 2, 0, 0, 0,
@@ -211,7 +211,7 @@ fn damaged_composites_are_refused(rt: HostRuntime) {
     assert!(rt; is_told(many_bodies(rt.alloc(), 17, [17; 3]), "") == damaged);
 }
 
-// The two numbers and the place at the front of bytes, and a number behind them.
+// Reads two numbers and a place from the front of `bytes`, then one more number.
 fn read_numbers(bytes: &[u8]) -> (Option<u32>, Option<u64>, Option<Place>, Option<u32>) {
     let mut rest = bytes;
     let small = u32::deserialize(&mut rest);
@@ -245,8 +245,8 @@ fn numbers_are_written_and_read(rt: HostRuntime) {
     reads_numbers_back();
 }
 
-// Reads two bytes at a time, and answers how three calls fail, and what stands in the buffer after the
-// first one and after the last.
+// Reads two bytes at a time. Returns the error of each of three calls, and the buffer after the first and
+// the last call.
 fn call_reader<R: Read>(reader: &mut R) -> ([Option<io::ErrorKind>; 3], [[u8; 2]; 2]) {
     let mut buf = [0; 2];
     let mut failed = [None; 3];
@@ -262,8 +262,8 @@ fn call_reader<R: Read>(reader: &mut R) -> ([Option<io::ErrorKind>; 3], [[u8; 2]
     (failed, [before, buf])
 }
 
-// What a write, a flush and a write answer where this call fails, how many bytes were told, how many
-// calls failed, and how many bytes the writer has.
+// Writes, flushes and writes again. Returns the three results, the bytes reported, the number of failed
+// calls, and the number of bytes in the writer.
 fn call_writer(alloc: Global, failing_call: u64) -> ([Result<(), Fault>; 3], u64, u64, usize) {
     let mut writer = CountingWriter::wrap(FailingWriter::new(alloc, failing_call));
     let answers = [
@@ -304,7 +304,7 @@ static SPELLED: [u8; 19] = [
     0x7F, 0x7F, 0x81,
 ];
 
-// The six values at the front of bytes, and how many bytes stand behind them.
+// Reads six values from the front of `bytes`. Returns them and how many bytes remain.
 fn read_values(bytes: &[u8]) -> ([Option<VInt>; 6], usize) {
     let mut rest = bytes;
     let mut values = [None; 6];
@@ -346,7 +346,7 @@ static SMALL_SPELLED: [u8; 12] = [
     0x80, 0x81, 0x7A, 0x57, 0x4D, 0x1A, 0x81, 0x7F, 0x7F, 0x7F, 0x7F, 0x8F,
 ];
 
-// Whether vints of 32 bits are added as they are spelled.
+// Returns whether 32-bit vints are appended with the expected bytes.
 fn adds_vints(alloc: Global) -> Result<bool, Fault> {
     let mut bytes = Vec::new(alloc);
     for number in SMALL_NUMBERS {
@@ -367,7 +367,7 @@ fn vints_are_written_and_read(rt: HostRuntime) {
     assert!(rt; adds_vints(rt.alloc()) == Ok(true));
 }
 
-// The number of 32 bits at the front, and how many bytes stand behind it.
+// Reads a 32-bit number from the front of `bytes`. Returns it and how many bytes remain.
 fn first_u32(bytes: &[u8]) -> Option<(u32, usize)> {
     let Some(_) = vint::read_u32(bytes) else {
         return None;

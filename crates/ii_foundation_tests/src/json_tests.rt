@@ -6,7 +6,7 @@ use ii_base::{
 use std::alloc::Global;
 use std::test::Fail;
 
-// Whether a path has these segments.
+// Returns whether a path has these segments.
 fn is_split(alloc: Global, path: &str, want: &[&'static str]) -> Result<bool, Fault> {
     let segments = split_json_path(alloc, path)?;
     let mut same = segments.len() == want.len();
@@ -38,14 +38,14 @@ fn paths_are_split(rt: HostRuntime) {
     }
 }
 
-// What is done with a path.
+// One call to the path writer.
 #[derive(Clone, Copy)]
 enum Step {
     Push(&'static str),
     Pop,
     Clear,
     Dots(bool),
-    // the path as it stands is told
+    // list the current path
     Tell,
 }
 
@@ -71,7 +71,7 @@ static STEPS: [Step; 19] = [
     Step::Tell,
 ];
 
-// The paths that are told, and the last one.
+// Lists the paths at each `Tell` and the final one.
 fn written_paths(alloc: Global) -> Result<String, Fault> {
     let mut writer = JsonPathWriter::new(alloc);
     let mut paths = String::new(alloc);
@@ -125,14 +125,14 @@ fn paths_have_terms(rt: HostRuntime) {
     assert!(rt; found == [Ok(true); 4]);
 }
 
-// The term of a text at a path.
+// Builds the term of a text at a path.
 fn text_at(alloc: Global, text: &str) -> Result<Term, Fault> {
     let mut term = Term::from_field_json_path(alloc, Field::from_field_id(3), "color", false)?;
     term.append_type_and_str(text)?;
     Ok(term)
 }
 
-// The term of a value there.
+// Builds the term of a value at the same path.
 fn value_at<T: FastValue>(alloc: Global, value: T) -> Result<Term, Fault> {
     let mut term = Term::from_field_json_path(alloc, Field::from_field_id(3), "color", false)?;
     term.append_type_and_fast_value(value)?;
@@ -164,8 +164,8 @@ fn values_at_paths_have_terms(rt: HostRuntime) {
     assert!(rt; found == [Ok(true); 5]);
 }
 
-// What leaf a value is: the code of its type and its number, `s` and the length of a text, `!` where it isn't
-// taken, or nothing.
+// Returns the leaf of a value: its type code and number. For a text it is `s` and the length, for an
+// unsupported value `!`.
 fn leaf_of(value: &JsonValue) -> Option<(u8, u64)> {
     match value.leaf() {
         None => None,
@@ -209,7 +209,7 @@ fn values_tell_their_leaves(rt: HostRuntime) -> Result<(), Fail> {
     Ok(())
 }
 
-// Whether a value isn't taken as a leaf, and its kind is told so.
+// Returns whether a value is an unsupported leaf of this kind.
 fn is_kind(alloc: Global, value: &JsonValue, want: &str) -> Result<bool, Fault> {
     match value.leaf() {
         Some(JsonLeaf::Unsupported(kind)) => {

@@ -5,7 +5,7 @@ use ii_json::{LeafSink, visit_leaves};
 use std::alloc::Global;
 use std::test::Fail;
 
-// The paths of leaves, and what they are.
+// Collects the paths and values of leaves.
 #[derive(Drop)]
 struct Gathered {
     text: String,
@@ -31,7 +31,7 @@ impl LeafSink for Gathered {
     }
 }
 
-// Adds a leaf.
+// Appends a leaf.
 fn gather(text: &mut String, path: &str, leaf: JsonLeaf<'_>) -> Result<(), Fault>
     ensures only { IfErr result (λ e. e ≡ Fault.OutOfMemory) }
 {
@@ -51,7 +51,7 @@ fn gather(text: &mut String, path: &str, leaf: JsonLeaf<'_>) -> Result<(), Fault
     Ok(())
 }
 
-// The leaves of a value, the dots of whose keys are expanded.
+// Lists the leaves of a value; dots in its keys are expanded.
 fn leaves_of(alloc: Global, value: &JsonValue) -> Result<String, Fault> {
     let mut writer = JsonPathWriter::new(alloc);
     writer.set_expand_dots(true);
@@ -62,7 +62,7 @@ fn leaves_of(alloc: Global, value: &JsonValue) -> Result<String, Fault> {
     Ok(gathered.text)
 }
 
-// Adds a member whose value was made.
+// Appends a member if its value was built.
 fn push(
     alloc: Global,
     members: &mut Vec<(String, JsonValue)>,
@@ -74,14 +74,14 @@ fn push(
     Ok(())
 }
 
-// An object of one member.
+// Builds an object with one member.
 fn object(alloc: Global, key: &str, value: JsonValue) -> Result<JsonValue, Fault> {
     let mut members = Vec::new(alloc);
     push(alloc, &mut members, key, Ok(value))?;
     Ok(JsonValue::Object(members))
 }
 
-// A list of two objects.
+// Builds an array of two objects.
 fn bands(alloc: Global) -> Result<JsonValue, Fault> {
     let mut bands = Vec::new(alloc);
     for name in ["Elliot Smith", "The Who"] {
@@ -91,7 +91,7 @@ fn bands(alloc: Global) -> Result<JsonValue, Fault> {
     Ok(JsonValue::Array(bands))
 }
 
-// An object of these, of a key that stands twice, of one that holds byte 0, and of keys with a dot.
+// Builds an object with these, a repeated key, a key with byte 0, and keys with a dot.
 fn all(alloc: Global) -> Result<JsonValue, Fault> {
     let mut members = Vec::new(alloc);
     push(alloc, &mut members, "bands", bands(alloc))?;
@@ -108,7 +108,7 @@ fn all(alloc: Global) -> Result<JsonValue, Fault> {
     Ok(JsonValue::Object(members))
 }
 
-// Elements of a list have its path, and what stands under a key that holds byte 0 is left out.
+// Elements of an array have its path. Values under a key that holds byte 0 are skipped.
 static LEAVES: &str = concat!(
     "bands\u{1}band_name=Elliot Smith;",
     "bands\u{1}band_name=The Who;",

@@ -1,4 +1,4 @@
-//! Tests of `ii_store`, `ii_io`, `ii_base` and `ii_json`, by their public calls.
+//! Tests `ii_store`, `ii_io`, `ii_base` and `ii_json` through their public calls.
 #![tactic(auto)]
 
 #[cfg(test)]

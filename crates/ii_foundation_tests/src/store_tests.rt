@@ -7,7 +7,7 @@ use std::alloc::Global;
 use std::fs;
 use std::test::Fail;
 
-// An index whose files tell its number.
+// Builds an index whose files hold its number.
 fn index_of(alloc: Global, number: u8) -> Result<StoredIndex, DirectoryFault> {
     Ok(StoredIndex {
         num_docs: u32::from(number),
@@ -19,7 +19,7 @@ fn index_of(alloc: Global, number: u8) -> Result<StoredIndex, DirectoryFault> {
     })
 }
 
-// The number of the index that is there, 100 where it isn't whole, 255 where there is none.
+// Returns the number of the stored index: 100 if it is incomplete, 255 if there is none.
 fn found<D: Directory>(alloc: Global, directory: &D) -> u8 {
     let Ok(index) = load(alloc, directory) else {
         return 255;
@@ -30,7 +30,7 @@ fn found<D: Directory>(alloc: Global, directory: &D) -> u8 {
     index.terms[0]
 }
 
-// What is found where the second of two saves stops after so many calls.
+// Returns what is found when the second of two saves stops after `calls` calls.
 fn found_after_stop(alloc: Global, calls: u64) -> Result<u8, DirectoryFault> {
     let mut directory = MemoryDirectory::new(alloc);
     save(alloc, &mut directory, &index_of(alloc, 1)?)?;
@@ -50,7 +50,7 @@ fn a_stop_leaves_the_old_index_or_the_new_one(rt: HostRuntime) {
     }
 }
 
-// Whether this is told of an index, one of whose files has these bytes, or is taken away.
+// Returns whether loading reports `want` after this file got these bytes, or was removed.
 fn is_told(
     alloc: Global,
     name: Name,
@@ -76,7 +76,7 @@ fn told_of<D: Directory>(alloc: Global, directory: &D) -> Result<String, Directo
 
 const POSTINGS: Name = Name::File(Slot::First, Kind::Postings);
 
-// Files with other bytes, or none, and what is told then.
+// Files with other bytes, or removed, and what loading then reports.
 static TOLD: [(Name, Option<&'static [u8]>, &'static str); 6] = [
     (
         Name::Meta,
@@ -116,7 +116,7 @@ fn each_fault_has_its_name(rt: HostRuntime) {
     }
 }
 
-// Adds what is left of an index: how many bytes each file has, and its fault.
+// Appends what can be salvaged of an index: the length of each file and its fault.
 fn push_left<D: Directory>(
     alloc: Global,
     told: &mut String,
@@ -138,8 +138,8 @@ fn push_left<D: Directory>(
     Ok(told.push('\n')?)
 }
 
-// The same of no index, of one, of one whose files of postings, positions and norms were changed, cut and
-// taken away, and of one whose guard was cut.
+// Lists this for no index, a complete one, one with a changed, a cut and a removed file, and one whose
+// `meta` is corrupt.
 fn all_left(alloc: Global) -> Result<String, DirectoryFault> {
     let mut told = String::new(alloc);
     let mut directory = MemoryDirectory::new(alloc);
@@ -171,7 +171,7 @@ fn files_are_left_with_their_faults(rt: HostRuntime) -> Result<(), Fail> {
     Ok(())
 }
 
-// What is found in a folder after each of two saves, the second one's old files removed.
+// Returns what is found in a folder before and after two saves; unused files are removed at the end.
 fn found_in_folder<R: std::rt::Files + AllocGlobal>(
     rt: &R,
     path: &str,

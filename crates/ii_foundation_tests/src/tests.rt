@@ -46,8 +46,7 @@ fn four_fields(alloc: Global) -> Result<Schema, AllocError> {
     Ok(Schema::new(entries))
 }
 
-// The type of a field, what is recorded of it, and whether it is indexed, has norms, and has paths with
-// dots.
+// Returns the type of a field, what is recorded, and whether it is indexed, has norms and expands dots.
 fn told_of(entry: &FieldEntry) -> (ValueType, IndexRecordOption, [bool; 3]) {
     let (indexed, norms) = (entry.is_indexed(), entry.has_fieldnorms());
     let more = [indexed, norms, entry.expands_dots()];
@@ -108,7 +107,7 @@ fn options_are_ordered(rt: HostRuntime) {
     let basic = IndexRecordOption::Basic;
     let counts = IndexRecordOption::WithFreqs;
     let all = IndexRecordOption::WithFreqsAndPositions;
-    // what of an option is recorded, and what it is when it is lowered to each of the three
+    // what an option records, and the option lowered to each of the three
     let rows = [
         (basic, [false, false], [basic, basic, basic]),
         (counts, [true, false], [basic, counts, counts]),
@@ -125,7 +124,7 @@ fn options_are_ordered(rt: HostRuntime) {
     }
 }
 
-// Adds a token.
+// Appends a token.
 fn push_token(spelled: &mut String, token: TokenView<'_>) -> Result<(), Fault> {
     spelled.push_str(token.text)?;
     write!(spelled, "@{}", token.position)?;
@@ -134,7 +133,7 @@ fn push_token(spelled: &mut String, token: TokenView<'_>) -> Result<(), Fault> {
     Ok(())
 }
 
-// The tokens that are still to come.
+// Lists the remaining tokens.
 fn spell_stream<S: TokenStream>(alloc: Global, tokens: &mut S) -> Result<String, Fault> {
     let mut spelled = String::new(alloc);
     while tokens.advance() {
@@ -143,7 +142,7 @@ fn spell_stream<S: TokenStream>(alloc: Global, tokens: &mut S) -> Result<String,
     Ok(spelled)
 }
 
-// Whether the tokens of a text are these, cut into a list, and lent one by one.
+// Returns whether both the token list and the token stream of a text give these tokens.
 fn are_spelled<T: TextAnalyzer>(
     alloc: Global,
     analyzer: &T,
@@ -179,8 +178,8 @@ fn texts_are_cut(rt: HostRuntime) -> Result<(), Fail> {
     Ok(())
 }
 
-// Whether the next token is `x` at byte 0 and the one after it at byte 2, the position of that, and
-// whether two more come.
+// Returns whether the next token is `x` at byte 0 and the one after it is at byte 2, the position of that
+// one, and whether two more follow.
 fn gone_over<S: TokenStream>(tokens: &mut S) -> ([bool; 2], usize, [bool; 2]) {
     let is_x = match tokens.next() {
         Some(token) => token.text == "x" && token.offset_from == 0,
@@ -202,7 +201,7 @@ fn tokens_are_gone_over(rt: HostRuntime) -> Result<(), Fail> {
     Ok(())
 }
 
-// Whether a term that was made is one of field 3 and has these bytes.
+// Returns whether a term belongs to field 3 and has these bytes.
 pub(crate) fn has_bytes(made: Result<Term, Fault>, row: &[u8]) -> Result<bool, Fault> {
     let term = made?;
     Ok((term.field() == Field::from_field_id(3)) & (term.serialized_value_bytes() == row))

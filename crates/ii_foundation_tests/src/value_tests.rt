@@ -6,7 +6,7 @@ use ii_json::{
 use std::alloc::Global;
 use std::test::Fail;
 
-// Makes paths known, and adds each with its unordered id.
+// Registers paths and appends each with its unordered id.
 fn push_ids(
     known: &mut PathToUnorderedId,
     paths: &[&'static str],
@@ -19,7 +19,7 @@ fn push_ids(
     Ok(())
 }
 
-// Adds the ordered ids of the known paths.
+// Appends the ordered ids of the known paths.
 fn push_ordered(
     alloc: Global,
     known: &PathToUnorderedId,
@@ -32,7 +32,7 @@ fn push_ordered(
     Ok(())
 }
 
-// Adds the known paths in their order.
+// Appends the known paths in order.
 fn push_paths(alloc: Global, known: &PathToUnorderedId, spelled: &mut String) -> Result<(), Fault> {
     let paths = known.ordered_id_to_path(alloc)?;
     for path in paths.as_slice() {
@@ -71,13 +71,13 @@ fn paths_have_ids(rt: HostRuntime) -> Result<(), Fail> {
     Ok(())
 }
 
-// The number 2 as the value of a term, and its term at the path a.
+// The number 2 as the value of a term.
 static TWO: [u8; 8] = [0x80, 0, 0, 0, 0, 0, 0, 2];
 
 static TERM_OF_TWO: [u8; 11] = [0x61, 0, 0x69, 0x80, 0, 0, 0, 0, 0, 0, 2];
 
-// Whether the bytes of a value that is added are lent, whether a term is as it should be whose path holds a
-// byte 00, built over two others, and whether one is that is added whole.
+// Returns whether an appended value is returned as bytes, whether the term is right after two others were
+// cut off (its path has a byte 00), and whether a term appended in one call is right.
 fn built_terms(alloc: Global) -> Result<[bool; 3], Fault> {
     let mut term = JsonTermSerializer::new(alloc);
     term.append_json_path("gone")?;
@@ -118,7 +118,7 @@ fn paths_are_shown_with_dots(rt: HostRuntime) -> Result<(), Fail> {
 
 static COLOR: [u8; 6] = *b"color\x00";
 
-// The bytes of a text's value at the path `color`, if it has one.
+// Returns the bytes of a text's value at the path `color`, if it has one.
 fn converted(alloc: Global, text: &str) -> Result<Option<Vec<u8>>, Fault> {
     let term = Term::from_field_bytes(alloc, Field::from_field_id(2), &COLOR)?;
     match convert_to_fast_value_and_append_to_json_term(alloc, &term, text)? {
@@ -127,7 +127,7 @@ fn converted(alloc: Global, text: &str) -> Result<Option<Vec<u8>>, Fault> {
     }
 }
 
-// Whether a text has a value of these bytes at the path, or none where none are given.
+// Returns whether a text converts to exactly these bytes, or to no value if `want` is `None`.
 fn converts_to(alloc: Global, text: &str, want: Option<&'static [u8]>) -> Result<bool, Fault> {
     match converted(alloc, text)? {
         Some(value) => Ok(want == Some(value.as_slice())),

@@ -107,7 +107,7 @@ ends_later last doc s up h = record {
   paths_reach = λ field o is. omega (arith, h.paths_reach field o is, up);
 }
 
--- what is refused for want of memory alone
+-- what fails only with `OutOfMemory`
 pub refused_for_memory : {T : Type 0} (cause : Option Fault) (result : Result T Fault) → cause ≡ None → IfErr result (λ e. e ≡ OutOfMemory) → IsRefusedBy cause result
 refused_for_memory cause (Ok x) none only = none
 refused_for_memory cause (Err e) none only = inl only

@@ -85,7 +85,7 @@ plain_flag entries field t h plain = json_flag entries field h.entry false h.fou
 takes_flag : (entries : List SchemaEntry) (field : ℕ) (h : Takes entries field Json) → is_json_field (json_fields entries) field ≡ true
 takes_flag entries field h = json_flag entries field h.entry true h.found (ap is_json h.typed)
 
--- a path that is known, and what stands behind it
+-- a known path, and the bytes after it
 has_known_path : (paths : List (List ℕ)) (path rest : List ℕ) → has_zero path ≡ false → is_known paths path ≡ true → HasPath paths (json_key path rest)
 has_known_path paths path rest clean known =
     let at : path_in (json_key path rest) ≡ path = path_of_key path rest clean in
@@ -132,7 +132,7 @@ under_path : (entries : List SchemaEntry) (field : ℕ) (h : Takes entries field
 under_path entries field h path t key clean is =
     takes_kept_at entries field Json h (json_key path (code_of t ∷ key)) ∙ ap (λ (o : Option ValueType). kept_as (unwrap_or o Json) h.entry.option) (type_in_key path (code_of t) key clean ∙ is)
 
--- and behind the id of a path
+-- the bytes after the id of a path
 held_under : (entries : List SchemaEntry) (field : ℕ) (h : Takes entries field Json) (id : ℕ) (t : ValueType) (key : List ℕ) → type_of_code (code_of t) ≡ Some t
     → held_kept_at entries field (held_value id (code_of t ∷ key)) ≡ kept_as t h.entry.option
 held_under entries field h id t key is =

@@ -119,7 +119,7 @@ known_kept known path q is = by (is_known known path)
     by true = is
     by false = list_any-append (bytes_eq q) known (path ∷ []) ∙ rw is refl
 
--- an unknown path's id lies behind those of known ones
+-- an unknown path's id is above those of known paths
 pub unknown_id : (known : List (List ℕ)) (q : List ℕ) → is_known known q ≡ false → path_id known q ≡ length known
 unknown_id [] q none = refl
 unknown_id (x ∷ xs) q none = by (bytes_eq q x) refl (unknown_id xs q)

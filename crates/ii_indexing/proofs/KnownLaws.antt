@@ -79,7 +79,7 @@ text_alike path doc field prefix ws = record { group = λ r. refl; words = refl;
 pub value_alike : (path : List ℕ) (doc field : ℕ) (key : List ℕ) → AreAlike (value_at doc field key) (at_path path (value_at doc field key))
 value_alike path doc field key = record { group = λ r. refl; words = refl; tokens = λ earlier. refl }
 
--- a leaf was stored behind pieces, once its path was known
+-- a leaf was stored after pieces, once its path was known
 pub leaf_stored : (entries : List SchemaEntry) (old new : IndexedFieldsState) (ps : List Piece) (path : List ℕ) (p : Piece) → AreAlike p (at_path path p) → new.indexed.paths ≡ with_path old.indexed.paths path
     → StoresAll entries old ps → StoresPieces entries new (ps ++ p ∷ []) → StoresAll entries new (ps ++ at_path path p ∷ [])
 leaf_stored entries old new ps path p alike paths stored pieces = record {
@@ -127,7 +127,7 @@ path_refused option ps known path p fault is h = by (path_fault (known_paths ps)
     by None (inr is) = absurd (cc)
     by (Some f) why = why
 
--- or what stands at it is refused
+-- a leaf's text or value is refused
 pub leaf_refused : {T : Type 0} (option : IndexRecordOption) (ps : List Piece) (known : List (List ℕ)) (path : List ℕ) (p : Piece) (result : Result T Fault) → known ≡ known_paths ps → path_fault known path ≡ None
     → piece_fault_from p.is_text option ps (tokens_after [] ps) (at_path path p) ≡ piece_fault_from p.is_text option ps (tokens_after [] ps) p
     → IsRefusedBy (piece_fault_from p.is_text option ps (tokens_after [] ps) p) result → IsRefusedBy (piece_fault option ps (at_path path p)) result

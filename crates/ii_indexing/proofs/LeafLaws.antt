@@ -38,7 +38,7 @@ module _ (words : List ℕ → List Word) (doc field : ℕ) where
   abbrev pub LeavesHeld : IndexedFieldsState → LeafGiven → List (List ℕ × Leaf) → Type 0
   LeavesHeld s given before = Takes given.entries field Json × StoresAll given.entries s (given.pieces ++ given_of before)
 
-  -- A leaf is stored behind them, or refused there.
+  -- A leaf is stored after the pieces, or refused.
   abbrev pub LeafTaken : IndexedFieldsState → IndexedFieldsState → List ℕ × Leaf → Type 0
   LeafTaken old new l = (given : LeafGiven) (before : List (List ℕ × Leaf)) → LeavesHeld old given before → LeavesHeld new given (before ++ l ∷ [])
 
@@ -59,6 +59,6 @@ module _ (words : List ℕ → List Word) (doc field : ℕ) where
       let ps = given.pieces ++ given_of before in
       subst (λ (f : Option Fault). IsRefusedBy f result) (one_fault (option_of given.entries field) ps (at_path path (value_at doc field (json_key path (typed_key t n))))) (h given.entries ps held.0 held.1)
 
--- a value's first leaf stands behind the pieces themselves
+-- a value's first leaf follows the pieces themselves
 pub first_held : (entries : List SchemaEntry) (s : IndexedFieldsState) (ps : List Piece) → StoresAll entries s ps → StoresAll entries s (ps ++ [])
 first_held entries s ps stored = subst (StoresAll entries s) (sym (append-nil ps)) stored

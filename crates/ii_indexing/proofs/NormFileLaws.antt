@@ -12,7 +12,7 @@ use Rattle.ii_io.specs.CompositeWrite.{HasBodies}
 use Rattle.ii_io.proofs.CompositeLaws.{length-places_from}
 use Rattle.ii_io.proofs.CompositeWriteLemmas.{length-table_bytes}
 use Rattle.ii_io.specs.CountingWriter.{CountingWriterState, IsFull, WritesInMemory}
-use Rattle.ii_io.specs.CountingWriterLemmas.{wrote_nothing}
+use Rattle.ii_io.proofs.WriteSteps.{wrote_nothing}
 use Rattle.ii_io.specs.Faults.{memory_fault}
 use Rattle.ii_io.specs.declared.faults.Fault.{Fault}
 use Rattle.ii_io.specs.declared.faults.Fault.TheVariants.{OutOfMemory, Write, SerializerClosed, IndexerFailed, UnsupportedLeaf, DecreasingPosition, Limit, Damaged}
@@ -216,11 +216,11 @@ few_bodies first [] = omega arith
 few_bodies first (None ∷ bs) = omega (arith, few_bodies (first + 1) bs)
 few_bodies first (Some ids ∷ bs) = omega (arith, few_bodies (first + 1) bs)
 
--- a file that is begun
+-- a file that was started
 pub begun_bodies : (w : CountingWriterState) → HasBodies w (begun_file w) []
 begun_bodies w = record { writer = wrote_nothing w; base = refl; starts = refl }
 
--- what stands in memory is read back
+-- what is in memory is read back
 pub norms_written : (old new : CountingWriterState) (bs : Buffers) (bytes : List ℕ) → old.contents ≡ Some [] → new.contents ≡ Some bytes → WroteNorms old new [] bs → bytes ≡ written_composite (norm_bodies bs)
 norms_written old new bs bytes empty now h =
     subst (λ (o : Option (List ℕ)). Appends o (Some bytes) (written_composite (norm_bodies bs))) empty (subst (λ (o : Option (List ℕ)). Appends old.contents o (written_composite (norm_bodies bs))) now h.composite.wrote.appends)

@@ -26,11 +26,11 @@ use Rattle.ii_indexing.proofs.StoreLaws.{set_other, set_same}
 abbrev pub with_text : IndexingPosition → List Word → IndexingPosition
 with_text at ws = record { num_tokens = at.num_tokens + length (kept_words ws); end_position = end_after at.end_position ws }
 
--- a piece of another group changes nothing, and one of the group is a text more
+-- a piece of another group changes nothing, and a piece of the group is one more text
 abbrev texts_if : Bool → IndexingPosition → List Word → IndexingPosition
 texts_if b at ws = record { num_tokens = cond b (at.num_tokens + length (kept_words ws)) at.num_tokens; end_position = cond b (end_after at.end_position ws) at.end_position }
 
--- no text at a path stands under the empty prefix, nor under that of another path
+-- no text at a path has the empty prefix, nor that of another path
 pub some_prefix : (path : List ℕ) → bytes_eq (text_prefix path) [] ≡ false
 some_prefix [] = refl
 some_prefix (b ∷ bs) = refl
@@ -54,7 +54,7 @@ other_id known path other is same = by (is_known known other) refl
     by true there = sym (path_of_id known other there).1 ∙ ap (λ (i : ℕ). slice_index_or known i []) same ∙ (path_of_id known path is).1
     by false none = absurd (omega (arith, unknown_id known other none, same, (path_of_id known path is).0))
 
--- an unknown path's id lies behind those of known ones, and so it does with one path more
+-- an unknown path's id is above those of known ones, also with one more path
 free_id : (known : List (List ℕ)) (path q : List ℕ) → is_known known q ≡ false → length known ≤ path_id (with_path known path) q
 free_id known path q none = by (is_known known path)
   where
@@ -124,7 +124,7 @@ paths_known known path ps paths h field o is =
         none_by doc (path_id known q) (o.doc == doc) (tells.free (path_id known q) (omega (arith, unknown_id known q none)))
         ∙ sym (none_by doc (path_id (with_path known path) q) (o.doc == doc) (tells.free (path_id (with_path known path) q) (free_id known path q none)))
 
--- A text stands behind those at its path: its document is open, and what is known with it was put.
+-- A text follows those at its path: its document is open, and the new state was put.
 pub record PutsText (known : List (List ℕ)) (paths : List OpenPathsState) (doc field id : ℕ) (path : List ℕ) (ws : List Word) (old new : OpenPathsState) : Type 0 where
   pub found : slice_get paths field ≡ Some old
   pub old_doc : old.doc ≡ doc
@@ -245,7 +245,7 @@ module _ (known : List (List ℕ)) (ps : List Piece) (paths : List OpenPathsStat
           }))
       by false other = told f o (sym (set_other paths field f (opened_path doc old) other) ∙ is)
 
-  -- and what is told of its texts at a path is right
+  -- the state of its texts at a path is right
   pub position_told : (path : List ℕ) (id : ℕ) → IsKnownBy known path id → TellAllPaths known ps paths → texts_at doc field path ps ≡ position_by id (opened_path doc old).positions
   position_told path id h told = (told field old found).told doc path reach h.clean ∙ ap (λ (i : ℕ). position_by i (path_positions_at doc old)) h.id_is
 

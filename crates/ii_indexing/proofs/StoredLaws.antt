@@ -54,7 +54,7 @@ has_some option ts r has none = by r.pending refl has.opened
         let entries : r.closed ++ e ∷ [] ≡ [] = ap (λ (o : Option DocEntry). r.closed ++ option_to_list o) (sym is) ∙ has.entries ∙ ap (λ (us : List IndexToken). map (cut_entry option) (grouped us)) none in
         omega (arith, length-append r.closed (e ∷ []), ap length entries)
 
--- What is known of a token as terms hold it: its field is one of the schema, which keeps of what is held of its key what the definitions keep of such a token's, and that holds the id of a known path.
+-- A token as terms hold it: of a schema's field, kept as the definitions say, with the id of a known path.
 pub record IsHeldToken (entries : List SchemaEntry) (paths : List (List ℕ)) (t : IndexToken) : Type 0 where
   pub known : t.field < length entries
   pub kind : kind_of (option_of entries t.field) (t ∷ []) ≡ held_kept_at entries t.field t.key
@@ -99,7 +99,7 @@ all_docs_below n doc r end low = by r.pending refl end.last
         let all : docs_of (entries_of_recorder r) ≡ docs_of r.closed ++ e.doc ∷ [] = ap (λ (o : Option DocEntry). docs_of (r.closed ++ option_to_list o)) is ∙ map-append (λ (f : DocEntry). f.doc) r.closed (e ∷ []) in
         subst (AllByRecursion (λ (d : ℕ). d < n)) (sym all) (none_above 0 (docs_of r.closed) e.doc n (sym (ap (ascend_from 0) all) ∙ end.ascending) (omega (arith, last, low)))
 
--- norms of so many documents answer for those below
+-- norms of `n` documents cover the documents below `n`
 covers_below : (n : ℕ) (readers : List Body) (field : ℕ) → HaveNormsOf n readers → (docs : List ℕ) → AllByRecursion (λ (d : ℕ). d < n) docs → AllByRecursion (Covers (norms_in readers field)) docs
 covers_below n readers field norms [] all = tt
 covers_below n readers field norms (d ∷ ds) all = (by (body_of field readers) (norms field), covers_below n readers field norms ds all.1)

@@ -9,8 +9,8 @@ use Rattle.ii_io.specs.declared.faults.LimitName.TheVariants as limit
 use Rattle.ii_io.specs.Composite.{Body, bodies_bytes, fit_fields, places_from, table_bytes, written_composite}
 use Rattle.ii_io.specs.declared.composite_file.place.Place.{Place}
 use Rattle.ii_io.specs.CompositeWrite.{CompositeWriteState, HasBodies, WroteComposite, places_of}
-use Rattle.ii_io.specs.CompositeWriteLemmas.{places_of-bodies}
-use Rattle.ii_io.specs.CountingWriterLemmas.{full_before, full_more}
+use Rattle.ii_io.proofs.CompositeSteps.{places_of-bodies}
+use Rattle.ii_io.proofs.WriteSteps.{full_before, full_more}
 use Rattle.ii_io.specs.CountingWriter.{CountingWriterState, IsFull, Writes}
 use Rattle.ii_base.specs.Schema.{SchemaEntry}
 use Rattle.ii_definitions.specs.Tokens.{IndexToken}
@@ -128,7 +128,7 @@ pub record ClosesBy (s : IndexSerializerState) (result : Result (Unit {0}) Fault
   pub closed : IsErrOf result SerializerClosed ↔ IsTrue s.closed
   pub only : IfErr result (λ e. (e ≡ Write) ⊎ (e ≡ Limit limit.Offset) ⊎ (e ≡ SerializerClosed))
 
--- a table that has no room behind bodies: the file has none
+-- a table without room after bodies: the file has no room
 table_full : (initial : CountingWriterState) (c : CompositeWriteState) (bodies : List Body) → HasBodies initial c bodies → IsFull c.writer (length (table_bytes (places_of c))) → IsFull initial (length (written_composite bodies))
 table_full initial c bodies has full =
     full_before initial c.writer (bodies_bytes bodies) (length (table_bytes (places_of c))) (length (written_composite bodies)) has.writer
@@ -138,7 +138,7 @@ table_full initial c bodies has full =
 bodies_full : (initial : CountingWriterState) (bodies : List Body) → IsFull initial (length (bodies_bytes bodies)) → IsFull initial (length (written_composite bodies))
 bodies_full initial bodies full = full_more initial (length (bodies_bytes bodies)) (length (written_composite bodies)) (omega (arith, length-append (bodies_bytes bodies) (table_bytes (places_from 0 bodies)))) full
 
--- the limits of tokens that are written behind what three files have
+-- the limits of tokens that are written after the bytes of three files
 abbrev pub PassesBehind : List SchemaEntry → IndexBodiesState → List IndexToken → Fault → Type 0
 PassesBehind entries b ts e = (e ≡ OutOfMemory) ⊎ (e ≡ Write) ⊎ PassLimits entries b.terms.writer b.postings.writer b.positions.writer ts e
 

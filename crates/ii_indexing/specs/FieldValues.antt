@@ -5,7 +5,7 @@ use Rattle.ii_base.specs.Values.{u64_bytes}
 use Rattle.ii_indexing.specs.declared.indexed_calls.FieldValue.{FieldValue}
 use Rattle.ii_indexing.specs.declared.indexed_calls.FieldValue.TheVariants.{Number, Bytes, Ip}
 
--- its bytes
+-- the bytes of the value
 abbrev pub key_of_value : FieldValue → List ℕ
 key_of_value (Number n) = u64_bytes n
 key_of_value (Bytes bytes) = bytes.items

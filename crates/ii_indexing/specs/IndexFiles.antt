@@ -17,7 +17,7 @@ use Rattle.ii_postings_writer.specs.TermLimits.{HasLargeSum, IsLong}
 use Rattle.ii_postings_writer.specs.TokenFiles.{FirstEnds, FirstTerm, file_bodies}
 use Rattle.ii_indexing.specs.declared.index_writers.IndexWriters.{IndexWriters}
 
--- The files of terms, postings and positions were written, and hold tokens.
+-- The files of terms, postings and positions were written, and hold these tokens.
 pub record WroteTermFiles {W : Type 0} (entries : List SchemaEntry) (old new : IndexWriters W) (ts : List IndexToken) : Type 0 where
   pub terms : List ℕ
   pub postings : List ℕ
@@ -27,7 +27,7 @@ pub record WroteTermFiles {W : Type 0} (entries : List SchemaEntry) (old new : I
   pub wrote_positions : Wrote old.positions new.positions positions
   pub hold : HoldTokens (option_of entries) terms postings positions ts
 
--- And so it is for the writers that were lent to a serializer, where nothing was written yet.
+-- The writers of a serializer without output wrote the three files, which hold these tokens.
 pub record ClosedFiles (begun : IndexSerializerState) (new_terms new_postings new_positions : CountingWriterState) (ts : List IndexToken) : Type 0 where
   pub terms : List ℕ
   pub postings : List ℕ
@@ -37,29 +37,29 @@ pub record ClosedFiles (begun : IndexSerializerState) (new_terms new_postings ne
   pub wrote_positions : Wrote begun.bodies.positions.writer new_positions positions
   pub hold : HoldTokens (option_of begun.entries) terms postings positions ts
 
--- The file of norms was written, so many for each field that has some.
+-- The file of norms was written, with `num_docs` norms for each field that has norms.
 pub record WroteNormFile {W : Type 0} (entries : List SchemaEntry) (num_docs : ℕ) (old new : IndexWriters W) (ts : List IndexToken) : Type 0 where
   pub fieldnorms : List ℕ
   pub wrote : Wrote old.fieldnorms new.fieldnorms fieldnorms
   pub hold : HoldNorms entries num_docs fieldnorms ts
 
--- An index of tokens was written.
+-- An index of these tokens was written.
 pub record WroteIndex {W : Type 0} (entries : List SchemaEntry) (num_docs : ℕ) (old new : IndexWriters W) (ts : List IndexToken) : Type 0 where
   pub terms : WroteTermFiles entries old new ts
   pub norms : WroteNormFile entries num_docs old new ts
 
--- Each of the four writers has what it had, and maybe more behind it.
+-- Each of the four files keeps its bytes, and may have more after them.
 pub record FilesGrow {W : Type 0} (old new : IndexWriters W) : Type 0 where
   pub terms : Grows old.terms new.terms
   pub postings : Grows old.postings new.postings
   pub positions : Grows old.positions new.positions
   pub fieldnorms : Grows old.fieldnorms new.fieldnorms
 
--- how many calls of the four writers failed
+-- the number of failed calls of the four writers
 abbrev pub index_failed_calls : {W : Type 0} → IndexWriters W → ℕ
 index_failed_calls w = w.terms.failed_calls + w.postings.failed_calls + w.positions.failed_calls + w.fieldnorms.failed_calls
 
--- How a call ends for the four writers: a refusal by one of them is counted once, nothing else is, and no writer's count falls.
+-- A writer's failure is counted once among the four writers, nothing else is, and no writer's count falls.
 pub record CountsIndexFailures {W : Type 0} (old new : IndexWriters W) (result : Result (Unit {0}) Fault) : Type 0 where
   pub once : CountsOnce (index_failed_calls old) (index_failed_calls new) result
   pub terms : old.terms.failed_calls ≤ new.terms.failed_calls
@@ -67,25 +67,25 @@ pub record CountsIndexFailures {W : Type 0} (old new : IndexWriters W) (result :
   pub positions : old.positions.failed_calls ≤ new.positions.failed_calls
   pub fieldnorms : old.fieldnorms.failed_calls ≤ new.fieldnorms.failed_calls
 
--- a file that is begun where a writer stands
+-- a file that starts at the end of a writer's output
 abbrev pub begun_file : CountingWriterState → CompositeWriteState
 begun_file w = record { writer = w; base = w.written_bytes; starts = []; closed = false }
 
--- One of three files has no room for what is written of tokens.
+-- A file has no room for what is written for these tokens.
 abbrev pub HaveNoRoom : List SchemaEntry → CountingWriterState → CountingWriterState → CountingWriterState → List IndexToken → Type 0
 HaveNoRoom entries terms postings positions ts =
     IsFull terms (length (written_composite (file_bodies (λ b. b.terms) entries ts)))
     ⊎ IsFull postings (length (written_composite (file_bodies (λ b. b.postings) entries ts)))
     ⊎ IsFull positions (length (written_composite (file_bodies (λ b. b.positions) entries ts)))
 
--- Why the three files of tokens can't be written behind what the writers hold, by a limit: that of the first term which passes one, an end that lies too far, or no room.
+-- Which limit the files of tokens exceed: that of the first term to exceed one, or no room for offsets.
 abbrev pub PassLimits : List SchemaEntry → CountingWriterState → CountingWriterState → CountingWriterState → List IndexToken → Fault → Type 0
 PassLimits entries terms postings positions ts fault =
     ((fault ≡ Limit limit.BlockFrequencySum) × FirstTerm (λ mode. HasLargeSum) entries ts)
     ⊎ ((fault ≡ Limit limit.TermBytes) × FirstTerm IsLong entries ts)
     ⊎ ((fault ≡ Limit limit.Offset) × (HaveNoRoom entries terms postings positions ts ⊎ FirstEnds entries ts))
 
--- Why an index of tokens can't be written: want of memory, a writer, a limit of its terms, or a file of norms that is too long.
+-- Why an index can't be written: `OutOfMemory`, `Write`, a limit of its terms, or too long a file of norms.
 abbrev pub IsIndexFault : {W : Type 0} → List SchemaEntry → ℕ → IndexWriters W → List IndexToken → Fault → Type 0
 IsIndexFault entries num_docs writers ts fault =
     (fault ≡ OutOfMemory) ⊎ (fault ≡ Write) ⊎ PassLimits entries writers.terms writers.postings writers.positions ts fault

@@ -1,4 +1,4 @@
--- What is kept of the terms of all fields while documents are indexed.
+-- What is kept of the terms of all fields during indexing.
 use Rattle.std.specs.Prelude.{◌≡◌, ℕ, ◌<◌, ◌≤◌, ◌^◌, true, if◌then◌else◌, List, [], ◌∷◌, ◌++◌, map, nat_le, length, Option, None, Some, slice_get, unwrap_or}
 use Rattle.std.specs.List.{AllByRecursion}
 use Rattle.std.specs.Option.{option_map}
@@ -27,39 +27,39 @@ pub record IndexedTermsState : Type 0 where
   pub paths : List (List ℕ)
   pub writers : List PostingsWriterState
 
--- what the writer of a field keeps of the terms of texts, and of values
+-- what is kept of a text's terms in a field
 abbrev pub kept_in : List SchemaEntry → ℕ → IndexRecordOption
 kept_in entries field = unwrap_or (option_map text_kept_of (slice_get entries field)) Basic
 
--- what is kept of values in a field
+-- what is kept of a value's terms in a field
 abbrev pub values_kept_in : List SchemaEntry → ℕ → IndexRecordOption
 values_kept_in entries field = unwrap_or (option_map value_kept_of (slice_get entries field)) Basic
 
--- the writer of a field that had so many tokens
+-- the writer of a field after `num_tokens` tokens
 abbrev pub writer_in : List SchemaEntry → ℕ → ℕ → PostingsWriterState
 writer_in entries field num_tokens = record { option = kept_in entries field; value_option = values_kept_in entries field; total_num_tokens = num_tokens }
 
--- what is kept of a key of a field: of a value that isn't text that it occurs, whatever the field records
+-- what is kept of a key of a field: the field's option for text, else only the documents
 abbrev pub kept_under : List ℕ → SchemaEntry → IndexRecordOption
 kept_under key e = kept_as (type_under e.value_type key) e.option
 
--- what is kept of what stands under a key in a field
+-- what is kept of a key in a field of a schema
 abbrev pub kept_at : List SchemaEntry → ℕ → List ℕ → IndexRecordOption
 kept_at entries field key = unwrap_or (option_map (kept_under key) (slice_get entries field)) Basic
 
--- the type of what stands under a key as a term holds it: in a JSON field the letter behind the path's id tells it
+-- the type of a key as terms hold it: in a JSON field, that of the letter after the path's id
 abbrev pub held_type : ValueType → List ℕ → ValueType
 held_type t key = if is_json t then unwrap_or (slice_get key 4 >>= type_of_code) t else t
 
--- what is kept of it
+-- what is kept of a key as terms hold it
 abbrev pub held_kept_under : List ℕ → SchemaEntry → IndexRecordOption
 held_kept_under key e = kept_as (held_type e.value_type key) e.option
 
--- what is kept of what stands under a key as a term holds it in a field
+-- what is kept of a key as terms hold it, in a field of a schema
 abbrev pub held_kept_at : List SchemaEntry → ℕ → List ℕ → IndexRecordOption
 held_kept_at entries field key = unwrap_or (option_map (held_kept_under key) (slice_get entries field)) Basic
 
--- A field of a schema takes texts whose words stand under keys with a prefix, and under another one in its terms.
+-- A field takes texts whose keys have this prefix, which terms hold as `held`.
 pub record TakesTexts (entries : List SchemaEntry) (paths : List (List ℕ)) (field : ℕ) (held prefix : List ℕ) : Type 0 where
   pub known : field < length entries
   pub option : kept_in entries field ≡ option_of entries field
@@ -68,7 +68,7 @@ pub record TakesTexts (entries : List SchemaEntry) (paths : List (List ℕ)) (fi
   pub holds : (key : List ℕ) → held_key (json_fields entries) paths field (prefix ++ key) ≡ held ++ key
   pub has_path : (key : List ℕ) → is_json_field (json_fields entries) field ≡ true → HasPath paths (prefix ++ key)
 
--- It takes a value under a key, and under another one in its terms.
+-- A field takes a value under a key, which terms hold as `held`.
 pub record TakesValue (entries : List SchemaEntry) (paths : List (List ℕ)) (field : ℕ) (held key : List ℕ) : Type 0 where
   pub known : field < length entries
   pub option : values_kept_in entries field ≡ Basic
@@ -77,18 +77,18 @@ pub record TakesValue (entries : List SchemaEntry) (paths : List (List ℕ)) (fi
   pub holds : held_key (json_fields entries) paths field key ≡ held
   pub has_path : is_json_field (json_fields entries) field ≡ true → HasPath paths key
 
--- Paths are known, each once and none with byte 0, and no more than have ids.
+-- Known paths are distinct, hold no byte 0, and are at most 2 ^ 32.
 pub record AreKnownPaths (paths : List (List ℕ)) : Type 0 where
   pub distinct : AreDistinct paths
   pub clean : AreClean paths
   pub few : length paths ≤ 2 ^ 32
 
--- A token stands in a field of a schema, which keeps of its key what the definitions keep of such a token's.
+-- A token belongs to a field of a schema, which keeps of its key what the definitions keep.
 pub record IsOfField (entries : List SchemaEntry) (t : IndexToken) : Type 0 where
   pub known : t.field < length entries
   pub kind : kind_of (option_of entries t.field) (t ∷ []) ≡ kept_at entries t.field t.key
 
--- Tokens of the fields of a schema are stored: the postings of each key, which in JSON fields hold the ids of known paths, and how many there are of each field.
+-- Tokens are stored: each key's postings, with path ids in JSON fields, and each field's number of tokens.
 pub record StoresTokens (entries : List SchemaEntry) (s : IndexedTermsState) (ts : List IndexToken) : Type 0 where
   pub records : Records (held_kept_at entries) s.terms (map (held_token (json_fields entries) s.paths) ts)
   pub counted : (field : ℕ) → field < length entries → slice_get s.writers field ≡ Some (writer_in entries field (field_count field ts))

@@ -1,4 +1,4 @@
--- What an indexer has stored of the calls that it took.
+-- What an indexer has stored of its calls.
 use Rattle.std.specs.Prelude.{◌≡◌, ℕ, ◌<◌, ◌^◌, Bool, List, [], length, map}
 use Rattle.std.specs.Borrow.{GName}
 use Rattle.ii_base.specs.Schema.{SchemaEntry, keeps_norms}
@@ -10,24 +10,24 @@ use Rattle.ii_indexing.specs.OpenDocuments.{OpenDocumentsState, ReachTo, TellsAl
 use Rattle.ii_indexing.specs.OpenPaths.{OpenPathsState, PathsReachTo, TellAllPaths}
 use Rattle.ii_indexing.specs.Refusals.{known_paths}
 
--- The terms of all fields, the open document of each, and what is known of that path by path.
+-- The terms of all fields, the open document of each, and its state path by path.
 pub record IndexedFieldsState : Type 0 where
   pub indexed : IndexedTermsState
   pub opened : OpenDocumentsState
   pub paths : List OpenPathsState
 
--- Texts and values are stored: the tokens that they give, and of each field what is known of its open document and the norms before it.
+-- Texts and values are stored: their tokens, the state of each field's open document, and earlier norms.
 pub record StoresPieces (entries : List SchemaEntry) (s : IndexedFieldsState) (ps : List Piece) : Type 0 where
   pub tokens : StoresTokens entries s.indexed (tokens_after [] ps)
   pub documents : TellsAll ps (tokens_after [] ps) s.opened
   pub paths : TellAllPaths s.indexed.paths ps s.paths
 
--- And the paths of these are known, exactly these.
+-- `StoresPieces` holds, and exactly the paths of the pieces are known.
 pub record StoresAll (entries : List SchemaEntry) (s : IndexedFieldsState) (ps : List Piece) : Type 0 where
   pub pieces : StoresPieces entries s ps
   pub known : s.indexed.paths ≡ known_paths ps
 
--- Each field has an open document, and nothing lies above a document.
+-- Each field has an open document, and no document is above `doc`.
 pub record EndsAt (doc : ℕ) (s : IndexedFieldsState) : Type 0 where
   pub documents : length s.opened.documents ≡ length s.indexed.writers
   pub terms : AllEndBy doc s.indexed.terms
@@ -35,7 +35,7 @@ pub record EndsAt (doc : ℕ) (s : IndexedFieldsState) : Type 0 where
   pub paths : length s.paths ≡ length s.indexed.writers
   pub paths_reach : PathsReachTo doc s.paths
 
--- An indexer: its schema, how many documents there are, the document of the last call, what it has stored, and whether a call was refused.
+-- An indexer: its schema, number of documents, last document, stored content, and whether a call failed.
 pub record IndexerState : Type 0 where
   pub schema : List SchemaEntry
   pub num_docs : ℕ
@@ -48,7 +48,7 @@ pub record StoresSome (entries : List SchemaEntry) (s : IndexedFieldsState) : Ty
   pub pieces : List Piece
   pub stored : StoresAll entries s pieces
 
--- What holds of an indexer's fields while no call was refused; where there are terms, the last document is one of so many.
+-- What holds of fields while no call has failed; if there are terms, `last_doc` is below `num_docs`.
 pub record AreRunning (entries : List SchemaEntry) (num_docs last_doc : ℕ) (s : IndexedFieldsState) : Type 0 where
   pub few : length entries < 2 ^ 32
   pub ends : EndsAt last_doc s
@@ -62,7 +62,7 @@ pub record LeafGiven : Type 0 where
   pub entries : List SchemaEntry
   pub pieces : List Piece
 
--- What stays while they are indexed: the document and the field, what an analyzer makes of a text, by which reference the fields are lent, how many fields there are and which have norms.
+-- What stays while leaves are indexed: document, field, analysis, borrow, number of fields, which have norms.
 pub record LeafConstant : Type 0 where
   pub doc : ℕ
   pub field : ℕ
@@ -71,6 +71,6 @@ pub record LeafConstant : Type 0 where
   pub writers : ℕ
   pub norms : List Bool
 
--- Texts and values are stored, whatever analyzers made the words of the texts.
+-- Texts and values are stored, whichever analyzers made their words.
 abbrev pub Stores : IndexerState → List Piece → Type 0
 Stores s ps = StoresAll s.schema s.fields ps

@@ -10,15 +10,15 @@ use Rattle.ii_indexing.specs.IndexFiles.{PassLimits}
 use Rattle.ii_definitions.specs.Norms.{HoldNorms}
 use Rattle.ii_indexing.specs.declared.index_writers.IndexWriters.{IndexWriters}
 
--- a file in memory that has no bytes yet
+-- an empty file in memory
 abbrev pub empty_file : CountingWriterState
 empty_file = record { contents = Some []; written_bytes = 0; failed_calls = 0 }
 
--- four files in memory that have no bytes yet
+-- four empty files in memory
 abbrev pub empty_files : {W : Type 0} → IndexWriters W
 empty_files = record { terms = empty_file; postings = empty_file; positions = empty_file; fieldnorms = empty_file }
 
--- Why the files of an index of tokens can't be written to memory, were there enough of it: a limit of its terms, or a file of norms that is too long.
+-- Why an index can't be written to enough memory: a limit of its terms, or too long a file of norms.
 abbrev pub IsRamFault : List SchemaEntry → ℕ → List IndexToken → Fault → Type 0
 IsRamFault entries num_docs ts fault =
     PassLimits entries empty_file empty_file empty_file ts fault

@@ -1,4 +1,4 @@
--- Which index calls are refused, memory aside.
+-- Which index calls are refused, apart from allocation failures.
 use Rattle.std.specs.Prelude.{ℕ, Bool, true, false, if◌then◌else◌, List, [], ◌∷◌, ◌++◌, length, nat_le, Option, None, Some}
 use Rattle.std.specs.List.{filter, flat_map, fold}
 use Rattle.std.specs.Option.{option_map_or}
@@ -14,7 +14,7 @@ use Rattle.ii_definitions.specs.Tokens.{Call, Content, IndexToken, Piece, begin_
 use Rattle.ii_definitions.specs.Postings.{field_count}
 use Rattle.ii_postings_writer.specs.WordRefusals.{gap_fault, u64_max, words_fault}
 
--- how many kept words the earlier texts of a group have
+-- the number of kept words in the earlier texts of a group
 abbrev pub group_count : List Piece → Piece → ℕ
 group_count earlier p = length (flat_map (λ (q : Piece). kept_words q.words) (filter (is_same_group p) earlier))
 
@@ -25,11 +25,11 @@ piece_fault_from true option earlier ts p =
     first_fault (words_fault option p begin (group_count earlier p) ts (kept_words p.words)) (gap_fault begin p.words)
 piece_fault_from false option earlier ts p = if nat_le u64_max (field_count p.field ts) then Some (Limit limit.Tokens) else None
 
--- the paths that are known with a piece more
+-- the known paths after one more piece
 abbrev pub with_piece : List (List ℕ) → Piece → List (List ℕ)
 with_piece known p = option_map_or (with_path known) p.path known
 
--- the paths of pieces, each once, in the order in which they became known
+-- the distinct paths of pieces, in the order in which they became known
 abbrev pub known_paths : List Piece → List (List ℕ)
 known_paths ps = fold with_piece [] ps
 
@@ -38,26 +38,26 @@ abbrev pub own_path_fault : List (List ℕ) → Option (List ℕ) → Option Fau
 own_path_fault known None = None
 own_path_fault known (Some path) = path_fault known path
 
--- why a piece is refused after earlier ones, in a field that records by this option: its path can't have an id, or what stands at it is refused
+-- why a piece is refused after earlier ones: its path can't have an id, or its text or value is refused
 abbrev pub piece_fault : IndexRecordOption → List Piece → Piece → Option Fault
 piece_fault option earlier p = first_fault (own_path_fault (known_paths earlier) p.path) (piece_fault_from p.is_text option earlier (tokens_after [] earlier) p)
 
--- why pieces are refused, one after the other
+-- the first fault of pieces, in order
 abbrev pub pieces_fault : IndexRecordOption → List Piece → List Piece → Option Fault
 pieces_fault option earlier [] = None
 pieces_fault option earlier (p ∷ ps) = first_fault (piece_fault option earlier p) (pieces_fault option (earlier ++ p ∷ []) ps)
 
--- why a leaf of a JSON value is refused after pieces: it can't be indexed, or what it gives is refused
+-- why a leaf of a JSON value is refused after pieces: it can't be indexed, or its pieces are refused
 abbrev pub leaf_fault : (List ℕ → List Word) → IndexRecordOption → List Piece → ℕ → ℕ → List ℕ × Leaf → Option Fault
 leaf_fault analyze option earlier doc field (path, text_leaf t) = pieces_fault option earlier (leaf_pieces analyze doc field (path, text_leaf t))
 leaf_fault analyze option earlier doc field (path, value_leaf t n) = pieces_fault option earlier (leaf_pieces analyze doc field (path, value_leaf t n))
 leaf_fault analyze option earlier doc field (path, unsupported kind) = Some (UnsupportedLeaf kind)
 
--- so it is with the leaf after some of the same value
+-- why a leaf is refused after earlier leaves of the same value
 abbrev pub next_leaf_fault : (List ℕ → List Word) → IndexRecordOption → List Piece → ℕ → ℕ → List (List ℕ × Leaf) → List ℕ × Leaf → Option Fault
 next_leaf_fault analyze option earlier doc field before l = leaf_fault analyze option (earlier ++ flat_map (leaf_pieces analyze doc field) before) doc field l
 
--- why a call is refused after pieces: by its one text or value, or by the first leaf that is
+-- why a call is refused after pieces: by its only text or value, or by its first refused leaf
 abbrev pub content_fault : (List ℕ → List Word) → IndexRecordOption → List Piece → Call → Content → Option Fault
 content_fault analyze option earlier c (text t) = pieces_fault option earlier (content_pieces analyze c (text t))
 content_fault analyze option earlier c (words ws) = pieces_fault option earlier (content_pieces analyze c (words ws))
@@ -68,7 +68,7 @@ content_fault analyze option earlier c (leaves ls) = leaves_fault (next_leaf_fau
 abbrev pub call_fault : (List ℕ → List Word) → IndexRecordOption → List Piece → Call → Option Fault
 call_fault analyze option earlier c = content_fault analyze option earlier c c.content
 
--- why calls are refused after earlier ones, the first fault of one after the other, each by what its field records
+-- the first fault of calls after earlier ones, each by its field's option
 abbrev pub calls_fault : (List ℕ → List Word) → (ℕ → IndexRecordOption) → List Call → List Call → Option Fault
 calls_fault analyze option earlier [] = None
 calls_fault analyze option earlier (c ∷ cs) = first_fault (call_fault analyze (option c.field) (pieces_of analyze earlier) c) (calls_fault analyze option (earlier ++ c ∷ []) cs)

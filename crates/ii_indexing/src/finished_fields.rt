@@ -15,8 +15,8 @@ use std::alloc::Global;
 use std::io::Write;
 use std::marker::Model;
 
-/// What was indexed of all calls: the terms, and the file of norms, opened. The schema is here once
-/// more.
+/// The indexed content of all calls: the terms, the file of norms, its readers, and a copy of the
+/// schema.
 pub(crate) struct FinishedFields {
     pub(crate) schema: Schema,
     pub(crate) terms: IndexedTerms,
@@ -24,7 +24,7 @@ pub(crate) struct FinishedFields {
     pub(crate) readers: FieldNormReaders,
 }
 
-// So that each drop is a call.
+// Makes each drop a call.
 impl Drop for FinishedFields {
     fn drop(self) {
         let FinishedFields {
@@ -37,7 +37,7 @@ impl Drop for FinishedFields {
 }
 
 impl FinishedFields {
-    // Writes the file of norms, and then those of the terms.
+    // Writes the file of norms, then the files of the terms.
     pub(crate) fn write<W: Write>(
         self,
         alloc: Global,
@@ -53,11 +53,11 @@ impl FinishedFields {
         ensures holds { (ts : List IndexToken) → HoldNorms schema.now num_docs self.norms ts → HaveHeldTokens schema.now self.terms.paths self.terms.terms self.terms.writers ts
             → OnOk result.1 (WroteIndex schema.now num_docs writers result.0 ts) }
 
-        // How it ends for the writers: a failed call is counted once, and each keeps what it had.
+        // The writers: a failed call counts once, and earlier output is kept.
         ensures failures { CountsIndexFailures writers result.0 result.1 }
         ensures grow { FilesGrow writers result.0 }
 
-        // When it is refused, and by which fault.
+        // Errors.
         ensures fault { (ts : List IndexToken) → HoldNorms schema.now num_docs self.norms ts → HaveHeldTokens schema.now self.terms.paths self.terms.terms self.terms.writers ts
             → IfErr result.1 (IsIndexFault schema.now num_docs writers ts) }
     {
@@ -77,7 +77,7 @@ impl FinishedFields {
     }
 }
 
-// Writes the bytes and flushes.
+// Writes the bytes and flushes the writer.
 fn write_norms<W: Write>(writer: &mut CountingWriter<W>, bytes: &[u8]) -> Result<(), Fault>
     ensures written { Writes writer.old writer.new bytes.now result }
 {

@@ -18,18 +18,18 @@ use std::io::Write;
 /// The writers of the files of an index.
 #[derive(Drop)]
 pub struct IndexWriters<W: Write> {
-    /// Its terms, a dictionary for each field.
+    /// The terms, as a dictionary for each field.
     pub terms: CountingWriter<W>,
-    /// The documents of its terms, with their counts.
+    /// The documents of the terms, with their term frequencies.
     pub postings: CountingWriter<W>,
-    /// The positions of its terms.
+    /// The positions of the terms.
     pub positions: CountingWriter<W>,
-    /// The norms of its fields.
+    /// The norms of the fields.
     pub fieldnorms: CountingWriter<W>,
 }
 
 impl IndexWriters<Vec<u8>> {
-    /// Writers to memory, to which nothing was written yet.
+    /// Creates writers to memory, without output.
     pub fn in_memory(alloc: Global) -> IndexWriters<Vec<u8>>
         ensures { result ≡ empty_files }
     {
@@ -42,13 +42,13 @@ impl IndexWriters<Vec<u8>> {
     }
 }
 
-/// Indexes calls, and writes the files of the index that they give; hands the writers back. No call has
-/// a document below that of the one before, each one's is below `num_docs`, at most `TERMINATED`, and
-/// each one's field is indexed and has values of its type.
+/// Indexes calls, writes the files of their index, and returns the writers. Document ids must not
+/// decrease, and must be less than `num_docs`, which is at most `TERMINATED`. Each call's field must
+/// be indexed and have values of the call's type.
 ///
-/// The first fault of the calls (`Indexer::index`) is answered, and nothing is written then; else one of
-/// `Indexer::finish`, and each file has what it had, and maybe more behind it. `OutOfMemory` where there
-/// is no room.
+/// Returns the first fault of the calls (`Indexer::index`), and then writes nothing. Otherwise
+/// returns a fault of `Indexer::finish`; the output may then have been partially appended. Returns
+/// `OutOfMemory` if an allocation fails.
 pub fn write_index<A: TextAnalyzer, W: Write>(
     alloc: Global,
     schema: Schema,
@@ -73,7 +73,7 @@ pub fn write_index<A: TextAnalyzer, W: Write>(
     }
 }
 
-// An indexer that has taken all calls.
+// Creates an indexer and indexes all calls.
 fn index_calls<A: TextAnalyzer>(
     alloc: Global,
     schema: Schema,

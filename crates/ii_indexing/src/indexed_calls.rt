@@ -17,7 +17,7 @@ use ii_base::{DocId, Fault, Field, TextAnalyzer};
 use ii_definitions::IndexCall;
 use std::alloc::Global;
 
-/// A value that isn't text; a number or a truth value is the number of 64 bits that stands for it.
+/// A value that isn't text. A number or a boolean is the 64-bit number that represents it.
 #[derive(Drop)]
 enum FieldValue {
     Number(u64),
@@ -26,7 +26,7 @@ enum FieldValue {
 }
 
 impl IndexedFields {
-    // Indexes a call to a field where the dots of keys are expanded or not.
+    // Indexes a call to a field. `expand_dots` says whether the dots of keys are expanded.
     pub(crate) fn index_call<A: TextAnalyzer>(
         &mut self,
         alloc: Global,
@@ -40,12 +40,12 @@ impl IndexedFields {
         ensures stored { OnOk result ((entries : List SchemaEntry) (ps : List Piece) → Takes entries (field_of call) (type_of call) → StoresAll entries self.old ps
             → StoresAll entries self.new (ps ++ call_pieces (A.words analyzer.now) (call_with expand_dots call))) }
 
-        // What the next call needs.
+        // Preconditions of the next call.
         ensures ends { OnOk result (EndsAt (doc_of call) self.new) }
         ensures fields { OnOk result (length self.new.indexed.writers ≡ length self.old.indexed.writers) }
         ensures norms { OnOk result (with_norms self.new.opened.norms ≡ with_norms self.old.opened.norms) }
 
-        // When it is refused, and by which fault.
+        // Errors.
         ensures refused { (entries : List SchemaEntry) (ps : List Piece) → Takes entries (field_of call) (type_of call) → StoresAll entries self.old ps
             → IsRefusedBy (content_fault (A.words analyzer.now) (option_of entries (field_of call)) ps (call_with expand_dots call) (content_of expand_dots call)) result }
     {
@@ -93,13 +93,13 @@ impl IndexedFields {
         ensures stored { OnOk result ((entries : List SchemaEntry) (ps : List Piece) → TakesValue entries self.old.indexed.paths field (key_of_value value) (key_of_value value) → StoresPieces entries self.old ps
             → StoresPieces entries self.new (ps ++ value_at doc field (key_of_value value) ∷ [])) }
 
-        // What the next call needs.
+        // Preconditions of the next call.
         ensures ends { OnOk result (EndsAt doc self.new) }
         ensures fields { OnOk result (length self.new.indexed.writers ≡ length self.old.indexed.writers) }
         ensures norms { OnOk result (with_norms self.new.opened.norms ≡ with_norms self.old.opened.norms) }
         ensures same_paths { OnOk result (self.new.indexed.paths ≡ self.old.indexed.paths) }
 
-        // When it is refused, and by which fault.
+        // Errors.
         ensures refused { (entries : List SchemaEntry) (ps : List Piece) → TakesValue entries self.old.indexed.paths field (key_of_value value) (key_of_value value) → StoresPieces entries self.old ps
             → IsRefusedBy (piece_fault (option_of entries field) ps (value_at doc field (key_of_value value))) result }
     {

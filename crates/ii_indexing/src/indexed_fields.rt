@@ -29,14 +29,14 @@ use ii_postings_writer::IndexingPosition;
 use std::alloc::Global;
 use std::marker::Model;
 
-/// The terms of all fields of a schema, and the open document of each.
+/// The terms of all fields of a schema, and the open document of each field.
 pub(crate) struct IndexedFields {
     terms: IndexedTerms,
     documents: OpenDocuments,
     paths: OpenPaths,
 }
 
-// So that each drop is a call.
+// Makes each drop a call.
 impl Drop for IndexedFields {
     fn drop(self) {
         let IndexedFields {
@@ -56,7 +56,7 @@ impl Model for IndexedFields {
 }
 
 impl IndexedFields {
-    // Nothing yet.
+    // Creates a state without terms.
     pub(crate) fn new(alloc: Global, schema: &Schema) -> Result<IndexedFields, Fault>
         ensures stored { IfOk result (λ f. StoresAll schema.now f []) }
         ensures ends { IfOk result (EndsAt 0) }
@@ -73,7 +73,7 @@ impl IndexedFields {
         })
     }
 
-    // The terms, and the norms of so many documents.
+    // Returns the terms, and the norms of `num_docs` documents.
     pub(crate) fn finish(
         self,
         alloc: Global,
@@ -86,14 +86,14 @@ impl IndexedFields {
         requires norms { with_norms self.opened.norms ≡ map keeps_norms schema.now }
         requires some { StoresSome schema.now self }
 
-        // What is held then.
+        // The finished fields.
         ensures schema { IfOk result (λ f. f.schema ≡ schema.now) }
         ensures terms { IfOk result (λ f. f.terms ≡ self.indexed) }
         ensures norms { IfOk result (λ f. (ps : List Piece) (ts : List IndexToken) → TellsAll ps ts self.opened → HoldNorms schema.now num_docs f.norms ts) }
         ensures short { IfOk result (λ f. AreShortNorms f.readers) }
         ensures many { IfOk result (λ f. HaveNormsOf num_docs f.readers) }
 
-        // When it is refused, and by which fault.
+        // Errors.
         ensures only { OnlyMemory result }
     {
         let IndexedFields {
@@ -111,7 +111,7 @@ impl IndexedFields {
         })
     }
 
-    // Indexes the words of a stream that are still to come.
+    // Indexes the remaining words of a stream.
     pub(crate) fn index_words<S: TokenStream>(
         &mut self,
         doc: DocId,
@@ -123,13 +123,13 @@ impl IndexedFields {
         requires ends { EndsAt doc self.old }
         ensures stored { OnOk result ((entries : List SchemaEntry) (ps : List Piece) → TakesTexts entries self.old.indexed.paths field [] [] → StoresPieces entries self.old ps → StoresPieces entries self.new (ps ++ text_at doc field [] (S.to_come tokens.old) ∷ [])) }
 
-        // What the next call needs.
+        // Preconditions of the next call.
         ensures ends { OnOk result (EndsAt doc self.new) }
         ensures fields { OnOk result (length self.new.indexed.writers ≡ length self.old.indexed.writers) }
         ensures norms { OnOk result (with_norms self.new.opened.norms ≡ with_norms self.old.opened.norms) }
         ensures same_paths { OnOk result (self.new.indexed.paths ≡ self.old.indexed.paths) }
 
-        // When it is refused, and by which fault.
+        // Errors.
         ensures refused { (entries : List SchemaEntry) (ps : List Piece) → TakesTexts entries self.old.indexed.paths field [] [] → StoresPieces entries self.old ps → IsRefusedBy (piece_fault (option_of entries field) ps (text_at doc field [] (S.to_come tokens.old))) result }
     {
         let open = self.documents.open(doc, field)?;
@@ -151,7 +151,7 @@ impl IndexedFields {
         Ok(())
     }
 
-    // Indexes the words of a stream that are still to come, as a text at the path with an id.
+    // Indexes the remaining words of a stream, as a text at the path with this id.
     fn index_words_at<S: TokenStream>(
         &mut self,
         alloc: Global,
@@ -166,13 +166,13 @@ impl IndexedFields {
         ensures stored { OnOk result ((entries : List SchemaEntry) (ps : List Piece) (path : List ℕ) → Takes entries field Json → IsKnownBy self.old.indexed.paths path path_id → StoresPieces entries self.old ps
             → StoresPieces entries self.new (ps ++ text_at doc field (text_prefix path) (S.to_come tokens.old) ∷ [])) }
 
-        // What the next call needs.
+        // Preconditions of the next call.
         ensures ends { OnOk result (EndsAt doc self.new) }
         ensures fields { OnOk result (length self.new.indexed.writers ≡ length self.old.indexed.writers) }
         ensures norms { OnOk result (with_norms self.new.opened.norms ≡ with_norms self.old.opened.norms) }
         ensures same_paths { OnOk result (self.new.indexed.paths ≡ self.old.indexed.paths) }
 
-        // When it is refused, and by which fault.
+        // Errors.
         ensures refused { (entries : List SchemaEntry) (ps : List Piece) (path : List ℕ) → Takes entries field Json → IsKnownBy self.old.indexed.paths path path_id → StoresPieces entries self.old ps
             → IsRefusedBy (piece_fault (option_of entries field) ps (text_at doc field (text_prefix path) (S.to_come tokens.old))) result }
     {
@@ -192,7 +192,7 @@ impl IndexedFields {
         self.paths.put(field, path_id, position)
     }
 
-    // Indexes the words of a text at a path of a JSON field, which holds no byte 0.
+    // Indexes the words of a text at a path of a JSON field. The path holds no byte 0.
     pub(crate) fn index_text_at<S: TokenStream>(
         &mut self,
         alloc: Global,
@@ -208,12 +208,12 @@ impl IndexedFields {
         ensures stored { OnOk result ((entries : List SchemaEntry) (ps : List Piece) → Takes entries field Json → StoresAll entries self.old ps
             → StoresAll entries self.new (ps ++ at_path path.now (text_at doc field (text_prefix path.now) (S.to_come tokens.old)) ∷ [])) }
 
-        // What the next call needs.
+        // Preconditions of the next call.
         ensures ends { OnOk result (EndsAt doc self.new) }
         ensures fields { OnOk result (length self.new.indexed.writers ≡ length self.old.indexed.writers) }
         ensures norms { OnOk result (with_norms self.new.opened.norms ≡ with_norms self.old.opened.norms) }
 
-        // When it is refused, and by which fault.
+        // Errors.
         ensures refused { (entries : List SchemaEntry) (ps : List Piece) → Takes entries field Json → StoresAll entries self.old ps
             → IsRefusedBy (piece_fault (option_of entries field) ps (at_path path.now (text_at doc field (text_prefix path.now) (S.to_come tokens.old)))) result }
     {
@@ -221,7 +221,7 @@ impl IndexedFields {
         self.index_words_at(alloc, doc, field, path_id, tokens)
     }
 
-    // Indexes a number at a path of a JSON field, which holds no byte 0.
+    // Indexes a number at a path of a JSON field. The path holds no byte 0.
     pub(crate) fn index_number_at(
         &mut self,
         alloc: Global,
@@ -239,12 +239,12 @@ impl IndexedFields {
         ensures stored { OnOk result ((entries : List SchemaEntry) (ps : List Piece) → Takes entries field Json → StoresAll entries self.old ps
             → StoresAll entries self.new (ps ++ at_path path.now (value_at doc field (json_key path.now (typed_key value_type number))) ∷ [])) }
 
-        // What the next call needs.
+        // Preconditions of the next call.
         ensures ends { OnOk result (EndsAt doc self.new) }
         ensures fields { OnOk result (length self.new.indexed.writers ≡ length self.old.indexed.writers) }
         ensures norms { OnOk result (with_norms self.new.opened.norms ≡ with_norms self.old.opened.norms) }
 
-        // When it is refused, and by which fault.
+        // Errors.
         ensures refused { (entries : List SchemaEntry) (ps : List Piece) → Takes entries field Json → StoresAll entries self.old ps
             → IsRefusedBy (piece_fault (option_of entries field) ps (at_path path.now (value_at doc field (json_key path.now (typed_key value_type number))))) result }
     {
@@ -253,7 +253,7 @@ impl IndexedFields {
         self.index_value(doc, field, &held)
     }
 
-    // Indexes a value under what is held of its key.
+    // Indexes a value by its key as terms hold it.
     pub(crate) fn index_value(&mut self, doc: DocId, field: Field, held: &[u8]) -> Result<(), Fault>
         requires low { doc < TERMINATED }
         requires known { field < length self.old.indexed.writers }
@@ -261,13 +261,13 @@ impl IndexedFields {
         ensures stored { OnOk result ((entries : List SchemaEntry) (ps : List Piece) (key : List ℕ) → TakesValue entries self.old.indexed.paths field held.now key → StoresPieces entries self.old ps
             → StoresPieces entries self.new (ps ++ value_at doc field key ∷ [])) }
 
-        // What the next call needs.
+        // Preconditions of the next call.
         ensures ends { OnOk result (EndsAt doc self.new) }
         ensures fields { OnOk result (length self.new.indexed.writers ≡ length self.old.indexed.writers) }
         ensures norms { OnOk result (with_norms self.new.opened.norms ≡ with_norms self.old.opened.norms) }
         ensures same_paths { OnOk result (self.new.indexed.paths ≡ self.old.indexed.paths) }
 
-        // When it is refused, and by which fault.
+        // Errors.
         ensures refused { (entries : List SchemaEntry) (ps : List Piece) (key : List ℕ) → TakesValue entries self.old.indexed.paths field held.now key → StoresPieces entries self.old ps
             → IsRefusedBy (piece_fault (option_of entries field) ps (value_at doc field key)) result }
     {

@@ -27,14 +27,14 @@ use std::alloc::Global;
 use std::io::Write;
 use std::marker::Model;
 
-/// The terms of all fields, with the writer of each field and a term that is used again and again.
+/// The terms of all fields, the writer of each field, and a term that is reused.
 pub(crate) struct IndexedTerms {
     ctx: IndexingContext,
     writers: PerFieldPostingsWriter,
     term: IndexingTerm,
 }
 
-// So that each drop is a call.
+// Makes each drop a call.
 impl Drop for IndexedTerms {
     fn drop(self) {
         let IndexedTerms {
@@ -54,7 +54,7 @@ impl Model for IndexedTerms {
 }
 
 impl IndexedTerms {
-    // No terms.
+    // Creates a state without terms.
     pub(crate) fn new(alloc: Global, schema: &Schema) -> Result<IndexedTerms, Fault>
         ensures ok { IfOk result (λ terms. terms ≡ record { terms = []; paths = []; writers = writers_of schema.now }) }
         ensures only { OnlyMemory result }
@@ -74,7 +74,7 @@ impl IndexedTerms {
         })
     }
 
-    // The unordered id of a path, which is known from then on.
+    // Returns the unordered id of a path. A new path gets one.
     pub(crate) fn path_id(&mut self, path: &str) -> Result<u32, Fault>
         ensures ok { IfOk result (λ id. id ≡ path_id self.old.paths path.now) }
         ensures known { OnOk result (self.new ≡ record self.old { paths = with_path self.old.paths path.now }) }
@@ -86,7 +86,7 @@ impl IndexedTerms {
             .get_or_allocate_unordered_id(path)
     }
 
-    // Indexes the words of a text of a field, whose terms begin with what is held of their keys' prefix.
+    // Indexes the words of a text of a field. `held` is the prefix of their keys as terms hold it.
     pub(crate) fn index_text<S: TokenStream>(
         &mut self,
         doc: DocId,
@@ -101,14 +101,14 @@ impl IndexedTerms {
         ensures stored { OnOk result ((entries : List SchemaEntry) (ts : List IndexToken) → (prefix : List ℕ) → TakesTexts entries self.old.paths field held.now prefix → StoresTokens entries self.old ts
             → StoresTokens entries self.new (ts ++ piece_tokens_from true position.old.end_position (text_at doc field prefix (S.to_come token_stream.old)))) }
 
-        // What the next call needs.
+        // Preconditions of the next call.
         ensures ends { OnOk result (AllEndBy doc self.new.terms) }
         ensures fields { length self.new.writers ≡ length self.old.writers }
         ensures paths { self.new.paths ≡ self.old.paths }
         ensures num_tokens { OnOk result (position.new.num_tokens ≡ position.old.num_tokens + length (kept_words (S.to_come token_stream.old))) }
         ensures end_position { OnOk result (position.new.end_position ≡ end_after position.old.end_position (S.to_come token_stream.old)) }
 
-        // When it is refused, and by which fault.
+        // Errors.
         ensures refused { (entries : List SchemaEntry) (ts : List IndexToken) → (prefix : List ℕ) → TakesTexts entries self.old.paths field held.now prefix → StoresTokens entries self.old ts
             → IsRefusedBy (text_fault (option_of entries field) (text_at doc field prefix (S.to_come token_stream.old)) position.old ts) result }
     {
@@ -118,7 +118,7 @@ impl IndexedTerms {
         writer.index_text(doc, token_stream, &mut self.term, &mut self.ctx, position)
     }
 
-    // Indexes a value of a field under what is held of its key.
+    // Indexes a value of a field. `held` is its key as terms hold it.
     pub(crate) fn index_value(&mut self, doc: DocId, field: Field, held: &[u8]) -> Result<(), Fault>
         requires low { doc < TERMINATED }
         requires known { field < length self.old.writers }
@@ -126,16 +126,16 @@ impl IndexedTerms {
         ensures stored { OnOk result ((entries : List SchemaEntry) (ts : List IndexToken) → (key : List ℕ) → TakesValue entries self.old.paths field held.now key → StoresTokens entries self.old ts
             → StoresTokens entries self.new (ts ++ value_token (value_at doc field key) ∷ [])) }
 
-        // What the next call needs.
+        // Preconditions of the next call.
         ensures ends { OnOk result (AllEndBy doc self.new.terms) }
         ensures fields { length self.new.writers ≡ length self.old.writers }
         ensures paths { self.new.paths ≡ self.old.paths }
 
-        // When it is refused, and by which fault.
+        // Errors.
         ensures refused { (entries : List SchemaEntry) (ts : List IndexToken) → (key : List ℕ) → TakesValue entries self.old.paths field held.now key → StoresTokens entries self.old ts
             → IsRefusedBy (value_fault field ts) result }
     {
-        // that the field has 32 bits, for the proof
+        // Shows the proof that the field fits in 32 bits.
         let _field = field.field_id();
         self.term.clear_with_field(field);
         self.term.set_bytes(held)?;
@@ -145,7 +145,7 @@ impl IndexedTerms {
 }
 
 impl IndexedTerms {
-    // Writes the files of terms, postings and positions, of the fields of a schema and its copy.
+    // Writes the files of terms, postings and positions. `copy` is the same schema.
     pub(crate) fn write<W: Write>(
         self,
         alloc: Global,
@@ -162,11 +162,11 @@ impl IndexedTerms {
         ensures holds { (ts : List IndexToken) → HaveHeldTokens schema.now self.paths self.terms self.writers ts → OnOk result.1 (WroteTermFiles schema.now writers result.0 ts) }
         ensures norms { result.0.fieldnorms ≡ writers.fieldnorms }
 
-        // How it ends for the writers: a failed call is counted once, and each keeps what it had.
+        // The writers: a failed call counts once, and earlier output is kept.
         ensures failures { CountsIndexFailures writers result.0 result.1 }
         ensures grow { FilesGrow writers result.0 }
 
-        // When it is refused, and by which fault.
+        // Errors.
         ensures fault { (ts : List IndexToken) → HaveHeldTokens schema.now self.paths self.terms self.writers ts
             → IfErr result.1 (λ e. (e ≡ Fault.OutOfMemory) ⊎ (e ≡ Fault.Write) ⊎ PassLimits schema.now writers.terms writers.postings writers.positions ts e) }
     {
@@ -199,7 +199,7 @@ impl IndexedTerms {
     }
 }
 
-// Writes terms, and then the tables of the three files.
+// Writes the terms, then the tables of the three files.
 fn write_files<W: Write>(
     alloc: Global,
     ctx: IndexingContext,
@@ -223,11 +223,11 @@ fn write_files<W: Write>(
     ensures holds { (ts : List IndexToken) → HaveHeldTokens serializer.entries ctx.path_to_unordered_id ctx.term_index postings_writers.now ts
         → OnOk result.3 (ClosedFiles serializer result.0 result.1 result.2 ts) }
 
-    // How it ends for the writers: a failed call is counted once, and each keeps what it had.
+    // The writers: a failed call counts once, and earlier output is kept.
     ensures failures { CountsFailuresOf serializer.bodies result.0 result.1 result.2 result.3 }
     ensures grow { Grows serializer.bodies.terms.writer result.0 × Grows serializer.bodies.postings.writer result.1 × Grows serializer.bodies.positions.writer result.2 }
 
-    // When it is refused, and by which fault.
+    // Errors.
     ensures fault { (ts : List IndexToken) → HaveHeldTokens serializer.entries ctx.path_to_unordered_id ctx.term_index postings_writers.now ts
         → IfErr result.3 (λ e. (e ≡ Fault.OutOfMemory) ⊎ (e ≡ Fault.Write) ⊎ PassLimits serializer.entries serializer.bodies.terms.writer serializer.bodies.postings.writer serializer.bodies.positions.writer ts e) }
 {

@@ -17,10 +17,10 @@ use std::alloc::Global;
 use std::io::Write;
 use std::marker::Model;
 
-/// Takes index calls in the order of their documents.
+/// Indexes calls in the order of their documents.
 ///
-/// Clauses see what it has stored: the postings of each key, the number of tokens of each field, what is
-/// known of the open document of each field, and the norms of those before.
+/// Its model is what it has stored: the postings of each key, the number of tokens of each field, the
+/// state of each field's open document, and the norms of earlier documents.
 pub struct Indexer {
     schema: Schema,
     num_docs: DocId,
@@ -30,7 +30,7 @@ pub struct Indexer {
     alloc: Global,
 }
 
-// So that each drop is a call.
+// Makes each drop a call.
 impl Drop for Indexer {
     fn drop(self) {
         let Indexer {
@@ -64,8 +64,8 @@ impl Model for Indexer {
 }
 
 impl Indexer {
-    /// An indexer of no calls, for so many documents, with fields of a schema. `OutOfMemory` where there
-    /// is no room for it.
+    /// Creates an indexer without calls, for `num_docs` documents and the fields of a schema. Returns
+    /// `OutOfMemory` if an allocation fails.
     pub fn new(alloc: Global, schema: Schema, num_docs: DocId) -> Result<Indexer, Fault>
         requires { num_docs ≤ TERMINATED }
         ensures made { IfOk result (λ i. (i.schema ≡ schema) × (i.num_docs ≡ num_docs) × (i.last_doc ≡ 0) × (i.failed ≡ false)) }
@@ -83,17 +83,26 @@ impl Indexer {
         })
     }
 
-    /// Indexes a call, whose document isn't below the one before and is one of the indexer's, and whose
-    /// field is indexed and has values of its type.
+    /// Indexes a call. Its document must be less than `num_docs`, and document ids must not decrease.
+    /// Its field must be indexed and have values of the call's type.
     ///
-    /// The faults are those of the definitions (`call_fault`), for a JSON value leaf by leaf: `Limit(Paths)`
-    /// where `u32::MAX` + 1 paths are known and the leaf's isn't one of them; for a text word by word:
-    /// `Limit(Position)` where it starts or ends above `u32::MAX`, `Limit(Tokens)` for more than
-    /// `u32::MAX` tokens of the texts of a document in a field, or at a path of it, or more than `u64::MAX`
-    /// of a field, `Limit(Position)` at position `u32::MAX`, `DecreasingPosition` below the last position of
-    /// the term in the document, `Limit(Count)` for more than `u32::MAX` of them; and `Limit(Position)` where
-    /// the gap after the text ends above `u32::MAX`; `UnsupportedLeaf` for a leaf that can't be indexed.
-    /// `OutOfMemory` where there is no room. After a fault each call is `IndexerFailed`, and nothing changes.
+    /// # Errors
+    ///
+    /// Returns the first fault that `call_fault` defines, leaf by leaf for a JSON value, and word by
+    /// word for a text:
+    ///
+    /// - `Limit(Paths)` for the leaf of a new path when `u32::MAX` + 1 paths are known.
+    /// - `Limit(Position)` if a word starts or ends above `u32::MAX`.
+    /// - `Limit(Tokens)` for more than `u32::MAX` tokens of a document's texts in a field or at a
+    ///   path of it, or more than `u64::MAX` tokens of a field.
+    /// - `Limit(Position)` at position `u32::MAX`.
+    /// - `DecreasingPosition` below the last position of the term in the document.
+    /// - `Limit(Count)` for a term frequency above `u32::MAX`.
+    /// - `Limit(Position)` if the gap after a text ends above `u32::MAX`.
+    /// - `UnsupportedLeaf` for a leaf that can't be indexed.
+    ///
+    /// Returns `OutOfMemory` if an allocation fails. After a fault, each call returns `IndexerFailed`
+    /// and changes nothing.
     pub fn index<A: TextAnalyzer>(&mut self, call: IndexCall, analyzer: &A) -> Result<(), Fault>
         requires order { self.old.failed ≡ false → self.old.last_doc ≤ doc_of call }
         requires below { self.old.failed ≡ false → doc_of call < self.old.num_docs }
@@ -101,7 +110,7 @@ impl Indexer {
         ensures stored { OnOk result ((ps : List Piece) → Stores self.old ps → Stores self.new (ps ++ call_pieces (A.words analyzer.now) (call_of self.old.schema call))) }
         ensures rest { OnOk result ((self.new.schema ≡ self.old.schema) × (self.new.num_docs ≡ self.old.num_docs) × (self.new.last_doc ≡ doc_of call) × (self.new.failed ≡ false)) }
 
-        // When it is refused, by which fault, and what holds after that.
+        // Errors, and the state after an error.
         ensures refused { self.old.failed ≡ false → (ps : List Piece) → Stores self.old ps
             → IsRefusedBy (call_fault (A.words analyzer.now) (option_of self.old.schema (field_of call)) ps (call_of self.old.schema call)) result }
         ensures fails { OnErr result (self.new.failed ≡ true) }
@@ -120,15 +129,21 @@ impl Indexer {
         Ok(())
     }
 
-    /// Writes the files of what was indexed, the norms first, and hands the writers back.
+    /// Writes the files of the index, the norms first, and returns the writers.
     ///
-    /// `IndexerFailed` after a refused call, and nothing is written. `Write` where a writer fails,
-    /// `Limit(Offset)` where a count of a writer would pass `u64::MAX` or the bytes of all terms of a
-    /// field pass 2^56, `Limit(TermBytes)` where the postings or the positions of a term have more than
-    /// `u32::MAX` bytes, `Limit(BlockFrequencySum)` where the counts of a block of a term with positions
-    /// sum up above `u32::MAX`, `OutOfMemory` where a growth was refused. Of the last two limits it is
-    /// that of the first term which passes one, fields in order and keys ascending. After a fault each
-    /// file has what it had, and maybe more behind it.
+    /// # Errors
+    ///
+    /// - `IndexerFailed` after a refused call. Nothing is written then.
+    /// - `Write` if a writer fails.
+    /// - `Limit(Offset)` if a writer would count more than `u64::MAX` bytes, or the terms of a field
+    ///   reach 2^56 bytes in total.
+    /// - `Limit(TermBytes)` if the postings or the positions of a term exceed `u32::MAX` bytes.
+    /// - `Limit(BlockFrequencySum)` if term frequencies in a block sum up above `u32::MAX`, for a
+    ///   term with positions.
+    /// - `OutOfMemory` if an allocation fails.
+    ///
+    /// `TermBytes` and `BlockFrequencySum` are reported for the first term that exceeds either, by
+    /// field and then by key. After a fault the output may have been partially appended.
     pub fn finish<W: Write>(self, writers: IndexWriters<W>) -> (IndexWriters<W>, Result<(), Fault>)
         ensures wrote { (ps : List Piece) → Stores self ps → OnOk result.1 (WroteIndex self.schema self.num_docs writers result.0 (tokens_after [] ps)) }
         ensures failures { CountsIndexFailures writers result.0 result.1 }
@@ -155,7 +170,7 @@ impl Indexer {
     }
 }
 
-// Whether the dots of keys are expanded in a field of a schema.
+// Returns whether the dots of keys are expanded in a field of a schema.
 fn expands_dots(schema: &Schema, field: Field) -> bool
     requires { field < length schema.now }
     ensures { result ≡ expands_dots_in schema.now field }

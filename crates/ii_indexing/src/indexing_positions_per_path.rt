@@ -8,8 +8,8 @@ use indexmap::IndexMap;
 use std::alloc::Global;
 use std::marker::Model;
 
-/// What is known of the texts of a document at each path of a JSON field so far: by the path's unordered
-/// id, how many tokens they have, and where the next text begins.
+/// The state of a document's texts at each path of a JSON field, by the path's unordered id: the
+/// number of tokens, and where the next text starts.
 #[derive(Drop)]
 pub struct IndexingPositionsPerPath {
     positions: IndexMap<u32, IndexingPosition>,
@@ -24,7 +24,7 @@ impl Model for IndexingPositionsPerPath {
 }
 
 impl IndexingPositionsPerPath {
-    /// No texts at any path.
+    /// Creates a state without texts.
     pub fn new(alloc: Global) -> IndexingPositionsPerPath
         ensures { result ≡ [] }
     {
@@ -33,14 +33,14 @@ impl IndexingPositionsPerPath {
         }
     }
 
-    /// Forgets all texts, and keeps the memory.
+    /// Removes all texts, and keeps the memory.
     pub fn clear(&mut self)
         ensures { self.new ≡ [] }
     {
         self.positions.clear();
     }
 
-    // What is known of the texts at the path with an id.
+    // Returns the state of the texts at the path with this id.
     pub(crate) fn position(&self, path_id: u32) -> IndexingPosition
         ensures { result ≡ position_by path_id self.now }
     {
@@ -56,7 +56,7 @@ impl IndexingPositionsPerPath {
         }
     }
 
-    // Puts what is known of the texts at the path with an id in place of what was known.
+    // Replaces the state of the texts at the path with this id.
     pub(crate) fn put(&mut self, path_id: u32, position: IndexingPosition) -> Result<(), Fault>
         ensures ok { OnOk result ((other : ℕ) → position_by other self.new ≡ (if path_id == other then position else position_by other self.old)) }
         ensures only { OnlyMemory result }

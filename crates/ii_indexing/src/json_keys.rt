@@ -6,7 +6,8 @@ ghost use Rattle.ii_postings_writer.specs.ResolvedTerms.{held_value};
 use ii_base::{Fault, ValueType};
 use std::alloc::Global;
 
-// What a term holds of the words of a text at a path: the path's id, and the letter of texts.
+// Returns the prefix of a text's keys at a path, as terms hold it: the path's id and the letter of
+// texts.
 #[tactic(auto, unfolding(ii_postings_writer::specs::IndexingTerm::field_bytes))]
 pub(crate) fn held_text(alloc: Global, path_id: u32) -> Result<Vec<u8>, Fault>
     ensures ok { IfOk result (λ held. held.items ≡ held_value path_id (text_key [])) }
@@ -17,8 +18,8 @@ pub(crate) fn held_text(alloc: Global, path_id: u32) -> Result<Vec<u8>, Fault>
     Ok(held)
 }
 
-// What a term holds of a number at a path: the path's id, the letter of its type, and its 8 bytes, the
-// highest first.
+// Returns the key of a number at a path, as terms hold it: the path's id, the letter of its type, and
+// 8 bytes, big-endian.
 #[tactic(auto, unfolding(ii_postings_writer::specs::IndexingTerm::field_bytes))]
 pub(crate) fn held_number(
     alloc: Global,

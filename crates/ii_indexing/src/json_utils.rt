@@ -77,8 +77,8 @@ impl<A: TextAnalyzer> LeafSink for LeafIndexer<'_, A> {
     }
 }
 
-// Indexes the leaves of a value in a field where the dots of keys are expanded or not. A value that is too
-// deep is refused before it is visited.
+// Indexes the leaves of a value. `expand_dots` says whether the dots of keys are expanded. A value
+// that is too deep is refused before it is visited.
 pub(crate) fn index_json_value<A: TextAnalyzer>(
     alloc: Global,
     fields: &mut IndexedFields,
@@ -94,12 +94,12 @@ pub(crate) fn index_json_value<A: TextAnalyzer>(
     ensures stored { OnOk result ((entries : List SchemaEntry) (ps : List Piece) → Takes entries field Json → StoresAll entries fields.old ps
         → StoresAll entries fields.new (ps ++ flat_map (leaf_pieces (A.words analyzer.now) doc field) (json_leaves expand_dots (json_of value.now)))) }
 
-    // What the next call needs.
+    // Preconditions of the next call.
     ensures ends { OnOk result (EndsAt doc fields.new) }
     ensures fields { OnOk result (length fields.new.indexed.writers ≡ length fields.old.indexed.writers) }
     ensures norms { OnOk result (with_norms fields.new.opened.norms ≡ with_norms fields.old.opened.norms) }
 
-    // When it is refused, and by which fault.
+    // Errors.
     ensures refused { (entries : List SchemaEntry) (ps : List Piece) → Takes entries field Json → StoresAll entries fields.old ps
         → IsRefusedBy (leaves_fault (next_leaf_fault (A.words analyzer.now) (option_of entries field) ps doc field) [] (json_leaves expand_dots (json_of value.now))) result }
 {
@@ -109,7 +109,7 @@ pub(crate) fn index_json_value<A: TextAnalyzer>(
     index_leaves(alloc, fields, doc, field, value, expand_dots, analyzer)
 }
 
-// Indexes the leaves of a value, however deep it is.
+// Indexes the leaves of a value of any depth.
 fn index_leaves<A: TextAnalyzer>(
     alloc: Global,
     fields: &mut IndexedFields,
@@ -125,12 +125,12 @@ fn index_leaves<A: TextAnalyzer>(
     ensures stored { OnOk result ((entries : List SchemaEntry) (ps : List Piece) → Takes entries field Json → StoresAll entries fields.old ps
         → StoresAll entries fields.new (ps ++ flat_map (leaf_pieces (A.words analyzer.now) doc field) (leaves_below expand_dots [] (json_of value.now)))) }
 
-    // What the next call needs.
+    // Preconditions of the next call.
     ensures ends { OnOk result (EndsAt doc fields.new) }
     ensures fields { OnOk result (length fields.new.indexed.writers ≡ length fields.old.indexed.writers) }
     ensures norms { OnOk result (with_norms fields.new.opened.norms ≡ with_norms fields.old.opened.norms) }
 
-    // When it is refused, and by which fault.
+    // Errors.
     ensures refused { (entries : List SchemaEntry) (ps : List Piece) → Takes entries field Json → StoresAll entries fields.old ps
         → IsRefusedBy (leaves_fault (next_leaf_fault (A.words analyzer.now) (option_of entries field) ps doc field) [] (leaves_below expand_dots [] (json_of value.now))) result }
 {

@@ -1,6 +1,6 @@
-//! From index calls to index files: what is known of a document's texts, the indexer, and the writing
-//! of its files. It hands on `ii_postings_writer`, `ii_recorder` and `ii_json`, and of `ii_base` what
-//! splits and names JSON paths.
+//! From index calls to index files: the state of a document's texts, the indexer, and the writing of
+//! its files. Re-exports `ii_postings_writer`, `ii_recorder`, `ii_json`, and what splits and names
+//! JSON paths in `ii_base`.
 #![tactic(auto)]
 
 mod finished_fields;

@@ -15,8 +15,8 @@ use ii_fieldnorm::{FieldNormsSerializer, FieldNormsWriter};
 use std::alloc::Global;
 use std::marker::Model;
 
-/// What is known of a field in a document: how many tokens its texts have and where the next one
-/// begins, and how many tokens it has in all, at most `u32::MAX`.
+/// The state of a field in a document: the number of tokens of its texts, where the next text starts,
+/// and the number of all its tokens, at most `u32::MAX`.
 #[derive(Clone, Copy, Drop)]
 pub(crate) struct OpenDocument {
     pub doc: DocId,
@@ -25,13 +25,13 @@ pub(crate) struct OpenDocument {
     pub norm: u32,
 }
 
-/// The document that was opened last in each field, and the norms of those before.
+/// The last opened document of each field, and the norms of earlier documents.
 pub(crate) struct OpenDocuments {
     documents: Vec<OpenDocument>,
     norms: FieldNormsWriter,
 }
 
-// So that each drop is a call.
+// Makes each drop a call.
 impl Drop for OpenDocuments {
     fn drop(self) {
         let OpenDocuments {
@@ -52,7 +52,7 @@ impl Model for OpenDocuments {
 }
 
 impl OpenDocuments {
-    // Document 0 of each field, with no tokens.
+    // Opens document 0 of each field, without tokens.
     pub(crate) fn new(alloc: Global, schema: &Schema) -> Result<OpenDocuments, Fault>
         ensures ok { IfOk result (λ d. d ≡ record { documents = map (λ (e : SchemaEntry). empty_document 0) schema.now; norms = empty_buffers schema.now }) }
         ensures few { IfOk result (λ d. length schema.now < 2 ^ 32) }
@@ -73,20 +73,21 @@ impl OpenDocuments {
         })
     }
 
-    // Opens a document in a field, which isn't below the one before. The norm of that one is kept.
+    // Opens a document in a field, and keeps the norm of the document before, which must not be
+    // greater.
     pub(crate) fn open(&mut self, doc: DocId, field: Field) -> Result<OpenDocument, Fault>
         requires known { field < length self.old.documents }
         requires reach { ReachTo doc self.old }
         ensures found { IfOk result (λ d. slice_get self.new.documents field ≡ Some d) }
         ensures at { IfOk result (λ d. d.doc ≡ doc) }
 
-        // What the next call needs.
+        // Preconditions of the next call.
         ensures told { OnOk result ((ps : List Piece) (ts : List IndexToken) → TellsAll ps ts self.old → TellsAll ps ts self.new) }
         ensures reach { OnOk result (ReachTo doc self.new) }
         ensures fields { OnOk result (length self.new.documents ≡ length self.old.documents) }
         ensures norms { OnOk result (with_norms self.new.norms ≡ with_norms self.old.norms) }
 
-        // When it is refused, and by which fault.
+        // Errors.
         ensures only { OnlyMemory result }
     {
         let index = field.field_id() as usize;
@@ -105,7 +106,7 @@ impl OpenDocuments {
         Ok(document)
     }
 
-    // Puts what is known of the open document of a field in place of what was known.
+    // Replaces the state of a field's open document.
     pub(crate) fn put(&mut self, field: Field, document: OpenDocument)
         requires same { (d : OpenDocument) → slice_get self.old.documents field ≡ Some d → d.doc ≡ document.doc }
         requires known { field < length self.old.documents }
@@ -114,7 +115,8 @@ impl OpenDocuments {
         self.documents[field.field_id() as usize] = document;
     }
 
-    // The file of norms, so many for each field that has some, at most `TERMINATED`.
+    // Returns the file of norms, `num_docs` for each field that has norms. `num_docs` is at most
+    // `TERMINATED`.
     pub(crate) fn finish(self, alloc: Global, num_docs: DocId) -> Result<Bytes, Fault>
         requires docs { num_docs ≤ TERMINATED }
         requires few { length self.norms < 2 ^ 32 }
@@ -131,7 +133,7 @@ impl OpenDocuments {
     }
 }
 
-// Records the norms of open documents, each after those of its field.
+// Records the norms of open documents, each after the earlier norms of its field.
 fn close_documents(documents: &[OpenDocument], norms: &mut FieldNormsWriter) -> Result<(), Fault>
     requires behind { AreBehind (record { documents = documents.now; norms = norms.old }) }
     requires few { length documents.now < 2 ^ 32 }
@@ -147,7 +149,7 @@ fn close_documents(documents: &[OpenDocument], norms: &mut FieldNormsWriter) -> 
     Ok(())
 }
 
-// The file of norms, which is below 2^64 bytes.
+// Returns the file of norms, which has less than 2^64 bytes.
 fn norms_file(alloc: Global, norms: &FieldNormsWriter) -> Result<Bytes, Fault>
     requires few { length norms.now < 2 ^ 32 }
     requires small { length (written_composite (norm_bodies norms.now)) < 2 ^ 64 }

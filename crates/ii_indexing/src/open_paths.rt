@@ -9,7 +9,7 @@ use ii_postings_writer::IndexingPosition;
 use std::alloc::Global;
 use std::marker::Model;
 
-/// The document that was opened last in a field, and its texts path by path.
+/// The last opened document of a field, and its texts path by path.
 #[derive(Drop)]
 pub(crate) struct FieldPaths {
     doc: DocId,
@@ -25,7 +25,7 @@ impl Model for FieldPaths {
 }
 
 impl FieldPaths {
-    // Document 0, with no texts.
+    // Opens document 0, without texts.
     pub(crate) fn new(alloc: Global) -> FieldPaths
         ensures { result ≡ no_paths }
     {
@@ -35,7 +35,7 @@ impl FieldPaths {
         }
     }
 
-    // Opens a document that isn't below the one before.
+    // Opens a document. The document before must not be greater.
     pub(crate) fn open(&mut self, doc: DocId)
         ensures { self.new ≡ opened_path doc self.old }
     {
@@ -45,14 +45,14 @@ impl FieldPaths {
         }
     }
 
-    // What is known of the texts at the path with an id.
+    // Returns the state of the texts at the path with this id.
     pub(crate) fn position(&self, path_id: u32) -> IndexingPosition
         ensures { result ≡ position_by path_id self.now.positions }
     {
         self.positions.position(path_id)
     }
 
-    // Puts what is known of the texts at the path with an id in place of what was known.
+    // Replaces the state of the texts at the path with this id.
     pub(crate) fn put(&mut self, path_id: u32, position: IndexingPosition) -> Result<(), Fault>
         ensures doc { OnOk result (self.new.doc ≡ self.old.doc) }
         ensures ok { OnOk result ((other : ℕ) → position_by other self.new.positions ≡ (if path_id == other then position else position_by other self.old.positions)) }
@@ -62,12 +62,12 @@ impl FieldPaths {
     }
 }
 
-/// The document that was opened last in each field, and its texts path by path.
+/// The last opened document of each field, and its texts path by path.
 pub(crate) struct OpenPaths {
     fields: Vec<FieldPaths>,
 }
 
-// So that each drop is a call.
+// Makes each drop a call.
 impl Drop for OpenPaths {
     fn drop(self) {
         let OpenPaths { fields: _ } = self;
@@ -84,7 +84,7 @@ impl Model for OpenPaths {
 }
 
 impl OpenPaths {
-    // Document 0 of each field, with no texts.
+    // Opens document 0 of each field, without texts.
     pub(crate) fn new(alloc: Global, schema: &Schema) -> Result<OpenPaths, Fault>
         ensures ok { IfOk result (λ paths. paths ≡ map (λ (e : SchemaEntry). no_paths) schema.now) }
         ensures only { OnlyMemory result }
@@ -96,8 +96,8 @@ impl OpenPaths {
         Ok(OpenPaths { fields })
     }
 
-    // Opens a document in a field, which isn't below the one before, and tells of its texts at the path with
-    // an id.
+    // Opens a document in a field, and returns the state of its texts at the path with this id. The
+    // document before must not be greater.
     pub(crate) fn open(&mut self, doc: DocId, field: Field, path_id: u32) -> IndexingPosition
         requires known { field < length self.old }
         ensures opened { (o : OpenPathsState) → slice_get self.old field ≡ Some o → self.new ≡ slice_set self.old field (opened_path doc o) }
@@ -108,7 +108,7 @@ impl OpenPaths {
         paths.position(path_id)
     }
 
-    // Puts what is known of the texts at the path with an id, in a field, in place of what was known.
+    // Replaces the state of the texts at the path with this id, in a field.
     pub(crate) fn put(
         &mut self,
         field: Field,

@@ -1,4 +1,4 @@
--- A composite file that was written is read back.
+-- A written composite file is read back.
 use Rattle.std.proofs.Common.{◌≡◌, ℕ, suc, ◌+◌, ◌-◌, ◌^◌, ◌<◌, ◌≤◌, true, nat_le, List, [], ◌∷◌, ◌++◌, map, length, drop, Some, refl, sym, ap, ◌∙◌, arith, length-append, append_assoc}
 use Rattle.std.specs.List.{list_all, flat_map, slice_range}
 use Rattle.std.proofs.lemmas.Bool.{le-leb, leb-true, and_parts}
@@ -38,7 +38,7 @@ places_lie start size (b ∷ bs) h =
     let within = le-leb (start + length b.bytes) size (omega arith) in
     rw (order, within, places_lie (start + length b.bytes) size bs (omega arith)) refl
 
--- each body stands at its place
+-- each body is at its place
 bodies_stand : (front : List ℕ) (bodies : List Body) (rest whole : List ℕ) (start : ℕ) → start ≡ length front → whole ≡ front ++ (bodies_bytes bodies ++ rest) → map (body_at whole) (places_from start bodies) ≡ bodies
 bodies_stand front [] rest whole start h e = refl
 bodies_stand front (b ∷ bs) rest whole start h e =

@@ -13,7 +13,7 @@ use Rattle.ii_io.specs.Numbers.{number_at}
 use Rattle.ii_io.specs.StepLemmas.{needs-some, step-some, some-same}
 use Rattle.ii_io.specs.Composite.{place_at, places_at, has_place, are_distinct, lies_within, valid_places, table_of, table_size, body_at, body_of}
 
--- what the rest of a table gives, where these places were read before it
+-- the result of the remaining table, after these places were read
 abbrev pub left : ℕ → List Place → ℕ → List ℕ → Option (List Place)
 left size read n bytes = do
   later ← places_at n bytes
@@ -137,7 +137,7 @@ was_added added false had e f g = sym g
 pub seen-step : (old new : ℕ → Bool) (read : List Place) (p : Place) (field : ℕ) → field ≡ p.field → ((q : ℕ) → old q ≡ has_place q read) → ((q : ℕ) → new q ≡ cond (is_eq (nat_cmp field q)) true (old q)) → (q : ℕ) → new q ≡ has_place q (read ++ p ∷ [])
 seen-step old new read p field same seen updates q = updates q ∙ rw (same, seen q) (seen-more read p q)
 
--- the place of a field tells its body, and lies in the file
+-- the place of a field gives its body, and lies in the file
 body_cases : (t : Bool) (field : ℕ) (bytes : List ℕ) (p q : Place) (ps : List Place) → (q.field == field) ≡ t → Some p ≡ cond t (Some q) (find (λ (r : Place). r.field == field) ps) → (Some p ≡ find (λ (r : Place). r.field == field) ps → body_of field (map (body_at bytes) ps) ≡ Some (slice_range bytes p.start p.end))
     → body_of field (map (body_at bytes) (q ∷ ps)) ≡ Some (slice_range bytes p.start p.end)
 body_cases true field bytes p q ps is e ih = rw (is, some-same e) refl

@@ -1,13 +1,13 @@
--- Laws of where bodies begin, up to the file that is read back.
+-- Laws of the starts of bodies, up to the file that is read back.
 use Rattle.std.proofs.Common.{◌≡◌, ℕ, suc, ◌+◌, ◌-◌, ◌^◌, ◌<◌, Bool, ◌==◌, ◌||◌, map, List, [], ◌∷◌, ◌++◌, length, Result, Ok, Err, true, false, OnOk, refl, sym, ap, ◌∙◌, arith, length-append}
 use Rattle.std.proofs.lemmas.List.{map-append}
 use Rattle.ii_io.specs.declared.composite_file.place.BodyStart.{BodyStart}
 use Rattle.ii_io.specs.declared.faults.Fault.{Fault}
 use Rattle.ii_io.specs.CountingWriter.{CountingWriterState, Wrote}
-use Rattle.ii_io.specs.CountingWriterLemmas.{Wrote-trans}
+use Rattle.ii_io.proofs.WriteSteps.{Wrote-trans}
 use Rattle.ii_io.specs.Composite.{Body, has_place, are_distinct, table_bytes, bodies_bytes, places_from, fit_fields, AreBodies}
 use Rattle.ii_io.specs.CompositeWrite.{CompositeWriteState, has_start, open_place, AreStarts, starts_from, places_of, HasBodies, WroteComposite}
-use Rattle.ii_io.specs.CompositeWriteLemmas.{places_of-bodies}
+use Rattle.ii_io.proofs.CompositeSteps.{places_of-bodies}
 use Rattle.ii_io.proofs.CompositeLaws.{reads_written_composites}
 use Rattle.ii_io.proofs.CompositeReadLemmas.{distinct-more}
 

@@ -12,7 +12,7 @@ use Rattle.ii_io.specs.Numbers.{le_bytes}
 use Rattle.ii_io.specs.NumberLemmas.{length_le_bytes}
 use Rattle.ii_io.specs.Composite.{place_bytes, table_bytes}
 use Rattle.ii_io.specs.CompositeLemmas.{length_place_bytes}
-use Rattle.ii_io.specs.CountingWriterLemmas.{writes_then, writes_refused_by, writes_went}
+use Rattle.ii_io.proofs.WriteSteps.{writes_then, writes_refused_by, writes_went}
 use Rattle.ii_io.specs.CompositeWrite.{places_until}
 
 -- a place ends where the next body begins
@@ -59,7 +59,7 @@ places_more (q ∷ ps) zero p e =
 places_more (q ∷ ps) (suc i) p e =
     ap (λ (bs : List ℕ). place_bytes q ++ bs) (places_more ps i p e) ∙ sym (append_assoc (place_bytes q) (flat_map place_bytes (take i ps)) (place_bytes p))
 
--- a place that was refused, after others
+-- a place that failed, after others
 pub place_refused : (a b c : CountingWriterState) (ps : List Place) (i : ℕ) (p : Place) (result : Result (Unit {0}) Fault) → slice_get ps i ≡ Some p → Wrote a b (flat_map place_bytes (take i ps)) → true ≡ is_err result
     → Writes b c (place_bytes p) result → Writes a c (flat_map place_bytes ps) result
 place_refused a b c ps i p result here front refused writes =
@@ -69,7 +69,7 @@ place_refused a b c ps i p result here front refused writes =
     in
     rw (parts, more) (writes_refused_by a c (flat_map place_bytes (take i ps) ++ place_bytes p) (flat_map place_bytes (drop (suc i) ps)) result refused (writes_then a b c (flat_map place_bytes (take i ps)) (place_bytes p) result front writes))
 
--- the number, which was refused or is followed by a flush
+-- the number, which failed or is followed by a flush
 pub number_refused : (a b c : CountingWriterState) (ps : List Place) (n : ℕ) (first result : Result (Unit {0}) Fault) → length ps ≡ n → false ≡ is_err first → Writes a b (flat_map place_bytes ps) first → Writes b c (le_bytes 4 n) result
     → Writes a c (table_bytes ps) result
 number_refused a b c ps n first result count went places number = rw count (writes_then a b c (flat_map place_bytes ps) (le_bytes 4 n) result (writes_went a b (flat_map place_bytes ps) first went places) number)

@@ -4,3 +4,5 @@ pub mod CompositeStartLemmas
 pub mod CompositeWriteLemmas
 pub mod CountingWriterLemmas
 pub mod VintLemmas
+pub mod CompositeSteps
+pub mod WriteSteps

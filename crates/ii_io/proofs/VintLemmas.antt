@@ -1,4 +1,4 @@
--- What those who read and write vints know on the way.
+-- Invariants of reading and writing vints.
 use Rattle.std.proofs.Common.{◌≡◌, ℕ, zero, suc, ◌+◌, ◌-◌, ◌*◌, ◌/◌, ◌%◌, ◌^◌, ◌<◌, ◌≤◌, List, [], ◌∷◌, ◌++◌, length, take, drop, Option, Some, None, nat_lt, refl, sym, ap, ◌∙◌, arith, get_or, set, add-one, append_assoc, ⊎_elim}
 use Rattle.std.proofs.Math.Nat.{pow-suc, mul-le-mul_left, pow-le-pow_right}
 use Rattle.std.proofs.Math.Seq.{drop-cons}
@@ -70,7 +70,7 @@ pub reading-high : (most : ℕ) (bytes : List ℕ) (i value place b : ℕ) → I
 reading-high most bytes i value place b r few within e high =
     reading_on most bytes i value place b r few within e ∙ gathered-high value place b (most - (i + 1)) (drop (i + 1) bytes) high
 
--- neither further bytes nor further room
+-- neither more bytes nor more groups
 pub reading-full : (most : ℕ) (bytes : List ℕ) (i value place : ℕ) → IsReading most bytes i value place → i ≡ most → groups_at most bytes ≡ None
 reading-full most bytes i value place r e =
     let left : most - i ≡ 0 = omega arith in
@@ -111,7 +111,7 @@ writing-first more before start value h =
     let left : start + more - start ≡ more = omega arith in
     record { forward = omega arith; few = omega arith; fits = rw left h; written = rw left refl; kept = refl }
 
--- what stands after a byte that was put stays
+-- the bytes after a written byte are unchanged
 kept_after : (before after : List ℕ) (end byte : ℕ) → drop end after ≡ drop end before → drop (end + 1) (set after end byte) ≡ drop (end + 1) before
 kept_after before after end byte same =
     drop-set-lt (end + 1) after end byte (omega arith) ∙ sym (drop-drop 1 end after) ∙ ap (drop 1) same ∙ drop-drop 1 end before

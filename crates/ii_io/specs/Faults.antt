@@ -17,11 +17,11 @@ number_of DecreasingPosition = 6
 number_of (Limit name) = 7
 number_of (fault.TheVariants.Damaged part) = 8
 
--- the fault of a damaged part
+-- the fault of a corrupt part
 abbrev pub as_fault : LayoutFault → Fault
 as_fault (layout.Damaged part) = fault.TheVariants.Damaged part
 
--- the fault of a writer to memory, whose calls fail for want of it alone
+-- the fault of a writer to memory, where only allocations fail
 abbrev pub memory_fault : Fault → Fault
 memory_fault OutOfMemory = OutOfMemory
 memory_fault Write = OutOfMemory
@@ -32,10 +32,10 @@ memory_fault DecreasingPosition = DecreasingPosition
 memory_fault (Limit name) = Limit name
 memory_fault (fault.TheVariants.Damaged part) = fault.TheVariants.Damaged part
 
--- A call is refused for want of memory alone.
+-- A call fails only with `OutOfMemory`.
 abbrev pub OnlyMemory : {A : Type 0} → Result A Fault → Type 0
 OnlyMemory result = IfErr result (λ e. e ≡ OutOfMemory)
 
--- A call is refused for want of memory, or since an earlier call was.
+-- A call fails only with `OutOfMemory`, or with `SerializerClosed` after an earlier error.
 abbrev pub OnlyMemoryOrClosed : {A : Type 0} → Result A Fault → Type 0
 OnlyMemoryOrClosed result = IfErr result (λ e. (e ≡ OutOfMemory) ⊎ (e ≡ SerializerClosed))

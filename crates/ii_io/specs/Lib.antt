@@ -1,5 +1,4 @@
 pub mod CompositeWrite
-pub mod CompositeWriteLemmas
 pub mod Composite
 pub mod CompositeLemmas
 pub mod Faults
@@ -8,7 +7,6 @@ pub mod NumberLemmas
 pub mod Numbers
 pub mod Steps
 pub mod CountingWriter
-pub mod CountingWriterLemmas
 pub mod Vints
 pub mod Parts
 pub mod StepLemmas

@@ -1,4 +1,4 @@
--- Laws of numbers in bytes.
+-- Laws of little-endian numbers.
 use Rattle.std.proofs.Common.{◌≡◌, ℕ, zero, suc, ◌+◌, ◌*◌, ◌/◌, ◌%◌, ◌^◌, ◌<◌, ◌≤◌, List, [], ◌∷◌, ◌++◌, length, take, drop, Some, None, refl, sym, ap, ◌∙◌, arith, length-append}
 use Rattle.std.proofs.Math.Nat.{pow-suc, div-one, div-div-eq-div-mul}
 use Rattle.std.proofs.Math.Seq.{take-append_seam, drop-append_seam}
@@ -22,7 +22,7 @@ little_endian-le_bytes (suc k) n h =
     let ih = little_endian-le_bytes k (n / 256) (omega arith) in
     rw ih (omega arith)
 
--- a number is read back, whatever follows
+-- a written number is read back, whatever follows it
 pub reads_what_is_written : ReadsWhatIsWritten
 unfolding number_at
 reads_what_is_written k n rest h =
@@ -32,7 +32,7 @@ reads_what_is_written k n rest h =
     let back = rw size at (drop-append_seam (le_bytes k n) rest) in
     rw (le-leb k (length (le_bytes k n ++ rest)) enough, front, back, little_endian-le_bytes k n h) refl
 
--- bytes are those of their number
+-- bytes are the encoding of their number
 le_bytes-little_endian : (bs : List ℕ) → AreBytes bs → le_bytes (length bs) (little_endian bs) ≡ bs
 unfolding le_bytes
 le_bytes-little_endian [] h = refl
@@ -46,7 +46,7 @@ pub has_one_spelling : HasOneSpelling
 has_one_spelling xs ys are_xs are_ys same_length same_number =
     sym (le_bytes-little_endian xs are_xs) ∙ rw (same_length, same_number) (le_bytes-little_endian ys are_ys)
 
--- the bytes that std and byteorder speak of are these
+-- the bytes of std and byteorder are the same
 byte_at-pow : (i n : ℕ) → byte_at i n ≡ n / 256 ^ i % 256
 byte_at-pow zero n = ap (λ (m : ℕ). m % 256) (sym (div-one n))
 byte_at-pow (suc i) n = refl
@@ -62,7 +62,7 @@ bytes_low_first-from i (suc k) n =
 pub bytes_low_first-le_bytes : (k n : ℕ) → bytes_low_first 0 k n ≡ le_bytes k n
 bytes_low_first-le_bytes k n = bytes_low_first-from 0 k n ∙ ap (le_bytes k) (div-one n)
 
--- the number that byteorder reads in a front is that of the front
+-- the number that byteorder reads from a prefix is the number of the prefix
 little_from-all : (bs : List ℕ) → little_from 0 (length bs) bs ≡ little_endian bs
 little_from-all [] = refl
 little_from-all (b ∷ bs) = ap (λ (n : ℕ). b + 256 * n) (little_from-cons 0 (length bs) b bs ∙ little_from-all bs)

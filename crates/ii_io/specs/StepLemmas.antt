@@ -1,8 +1,8 @@
--- Laws of reading step by step.
+-- Laws of reading in steps.
 use Rattle.std.proofs.Common.{◌≡◌, Bool, true, false, Option, Some, None, refl}
 use Rattle.ii_io.specs.Steps.{◌>>=◌, needs}
 
--- What a step needs where it gives a value.
+-- the conditions under which a step gives a value
 pub needs-some : {A : Type 0} (b : Bool) (f : Unit {0} → Option A) (x : A) → (needs b >>= f) ≡ Some x → (b ≡ true) × (f tt ≡ Some x)
 needs-some true f x e = (refl, e)
 needs-some false f x e = absurd (cc)

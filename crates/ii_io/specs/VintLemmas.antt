@@ -1,4 +1,4 @@
--- Laws of vints: what is spelled is read, and what is written spells its number.
+-- Laws of vints: encodings are read, and written bytes encode their number.
 use Rattle.std.proofs.Common.{◌≡◌, ℕ, zero, suc, ◌+◌, ◌-◌, ◌*◌, ◌/◌, ◌%◌, ◌^◌, ◌<◌, ◌≤◌, Bool, true, false, List, [], ◌∷◌, ◌++◌, length, Some, nat_lt, refl, sym, ap, ◌∙◌, arith, cond, get_or}
 use Rattle.std.proofs.Math.Nat.{pow-suc}
 use Rattle.std.proofs.lemmas.Bool.{lt-ltb, le-ltb, ltb-true, ltb-false}
@@ -6,7 +6,7 @@ use Rattle.ii_io.specs.Steps.{◌>>=◌, needs}
 use Rattle.ii_io.specs.Vints.{groups_sum, Spells, groups_at, vint_at, u32_at, u64_at, fewest_groups, vint_u32, vint_u64, ReadsWhatIsSpelled, SpellsInFewest}
 use Rattle.ii_io.specs.StepLemmas.{needs-some, step-some, some-same}
 
--- The last byte alone is 128 or more.
+-- Only the last byte is 128 or more.
 pub record Ends (s : List ℕ) : Type 0 where
   pub some : 0 < length s
   pub low : (i : ℕ) → i + 1 < length s → get_or s i 0 < 128
@@ -35,7 +35,7 @@ Ends-tail b c s e =
 Ends-head : (b c : ℕ) (s : List ℕ) → Ends (b ∷ c ∷ s) → b < 128
 Ends-head b c s e = e.low 0 (omega arith)
 
--- what is spelled is read, whatever follows
+-- an encoding is read, whatever follows it
 groups_at-append : (most : ℕ) (s rest : List ℕ) → Ends s → length s ≤ most → groups_at most (s ++ rest) ≡ Some (groups_sum s, rest)
 groups_at-append most [] rest e short = absurd (let h = e.some in omega arith)
 groups_at-append zero (b ∷ s) rest e short = absurd (omega arith)
@@ -68,7 +68,7 @@ some_cases most b bs false found e ih h =
     let rest = ap (λ (p : ℕ × List ℕ). p.1) both in
     (b ∷ [], Ends-one b (ltb-false b 128 e), omega arith, (let zero_high : b % 128 ≡ b % 128 + 128 * 0 = omega arith in sym value ∙ zero_high), ap (λ (xs : List ℕ). b ∷ xs) rest)
 
--- what is read was spelled
+-- bytes that are read are an encoding
 groups_at-some : (most : ℕ) (bytes : List ℕ) (found : ℕ × List ℕ) → groups_at most bytes ≡ Some found
     → (s : List ℕ) × Ends s × (length s ≤ most) × (found.0 ≡ groups_sum s) × (bytes ≡ s ++ found.1)
 groups_at-some zero bytes found e = absurd (cc)
@@ -100,7 +100,7 @@ vint_at-some most limit v all rest e =
 pub reads_what_is_spelled : (most limit : ℕ) → ReadsWhatIsSpelled most limit
 reads_what_is_spelled most limit = (λ s rest v. vint_at-append most limit v s rest, λ all rest v. vint_at-some most limit v all rest)
 
--- a number below 128 ^ (more + 1), spelled in its fewest groups
+-- a number below 128 ^ (more + 1), encoded in its fewest groups
 pub record FewestSpell (more n : ℕ) : Type 0 where
   pub ends : Ends (fewest_groups more n)
   pub few : length (fewest_groups more n) ≤ suc more
@@ -135,7 +135,7 @@ least_cases : (more n len : ℕ) (t : Bool) → nat_lt n 128 ≡ t → 0 < len �
 least_cases more n len true e some ih = some
 least_cases more n len false e some ih = ih (ltb-false n 128 e)
 
--- no spelling is shorter
+-- no encoding is shorter
 fewest_least : (more : ℕ) (s : List ℕ) (n : ℕ) → Ends s → n ≡ groups_sum s → length (fewest_groups more n) ≤ length s
 fewest_least more [] n e value = absurd (let h = e.some in omega arith)
 fewest_least zero (b ∷ s) n e value = omega arith
@@ -153,7 +153,7 @@ spells_in_fewest more n limit h fits =
       λ bytes s. fewest_least more bytes n (record { some = s.some; low = s.low; last = s.last }) s.value,
     )
 
--- what is written is read back, whatever follows
+-- a written number is read back, whatever follows it
 pub u32_at-vint_u32 : (n : ℕ) (rest : List ℕ) → n < 2 ^ 32 → u32_at (vint_u32 n ++ rest) ≡ Some (n, rest)
 unfolding u32_at vint_u32
 u32_at-vint_u32 n rest fits =

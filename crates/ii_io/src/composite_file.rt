@@ -4,7 +4,7 @@ pub mod place;
 
 ghost use Rattle.ii_io.specs.Composite.{ReadsWrittenComposites};
 
-/// The law of composite files: what is written for bodies of distinct fields is read back.
+/// Law: a composite file written for bodies of distinct fields is read back.
 pub fn reads_composites_back()
     ensures { ReadsWrittenComposites }
 {}

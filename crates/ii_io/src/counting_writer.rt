@@ -5,10 +5,10 @@ use super::faults::{Fault, LimitName};
 use std::io::Write;
 use std::marker::Model;
 
-/// A writer that counts the bytes written through it and the calls that failed.
+/// A writer that counts the bytes written through it, and its failed calls.
 ///
-/// A call fails where its writer answers an error, an interruption too, which isn't tried again,
-/// and where a write takes none of some bytes.
+/// A call fails if the underlying writer returns an error, or accepts none of a non-empty buffer.
+/// `Interrupted` is an error too, and isn't retried.
 #[derive(Drop)]
 pub struct CountingWriter<W: Write> {
     underlying: W,
@@ -29,7 +29,7 @@ impl<W: Write> Model for CountingWriter<W> {
 }
 
 impl<W: Write> CountingWriter<W> {
-    /// A counting writer over `underlying`, with both counts 0.
+    /// Wraps a writer, with both counts 0.
     pub fn wrap(underlying: W) -> CountingWriter<W>
         ensures { result ≡ record { contents = W.contents underlying; written_bytes = 0; failed_calls = 0 } }
     {
@@ -40,21 +40,21 @@ impl<W: Write> CountingWriter<W> {
         }
     }
 
-    /// How many bytes were written through this writer.
+    /// Returns how many bytes were written through this writer.
     pub fn written_bytes(&self) -> u64
         ensures { result ≡ self.now.written_bytes }
     {
         self.written_bytes
     }
 
-    /// How many calls failed.
+    /// Returns how many calls failed.
     pub fn failed_calls(&self) -> u64
         ensures { result ≡ self.now.failed_calls }
     {
         self.failed_calls
     }
 
-    /// The underlying writer. Nothing is flushed.
+    /// Returns the underlying writer without flushing it.
     pub fn finish(self) -> W
         ensures { W.contents result ≡ self.contents }
     {
@@ -66,9 +66,12 @@ impl<W: Write> CountingWriter<W> {
         writer
     }
 
-    /// Writes all of `buf`, or answers `Write` where the writer fails; a prefix of `buf` is then
-    /// written. Where a count would pass `u64::MAX` the answer is `Limit(Offset)`, and nothing is
-    /// touched.
+    /// Writes all of `buf`.
+    ///
+    /// # Errors
+    ///
+    /// `Write` if the underlying writer fails; a prefix of `buf` may have been written. `Limit(Offset)` if
+    /// a count would exceed `u64::MAX`; nothing is written.
     pub fn write_all(&mut self, buf: &[u8]) -> Result<(), Fault>
         ensures written { Writes self.old self.new buf.now result }
         ensures limit { IsErrOf result (Fault.Limit LimitName.Offset) ↔ IsFull self.old (length buf.now) }
@@ -93,8 +96,12 @@ impl<W: Write> CountingWriter<W> {
         Ok(())
     }
 
-    /// Flushes the writer, or answers `Write` where it fails. Where the count of failed calls is
-    /// `u64::MAX` the answer is `Limit(Offset)`, and nothing is touched.
+    /// Flushes the writer.
+    ///
+    /// # Errors
+    ///
+    /// `Write` if the underlying writer fails; `Limit(Offset)`, without a flush, if `failed_calls` is
+    /// `u64::MAX`.
     pub fn flush(&mut self) -> Result<(), Fault>
         ensures written { Writes self.old self.new [] result }
         ensures limit { IsErrOf result (Fault.Limit LimitName.Offset) ↔ (self.old.failed_calls ≡ 2 ^ 64 - 1) }

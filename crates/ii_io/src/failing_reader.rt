@@ -3,8 +3,8 @@ ghost use Rattle.std.specs.Prelude.{◌≡◌};
 use std::io::{self, Read};
 use std::marker::Model;
 
-/// A reader over memory, of which one call fails, the first call being call 1. With 0 none does.
-/// The call fails as if it was interrupted, so that one that is tried again is seen.
+/// A reader over memory that fails at call `failing_call`, counted from 1, or never for 0. The error is
+/// `Interrupted`, so that a retry shows.
 #[derive(Drop)]
 pub struct FailingReader<'a> {
     rest: &'a [u8],
@@ -21,7 +21,7 @@ impl<'a> Model for FailingReader<'a> {
 }
 
 impl<'a> FailingReader<'a> {
-    /// A reader of these bytes.
+    /// Creates a reader of these bytes.
     pub fn new(bytes: &'a [u8], failing_call: u64) -> FailingReader<'a>
         ensures { result ≡ bytes.entry.now }
     {

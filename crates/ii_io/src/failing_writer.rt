@@ -4,9 +4,8 @@ use std::alloc::Global;
 use std::io::{self, Write};
 use std::marker::Model;
 
-/// A writer over memory, of which one call fails: a write or a flush, the first call being call 1.
-/// With 0 none does. The call fails as if it was interrupted, so that one that is tried again is
-/// seen. Clauses see the bytes that it holds.
+/// A writer to memory that fails at call `failing_call`, a write or a flush, counted from 1, or never for
+/// 0. The error is `Interrupted`, so that a retry shows. Its model is the bytes it holds.
 #[derive(Drop)]
 pub struct FailingWriter {
     bytes: Vec<u8>,
@@ -23,7 +22,7 @@ impl Model for FailingWriter {
 }
 
 impl FailingWriter {
-    /// A writer that holds nothing yet.
+    /// Creates an empty writer.
     pub fn new(alloc: Global, failing_call: u64) -> FailingWriter
         ensures { result ≡ [] }
     {
@@ -34,14 +33,14 @@ impl FailingWriter {
         }
     }
 
-    /// The bytes that were written.
+    /// Returns the bytes that were written.
     pub fn bytes(&self) -> &[u8]
         ensures { result.now ≡ self.now }
     {
         self.bytes.as_slice()
     }
 
-    // Counts a call, which fails if it is the one that does.
+    // Counts a call, and fails if it is number `failing_call`.
     fn call(&mut self) -> io::Result<()>
         ensures { self.new ≡ self.old }
     {

@@ -6,7 +6,7 @@ use std::alloc::{AllocError, AllocFailed};
 use std::fmt;
 use thiserror::Error;
 
-/// The kind of a JSON leaf that the index doesn't take.
+/// The kind of a JSON leaf that the index doesn't support.
 #[derive(Clone, Copy, Debug, PartialEq, Eq)]
 pub enum LeafKind {
     Float,
@@ -14,44 +14,44 @@ pub enum LeafKind {
     Bytes,
     Facet,
     Ip,
-    /// A value in which more arrays and objects stand in one another than an index takes.
+    /// A value with arrays and objects nested more deeply than an index supports.
     Deep,
 }
 
-/// The limit that a number passed.
+/// The limit that a number exceeded.
 #[derive(Clone, Copy, Debug, PartialEq, Eq)]
 pub enum LimitName {
     /// The start or end of a kept token, the end of a text plus its gap, or a recorded position.
     Position,
     /// The tokens of a text group (at most `u32::MAX`) or of a field (at most `u64::MAX`).
     Tokens,
-    /// A term's count in one document, at most `u32::MAX`.
+    /// The frequency of a term in one document, at most `u32::MAX`.
     Count,
-    /// The sum of the counts of a full block, at most `u32::MAX`.
+    /// The sum of the term frequencies in a full block, at most `u32::MAX`.
     BlockFrequencySum,
     /// The bytes of a term's postings or positions, at most `u32::MAX`.
     TermBytes,
-    /// A term's end offset, below 2^56; or the bytes that a writer counts, or its failed calls, at
-    /// most `u64::MAX`.
+    /// The end offset of a term, less than 2^56; or the bytes or failed calls that a writer counts, at most
+    /// `u64::MAX`.
     Offset,
-    /// The id of a JSON path, at most `u32::MAX`.
+    /// The number of a JSON path, at most `u32::MAX`.
     Paths,
-    /// The positions of a loaded list, at most `u32::MAX`.
+    /// The number of positions in a loaded posting list, at most `u32::MAX`.
     LoadedPositions,
 }
 
-/// The part of an index that bytes fail to hold.
+/// The part of an index that is corrupt.
 #[derive(Clone, Copy, Debug, PartialEq, Eq)]
 pub enum Part {
     /// The skip list of a term's postings.
     Skip,
     /// The documents of a term's postings.
     Documents,
-    /// The counts of a term's postings.
+    /// The term frequencies of a term's postings.
     Frequencies,
     /// The positions of a term.
     Positions,
-    /// The ranges of a term, which have to lie in its field's files.
+    /// The ranges of a term's postings and positions, which must lie in the files of its field.
     Range,
     /// The table of a composite file.
     Composite,
@@ -61,52 +61,51 @@ pub enum Part {
     TermStore,
     /// The number of tokens of a field.
     TokenCount,
-    /// The norms of a field.
+    /// The field norms of a field.
     FieldNorms,
     /// A key of a JSON field.
     JsonKey,
 }
 
-/// Why a call of the index was refused.
+/// Why a call of the index failed.
 #[derive(Clone, Copy, Debug, PartialEq, Eq, Error)]
 pub enum Fault {
-    /// A growth found no memory in this call.
+    /// A memory allocation failed during this call.
     #[error("out of memory")]
     OutOfMemory,
-    /// The writer failed in this call: its count of failed calls rose.
+    /// The underlying writer failed during this call; its count of failed calls increased.
     #[error("the writer failed")]
     Write,
-    /// An earlier call of this serializer answered a fault.
+    /// An earlier call of this serializer failed.
     #[error("the serializer is closed")]
     SerializerClosed,
-    /// An earlier call of this indexer answered a fault.
+    /// An earlier call of this indexer failed.
     #[error("the indexer failed")]
     IndexerFailed,
-    /// A JSON leaf of a kind that the index doesn't take was reached.
+    /// The document has a JSON leaf of an unsupported kind.
     #[error("unsupported JSON leaf: {0}")]
     UnsupportedLeaf(LeafKind),
-    /// A term was recorded below its last position in the same document.
+    /// A term was recorded at a position below its last one in the same document.
     #[error("decreasing position")]
     DecreasingPosition,
-    /// A number passed its limit.
+    /// A number exceeded its limit.
     #[error("limit passed: {0}")]
     Limit(LimitName),
-    /// Bytes don't hold what they are opened as.
+    /// The bytes are not a valid part of this kind.
     #[error("damaged: {0}")]
     Damaged(Part),
 }
 
-/// Why the postings or the positions of a term were refused. What answers it takes no memory.
+/// Why the postings or positions of a term are corrupt. Functions that return it don't allocate.
 #[derive(Clone, Copy, Debug, PartialEq, Eq, Error)]
 pub enum LayoutFault {
-    /// The first part, in the order skip list, documents, frequencies, positions, that the bytes
-    /// fail to hold.
+    /// The first corrupt part, in the order skip list, documents, frequencies, positions.
     #[error("damaged: {0}")]
     Damaged(Part),
 }
 
 impl Fault {
-    /// The fault's number, from 1 to 8.
+    /// Returns the number of the fault, from 1 to 8.
     pub fn number(self) -> u8
         ensures { result ≡ number_of self }
     {
@@ -122,15 +121,15 @@ impl Fault {
         }
     }
 
-    /// Whether no memory was found.
+    /// Returns whether an allocation failed.
     pub fn is_memory(self) -> bool
         ensures { IsTrue result ↔ (self ≡ OutOfMemory) }
     {
         matches!(self, Fault::OutOfMemory)
     }
 
-    /// The fault of a writer that writes to memory, and fails for want of it alone: `OutOfMemory` for
-    /// `Write`, and any other as it is.
+    /// Maps `Write` to `OutOfMemory`, and any other fault to itself. Used for a writer to memory, which
+    /// fails only when an allocation fails.
     pub fn in_memory(self) -> Fault
         ensures { result ≡ memory_fault self }
     {
@@ -142,7 +141,7 @@ impl Fault {
 }
 
 impl LeafKind {
-    // What it is called.
+    // Returns the display name.
     fn name(self) -> &'static str {
         match self {
             LeafKind::Float => "float",
@@ -162,7 +161,7 @@ impl fmt::Display for LeafKind {
 }
 
 impl LimitName {
-    // What it is called.
+    // Returns the display name.
     fn name(self) -> &'static str {
         match self {
             LimitName::Position => "position",
@@ -184,7 +183,7 @@ impl fmt::Display for LimitName {
 }
 
 impl Part {
-    // What it is called.
+    // Returns the display name.
     fn name(self) -> &'static str {
         match self {
             Part::Skip => "skip list",

@@ -2,7 +2,7 @@ ghost use Rattle.std.specs.Prelude.{◌≡◌};
 
 use std::marker::Model;
 
-/// A field of a schema, by its number. Clauses see it as that number.
+/// A field of a schema. Its model is its number.
 #[derive(Clone, Copy, Debug, PartialEq, Eq, PartialOrd, Ord, Hash)]
 pub struct Field(u32);
 
@@ -17,14 +17,14 @@ impl Model for Field {
 }
 
 impl Field {
-    /// The field of this number.
+    /// Creates the field with this number.
     pub fn from_field_id(field_id: u32) -> Field
         ensures { result ≡ field_id }
     {
         Field(field_id)
     }
 
-    /// The field's number.
+    /// Returns the number of the field.
     pub fn field_id(self) -> u32
         ensures { result ≡ self }
     {

@@ -3,7 +3,7 @@ ghost use Rattle.std.specs.Borrow.{ftrue};
 
 use std::marker::Model;
 
-/// A whole number without bound, for contracts alone: it takes no bytes, and no code can read it.
+/// An unbounded natural number for contracts alone. It takes no bytes, and code can't read it.
 #[derive(Drop)]
 pub struct GhostCounter {
     pub ghost value: { ℕ },
@@ -14,21 +14,21 @@ impl Model for GhostCounter {
 }
 
 impl GhostCounter {
-    /// A ghost_counter that stands at 0.
+    /// Creates a counter with value 0.
     pub fn new() -> GhostCounter
         ensures { result.value ≡ 0 }
     {
         GhostCounter {}
     }
 
-    /// A ghost_counter that stands one higher.
+    /// Returns a counter with the next value.
     pub fn next(&self) -> GhostCounter
         ensures { result.value ≡ self.now.value + 1 }
     {
         GhostCounter {}
     }
 
-    /// A ghost_counter that stands as high.
+    /// Returns a counter with the same value.
     pub fn same(&self) -> GhostCounter
         ensures { result.value ≡ self.now.value }
     {

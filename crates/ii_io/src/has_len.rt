@@ -2,16 +2,16 @@ ghost use Rattle.std.specs.Prelude.{◌≡◌, ◌==◌, ℕ, length};
 
 use bytes::Bytes;
 
-/// What has a length.
+/// A value with a length.
 pub trait HasLen {
-    // How long it is.
+    // The length.
     ghost length_of: { Self → ℕ };
 
-    /// The length.
+    /// Returns the length.
     fn len(&self) -> usize
         ensures { result ≡ length_of self.now };
 
-    /// Whether the length is 0.
+    /// Returns whether the length is 0.
     fn is_empty(&self) -> bool
         ensures { result ≡ (length_of self.now == 0) }
     {

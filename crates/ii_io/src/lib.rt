@@ -1,4 +1,4 @@
-//! What every layer of the index speaks of: faults, counted writers, and the spelling of numbers.
+//! What every layer of the index uses: faults, counting writers, and the encoding of numbers.
 #![tactic(auto)]
 
 pub mod composite_file;
@@ -7,9 +7,9 @@ pub mod failing_reader;
 pub mod failing_writer;
 pub mod faults;
 pub mod field;
+pub mod ghost_counter;
 pub mod has_len;
 pub mod serialize;
-pub mod ghost_counter;
 pub mod vint;
 
 pub use composite_file::composite_read::CompositeFile;
@@ -19,6 +19,6 @@ pub use failing_reader::FailingReader;
 pub use failing_writer::FailingWriter;
 pub use faults::{Fault, LayoutFault, LeafKind, LimitName, Part};
 pub use field::Field;
+pub use ghost_counter::GhostCounter;
 pub use has_len::HasLen;
 pub use serialize::{BinarySerializable, FixedSize};
-pub use ghost_counter::GhostCounter;

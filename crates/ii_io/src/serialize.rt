@@ -9,22 +9,26 @@ use super::field::Field;
 use byteorder::{ByteOrder, LittleEndian};
 use std::io::Write;
 
-/// A value that has bytes, and is read back from the front of them.
+/// A value that can be encoded as bytes and decoded again.
 pub trait BinarySerializable: Sized {
-    // The bytes of a value.
+    // The encoding of a value.
     ghost bytes_of: { Self → List ℕ };
 
-    // The value that stands at the front of bytes, if one does, and the bytes after it.
+    // The value encoded at the start of the bytes, if there is one, and the bytes after it.
     ghost value_at: { List ℕ → Option (Self × List ℕ) };
 
-    // What a value has to meet to be written.
+    // The condition under which a value can be written.
     ghost can_serialize: { Self → Type 0 } = { λ _. Unit {0} };
 
-    // What each value of the type meets, as `serialize` shows.
+    // A property of every value of the type, which `serialize` ensures.
     ghost in_range: { Self → Type 0 } = { λ _. Unit {0} };
 
-    /// Writes the value's bytes, or answers `Write` where the writer fails, and a prefix of them
-    /// is then written; `Limit(Offset)` where a count of the writer would pass `u64::MAX`.
+    /// Writes the encoding of the value.
+    ///
+    /// # Errors
+    ///
+    /// `Write` if the writer fails; a prefix of the encoding may have been written. `Limit(Offset)` if a
+    /// count of the writer would exceed `u64::MAX`.
     fn serialize<W: Write>(&self, writer: &mut CountingWriter<W>) -> Result<(), Fault>
         requires { can_serialize self.now }
         ensures written { Writes writer.old writer.new (bytes_of self.now) result }
@@ -32,29 +36,29 @@ pub trait BinarySerializable: Sized {
             ↔ IsFull writer.old (length (bytes_of self.now)) }
         ensures value { in_range self.now };
 
-    /// Takes the value from the front of the bytes. `None` where none stands there, and the bytes
-    /// then stay as they were.
+    /// Reads a value from the start of the bytes, and advances past it. Returns `None`, without advancing,
+    /// if there is no valid encoding.
     fn deserialize(reader: &mut &[u8]) -> Option<Self>
         ensures value { option_map (λ v. (v, reader.new.now)) result ≡ value_at reader.old.now }
         ensures stays { IfNone result (reader.new.now ≡ reader.old.now) };
 
-    // A value that was written is read back, whatever follows.
+    // A written value is read back, whatever follows it.
     ghost reads_back: { (v : Self) (rest : List ℕ) → in_range v → can_serialize v
         → value_at (bytes_of v ++ rest) ≡ Some (v, rest) };
 }
 
-/// A type whose values have as many bytes each.
+/// A type whose encodings all have the same length.
 pub trait FixedSize: BinarySerializable {
     ghost SIZE_IN_BYTES: { ℕ };
 
-    /// How many bytes a value has.
+    /// The length of an encoding in bytes.
     const SIZE_IN_BYTES: usize;
 
-    // Each value has so many bytes.
+    // Every encoding has this length.
     ghost has_size: { (v : Self) → length (Self.bytes_of v) ≡ SIZE_IN_BYTES };
 }
 
-/// Four bytes, the lowest first.
+/// Four bytes, little-endian.
 impl BinarySerializable for u32 {
     ghost use Rattle.ii_io.specs.NumberLemmas.{reads_what_is_written};
     ghost use Rattle.std.specs.Prelude.{◌<◌, ◌^◌};
@@ -94,7 +98,7 @@ impl FixedSize for u32 {
     ghost has_size = { λ n. length_le_bytes 4 n };
 }
 
-/// Eight bytes, the lowest first.
+/// Eight bytes, little-endian.
 impl BinarySerializable for u64 {
     ghost use Rattle.ii_io.specs.NumberLemmas.{reads_what_is_written};
     ghost use Rattle.std.specs.Prelude.{◌<◌, ◌^◌};
@@ -134,8 +138,8 @@ impl FixedSize for u64 {
     ghost has_size = { λ n. length_le_bytes 8 n };
 }
 
-/// The law of numbers: what is written is read, whatever follows, and no other bytes of the same
-/// size give the same number.
+/// Law: a written number is read back, whatever follows it. No other bytes of the same length encode the
+/// same number.
 pub fn reads_numbers_back()
     ensures reads { ReadsWhatIsWritten }
     ensures one { HasOneSpelling }

@@ -9,15 +9,15 @@ use super::serialize::BinarySerializable;
 use std::io::Write;
 use std::marker::Model;
 
-/// The most bytes of a vint of 32 bits.
+/// The maximum length of a 32-bit vint in bytes.
 pub const MAX_VINT_SIZE: usize = 5;
 
-/// The most bytes of a vint of 64 bits.
+/// The maximum length of a 64-bit vint in bytes.
 pub const MAX_LONG_VINT_SIZE: usize = 10;
 
-/// The number of 32 bits that is spelled at the front of `bytes`, and how many bytes spell it: 1 to
-/// 5 bytes of seven bits each, the lowest first, of which the last alone is 128 or more. `None`
-/// where no such spelling begins the bytes, or the number passes `u32::MAX`.
+/// Reads a 32-bit vint from the start of `bytes`, and returns it with its length, 1 to 5 bytes. Each byte
+/// holds seven bits, the lowest first; only the last byte is 128 or more. Returns `None` if there is no
+/// vint, or the number exceeds `u32::MAX`.
 pub fn read_u32(bytes: &[u8]) -> Option<(u32, usize)>
     ensures value { option_map (λ read. (read.0, drop read.1 bytes.now)) result ≡ u32_at bytes.now }
     ensures within { IfSome result (λ read. read.1 ≤ length bytes.now) }
@@ -31,8 +31,8 @@ pub fn read_u32(bytes: &[u8]) -> Option<(u32, usize)>
     Some((number, used))
 }
 
-/// The number of 64 bits that is spelled at the front of `bytes`, and how many bytes spell it, 1 to
-/// 10: as `read_u32` reads one of 32 bits.
+/// Reads a 64-bit vint from the start of `bytes`, and returns it with its length, 1 to 10 bytes. See
+/// `read_u32`.
 pub fn read_u64(bytes: &[u8]) -> Option<(u64, usize)>
     ensures value { option_map (λ read. (read.0, drop read.1 bytes.now)) result ≡ u64_at bytes.now }
     ensures within { IfSome result (λ read. read.1 ≤ length bytes.now) }
@@ -40,7 +40,7 @@ pub fn read_u64(bytes: &[u8]) -> Option<(u64, usize)>
     read_groups(bytes, MAX_LONG_VINT_SIZE)
 }
 
-// The number of 64 bits that `most` bytes or fewer spell at the front, and how many do.
+// Reads a vint of at most `most` bytes, and returns it with its length.
 fn read_groups(bytes: &[u8], most: usize) -> Option<(u64, usize)>
     requires { most ≤ 10 }
     ensures value { option_map (λ read. (read.0, drop read.1 bytes.now)) result ≡ vint_at most (2 ^ 64) bytes.now }
@@ -67,8 +67,7 @@ fn read_groups(bytes: &[u8], most: usize) -> Option<(u64, usize)>
     None
 }
 
-/// Writes the shortest spelling of `value` into `output` from `start` on, and answers the place
-/// after it.
+/// Writes the shortest encoding of `value` to `output` at `start`, and returns the index after it.
 pub fn write_u32(value: u32, output: &mut [u8], start: usize) -> usize
     requires { start + 5 ≤ length output.old }
     ensures written { take result output.new ≡ take start output.old ++ vint_u32 value }
@@ -86,8 +85,8 @@ pub fn write_u32(value: u32, output: &mut [u8], start: usize) -> usize
     end + 1
 }
 
-/// Writes the shortest spelling of `value`, which has 1 to 10 bytes, into `output` from `start` on,
-/// and answers the place after it.
+/// Writes the shortest encoding of `value`, 1 to 10 bytes, to `output` at `start`, and returns the index
+/// after it.
 pub fn write_u64(value: u64, output: &mut [u8], start: usize) -> usize
     requires { start + 10 ≤ length output.old }
     ensures written { take result output.new ≡ take start output.old ++ vint_u64 value }
@@ -105,9 +104,8 @@ pub fn write_u64(value: u64, output: &mut [u8], start: usize) -> usize
     end + 1
 }
 
-/// Adds the shortest spelling of `value`, 1 to 5 bytes, to `output`.
-///
-/// `OutOfMemory` where there is no room for it: `output` then stays.
+/// Appends the shortest encoding of `value`, 1 to 5 bytes. Returns `OutOfMemory`, and leaves `output` as it
+/// is, if it can't grow.
 pub fn write_u32_vint(value: u32, output: &mut Vec<u8>) -> Result<(), Fault>
     ensures ok { OnOk result (output.new.items ≡ output.old.items ++ vint_u32 value) }
     ensures err { OnErr result (output.new.items ≡ output.old.items) }
@@ -123,8 +121,7 @@ pub fn write_u32_vint(value: u32, output: &mut Vec<u8>) -> Result<(), Fault>
     Ok(())
 }
 
-/// Reads the number of 32 bits that is spelled at the front of `bytes`, which goes on behind it. It
-/// asks for such a spelling there.
+/// Reads a 32-bit vint from the start of `bytes`, and advances past it. A valid vint must be there.
 pub fn read_u32_vint(bytes: &mut &[u8]) -> u32
     requires { IsSome (u32_at bytes.old.now) }
     ensures { u32_at bytes.old.now ≡ Some (result, bytes.new.now) }
@@ -137,8 +134,8 @@ pub fn read_u32_vint(bytes: &mut &[u8]) -> u32
     number
 }
 
-/// A number of 64 bits with the bytes of its shortest spelling, 1 to 10. Any spelling of at most 10
-/// bytes is read. Clauses see it as the number.
+/// A 64-bit number that is written in its shortest encoding, 1 to 10 bytes. Any encoding of at most 10
+/// bytes is read. Its model is the number.
 #[derive(Clone, Copy, Debug, PartialEq, Eq)]
 pub struct VInt(pub u64);
 
@@ -181,14 +178,13 @@ impl BinarySerializable for VInt {
     }
 }
 
-/// The law of reading: at 32 and at 64 bits what is spelled is read, whatever follows, and nothing
-/// else is.
+/// Law of reading: 32-bit and 64-bit vints are read exactly as encoded, whatever follows them.
 pub fn reads_what_is_spelled()
     ensures u32 { ReadsWhatIsSpelled 5 (2 ^ 32) }
     ensures u64 { ReadsWhatIsSpelled 10 (2 ^ 64) }
 {}
 
-/// The law of writing: what is written spells its number, in the fewest bytes.
+/// Law of writing: the bytes written encode the number, and no encoding is shorter.
 pub fn spells_in_fewest()
     ensures u32 { SpellsInFewest 4 }
     ensures u64 { SpellsInFewest 9 }

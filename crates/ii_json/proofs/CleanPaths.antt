@@ -1,4 +1,4 @@
--- A path whose segments hold no byte 0 holds none.
+-- A path of segments without byte 0 has no byte 0.
 use Rattle.std.proofs.Common.{◌≡◌, ℕ, Bool, true, false, ◌||◌, ◌==◌, List, [], ◌∷◌, ◌++◌, refl, sym, ◌∙◌}
 use Rattle.std.specs.Prelude.{if◌then◌else◌}
 use Rattle.std.proofs.lemmas.List.Folds.{list_any-append}
@@ -28,7 +28,7 @@ clean_segment true [] none = refl
 clean_segment true (c ∷ cs) none =
     neither ((if c == 46 then 1 else c) == 0) (has_zero (segment_bytes true cs)) (none_parted c (or_left (c == 0) (has_zero cs) none)) (clean_segment true cs (or_right (c == 0) (has_zero cs) none))
 
--- what two parts hold between which byte 1 stands
+-- two parts with byte 1 between them
 none_held : (x s : List ℕ) → has_zero (x ++ 1 ∷ s) ≡ (has_zero x || has_zero s)
 none_held x s = list_any-append (λ (b : ℕ). b == 0) x (1 ∷ s)
 

@@ -1,4 +1,4 @@
--- The order of terms by ranks, types and values is that of their keys' bytes.
+-- Terms ordered by rank, type and value are ordered by the bytes of their keys.
 use Rattle.std.proofs.Common.{◌≡◌, ℕ, zero, suc, ◌+◌, ◌<◌, ◌≤◌, Bool, true, false, cond, ◌==◌, List, [], ◌∷◌, map, length, get_or, refl, sym, ap, arith, ◌∙◌, Contains}
 use Rattle.std.proofs.Common.{Ordering, Less, Equal, Greater}
 use Rattle.std.specs.Cmp.{nat_cmp_is, ranked}
@@ -83,7 +83,7 @@ module _ (known : List (List ℕ)) (p q : List ℕ) (p_in : Contains known p) (q
           let less : slice_cmp nat_cmp q p ≡ Less = rw (nat_list_cmp_total.antisymm q p, is) refl in
           sym (nat_cmp_is (path_rank known p) (path_rank known q) Greater (smaller_rank q p less known q_in.0 q_in.1 q_in.2))
 
--- so are keys: by the ranks of their paths, and then by what stands behind these
+-- the same for keys: by the ranks of their paths, then by the bytes after these
 pub ranked_as_keys : (known : List (List ℕ)) (p q x y : List ℕ) → Contains known p → Contains known q → has_zero p ≡ false → has_zero q ≡ false
     → ordering_then (nat_cmp (path_rank known p) (path_rank known q)) (slice_cmp nat_cmp x y) ≡ slice_cmp nat_cmp (json_key p x) (json_key q y)
 ranked_as_keys known p q x y p_in q_in p_none q_none =
@@ -116,7 +116,7 @@ module _ (known : List (List ℕ)) where
   keys_ascend [] each sorted = tt
   keys_ascend (t ∷ terms) each sorted = (all_below t terms each.0 each.1 sorted.0, keys_ascend terms each.1 sorted.1)
 
-  -- the ordered id of a term stands at its unordered one, and its path at the ordered one
+  -- the ordered id of a term is at its unordered id, and its path at the ordered id
   pub ordered_id_at : (t : PathTerm) → t.path_id < length known → get_or (path_ranks known) t.path_id 0 ≡ ordered_id_of_term known t
   ordered_id_at t within = get_or-map (path_rank known) known t.path_id [] 0 within
 

@@ -1,4 +1,4 @@
--- Known paths: a set's keys, seen as their bytes.
+-- Known paths: the keys of a set, as bytes.
 use Rattle.std.proofs.Common.{◌≡◌, ℕ, zero, suc, ◌+◌, ◌<◌, ◌≤◌, ◌^◌, Bool, true, false, cond, not, ◌||◌, List, [], ◌∷◌, ◌++◌, map, length, take, get_or, Some, None, refl, sym, ap, arith, ◌∙◌, IsTrue}
 use Rattle.std.specs.Prelude.{bytes_eq, position}
 use Rattle.std.specs.List.{AllByRecursion, IsDistinct, list_any, position_or_len, slice_get}
@@ -6,7 +6,7 @@ use Rattle.std.proofs.lemmas.List.{length-map, map-append, map_more}
 use Rattle.indexmap.specs.IndexSet.{insert_key}
 use Rattle.ii_json.specs.Paths.{is_known, path_fault, path_id, with_path}
 
--- one more of what is seen as the first of a list
+-- one more element, by its view
 pub more_seen : {X Y Z : Type 0} (f : X → Z) (g : Y → Z) (xs : List X) (ys : List Y) (i : ℕ) (x : X) (d : Y) → i < length ys → map f xs ≡ map g (take i ys) → f x ≡ g (get_or ys i d) → map f (xs ++ x ∷ []) ≡ map g (take (i + 1) ys)
 more_seen f g xs ys i x d within held is = rw (map-append f xs (x ∷ []), held, is) (sym (map_more g ys i d within))
 
@@ -43,7 +43,7 @@ pub some_if : (t : Bool) (n i : ℕ) → Some i ≡ cond t (Some n) None → (t 
 some_if true n i e = (refl, cc)
 some_if false n i e = absurd (cc)
 
--- an unknown path is put behind the known ones, which are seen by their bytes
+-- an unknown path is appended to the known ones, as bytes
 module _ {K : Type 0} (f : K → List ℕ) (known : List (List ℕ)) (keys : List K) (seen : map f keys ≡ known) (path : List ℕ) where
   pub known_is : list_any (λ (k : K). bytes_eq path (f k)) keys ≡ is_known known path
   known_is = any_mapped f (bytes_eq path) keys ∙ ap (list_any (bytes_eq path)) seen
@@ -57,7 +57,7 @@ module _ {K : Type 0} (f : K → List ℕ) (known : List (List ℕ)) (keys : Lis
   pub added_paths : is_known known path ≡ false → (k : K) → f k ≡ path → map f (insert_key (λ (x y : K). bytes_eq (f x) (f y)) keys k) ≡ with_path known path
   added_paths unknown k is = rw (is, known_is, unknown) (map-append f keys (k ∷ []) ∙ ap (λ (q : List ℕ). map f keys ++ q ∷ []) is ∙ ap (λ (ps : List (List ℕ)). ps ++ path ∷ []) seen)
 
--- why a known path is not refused
+-- a known path has no fault
 pub known_fault : (known : List (List ℕ)) (path : List ℕ) → is_known known path ≡ true → path_fault known path ≡ None
 known_fault known path is = rw is refl
 

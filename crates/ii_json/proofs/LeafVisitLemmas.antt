@@ -1,4 +1,4 @@
--- The fault of leaves after others.
+-- The fault for leaves after others.
 use Rattle.std.proofs.Common.{◌≡◌, ◌⊎◌, ℕ, ◌-◌, length, length-append, take, String, Global, arith, List, [], ◌∷◌, ◌++◌, append_assoc, append-nil, Option, None, Some, inl, inr, refl, sym, ap, subst, ◌∙◌}
 use Rattle.ii_io.specs.declared.faults.Fault.{Fault}
 use Rattle.ii_io.specs.declared.faults.Fault.TheVariants.{OutOfMemory}
@@ -24,13 +24,13 @@ leaves_fault-append fault before (l ∷ one) rest =
     ap (first_fault (fault before l)) (leaves_fault-append fault (before ++ l ∷ []) one rest ∙ ap (λ (k : List AtPath). first_fault (leaves_fault fault (before ++ l ∷ []) one) (leaves_fault fault k rest)) (append_assoc before (l ∷ []) one))
     ∙ first_fault-assoc (fault before l) (leaves_fault fault (before ++ l ∷ []) one) (leaves_fault fault (before ++ (l ∷ one)) rest)
 
--- the fault of a first part is that of the whole
+-- the fault of a first part is that of the complete list
 cause_first : (cause later : Option Fault) (e : Fault) → (e ≡ OutOfMemory) ⊎ (cause ≡ Some e) → (e ≡ OutOfMemory) ⊎ (first_fault cause later ≡ Some e)
 cause_first cause later e (inl memory) = inl memory
 cause_first cause later e (inr is) = inr (ap (λ (c : Option Fault). first_fault c later) is)
 
 module _ {S Given Constant : Type 0} (constant : S → Constant) (ready : S → Type 0) (holds : S → Given → List AtPath → Type 0) (fault : Constant → Given → LeafFault) (start now : S) (all rest : List AtPath) where
-  -- Leaves are handed on: for what was held, what is held now, by which the rest leads to the whole, and the rest's fault is that of the whole.
+  -- Leaves were passed on: what is held now, with the remaining leaves, gives what the complete list gives.
   pub record IsHanding : Type 0 where
     pub same : constant now ≡ constant start
     pub is_ready : ready now

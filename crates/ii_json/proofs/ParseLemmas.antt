@@ -1,4 +1,4 @@
--- What `parse` answers, as an option.
+-- The result of `parse`, as an option.
 use Rattle.std.proofs.Common.{◌≡◌, ℕ, ◌<◌, ◌^◌, Bool, true, false, ◌&&◌, cond, ℤ, pos, negsuc, nat_lt, List, length, None, Some, Result, Ok, Err, refl, arith, w64, FitsSigned}
 use Rattle.std.specs.Result.{OkIff, result_ok}
 use Rattle.std.specs.Str.{all_ascii_digits}

@@ -114,7 +114,7 @@ rank_at (path ∷ paths) sorted (suc i) d within =
 pub rank_moved : (known paths : List (List ℕ)) (path : List ℕ) → IsPermutation known paths → path_rank paths path ≡ path_rank known path
 rank_moved known paths path moved = sum_by-IsPermutation (λ (other : List ℕ). cond (is_smaller other path) 1 0) known paths moved
 
--- a path among ascending ones stands at its rank
+-- a path in an ascending list is at the index of its rank
 module _ (paths : List (List ℕ)) (sorted : AreAscendingPaths paths) (path : List ℕ) (among : Contains paths path) where
   rank_is : path_rank paths path ≡ among.0
   rank_is = ap (path_rank paths) (sym among.2) ∙ rank_at paths sorted among.0 path among.1
@@ -203,7 +203,7 @@ among_sorted f keys known paths i k are moved within here =
 pub few_sorted : {K : Type 0} (f : K → List ℕ) (keys : List K) (known paths : List (List ℕ)) → map f keys ≡ known → IsPermutation known paths → length keys ≤ 2 ^ 32 → length paths ≤ 2 ^ 32
 few_sorted f keys known paths are moved few = omega (arith, length-map keys f, ap length are, length_permutation known paths moved, few)
 
--- ids that are put one behind the other
+-- ids that are appended one after the other
 module _ {K : Type 0} (f : K → List ℕ) (keys : List K) (known paths : List (List ℕ)) (moved : IsPermutation known paths) where
   pub ranks_more : (ids : List ℕ) (i id : ℕ) (k : K) → ids ≡ map (λ (key : K). path_rank known (f key)) (take i keys) → i < length keys → k ≡ get_or keys i k → id ≡ path_rank paths (f k)
       → ids ++ id ∷ [] ≡ map (λ (key : K). path_rank known (f key)) (take (i + 1) keys)

@@ -1,4 +1,4 @@
--- Worked rows, each computed.
+-- Computed examples.
 use Rattle.std.specs.Prelude.{◌≡◌, ℕ, List, [], ◌∷◌, ◌++◌, codes, map, replicate, fold, None, Some, refl}
 use Rattle.ii_json.specs.DottedPaths.{with_dots}
 use Rattle.ii_json.specs.FastValues.{fast_value_in}

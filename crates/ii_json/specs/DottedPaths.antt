@@ -5,7 +5,7 @@ use Rattle.std.specs.Prelude.{ℕ, List, map, ◌==◌, if◌then◌else◌}
 abbrev pub segment_separator : ℕ
 segment_separator = 0x01
 
--- a dot for the byte between segments
+-- a dot for the byte between segments, any other byte unchanged
 abbrev pub dot_between : ℕ → ℕ
 dot_between byte = if byte == segment_separator then 0x2E else byte
 

@@ -3,18 +3,18 @@ use Rattle.std.specs.Prelude.{ℕ, List, [], ◌∷◌, ◌++◌, map, ◌==◌,
 use Rattle.ii_base.specs.ValueTypes.{code_of}
 use Rattle.ii_base.specs.declared.schema.value_type.ValueType.{ValueType}
 
--- the byte that ends a path, and what stands for one inside it: the digit 0
+-- the byte that ends a path, and its replacement inside a path: the digit 0
 abbrev pub end_of_path : ℕ
 end_of_path = 0x00
 
--- a byte of a path as it stands in a term
+-- the encoding of a byte of a path in a term
 abbrev pub written_byte : ℕ → ℕ
 written_byte byte = if byte == end_of_path then 0x30 else byte
 
--- a path as it stands in a term, with the byte that ends it
+-- the encoding of a path in a term, with the byte that ends it
 abbrev pub written_path : List ℕ → List ℕ
 written_path path = map written_byte path ++ end_of_path ∷ []
 
--- a term as it stands there: a path and its end, the letter of a type, and the bytes of a value
+-- the encoding of a term: a path and its end, the letter of a type, and the bytes of a value
 abbrev pub written_json_term : List ℕ → ValueType → List ℕ → List ℕ
 written_json_term path t payload = written_path path ++ code_of t ∷ payload

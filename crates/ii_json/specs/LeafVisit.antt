@@ -1,4 +1,4 @@
--- The leaves below a path, and why they are refused.
+-- The leaves below a path, and the faults of a sink for them.
 use Rattle.std.specs.Prelude.{◌≡◌, ◌⊎◌, ℕ, Bool, true, false, List, [], ◌∷◌, ◌++◌, map, String, Option, None, Some, MatchResult, Result}
 use Rattle.std.specs.declared.alloc.Global.{Global}
 use Rattle.ii_io.specs.declared.faults.Fault.{Fault}
@@ -16,7 +16,7 @@ is_no_branch (leaf l) = true
 is_no_branch (array is) = false
 is_no_branch (object ms) = false
 
--- whether a value of a type is a number of 64 bits
+-- whether values of a type are 64-bit numbers
 abbrev pub is_number_type : ValueType → Bool
 is_number_type types.Str = false
 is_number_type types.U64 = true
@@ -27,13 +27,13 @@ is_number_type types.Bytes = false
 is_number_type types.Json = false
 is_number_type types.IpAddr = false
 
--- whether a JSON value may have such a leaf: its value, if it has one, is a number
+-- whether a JSON value may have this leaf: its value, if it has one, is a number
 abbrev pub may_be_leaf : Leaf → Bool
 may_be_leaf (text_leaf t) = true
 may_be_leaf (value_leaf t n) = is_number_type t
 may_be_leaf (unsupported kind) = true
 
--- the leaves of a value that stands at a path, of values and of members
+-- the leaves of a value at a path
 abbrev pub leaves_at : PathState → JsonValue → List (List ℕ × Leaf)
 leaves_at at value = leaves_below at.expand_dots at.segments (json_of value)
 
@@ -50,11 +50,11 @@ abbrev pub first_fault : Option Fault → Option Fault → Option Fault
 first_fault None later = later
 first_fault (Some fault) later = Some fault
 
--- A call ends well where there is no cause to refuse it; else it is refused by that cause, or for want of memory.
+-- A call succeeds only without a fault, and fails only with this fault or `OutOfMemory`.
 abbrev pub IsRefusedBy : {T : Type 0} → Option Fault → Result T Fault → Type 0
 IsRefusedBy cause result = MatchResult result (λ _. cause ≡ None) (λ e. (e ≡ OutOfMemory) ⊎ (cause ≡ Some e))
 
--- the first fault of leaves, one after the other
+-- the first fault for a list of leaves, in order
 abbrev pub leaves_fault : (List (List ℕ × Leaf) → List ℕ × Leaf → Option Fault) → List (List ℕ × Leaf) → List (List ℕ × Leaf) → Option Fault
 leaves_fault fault before [] = None
 leaves_fault fault before (l ∷ ls) = first_fault (fault before l) (leaves_fault fault (before ++ l ∷ []) ls)

@@ -1,4 +1,4 @@
--- The terms of a JSON field by the ids of their paths.
+-- The terms of a JSON field, with path ids.
 use Rattle.std.specs.Prelude.{◌≡◌, ◌<◌, ℕ, false, List, [], ◌∷◌, length, slice_index_or}
 use Rattle.std.specs.Cmp.Lexicographic.{slice_cmp}
 use Rattle.std.specs.List.Sorted.{IsStrictlySortedBy}
@@ -8,7 +8,7 @@ use Rattle.ii_base.specs.Paths.{has_zero}
 use Rattle.ii_base.specs.Values.{json_key}
 use Rattle.ii_json.specs.PathRank.{path_rank}
 
--- A term: the unordered id of its path, its type's letter, and the bytes of its value.
+-- A term: the unordered id of its path, the letter of its type, and the bytes of its value.
 pub record PathTerm : Type 0 where
   pub path_id : ℕ
   pub code : ℕ
@@ -18,11 +18,11 @@ pub record PathTerm : Type 0 where
 abbrev pub path_of_term : List (List ℕ) → PathTerm → List ℕ
 path_of_term known t = slice_index_or known t.path_id []
 
--- a term's key in a dictionary, where its path stands for the id
+-- the key of a term in a dictionary, with its path in place of the id
 abbrev pub key_of_term : List (List ℕ) → PathTerm → List ℕ
 key_of_term known t = json_key (path_of_term known t) (t.code ∷ t.payload)
 
--- the ordered id of a term's path: its rank
+-- the ordered id of a term's path, its rank
 abbrev pub ordered_id_of_term : List (List ℕ) → PathTerm → ℕ
 ordered_id_of_term known t = path_rank known (path_of_term known t)
 
@@ -30,7 +30,7 @@ ordered_id_of_term known t = path_rank known (path_of_term known t)
 abbrev pub term_cmp : List (List ℕ) → PathTerm → PathTerm → Ordering
 term_cmp known s t = ordering_then (nat_cmp (ordered_id_of_term known s) (ordered_id_of_term known t)) (ordering_then (nat_cmp s.code t.code) (slice_cmp nat_cmp s.payload t.payload))
 
--- The id of a term is that of a known path, and the path holds no byte 0.
+-- The id of a term is the id of a known path, which holds no byte 0.
 abbrev pub HasPath : List (List ℕ) → PathTerm → Type 0
 HasPath known t = (t.path_id < length known) × (has_zero (path_of_term known t) ≡ false)
 

@@ -9,13 +9,13 @@ use ii_base::{Fault, ValueType};
 use std::alloc::Global;
 use std::marker::Model;
 
-// The byte that ends a path, and what stands for one inside it.
+// The byte that ends a path, and its replacement inside a path.
 const END_OF_PATH: u8 = 0;
 
 const END_OF_PATH_INSIDE: u8 = b'0';
 
-/// The bytes of a term in a JSON field, as a dictionary has them: a path, byte 00, the letter of a type,
-/// and those of a value.
+/// The bytes of a term in a JSON field, as in a dictionary: a path, byte 0, the letter of a type, and the
+/// bytes of a value.
 #[derive(Drop)]
 pub struct JsonTermSerializer {
     bytes: Vec<u8>,
@@ -30,7 +30,7 @@ impl Model for JsonTermSerializer {
 }
 
 impl JsonTermSerializer {
-    /// No bytes.
+    /// Creates an empty serializer.
     pub fn new(alloc: Global) -> JsonTermSerializer
         ensures { result ≡ [] }
     {
@@ -39,8 +39,8 @@ impl JsonTermSerializer {
         }
     }
 
-    /// Adds a path, each byte 00 in it as `30`, and byte 00. `OutOfMemory` where there is no room for them:
-    /// the bytes then stay.
+    /// Appends a path and byte 0. Each byte 0 in the path is written as `0x30`. Returns `OutOfMemory`, and
+    /// leaves the bytes as they are, if allocation fails.
     pub fn append_json_path(&mut self, path: &str) -> Result<(), Fault>
         ensures ok { OnOk result (self.new ≡ self.old ++ written_path path.now) }
         ensures err { OnErr result (self.new ≡ self.old) }
@@ -54,8 +54,8 @@ impl JsonTermSerializer {
         Ok(())
     }
 
-    /// Adds a whole term: a path, each byte 00 in it as `30`, byte 00, the letter of a type, and the bytes of
-    /// a value. `OutOfMemory` where there is no room for them: the bytes then stay.
+    /// Appends a complete term: a path, with `0x30` for each byte 0, then byte 0, the letter of a type, and
+    /// the bytes of a value. Returns `OutOfMemory`, and leaves the bytes as they are, if allocation fails.
     pub fn append_term(
         &mut self,
         path: &str,
@@ -74,9 +74,8 @@ impl JsonTermSerializer {
         Ok(())
     }
 
-    /// Adds the key of a term at a path that holds no byte 00: the path, byte 00, and what stands behind it,
-    /// the letter of a type and the bytes of a value. `OutOfMemory` where there is no room for them: the
-    /// bytes then stay.
+    /// Appends the key of a term: a path without byte 0, byte 0, the letter of a type, and the bytes of a
+    /// value. Returns `OutOfMemory`, and leaves the bytes as they are, if allocation fails.
     pub fn append_key(&mut self, path: &str, typed_value: &[u8]) -> Result<(), Fault>
         ensures ok { OnOk result (self.new ≡ self.old ++ json_key path.now typed_value.now) }
         ensures err { OnErr result (self.new ≡ self.old) }
@@ -90,8 +89,8 @@ impl JsonTermSerializer {
         Ok(())
     }
 
-    /// Adds bytes, and lends what it added. `OutOfMemory` where there is no room for them: the bytes then
-    /// stay.
+    /// Appends bytes, and returns the appended part. Returns `OutOfMemory`, and leaves the bytes as they
+    /// are, if allocation fails.
     pub fn append_bytes(&mut self, bytes: &[u8]) -> Result<&[u8], Fault>
         ensures* rests { sem 𝓛 (RestsWith self.entry bytes.entry.now result) }
         ensures ok { IfOk result (λ added. added.now ≡ bytes.entry.now) }
@@ -102,28 +101,28 @@ impl JsonTermSerializer {
         Ok(&self.bytes[len..])
     }
 
-    /// Drops all bytes, and keeps the memory.
+    /// Removes all bytes, and keeps the memory.
     pub fn clear(&mut self)
         ensures { self.new ≡ [] }
     {
         self.bytes.clear();
     }
 
-    /// Drops the bytes after so many; where there are no more, nothing changes.
+    /// Removes the bytes after the first `len`; does nothing if there are no more.
     pub fn truncate(&mut self, len: usize)
         ensures { self.new ≡ take len self.old }
     {
         self.bytes.truncate(len);
     }
 
-    /// How many bytes there are.
+    /// Returns the number of bytes.
     pub fn len(&self) -> usize
         ensures { result ≡ length self.now }
     {
         self.bytes.len()
     }
 
-    /// All bytes.
+    /// Returns all bytes.
     pub fn as_bytes(&self) -> &[u8]
         ensures { result.now ≡ self.now }
     {
@@ -131,7 +130,7 @@ impl JsonTermSerializer {
     }
 }
 
-// Pushes a path as it stands in a term. What stood before stays.
+// Appends a path as encoded in a term. An error leaves the old bytes as a prefix.
 fn push_path(bytes: &mut Vec<u8>, path: &[u8]) -> Result<(), Fault>
     ensures ok { OnOk result (bytes.new.items ≡ bytes.old.items ++ written_path path.now) }
     ensures err { OnErr result (take (length bytes.old.items) bytes.new.items ≡ bytes.old.items) }
@@ -144,8 +143,8 @@ fn push_path(bytes: &mut Vec<u8>, path: &[u8]) -> Result<(), Fault>
     Ok(())
 }
 
-// Pushes a term: a path and its end, the letter of a type, and the bytes of a value. What stood before
-// stays.
+// Appends a term: a path, byte 0, the letter of a type, and the bytes of a value. An error leaves the old
+// bytes as a prefix.
 fn push_term(
     bytes: &mut Vec<u8>,
     path: &[u8],
@@ -162,7 +161,7 @@ fn push_term(
     Ok(())
 }
 
-// Pushes a key: a path as it is, its end, and what stands behind it. What stood before stays.
+// Appends a key: an unchanged path, byte 0, and the typed value. An error leaves the old bytes as a prefix.
 fn push_key(bytes: &mut Vec<u8>, path: &[u8], typed_value: &[u8]) -> Result<(), Fault>
     ensures ok { OnOk result (bytes.new.items ≡ bytes.old.items ++ json_key path.now typed_value.now) }
     ensures err { OnErr result (take (length bytes.old.items) bytes.new.items ≡ bytes.old.items) }
@@ -174,7 +173,7 @@ fn push_key(bytes: &mut Vec<u8>, path: &[u8], typed_value: &[u8]) -> Result<(), 
     Ok(())
 }
 
-// A byte of a path as it stands in a term.
+// Encodes a byte of a path in a term.
 fn written_byte(byte: u8) -> u8
     ensures { result ≡ written_byte byte }
 {

@@ -7,13 +7,13 @@ ghost use Rattle.ii_json.specs.FastValues.{IsPathAlone, bool_in, fast_value_in, 
 use ii_base::{FastValue, Fault, Term};
 use std::alloc::Global;
 
-// The character between the segments of a path, and the one that is shown for it.
+// The separator of path segments, and the character shown for it.
 const SEGMENT_SEPARATOR: char = '\u{1}';
 
 const DOT: char = '.';
 
-/// Puts a dot for each byte 01, which stands between the segments of a path. `OutOfMemory` where there
-/// is no room for the path with dots: the path then stays.
+/// Replaces each byte 1, which separates the segments of a path, with a dot. Returns `OutOfMemory`, and
+/// leaves `path` as it is, if allocation fails.
 pub fn json_path_sep_to_dot(path: &mut String) -> Result<(), Fault>
     ensures ok { OnOk result (string_bytes path.new ≡ with_dots (string_bytes path.old)) }
     ensures err { OnErr result (string_bytes path.new ≡ string_bytes path.old) }
@@ -27,7 +27,7 @@ pub fn json_path_sep_to_dot(path: &mut String) -> Result<(), Fault>
     Ok(())
 }
 
-// A dot for what stands between segments, and each other character as it is.
+// Returns a dot for the separator, and any other character unchanged.
 fn dot_between(character: char) -> char
     ensures { result ≡ dot_between character }
 {
@@ -38,9 +38,9 @@ fn dot_between(character: char) -> char
     }
 }
 
-/// The term with the value that a text is taken for, which is that of Rust's `parse` as `i64`, else as
-/// `u64`, else as `bool`; `None` where it is none of these. The term is one of a JSON field, and ends
-/// with its path. `OutOfMemory` where there is no room for the new term.
+/// Returns the term with the value of a text appended: its `parse` as `i64`, else as `u64`, else as `bool`.
+/// Returns `None` if it is none of these. `term` must belong to a JSON field, and end with its path.
+/// Returns `OutOfMemory` if allocation fails.
 pub fn convert_to_fast_value_and_append_to_json_term(
     alloc: Global,
     term: &Term,
@@ -63,7 +63,7 @@ pub fn convert_to_fast_value_and_append_to_json_term(
     Ok(None)
 }
 
-// What Rust's `parse` takes a text for, at each of three types.
+// Parses a text as each of three types.
 fn i64_in(text: &str) -> Option<i64>
     ensures { result ≡ i64_in text.now }
 {
@@ -82,7 +82,7 @@ fn bool_in(text: &str) -> Option<bool>
     text.parse().ok()
 }
 
-// The term with a value behind its bytes.
+// Returns the term with a value appended.
 fn with_fast_value<T: FastValue>(alloc: Global, term: &Term, value: T) -> Result<Term, Fault>
     ensures ok { IfOk result (λ more. more ≡ with_value term.now (typed_value T.type_of_values (T.number value))) }
     ensures only { OnlyMemory result }

@@ -7,30 +7,29 @@ ghost use Rattle.ii_json.specs.LeafVisit.{IsRefusedBy, is_no_branch, may_be_leaf
 
 use ii_base::{Fault, JsonLeaf, JsonPathWriter, JsonValue};
 
-/// Takes the leaves of a JSON value, one after the other.
+/// Receives the leaves of a JSON value, one after the other.
 pub trait LeafSink {
-    // What its clauses speak of beside it.
+    // The other values that its clauses mention.
     ghost Given: { Type 0 };
 
-    // What stays of it.
+    // The part of its state that doesn't change.
     ghost Constant: { Type 0 };
 
     ghost constant: { Self → Constant };
 
-    // When it takes a leaf.
+    // The state in which it can take a leaf.
     ghost ready: { Self → Type 0 };
 
-    // What it holds, of the leaves that it took.
+    // What it holds after it took these leaves.
     ghost holds: { Self → Given → List (List ℕ × Leaf) → Type 0 };
 
-    // Why it refuses a leaf after those that it took, memory aside.
+    // The fault, other than `OutOfMemory`, for a leaf after these.
     ghost fault: { Constant → Given → List (List ℕ × Leaf) → List ℕ × Leaf → Option Fault };
 
-    /// Takes a leaf at a path, whose segments are parted by a byte 1 and which holds no byte 0. A value is
-    /// a number of 64 bits.
+    /// Takes a leaf at a path, whose segments are separated by byte 1 and which holds no byte 0. A value
+    /// must be a 64-bit number.
     ///
-    /// The fault that the sink has for the leaf after those that it took, if there is one. `OutOfMemory`
-    /// where there is no room.
+    /// Returns the fault of the sink for this leaf, if there is one, or `OutOfMemory`.
     fn take_leaf(&mut self, path: &str, leaf: JsonLeaf<'_>) -> Result<(), Fault>
         requires path { has_zero path.now ≡ false }
         requires value { may_be_leaf (leaf_of leaf) ≡ true }
@@ -41,11 +40,11 @@ pub trait LeafSink {
         ensures ok { OnOk result ((given : Given) (before : List (List ℕ × Leaf)) → holds self.old given before → holds self.new given (before ++ (path.now, leaf_of leaf.entry) ∷ [])) };
 }
 
-/// Hands the leaves of a JSON value on in order, each with its path below the writer's. A member whose key
-/// holds a byte 0 is left out; the writer's path holds none. The writer ends as it was, also after a
-/// refusal.
+/// Passes the leaves of a JSON value to a sink in order, each with its path below the path of `writer`,
+/// which must not hold byte 0. Skips members whose key holds byte 0. The writer ends as it was, even after
+/// an error.
 ///
-/// The first fault that the sink has for a leaf. `OutOfMemory` where there is no room.
+/// Returns the first fault of the sink for a leaf, or `OutOfMemory`.
 #[cycle(visit)]
 pub fn visit_leaves<S: LeafSink>(
     value: &JsonValue,
@@ -113,7 +112,7 @@ fn visit_members<S: LeafSink>(
     Ok(())
 }
 
-// Adds a key that holds no byte 0 to a path that holds none.
+// Appends a key without byte 0 to a path without byte 0.
 #[tactic(auto, using(crate::proofs::CleanPaths::clean_key))]
 fn push_key(writer: &mut JsonPathWriter, key: &str) -> Result<(), Fault>
     requires path { has_zero (joined_segments writer.old.segments) ≡ false }
@@ -126,7 +125,7 @@ fn push_key(writer: &mut JsonPathWriter, key: &str) -> Result<(), Fault>
     writer.push(key)
 }
 
-// Hands a value on that is a leaf.
+// Passes a value that is a leaf to the sink.
 fn visit_leaf<S: LeafSink>(
     value: &JsonValue,
     writer: &JsonPathWriter,

@@ -1,4 +1,4 @@
-//! The JSON paths of a field's values, while these are indexed and when they are written.
+//! The JSON paths of a field's values, during indexing and in term keys.
 #![tactic(auto)]
 
 pub mod json_term_serializer;

@@ -10,7 +10,7 @@ use indexmap::IndexSet;
 use std::alloc::Global;
 use std::marker::Model;
 
-/// The id of a JSON path in the order of the paths. Clauses see it as that number.
+/// The rank of a JSON path among the paths in order. Its model is this number.
 #[derive(Clone, Copy, Debug, Default, PartialEq, Eq, PartialOrd, Ord, Hash)]
 pub struct OrderedPathId(u32);
 
@@ -25,14 +25,14 @@ impl Model for OrderedPathId {
 }
 
 impl OrderedPathId {
-    /// The path of this id.
+    /// Creates the ordered id with this number.
     pub fn from_ordered_id(id: u32) -> OrderedPathId
         ensures { result ≡ id }
     {
         OrderedPathId(id)
     }
 
-    /// The id.
+    /// Returns the number.
     pub fn path_id(self) -> u32
         ensures { result ≡ self }
     {
@@ -50,7 +50,7 @@ impl From<u32> for OrderedPathId {
     }
 }
 
-/// The paths of an index, each once, in the order in which they became known: a path's place is its
+/// The distinct paths of an index, in order of their first use. The index of a path in this order is its
 /// unordered id.
 #[derive(Drop)]
 pub struct PathToUnorderedId {
@@ -70,7 +70,7 @@ impl Model for PathToUnorderedId {
 }
 
 impl PathToUnorderedId {
-    /// No path is known.
+    /// Creates an empty set of paths.
     pub fn new(alloc: Global) -> PathToUnorderedId
         ensures { result ≡ [] }
     {
@@ -80,9 +80,10 @@ impl PathToUnorderedId {
         }
     }
 
-    /// The unordered id of a path: its own where it is known, else the next one, and the path is known
-    /// from then on. `Limit(Paths)` where a new path's id would be above `u32::MAX`, and `OutOfMemory`
-    /// where there is no room for a new path: the known ones then stay.
+    /// Returns the unordered id of a path. A new path is added and gets the next id.
+    ///
+    /// Returns `Limit(Paths)` if that id would exceed `u32::MAX`, and `OutOfMemory` if allocation fails.
+    /// Either leaves the set as it is.
     pub fn get_or_allocate_unordered_id(&mut self, path: &str) -> Result<u32, Fault>
         ensures ok { IfOk result (λ id. id ≡ path_id self.old path.now) }
         ensures paths { OnOk result (self.new ≡ with_path self.old path.now) }
@@ -97,7 +98,7 @@ impl PathToUnorderedId {
         self.insert_new_path(path)
     }
 
-    // The next id, for a path that isn't known.
+    // Adds a path that isn't known, and returns its id.
     #[cold]
     fn insert_new_path(&mut self, path: &str) -> Result<u32, Fault>
         requires unknown { is_known self.old path.now ≡ false }
@@ -116,7 +117,7 @@ impl PathToUnorderedId {
         Ok(next_id as u32)
     }
 
-    /// The path of an unordered id, or the empty one where no path has it.
+    /// Returns the path with an unordered id, or the empty path if there is none.
     pub fn path(&self, id: u32) -> &str
         ensures { result.now ≡ slice_index_or self.now id [] }
     {
@@ -126,8 +127,8 @@ impl PathToUnorderedId {
         }
     }
 
-    /// The ordered id of each known path, in the order of the unordered ids: how many known paths are
-    /// smaller by their bytes. `OutOfMemory` where there is no room for them.
+    /// Returns the ordered id of each known path, in the order of the unordered ids. An ordered id is the
+    /// number of known paths whose bytes are less. Returns `OutOfMemory` if allocation fails.
     pub fn unordered_id_to_ordered_id(&self, alloc: Global) -> Result<Vec<OrderedPathId>, Fault>
         ensures ranks { IfOk result (λ ids. ids.items ≡ path_ranks self.now) }
         ensures permutation { IfOk result (λ ids. IsPermutation (range_with_len 0 (length self.now)) ids.items) }
@@ -143,8 +144,8 @@ impl PathToUnorderedId {
         Ok(ids)
     }
 
-    /// The known paths in the order of their bytes: an ordered id is a place in it. `OutOfMemory` where
-    /// there is no room for them.
+    /// Returns the known paths in the order of their bytes, indexed by ordered id. Returns `OutOfMemory` if
+    /// allocation fails.
     pub fn ordered_id_to_path(&self, alloc: Global) -> Result<Vec<&str>, Fault>
         ensures ascending { IfOk result (λ paths. AreAscendingPaths (texts_of paths.items)) }
         ensures permutation { IfOk result (λ paths. IsPermutation self.entry.now (texts_of paths.items)) }
@@ -158,7 +159,7 @@ impl PathToUnorderedId {
         Ok(paths)
     }
 
-    // The known paths, in the order of their unordered ids.
+    // Returns the known paths in the order of their unordered ids.
     fn known_paths(&self, alloc: Global) -> Result<Vec<&str>, Fault>
         ensures ok { IfOk result (λ paths. texts_of paths.items ≡ self.entry.now) }
         ensures distinct { AreDistinct self.entry.now }
@@ -173,7 +174,7 @@ impl PathToUnorderedId {
     }
 }
 
-// The ordered id of one of some paths, which ascend.
+// Returns the ordered id of a path that belongs to these ascending paths.
 fn ordered_id_in(sorted: &[&str], path: &str) -> OrderedPathId
     requires ascending { AreAscendingPaths (texts_of sorted.now) }
     requires known { Contains (texts_of sorted.now) path.now }

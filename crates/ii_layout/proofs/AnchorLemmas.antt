@@ -1,4 +1,4 @@
--- How the places of blocks are found: a stride of widths is summed up, and each sum is an anchor.
+-- How the places of blocks are found: the widths of a stride are summed, and each sum is an anchor.
 use Rattle.std.proofs.Common.{◌≡◌, ℕ, zero, suc, ◌+◌, ◌-◌, ◌*◌, ◌<◌, ◌≤◌, Bool, true, false, ◌&&◌, List, length, take, drop, get_or, set, is_some, ◌⊎◌, inl, inr, nat_le, Option, Some, None, IfSome, refl, sym, ap, ◌∙◌, arith}
 use Rattle.std.proofs.Math.Nat.{mul-le-mul_right, lt_of_mul-lt-mul_right}
 use Rattle.std.proofs.Math.Seq.{take-add}
@@ -13,7 +13,7 @@ use Rattle.ii_layout.specs.PositionReader.{AreAnchors, is_width}
 use Rattle.ii_layout.proofs.PositionLemmas.{place_more, each_more, block_there, wide_none, short_none}
 use Rattle.ii_layout.proofs.PositionSums.{sum-append}
 
--- where so many blocks end that begin at one
+-- where a range of blocks ends
 place_after : (widths : List ℕ) (first n : ℕ) → place_by_widths widths (first + n) ≡ place_by_widths widths first + 16 * sum (take n (drop first widths))
 place_after widths first n =
     let cut = ap sum (take-add first n widths) ∙ sum-append (take first widths) (take n (drop first widths)) in
@@ -53,7 +53,7 @@ blocks_short widths body first (suc n) within inside narrow short =
         let end = ap (place_by_widths widths) next in
         short_none widths body (place_by_widths widths (first + n)) (first + n) (16 * get_or widths (first + n) 0) (omega arith) refl (narrow n (omega arith)) refl (omega arith)
 
--- a width that is too large, of so many from one on
+-- a width that is too large, in a range of blocks
 blocks_wide : (widths body : List ℕ) (first n : ℕ) → first + n ≤ length widths → list_all is_width (take n (drop first widths)) ≡ false
     → false ≡ is_some (each (block_deltas (record { widths = widths; body = body })) (length widths))
 blocks_wide widths body first zero inside wide = absurd (cc)
@@ -176,7 +176,7 @@ module _ (widths body anchors : List ℕ) (stride place first anchor : ℕ) (f :
       none : t ≡ false → false ≡ is_some (each (block_deltas (record { widths = widths; body = body })) (length widths))
       none isnt = by (cases_Bool (list_all is_width piece)) (swapped (and_cases (list_all is_width piece) (nat_le (place + 16 * sum piece) (length body)) (sym fits ∙ isnt)))
 
-  -- what the last of them, fewer than a stride, tell of all
+  -- what the last blocks, fewer than a stride, say about all of them
   pub last_found : (o : Option ℕ) (n : ℕ) (piece : List ℕ) → first + n ≡ length widths → piece ≡ take n (drop first widths) → is_some o ≡ (list_all is_width piece && nat_le (place + 16 * sum piece) (length body))
       → is_some o ≡ is_some (each (block_deltas (record { widths = widths; body = body })) (length widths))
   last_found None n piece all piece_is fits = (piece_found false n piece (omega arith) piece_is fits).1 refl

@@ -74,7 +74,7 @@ before_next : (docs : List ℕ) (i : ℕ) → are_documents docs ≡ true → 12
 before_next docs zero h within = omega arith
 before_next docs (suc i) h within = let more = document_more docs (128 * i + 127) (128 * suc i) (omega arith) h within in omega arith
 
--- the documents after so many blocks don't fall
+-- the documents after the first i blocks don't descend
 pub rest_falls : (docs : List ℕ) (i : ℕ) → are_documents docs ≡ true → DoNotFall (last_before docs i) (drop (128 * i) docs)
 rest_falls docs i h =
     let size = length-drop (128 * i) docs in

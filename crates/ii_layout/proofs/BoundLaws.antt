@@ -1,4 +1,4 @@
--- The bounds that are written hold, and take no room of their own.
+-- The written bounds hold, and don't change any length.
 use Rattle.std.proofs.Common.{◌≡◌, ℕ, zero, suc, ◌*◌, ◌/◌, ◌<◌, ◌≤◌, true, List, ◌++◌, drop, get_or, length, map, Option, Some, None, refl, sym, ap, ◌∙◌, arith, length-append}
 use Rattle.std.proofs.lemmas.List.{get_or-map, length-map}
 use Rattle.std.specs.List.{flat_map, range_with_len}

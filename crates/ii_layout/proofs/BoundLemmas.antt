@@ -39,14 +39,14 @@ limited : (limit : ℕ) (freqs : List ℕ) → ((k : ℕ) → k < length freqs �
 limited zero freqs each = refl
 limited (suc more) freqs each = rw (ne_eqb (suc more) 0 (λ e. absurd (omega arith))) (all_at_most (suc more) freqs each)
 
--- the count that the written byte stands for
+-- the term frequency that the written byte represents
 kept : (n : ℕ) → n < 255 → max_tf_of_code (code_of_max_tf n) ≡ n
 kept n below = let same : min n 255 ≡ n = omega arith in rw (same, ne_eqb n 255 (λ e. absurd (omega arith))) refl
 
 cut : (n : ℕ) → 255 ≤ n → max_tf_of_code (code_of_max_tf n) ≡ 2 ^ 32 - 1
 cut n above = let same : min n 255 ≡ 255 = omega arith in rw same refl
 
--- no count is above what the greatest one's byte stands for
+-- no term frequency exceeds what the greatest one's byte represents
 pub below_code : (freqs : List ℕ) → IsBlock freqs → (k : ℕ) → k < length freqs → get_or freqs k 0 ≤ max_tf_of_code (code_of_max_tf (greatest freqs))
 below_code freqs block k within =
     let here = at_most_max 0 freqs k within in

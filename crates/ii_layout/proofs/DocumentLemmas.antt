@@ -103,7 +103,7 @@ last_block i blocks rest whole end few =
     let here : 128 * i ≡ length (concat blocks) = omega arith in
     rw (here, drop-append_seam (concat blocks) rest) (take_all 128 rest few)
 
--- What is known of a block that stands.
+-- What holds for the documents of a valid block.
 pub record StandsBlock (skip : SkipList) (i : ℕ) (docs : List ℕ) : Type 0 where
   pub after : List ℕ
   pub read : sorted_block_at (skip_entry skip.entries i).strict_delta (last_doc_before skip.entries i) (skip_entry skip.entries i).doc_num_bits (drop (block_place skip.entries i) skip.body) ≡ Some (docs, after)
@@ -145,7 +145,7 @@ least_of_all skip n (suc i) blocks e h =
     let block = stands_block skip i (get_or blocks i []) (all.at i (omega arith)) in
     least_at-last 0 i blocks (are_whole skip n blocks e) (omega arith) ∙ ap (λ (d : ℕ). d + 1) block.last
 
--- What is known of documents that stand.
+-- What holds for valid documents.
 pub record Stands (skip : SkipList) (n : ℕ) (docs after : List ℕ) : Type 0 where
   pub blocks : List (List ℕ)
   pub rest : List ℕ
@@ -169,7 +169,7 @@ stands skip n docs after e =
       docs_are = sym (ap (λ (p : List ℕ × List ℕ). p.0) same);
     }
 
--- Documents that stand ascend, are as many as was asked for, and lie in their blocks.
+-- Valid documents ascend, are as many as requested, and lie in their blocks.
 pub documents_ascend : (skip : SkipList) (n : ℕ) (docs after : List ℕ) → documents_at skip n ≡ Some (docs, after) → are_documents docs ≡ true
 documents_ascend skip n docs after e = let s = stands skip n docs after e in ap are_documents s.docs_are ∙ s.up
 

@@ -1,4 +1,4 @@
--- Laws of the counts of a term, block by block.
+-- Laws of the frequencies of a term, block by block.
 use Rattle.std.proofs.Common.{◌≡◌, ℕ, zero, suc, ◌+◌, ◌*◌, ◌^◌, ◌<◌, ◌≤◌, Bool, true, false, List, [], ◌∷◌, ◌++◌, length, take, drop, get_or, Some, nat_le, nat_lt, refl, sym, ap, ◌∙◌, arith, length-append}
 use Rattle.std.specs.List.{concat, sum}
 use Rattle.std.proofs.Math.Seq.{take-add}
@@ -23,7 +23,7 @@ use Rattle.ii_layout.specs.SkipReader.{max_tf_of_code}
 use Rattle.ii_layout.specs.Written.{block_of}
 use Rattle.ii_layout.proofs.DocumentLemmas.{each_gives, AreWhole, length-concat, concat_block, last_block}
 
--- Values that are so many, of 32 bits each.
+-- A given number of 32-bit values.
 pub record Fit (n : ℕ) (values : List ℕ) : Type 0 where
   pub many : length values ≡ n
   pub low : fit_u32 values ≡ true
@@ -65,7 +65,7 @@ row_fits (suc n) bytes vs rest e =
     let both : fit_u32 (first.0.0 ∷ others.0.0) ≡ true = rw (low, ih.low) refl in
     record { many = ap length (sym whole) ∙ ap suc ih.many; low = ap fit_u32 (sym whole) ∙ both }
 
--- What is known of the counts of a block that stand.
+-- What holds for the frequencies of a valid block.
 pub record StandFreqs (skip : SkipList) (i : ℕ) (freqs : List ℕ) : Type 0 where
   pub after : List ℕ
   pub read : unsorted_block_at (skip_entry skip.entries i).strict_delta (skip_entry skip.entries i).tf_num_bits (drop (16 * (skip_entry skip.entries i).doc_num_bits) (drop (block_place skip.entries i) skip.body)) ≡ Some (freqs, after)
@@ -85,7 +85,7 @@ stand_freqs skip i freqs e =
       bound_is = ap (bounds_counts (max_tf_of_code (skip_entry skip.entries i).block_wand_term_freq)) (sym same) ∙ bound.0;
     }
 
--- all rows have so many values of 32 bits
+-- each row has the given number of 32-bit values
 abbrev AllFit : List (List ℕ) → Type 0
 AllFit blocks = (i : ℕ) → i < length blocks → Fit 128 (get_or blocks i [])
 
@@ -103,7 +103,7 @@ concat_low (b ∷ bs) h =
     let others = concat_low bs (λ i below. h (suc i) (omega arith)) in
     list_all-append (λ v. nat_lt v (2 ^ 32)) b (concat bs) ∙ rw (first, others) refl
 
--- What is known of counts that stand.
+-- What holds for valid frequencies.
 record Stand (skip : SkipList) (n : ℕ) (after freqs : List ℕ) : Type 0 where
   blocks : List (List ℕ)
   rest : List ℕ
@@ -121,7 +121,7 @@ stand skip n after freqs e =
 whole : (skip : SkipList) (n : ℕ) (after freqs : List ℕ) (s : Stand skip n after freqs) → AreWhole s.blocks
 whole skip n after freqs s = λ i h. (all_fit skip (length skip.entries) s.blocks s.read i h).many
 
--- Counts that stand are as many as the documents, have 32 bits, and lie in their blocks.
+-- Valid frequencies are as many as the documents, have 32 bits, and lie in their blocks.
 pub freqs_fit : (skip : SkipList) (n : ℕ) (after freqs : List ℕ) → freqs_at skip n after ≡ Some freqs → Fit (128 * length skip.entries + n) freqs
 freqs_fit skip n after freqs e =
     let s = stand skip n after freqs e in

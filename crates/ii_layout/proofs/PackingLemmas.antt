@@ -11,7 +11,7 @@ use Rattle.ii_io.specs.declared.faults.Fault.{Fault}
 use Rattle.ii_io.specs.declared.faults.Fault.TheVariants.{Limit}
 use Rattle.ii_io.specs.declared.faults.LimitName.TheVariants.{Offset}
 use Rattle.ii_io.specs.CountingWriter.{CountingWriterState, Wrote, Writes, IsFull}
-use Rattle.ii_io.specs.CountingWriterLemmas.{Wrote-trans, full_after, writes_then, writes_refused_by, writes_went}
+use Rattle.ii_io.proofs.WriteSteps.{Wrote-trans, full_after, writes_then, writes_refused_by, writes_went}
 use Rattle.ii_io.specs.Vints.{vint_u64}
 use Rattle.ii_base.specs.Entries.{are_documents}
 use Rattle.ii_codes.specs.Blocks.{least_first, sorted_entries, sorted_width, sorted_bytes}
@@ -79,7 +79,7 @@ blocks-append norms skip_info term more whole =
     flat_map-same (block_bytes skip_info term.docs term.freqs) (block_bytes skip_info (term.docs ++ more.docs) (term.freqs ++ more.freqs)) 0 (length term.docs / 128)
     (λ k h. block_bytes-append skip_info term more k (omega arith) whole.even)
 
--- so many blocks, and documents after them
+-- complete blocks, and documents after them
 all_blocks : (docs : List ℕ) → length docs % 128 ≡ 0 → length docs ≡ 128 * (length docs / 128)
 all_blocks docs h = omega arith
 
@@ -146,7 +146,7 @@ pub packed_by : (norms : Option Norms) (skip_info : IndexRecordOption) (term blo
     → new ≡ joined term block → kept' ≡ kept_more norms skip_info kept block → ArePacked norms skip_info new kept'
 packed_by norms skip_info term block new kept kept' p many counted new_is kept_is = rw (new_is, kept_is) (packed_more norms skip_info term block kept p many counted)
 
--- what stands after the blocks doesn't fall
+-- the documents after the blocks don't descend
 pub rest_after : (norms : Option Norms) (skip_info : IndexRecordOption) (term : CountedDocs) (rest : List ℕ) (kept : KeptBlocks) → ArePacked norms skip_info term kept
     → are_documents (term.docs ++ rest) ≡ true → DoNotFall kept.last_doc rest
 rest_after norms skip_info term rest kept p h =
@@ -222,7 +222,7 @@ written_is norms skip_info term rest kept p r =
     ap (in_parts norms skip_info (joined term rest)) blocks
     ∙ (λ j. list j ++ bytes j ++ rest_bytes skip_info (end j) (docs_after j) (freqs_after j))
 
--- the parts that are written, by the bytes that calls lent
+-- the written parts, by the bytes that the calls borrowed
 pub written_lent : (norms : Option Norms) (skip_info : IndexRecordOption) (term rest : CountedDocs) (kept : KeptBlocks) (entries middle : List ℕ) → ArePacked norms skip_info term kept → IsOpenBlock skip_info rest
     → entries ≡ kept.skip → middle ≡ kept.postings → written_docs norms skip_info (joined term rest) ≡ sized entries ++ middle ++ rest_bytes skip_info kept.last_doc rest.docs rest.freqs
 written_lent norms skip_info term rest kept entries middle p r entries_are middle_is =

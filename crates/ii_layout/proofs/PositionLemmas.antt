@@ -88,7 +88,7 @@ some_of : (o : Option (List (List ℕ))) → true ≡ is_some o → (blocks : Li
 some_of None e = absurd (cc)
 some_of (Some blocks) e = (blocks, refl)
 
--- What is known of deltas that stand.
+-- What holds for valid deltas.
 pub record StandDeltas (list : PositionList) (deltas : List ℕ) : Type 0 where
   pub blocks : List (List ℕ)
   pub rest : List ℕ
@@ -125,7 +125,7 @@ are_whole list n blocks e i h =
     let many = all.many in
     block_read list i (get_or blocks i []) (all.at i (omega arith))
 
--- Deltas that stand lie in their blocks, the last of which is not full.
+-- Valid deltas lie in their blocks, the last of which isn't full.
 pub record LieInBlocks (list : PositionList) (deltas : List ℕ) (rest : ℕ) : Type 0 where
   pub blocks : (i : ℕ) → i < length list.widths → block_deltas list i ≡ Some (block_of deltas i)
   pub rest_is : rest_deltas list ≡ Some (block_of deltas (length list.widths))
@@ -316,7 +316,7 @@ keeps_other bytes ws bs anchors held new widths body stride block place rest oth
       room = k.room;
     }
 
--- How far a part is read: so many deltas from an offset on stand in the output, the next one stands in a block, and no block was decoded twice.
+-- How far a range was read: the output holds `count` deltas, and no block was decoded twice.
 pub record ReadsPart (deltas : List ℕ) (before offset count : ℕ) (output : List ℕ) (decodes block start done : ℕ) : Type 0 where
   pub inside : offset + count ≤ length deltas
   pub some : done ≤ count
@@ -327,7 +327,7 @@ pub record ReadsPart (deltas : List ℕ) (before offset count : ℕ) (output : L
   pub spent : decodes + offset / 128 ≤ before + block
   pub kept : before ≤ decodes
 
--- a part of the block in which the next delta stands
+-- a part of the block that holds the next delta
 part_of_block : (deltas : List ℕ) (offset block start done n : ℕ) → 128 * block + start ≡ offset + done → n + start ≤ 128 → take n (drop start (block_of deltas block)) ≡ take n (drop done (drop offset deltas))
 part_of_block deltas offset block start done n place few =
     let whole : 128 ≡ start + (128 - start) = omega arith in
@@ -376,7 +376,7 @@ reads_more deltas held output new before offset count decodes more block start d
       kept = omega arith;
     }
 
--- What is known of the block that a reader keeps, and of its decodes, while it reads so many deltas from a place on, of which some are done. At first it held a block after other decodes.
+-- The kept block and the number of decodes while a range of deltas is read.
 pub record KeepsReading (held before kept decodes offset count done : ℕ) : Type 0 where
   pub none : done ≡ 0 → kept ≡ held
   pub from : 0 < done → 128 * kept < offset + done

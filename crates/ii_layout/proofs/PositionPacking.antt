@@ -6,7 +6,7 @@ use Rattle.std.proofs.lemmas.List.FromFn.{length-map-range_with_len, map-range_w
 use Rattle.std.specs.List.{concat, flat_map, range_with_len, AllByRecursion}
 use Rattle.std.specs.Option.{option_map}
 use Rattle.ii_io.specs.CountingWriter.{CountingWriterState, Writes}
-use Rattle.ii_io.specs.CountingWriterLemmas.{writes_both, writes_refused_by}
+use Rattle.ii_io.proofs.WriteSteps.{writes_both, writes_refused_by}
 use Rattle.ii_io.specs.Vints.{vint_u64}
 use Rattle.ii_io.specs.declared.faults.Fault.{Fault}
 use Rattle.ii_codes.specs.Blocks.{unsorted_width, unsorted_bytes}
@@ -39,7 +39,7 @@ empty_in widths body e f = rw (e, f) none_in
 pub packs_empty : (widths body : List ℕ) → widths ≡ [] → body ≡ [] → PacksDeltas (deltas_in widths body) widths body
 packs_empty widths body e f = rw (e, f) packs_none
 
--- what is kept tells its deltas
+-- what is kept determines the deltas
 pub deltas_in-is : (deltas widths body : List ℕ) → PacksDeltas deltas widths body → deltas_in widths body ≡ deltas
 unfolding deltas_in
 deltas_in-is deltas widths body p =

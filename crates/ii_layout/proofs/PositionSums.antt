@@ -11,7 +11,7 @@ use Rattle.ii_layout.specs.PositionReader.{KeepsBlock, deltas_of, deltas_at_bloc
 use Rattle.ii_layout.specs.Written.{block_of}
 use Rattle.ii_layout.proofs.PositionLemmas.{kept_at, length-cut, place_more}
 
--- So many blocks were summed up, and the next one lies at a place.
+-- A number of blocks were summed, and the next one is at this place.
 pub record SumsUp (deltas widths : List ℕ) (block place total : ℕ) : Type 0 where
   pub place_is : place ≡ place_by_widths widths block
   pub total_is : total ≡ sum (take (128 * block) deltas)

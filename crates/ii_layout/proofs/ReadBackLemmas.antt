@@ -1,4 +1,4 @@
--- What is written of a term is read back.
+-- What is written for a term reads back.
 use Rattle.std.proofs.Common.{◌≡◌, ℕ, zero, suc, ◌+◌, ◌-◌, ◌*◌, ◌/◌, ◌%◌, ◌^◌, ◌<◌, ◌≤◌, true, List, [], ◌∷◌, ◌++◌, map, length, take, drop, get_or, nat_le, Option, Some, refl, sym, ap, ◌∙◌, arith, append_assoc, length-append, IsTrue}
 use Rattle.std.proofs.Math.Seq.{take-add}
 use Rattle.std.proofs.lemmas.Bool.{le-leb, lt-ltb, le-ltb, eq-eqb}
@@ -48,7 +48,7 @@ flat_map-split f a (suc i) m =
     ∙ ap (λ (xs : List ℕ). f a ++ xs) (flat_map-split f (a + 1) i m ∙ ap (λ (k : ℕ). flat_map f (range_with_len (a + 1) i) ++ flat_map f (range_with_len k m)) here)
     ∙ sym (append_assoc (f a) (flat_map f (range_with_len (a + 1) i)) (flat_map f (range_with_len (a + suc i) m)))
 
--- a row stands after all before it
+-- a row is after all rows before it
 pub row_at : (f : ℕ → List ℕ) (i m place : ℕ) (after : List ℕ) → place ≡ length (flat_map f (range_with_len 0 i))
     → drop place (flat_map f (range_with_len 0 (i + suc m)) ++ after) ≡ f i ++ (flat_map f (range_with_len (i + 1) m) ++ after)
 row_at f i m place after e =
@@ -154,7 +154,7 @@ map-same f g a (suc n) same =
     let others = map-same f g (a + 1) n (λ k h. same k (omega arith)) in
     λ j. first j ∷ others j
 
--- as which option the entries stand that are found: of no block, as the field records
+-- the shape of the entries that are found: as the field records if there is no block
 abbrev pub shape_at : IndexRecordOption → IndexRecordOption → ℕ → IndexRecordOption
 shape_at recorded skip_info zero = recorded
 shape_at recorded skip_info (suc more) = skip_info
@@ -163,7 +163,7 @@ pub shape_at-same : (skip_info : IndexRecordOption) (n : ℕ) → shape_at skip_
 shape_at-same skip_info zero = refl
 shape_at-same skip_info (suc more) = refl
 
--- the number of bytes of entries tells their option
+-- the number of bytes of the entries determines their shape
 abbrev pub TellsShape : IndexRecordOption → IndexRecordOption → Type 0
 TellsShape recorded skip_info = (more : ℕ) → skip_info_of recorded (suc more) (entry_size skip_info * suc more) ≡ skip_info
 
@@ -189,7 +189,7 @@ sized_list shape more len bytes =
 abbrev listed : IndexRecordOption → List SkipEntry → List ℕ → Option SkipList
 listed shape es body = needs (list_all (λ (e : SkipEntry). nat_le e.tf_num_bits 32) es) >>= λ _. Some (record { skip_info = shape; entries = es; body = body })
 
--- the counts that stand where the option has them
+-- the frequencies, if the option has them
 width_is : (skip_info : IndexRecordOption) (freqs : List ℕ) → has_freq skip_info ≡ true → width_of skip_info freqs ≡ unsorted_width true freqs
 width_is Basic freqs has = absurd (cc)
 width_is WithFreqs freqs has = refl
@@ -287,7 +287,7 @@ module _ (norms : Option Norms) (skip_info : IndexRecordOption) (docs freqs : Li
   last_doc_before-is n (suc j) h =
       ap (λ (e : SkipEntry). e.last_doc) (entry_of-is n j (omega arith)) ∙ get_or-block_of docs j 127 (omega arith)
 
-  -- what stands at a block's place
+  -- the bytes at a block's place
   block_at_place : (after : List ℕ) (n i m : ℕ) → n ≡ i + suc m → drop (block_place (entries n) i) (blocks n ++ after)
       ≡ sorted_bytes (last_before docs i) (block_of docs i) ++ (packed_freqs skip_info (block_of freqs i) ++ (flat_map (block_bytes skip_info docs freqs) (range_with_len (i + 1) m) ++ after))
   block_at_place after n i m e =

@@ -65,7 +65,7 @@ advances old size tf_sum bytes same within size_is sum_is =
       read = omega arith;
     }
 
--- the reader that went on to a block that ends in a last document, of which its entry told this, after so many reads
+-- the reader after it moved to a block, given the block's last document and info, after some reads
 abbrev pub gone_on : SkipReaderState → ℕ → ℕ → ℕ → BlockInfo → ℕ → SkipReaderState
 gone_on old size tf_sum last info read =
     record { skip_info = old.skip_info; doc_freq = old.doc_freq; block = old.block + 1; last_doc_in_block = last; last_doc_in_previous_block = old.last_doc_in_block; byte_offset = old.byte_offset + size; position_offset = old.position_offset + tf_sum; block_info = info; entries_read = read }
@@ -117,7 +117,7 @@ advanced_end old bytes same past within =
     let other = ne_eqb (old.doc_freq / 128 + 1) (old.doc_freq / 128) (λ e. absurd (omega arith)) in
     rw (here, none, high, other, last, position, count) refl
 
--- What a reader tells at a full block, at the block of vints, and after it.
+-- What a reader returns at a full block, at the block of vints, and after it.
 pub record AtFullBlock (reader : SkipReaderState) (entries : List SkipEntry) (i : ℕ) : Type 0 where
   pub info : reader.block_info ≡ block_info_of (skip_entry entries i)
   pub last : reader.last_doc_in_block ≡ (skip_entry entries i).last_doc

@@ -35,7 +35,7 @@ skip_wide recorded zero bytes rest len skip_info r enough wide = absurd (let som
 skip_wide recorded (suc more) bytes rest len skip_info r enough wide =
     skip_is recorded more bytes rest len skip_info r ∙ (rw (le-leb (entry_size skip_info * suc more) len enough, wide) refl)
 
--- too few bytes for the entries, or fewer than are told
+-- too few bytes for the entries, or fewer than the number at the front
 pub skip_short : (recorded : IndexRecordOption) (blocks : ℕ) (bytes rest : List ℕ) (len : ℕ) (skip_info : IndexRecordOption) → ReadsLen recorded blocks bytes rest len skip_info → len < entry_size skip_info * blocks → skip_list recorded blocks bytes ≡ None
 skip_short recorded zero bytes rest len skip_info r short = absurd (let some = r.some in omega arith)
 skip_short recorded (suc more) bytes rest len skip_info r short =

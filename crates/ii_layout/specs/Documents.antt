@@ -12,12 +12,12 @@ use Rattle.ii_layout.specs.SkipList.{SkipEntry, SkipList, no_entry, block_place}
 abbrev pub skip_entry : List SkipEntry → ℕ → SkipEntry
 skip_entry entries i = slice_index_or entries i no_entry
 
--- the last document before block i, which is 0 where there is none
+-- the last document before block i, or 0 if there is none
 abbrev pub last_doc_before : List SkipEntry → ℕ → ℕ
 last_doc_before entries zero = 0
 last_doc_before entries (suc i) = (skip_entry entries i).last_doc
 
--- the documents of block i, the last of which its entry names
+-- the documents of block i, which must end with its entry's last document
 abbrev pub block_docs : SkipList → ℕ → Option (List ℕ)
 block_docs skip i = do
   let e = skip_entry skip.entries i
@@ -25,13 +25,13 @@ block_docs skip i = do
   _ ← needs (slice_index found.0 127 == e.last_doc)
   Some found.0
 
--- the n documents after the full blocks, and the bytes after those
+-- the n documents after the full blocks, and the bytes after them
 abbrev pub rest_docs : SkipList → ℕ → Option (List ℕ × List ℕ)
 rest_docs skip n =
     let blocks = length skip.entries in
     sorted_vints_at (last_doc_before skip.entries blocks) n (drop (block_place skip.entries blocks) skip.body)
 
--- all documents, and the bytes after the last ones
+-- all documents, and the bytes after them
 abbrev pub documents_at : SkipList → ℕ → Option (List ℕ × List ℕ)
 documents_at skip n = do
   blocks ← each (block_docs skip) (length skip.entries)

@@ -1,4 +1,4 @@
--- The counts of a term, after the documents of each full block and after the last documents.
+-- The term frequencies, after the documents of each full block and after the last documents.
 use Rattle.std.specs.Prelude.{ℕ, ◌*◌, Bool, true, false, ◌&&◌, ◌||◌, List, ◌++◌, drop, length, nat_lt, nat_le, ◌==◌, Option, None, Some}
 use Rattle.std.specs.List.{concat, list_all, sum}
 use Rattle.ii_io.specs.Steps.{◌>>=◌, needs}
@@ -12,17 +12,17 @@ use Rattle.ii_layout.specs.SkipList.{SkipList, block_place}
 use Rattle.ii_layout.specs.SkipReader.{max_tf_of_code}
 use Rattle.ii_layout.specs.Documents.{skip_entry}
 
--- where entries have the sum of a block's counts, it is this one
+-- whether term frequencies have the sum in a block's entry, if entries hold sums
 abbrev pub has_sum : IndexRecordOption → ℕ → List ℕ → Bool
 has_sum Basic tf_sum freqs = true
 has_sum WithFreqs tf_sum freqs = true
 has_sum WithFreqsAndPositions tf_sum freqs = sum freqs == tf_sum
 
--- no count is above a bound; one of 0 says nothing
+-- whether no term frequency is above a bound; a bound of 0 means there is none
 abbrev pub bounds_counts : ℕ → List ℕ → Bool
 bounds_counts bound freqs = bound == 0 || list_all (λ c. nat_le c bound) freqs
 
--- the counts of block i, after its documents, which its entry sums up and bounds
+-- the term frequencies of block i, after its documents, with the sum and within the bound of its entry
 abbrev pub block_freqs : SkipList → ℕ → Option (List ℕ)
 block_freqs skip i = do
   let e = skip_entry skip.entries i
@@ -31,18 +31,18 @@ block_freqs skip i = do
   _ ← needs (bounds_counts (max_tf_of_code e.block_wand_term_freq) found.0)
   Some found.0
 
--- all counts, n of them after the last documents
+-- all term frequencies, including those of the n last documents
 abbrev pub freqs_at : SkipList → ℕ → List ℕ → Option (List ℕ)
 freqs_at skip n after = do
   blocks ← each (block_freqs skip) (length skip.entries)
   rest ← u32s_at n after
   Some (concat blocks ++ rest.0)
 
--- The term has counts: its entries have room for them, or it has none and some byte remains after the documents.
+-- A term has frequencies: its entries hold them, or it has no entries and bytes follow the documents.
 abbrev pub has_freqs : SkipList → List ℕ → Bool
 has_freqs skip after = has_freq skip.skip_info && (nat_lt 0 (length skip.entries) || nat_lt 0 (length after))
 
--- the counts where they are read
+-- the term frequencies if they are read
 abbrev pub freqs_if : Bool → SkipList → ℕ → List ℕ → Option (Option (List ℕ))
 freqs_if false skip n after = Some None
 freqs_if true skip n after = do

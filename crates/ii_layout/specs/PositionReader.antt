@@ -1,4 +1,4 @@
--- A reader of the positions of a term: the deltas that its bytes hold, and the block of them that it keeps.
+-- A reader of a term's positions: the deltas in its bytes, and the block that it keeps.
 use Rattle.std.specs.Prelude.{◌≡◌, ℕ, zero, suc, ◌+◌, ◌-◌, ◌*◌, ◌<◌, ◌≤◌, Bool, if◌then◌else◌, List, [], length, drop, slice_index, nat_le, nat_lt, ◌/◌, Option, unwrap_or, Some}
 use Rattle.std.specs.List.{slice_range}
 use Rattle.ii_io.specs.Steps.{◌>>=◌, needs}
@@ -6,52 +6,52 @@ use Rattle.ii_codes.specs.UnsortedVints.{u32s_until_end}
 use Rattle.ii_layout.specs.Positions.{PositionList, position_list, place_by_widths, block_deltas, rest_deltas, position_deltas}
 use Rattle.ii_layout.specs.Written.{block_of}
 
--- The deltas that the bytes hold, which block of them is kept, and how many blocks were decoded.
+-- The deltas in the bytes, the block that is kept, and the number of decodes.
 pub record PositionReaderState : Type 0 where
   pub deltas : List ℕ
   pub block : ℕ
   pub decodes : ℕ
 
--- The same of its blocks.
+-- The same state, of the reader's blocks.
 pub record PositionBlocksState : Type 0 where
   pub deltas : List ℕ
   pub block : ℕ
   pub decodes : ℕ
 
--- So many deltas from a place on lie in one block.
+-- A range of deltas lies in one block.
 pub record LieInBlock (block offset count : ℕ) : Type 0 where
   pub from : 128 * block ≤ offset
   pub to : offset + count ≤ 128 * block + 128
 
--- the block that is kept after so many deltas from a place on were read: that of the last of them
+-- the block that is kept after a read: that of the last delta read
 abbrev pub block_kept : ℕ → ℕ → ℕ → ℕ
 block_kept before offset zero = before
 block_kept before offset (suc n) = (offset + n) / 128
 
--- the deltas that bytes hold, or none where they hold no such list
+-- the deltas that bytes hold, or none if they hold no such list
 unfoldable pub deltas_of : List ℕ → List ℕ
 deltas_of bytes = unwrap_or (position_deltas bytes) []
 
--- the widths that lie from one place to another, and the bytes after them
+-- the widths between two places, and the bytes after them
 abbrev pub list_at : List ℕ → ℕ → ℕ → PositionList
 list_at bytes widths body = record { widths = slice_range bytes widths body; body = drop body bytes }
 
--- Bytes hold deltas, and their widths and blocks lie at these places.
+-- Bytes hold deltas, with their widths and blocks at these places.
 pub record ArePositions (bytes : List ℕ) (widths body : ℕ) : Type 0 where
   pub order : widths ≤ body
   pub within : body ≤ length bytes
   pub list : position_list bytes ≡ Some (list_at bytes widths body)
   pub deltas : position_deltas bytes ≡ Some (deltas_of bytes)
 
--- whether a block may have a width
+-- whether a width is valid for a block
 abbrev pub is_width : ℕ → Bool
 is_width width = nat_le width 32
 
--- Each anchor up to a block is the place of the block that so many strides lead to.
+-- Anchor k is the place of block k * stride, up to the last block.
 abbrev pub AreAnchors : List ℕ → ℕ → ℕ → List ℕ → Type 0
 AreAnchors widths stride last anchors = (k : ℕ) → k * stride ≤ last → slice_index anchors k ≡ place_by_widths widths (k * stride)
 
--- the deltas that bytes hold to their end, fewer than a block has
+-- the deltas in bytes up to their end, fewer than 128
 abbrev pub rest_at : List ℕ → Option (List ℕ)
 rest_at bytes = do
   rest ← u32s_until_end 128 bytes
@@ -62,7 +62,7 @@ rest_at bytes = do
 abbrev pub deltas_at_block : PositionList → ℕ → Option (List ℕ)
 deltas_at_block list block = if nat_lt block (length list.widths) then block_deltas list block else rest_deltas list
 
--- What a reader keeps of its bytes: where some blocks begin, one block of deltas, and how many deltas are after the full blocks.
+-- The state of a reader: where some blocks begin, one decoded block, and the length of the last one.
 pub record KeepsBlock (bytes : List ℕ) (widths body stride : ℕ) (anchors : List ℕ) (block place : ℕ) (held : List ℕ) (rest : ℕ) : Type 0 where
   pub there : ArePositions bytes widths body
   pub many : length anchors ≡ 64

@@ -8,22 +8,22 @@ use Rattle.ii_layout.specs.Each.{each}
 use Rattle.ii_layout.specs.Positions.{block_deltas}
 use Rattle.ii_layout.specs.Written.{block_of}
 
--- The deltas of the open term so far, and whether an earlier call was refused.
+-- The deltas of the open term so far, and whether an earlier call failed.
 pub record PositionWriterState : Type 0 where
   pub deltas : List ℕ
   pub closed : Bool
 
--- The same with the writer to which positions go.
+-- The same state, with the writer of the positions.
 pub record PositionSerializerState : Type 0 where
   pub writer : CountingWriterState
   pub deltas : List ℕ
   pub closed : Bool
 
--- the widths and the bytes of the full blocks of deltas
+-- the widths of the full blocks of deltas
 abbrev pub widths_of : List ℕ → List ℕ
 widths_of deltas = map (λ i. unsorted_width false (block_of deltas i)) (range_with_len 0 (length deltas / 128))
 
--- the full blocks of deltas, as they are written
+-- the bytes of the full blocks of deltas
 abbrev pub blocks_of : List ℕ → List ℕ
 blocks_of deltas = flat_map (λ i. unsorted_bytes false (block_of deltas i)) (range_with_len 0 (length deltas / 128))
 
@@ -31,7 +31,7 @@ blocks_of deltas = flat_map (λ i. unsorted_bytes false (block_of deltas i)) (ra
 unfoldable pub deltas_in : List ℕ → List ℕ → List ℕ
 deltas_in widths body = unwrap_or (option_map concat (each (block_deltas (record { widths = widths; body = body })) (length widths))) []
 
--- Deltas of 32 bits in full blocks, of which these widths and bytes are kept.
+-- Full blocks of 32-bit deltas, kept as these widths and bytes.
 pub record PacksDeltas (deltas widths body : List ℕ) : Type 0 where
   pub whole : length deltas % 128 ≡ 0
   pub fit : AllByRecursion (λ v. v < 2 ^ 32) deltas

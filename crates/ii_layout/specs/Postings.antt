@@ -1,4 +1,4 @@
--- The postings of a term: what its bytes give, or the first part of them that fails.
+-- The postings of a term: what its bytes hold, or the first corrupt part.
 use Rattle.std.specs.Prelude.{ℕ, ◌/◌, ◌%◌, ◌&&◌, List, map, Option, None, Some, Result, Ok, ok_or}
 use Rattle.std.specs.List.{zip}
 use Rattle.ii_io.specs.declared.faults.Part.{Part}
@@ -11,14 +11,14 @@ use Rattle.ii_layout.specs.SkipList.{SkipList, skip_list}
 use Rattle.ii_layout.specs.Documents.{documents_at}
 use Rattle.ii_layout.specs.Frequencies.{has_freqs, freqs_if}
 
--- The skip list of a term, its documents, the bytes after them, and its counts where they are read.
+-- A term's skip list, its documents, the bytes after them, and its frequencies if they are read.
 pub record Postings : Type 0 where
   pub skip : SkipList
   pub docs : List ℕ
   pub after : List ℕ
   pub freqs : Option (List ℕ)
 
--- what the bytes of a term in so many documents give, by the option that its field records and the one that is requested
+-- the postings that bytes hold, by the number of documents and the recorded and requested options
 abbrev pub postings : IndexRecordOption → IndexRecordOption → ℕ → List ℕ → Result Postings Part
 postings recorded requested doc_freq bytes = do
   skip ← ok_or (skip_list recorded (doc_freq / 128) bytes) Skip
@@ -26,7 +26,7 @@ postings recorded requested doc_freq bytes = do
   freqs ← ok_or (freqs_if (has_freq requested && has_freqs skip found.1) skip (doc_freq % 128) found.1) Frequencies
   Ok (record { skip = skip; docs = found.0; after = found.1; freqs = freqs })
 
--- documents with their counts, each of which is 1 where counts aren't read
+-- documents with their term frequencies, each 1 if frequencies aren't read
 abbrev pub entries_of : List ℕ → Option (List ℕ) → List Entry
 entries_of docs None = map document docs
 entries_of docs (Some freqs) = map (λ e. counted e.0 e.1) (zip docs freqs)

@@ -1,4 +1,4 @@
--- Where a reader of a term's skip list stands, and what it tells of the block there.
+-- The state of a reader of a term's skip list, and what it returns about its block.
 use Rattle.std.specs.Prelude.{ℕ, ◌+◌, ◌-◌, ◌*◌, ◌/◌, ◌%◌, ◌^◌, ◌<◌, ◌≤◌, List, min, max, nat_lt, nat_le, ◌==◌, if◌then◌else◌}
 use Rattle.ii_base.specs.declared.schema.index_record_option.IndexRecordOption.{IndexRecordOption}
 use Rattle.ii_base.specs.declared.doc_id.TheConstants.{TERMINATED}
@@ -7,29 +7,29 @@ use Rattle.ii_layout.specs.declared.skip.BlockInfo.TheVariants.{BitPacked, VInt}
 use Rattle.ii_layout.specs.SkipList.{SkipEntry, block_place, tf_sum_before}
 use Rattle.ii_layout.specs.Documents.{skip_entry, last_doc_before}
 
--- the count that a byte of a bound codes: the largest byte is any count
+-- the term frequency of a bound's byte; 255 means any
 abbrev pub max_tf_of_code : ℕ → ℕ
 max_tf_of_code code = if code == 255 then 2 ^ 32 - 1 else code
 
--- the byte that codes a count
+-- the byte that encodes a term frequency
 abbrev pub code_of_max_tf : ℕ → ℕ
 code_of_max_tf max_tf = min max_tf 255
 
--- what an entry tells of its block
+-- what an entry holds about its block
 abbrev pub block_info_of : SkipEntry → BlockInfo
 block_info_of e = BitPacked e.doc_num_bits e.strict_delta e.tf_num_bits e.tf_sum e.block_wand_fieldnorm_id (max_tf_of_code e.block_wand_term_freq)
 
--- how many bytes a full block takes
+-- the size of a full block in bytes
 abbrev pub packed_size_of : BlockInfo → ℕ
 packed_size_of (BitPacked doc_num_bits strict_delta tf_num_bits tf_sum norm term_freq) = 16 * (doc_num_bits + tf_num_bits)
 packed_size_of (VInt n) = 0
 
--- the width of a block's counts
+-- the width of a block's term frequencies
 abbrev pub tf_num_bits_of : BlockInfo → ℕ
 tf_num_bits_of (BitPacked doc_num_bits strict_delta tf_num_bits tf_sum norm term_freq) = tf_num_bits
 tf_num_bits_of (VInt n) = 0
 
--- the sum of a block's counts
+-- the sum of a block's term frequencies
 abbrev pub tf_sum_of : BlockInfo → ℕ
 tf_sum_of (BitPacked doc_num_bits strict_delta tf_num_bits tf_sum norm term_freq) = tf_sum
 tf_sum_of (VInt n) = 0
@@ -45,7 +45,7 @@ pub record SkipReaderState : Type 0 where
   pub block_info : BlockInfo
   pub entries_read : ℕ
 
--- A reader at block i of a term with these entries, of which it has read each one up to there, once. The full blocks are followed by one of vints, and that by nothing.
+-- A reader at block i that has read each entry up to it once. Vints follow the full blocks, and then nothing.
 abbrev pub reader_at : IndexRecordOption → ℕ → List SkipEntry → ℕ → SkipReaderState
 reader_at skip_info doc_freq entries i =
     let blocks = doc_freq / 128 in
@@ -61,7 +61,7 @@ reader_at skip_info doc_freq entries i =
       entries_read = min (i + 1) blocks;
     }
 
--- A seek from block i to block k, of so many full ones: forward, past blocks that end below the target, to the first one that doesn't or to the documents after the full blocks. From there on it stays.
+-- A seek from block i to the first block that reaches the target, or to the vints; from there on it stays.
 pub record Seeks (target blocks : ℕ) (entries : List SkipEntry) (i k : ℕ) : Type 0 where
   pub forward : i ≤ k
   pub within : k ≤ max i blocks

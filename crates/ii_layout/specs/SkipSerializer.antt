@@ -1,4 +1,4 @@
--- What a serializer of skip entries has: their bytes, and whether an earlier call was refused.
+-- The state of a skip serializer: the bytes of its entries, and whether an earlier call failed.
 use Rattle.std.specs.Prelude.{◌≡◌, ℕ, ◌++◌, ◌↔◌, Bool, false, true, List, Result, IsTrue, OnOk, OnErr, IsErrOf}
 use Rattle.ii_io.specs.declared.faults.Fault.{Fault}
 use Rattle.ii_io.specs.declared.faults.Fault.TheVariants.{SerializerClosed}
@@ -8,7 +8,7 @@ pub record SkipSerializerState : Type 0 where
   pub bytes : List ℕ
   pub closed : Bool
 
--- How a call ends that adds these bytes: where memory is refused none is added, and every later call is refused.
+-- The outcomes of adding bytes: an allocation failure adds none, and every later call fails.
 pub record Adds (old new : SkipSerializerState) (bytes : List ℕ) (result : Result (Unit {0}) Fault) : Type 0 where
   pub ok : OnOk result (new ≡ record { bytes = old.bytes ++ bytes; closed = false })
   pub err : OnErr result (new ≡ record old { closed = true })

@@ -1,4 +1,4 @@
--- What the bounds that are written of a term say of its blocks.
+-- What the written bounds of a term say about its blocks.
 use Rattle.std.specs.Prelude.{◌≡◌, ℕ, ◌/◌, ◌^◌, ◌<◌, ◌≤◌, IsTrue, List, ◌++◌, length, map, slice_index, Option, Some, None}
 use Rattle.ii_base.specs.declared.schema.index_record_option.IndexRecordOption.{IndexRecordOption}
 use Rattle.ii_base.specs.declared.schema.index_record_option.IndexRecordOption.TheVariants.{Basic}
@@ -11,14 +11,14 @@ use Rattle.ii_layout.specs.SkipList.{SkipEntry, SkipList, skip_list}
 use Rattle.ii_layout.specs.SkipReader.{code_of_max_tf, max_tf_of_code}
 use Rattle.ii_layout.specs.Written.{AreFreqs, block_of, written_postings}
 
--- An entry has the least norm id of a block's documents, and the greatest of their counts as its byte: no id is below the one, no count above the other.
+-- An entry holds the least norm id and the greatest term frequency of a block, which bound each document.
 pub record BoundsBlock (norms : Norms) (e : SkipEntry) (docs freqs : List ℕ) : Type 0 where
   pub fieldnorm_id : e.block_wand_fieldnorm_id ≡ least (map (id_of_doc norms) docs)
   pub term_freq : e.block_wand_term_freq ≡ code_of_max_tf (greatest freqs)
   pub not_above : (k : ℕ) → k < length docs → e.block_wand_fieldnorm_id ≤ id_of_doc norms (slice_index docs k)
   pub not_below : (k : ℕ) → k < length freqs → slice_index freqs k ≤ max_tf_of_code e.block_wand_term_freq
 
--- The law: the entries of what is written with norms bound the blocks, each its own.
+-- The law: each entry written with norms bounds its block.
 abbrev pub BoundsWhatIsWritten : Type 0
 BoundsWhatIsWritten =
     (norms : Norms) (recorded : IndexRecordOption) (docs freqs rest : List ℕ) (skip : SkipList) → IsTrue (are_documents docs) → length docs < 2 ^ 32
@@ -31,6 +31,6 @@ abbrev pub BoundsTakeNoRoom : Type 0
 BoundsTakeNoRoom =
     (norms : Option Norms) (skip_info : IndexRecordOption) (docs freqs : List ℕ) → length (written_postings norms skip_info docs freqs) ≡ length (written_postings None skip_info docs freqs)
 
--- The law: a term without counts has no bounds.
+-- The law: a term without frequencies has no bounds.
 abbrev pub PlainTermsHaveNoBounds : Type 0
 PlainTermsHaveNoBounds = (norms : Option Norms) (docs freqs : List ℕ) → written_postings norms Basic docs freqs ≡ written_postings None Basic docs freqs

@@ -6,7 +6,7 @@ use ii_base::DocId;
 use ii_codes::COMPRESSION_BLOCK_SIZE;
 use std::marker::Model;
 
-/// At most 128 documents with their counts.
+/// Holds at most 128 documents with their term frequencies.
 #[derive(Drop)]
 pub(crate) struct Block {
     doc_ids: [DocId; COMPRESSION_BLOCK_SIZE],
@@ -26,7 +26,7 @@ impl Model for Block {
 }
 
 impl Block {
-    /// A block of no documents.
+    /// Creates an empty block.
     pub(crate) fn new() -> Block
         ensures { result ≡ no_docs }
     {
@@ -37,21 +37,21 @@ impl Block {
         }
     }
 
-    /// The documents.
+    /// Returns the documents.
     pub(crate) fn doc_ids(&self) -> &[DocId]
         ensures { result.now ≡ self.now.docs }
     {
         &self.doc_ids[..self.len]
     }
 
-    /// The counts of the documents.
+    /// Returns the term frequencies of the documents.
     pub(crate) fn term_freqs(&self) -> &[u32]
         ensures { result.now ≡ self.now.freqs }
     {
         &self.term_freqs[..self.len]
     }
 
-    /// The sum of the counts.
+    /// Returns the sum of the term frequencies.
     pub(crate) fn term_freq_sum(&self) -> u64
         ensures { result ≡ sum self.now.freqs }
     {
@@ -62,7 +62,7 @@ impl Block {
         total
     }
 
-    /// The last of 128 documents.
+    /// Returns the last document of a full block.
     pub(crate) fn last_doc(&self) -> DocId
         requires { length self.now.docs ≡ 128 }
         ensures { result ≡ slice_index self.now.docs 127 }
@@ -70,7 +70,7 @@ impl Block {
         self.doc_ids[COMPRESSION_BLOCK_SIZE - 1]
     }
 
-    /// Whether there are 128 documents.
+    /// Returns whether the block holds 128 documents.
     pub(crate) fn is_full(&self) -> bool
         ensures full { result ≡ (length self.now.docs == 128) }
         ensures few { length self.now.docs ≤ 128 }
@@ -78,7 +78,7 @@ impl Block {
         self.len == COMPRESSION_BLOCK_SIZE
     }
 
-    /// Adds a document with its count to fewer than 128.
+    /// Adds a document and its term frequency to a block that isn't full.
     pub(crate) fn append_doc(&mut self, doc_id: DocId, term_freq: u32)
         requires { length self.old.docs < 128 }
         ensures { self.new ≡ joined self.old (one_doc doc_id term_freq) }
@@ -88,7 +88,7 @@ impl Block {
         self.len += 1;
     }
 
-    /// Drops all documents.
+    /// Removes all documents.
     pub(crate) fn clear(&mut self)
         ensures { self.new ≡ no_docs }
     {
@@ -96,7 +96,7 @@ impl Block {
     }
 }
 
-/// The sum of at most 128 values.
+/// Returns the sum of at most 128 values.
 pub fn sum_of(values: &[u32]) -> u64
     requires { length values.now ≤ 128 }
     ensures sum { result ≡ sum values.now }

@@ -9,7 +9,7 @@ use ii_base::DocId;
 use ii_fieldnorm::FieldNormReader;
 use std::marker::Model;
 
-/// What tells the bounds of blocks: the norms of their field. A field without norms has no bounds.
+/// Computes the bounds of blocks from the norms of their field. A field without norms has no bounds.
 #[derive(Drop)]
 pub(crate) struct BlockBounds {
     fieldnorm_reader: Option<FieldNormReader>,
@@ -25,14 +25,14 @@ impl Model for BlockBounds {
 }
 
 impl BlockBounds {
-    /// The bounds of blocks of a field with these norms, if it has any.
+    /// Creates the bounds for a field with these norms, if it has any.
     pub(crate) fn new(fieldnorm_reader: Option<FieldNormReader>) -> BlockBounds
         ensures { result ≡ fieldnorm_reader }
     {
         BlockBounds { fieldnorm_reader }
     }
 
-    /// The least norm id of a block's documents, 0 without norms.
+    /// Returns the least norm id of a block's documents, or 0 without norms.
     pub(crate) fn fieldnorm_id(&self, block: &Block) -> u8
         requires { AllByRecursion (Covers self.now) block.now.docs }
         ensures { result ≡ fieldnorm_bound self.now block.now.docs }
@@ -43,7 +43,7 @@ impl BlockBounds {
         }
     }
 
-    /// The greatest count of a block's documents, 0 without norms.
+    /// Returns the greatest term frequency in a block, or 0 without norms.
     pub(crate) fn term_freq(&self, block: &Block) -> u32
         ensures { code_of_max_tf result ≡ term_freq_bound self.now block.now.freqs }
     {
@@ -54,7 +54,7 @@ impl BlockBounds {
     }
 }
 
-// The least norm id of documents.
+// Returns the least norm id of the documents.
 fn least_id(norms: &FieldNormReader, doc_ids: &[DocId]) -> u8
     requires { AllByRecursion (CoversDoc norms.now) doc_ids.now }
     ensures { result ≡ least (map (id_of_doc norms.now) doc_ids.now) }
@@ -66,7 +66,7 @@ fn least_id(norms: &FieldNormReader, doc_ids: &[DocId]) -> u8
     least
 }
 
-// The greatest of counts.
+// Returns the greatest term frequency.
 fn greatest_of(term_freqs: &[u32]) -> u32
     ensures { result ≡ greatest term_freqs.now }
 {

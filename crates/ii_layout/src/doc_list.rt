@@ -5,8 +5,8 @@ ghost use Rattle.ii_layout.specs.PostingsSerializer.{CountedDocs, no_docs, joine
 use super::block::Block;
 use std::marker::Model;
 
-/// A list of documents with their counts, for contracts alone: it takes no bytes, and no code can
-/// read it.
+/// Lists documents with their term frequencies, for contracts only: it takes no bytes and no code can read
+/// it.
 #[derive(Drop)]
 pub(crate) struct DocList {
     pub ghost term: { CountedDocs },
@@ -17,14 +17,14 @@ impl Model for DocList {
 }
 
 impl DocList {
-    /// The empty list.
+    /// Creates an empty list.
     pub(crate) fn new() -> DocList
         ensures { result.term ≡ no_docs }
     {
         DocList {}
     }
 
-    /// The list with the documents of a block after it.
+    /// Returns the list with the documents of a block appended.
     pub(crate) fn and(&self, _block: &Block) -> DocList
         ensures { result.term ≡ joined self.now.term _block.now }
     {

@@ -1,4 +1,5 @@
-//! The layout of a term's postings.
+//! The byte layout of a term's postings: skip list, packed blocks of documents and term frequencies, and
+//! positions.
 #![tactic(auto)]
 
 mod block;

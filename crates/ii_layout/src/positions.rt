@@ -7,8 +7,8 @@ ghost use Rattle.std.specs.Prelude.{◌≡◌, ◌+◌, ◌-◌, ◌≤◌, ◌+
 pub use reader::PositionReader;
 pub use serializer::{PositionSerializer, PositionWriter};
 
-// Copies values from a place on into the output, behind what is done there, and answers how many:
-// as many as there are and have room.
+// Copies values from `start` on into the output, after the first `done` values. Returns how many it copied:
+// as many as exist and fit.
 fn copy_into(values: &[u32], start: usize, output: &mut [u32], done: usize) -> usize
     requires start { start ≤ length values.now }
     requires done { done ≤ length output.old }

@@ -23,7 +23,7 @@ use std::alloc::Global;
 use std::io::Write;
 use std::marker::Model;
 
-/// The full blocks of the open term, packed, and their skip list.
+/// Holds the packed full blocks of the open term and their skip list.
 #[derive(Drop)]
 struct PackedBlocks {
     block_encoder: BlockEncoder,
@@ -64,7 +64,7 @@ impl PackedBlocks {
         }
     }
 
-    // Drops all blocks, before a term whose entries stand as an option.
+    // Drops all blocks, before a term whose skip entries have the shape of `skip_info`.
     fn begin(&mut self, skip_info: IndexRecordOption)
         ensures { self.new ≡ record self.old { skip_info = skip_info; term = no_docs } }
     {
@@ -75,7 +75,7 @@ impl PackedBlocks {
         self.docs = DocList::new();
     }
 
-    // As which option the entries stand.
+    // Returns the option that gives the shape of the skip entries.
     fn skip_info(&self) -> IndexRecordOption
         ensures skip_info { result ≡ self.now.skip_info }
         ensures whole { AreWhole self.now.term }
@@ -83,7 +83,7 @@ impl PackedBlocks {
         self.skip_info
     }
 
-    // Packs a full block after the others. Where memory is refused no block is left.
+    // Packs a full block after the others. An allocation failure drops all blocks.
     fn push(&mut self, block: &Block) -> Result<(), Fault>
         requires full { length block.now.docs ≡ 128 }
         requires freqs { AreBlockFreqs self.old.skip_info block.now.freqs }
@@ -91,7 +91,7 @@ impl PackedBlocks {
         requires ascending { IsTrue (are_documents (self.old.term.docs ++ block.now.docs)) }
         requires open { self.old.closed ≡ false }
 
-        // What stays, and how it ends.
+        // What stays the same, and the outcomes.
         ensures same { (self.new.norms ≡ self.old.norms) × (self.new.skip_info ≡ self.old.skip_info) }
         ensures ok { OnOk result (self.new ≡ record self.old { term = joined self.old.term block.now }) }
         ensures err { OnErr result (self.new.term ≡ no_docs) }
@@ -122,7 +122,7 @@ impl PackedBlocks {
         }
     }
 
-    // Writes the skip list and the blocks, and after them fewer documents than a block has.
+    // Writes the skip list, the blocks, and then fewer than 128 documents.
     fn write_with<W: Write>(
         &mut self,
         rest: &Block,
@@ -185,7 +185,7 @@ fn write_block(
     )
 }
 
-// Packs the documents of a full block, and adds what its skip entry has of them.
+// Packs the documents of a full block, and adds their part of its skip entry.
 fn write_block_docs(
     block: &Block,
     last_doc: DocId,
@@ -205,7 +205,7 @@ fn write_block_docs(
     Ok(())
 }
 
-// Packs the counts of a full block, and adds what its skip entry has of them, where there are any.
+// Packs the term frequencies of a full block, if it has any, and adds their part of its skip entry.
 fn write_block_freqs(
     skip_info: IndexRecordOption,
     block: &Block,
@@ -230,7 +230,7 @@ fn write_block_freqs(
     Ok(())
 }
 
-// Adds what a skip entry has beside the documents: the width of the counts, their sum, and the
+// Adds the part of a skip entry after the document: the width of the term frequencies, their sum, and the
 // block's bounds.
 fn write_freq_part(
     skip_info: IndexRecordOption,
@@ -260,7 +260,7 @@ fn write_freq_part(
     }
 }
 
-// Writes the number of bytes of a skip list and these bytes, or nothing where there is no entry.
+// Writes the length of a skip list in bytes and then the list, or nothing if it has no entry.
 fn write_skip_list<W: Write>(
     skip_data: &[u8],
     output_write: &mut CountingWriter<W>,
@@ -279,7 +279,7 @@ fn write_skip_list<W: Write>(
     output_write.write_all(skip_data)
 }
 
-// Writes the documents after the full blocks, and their counts where there are any.
+// Writes the documents after the full blocks, and their term frequencies if there are any.
 fn write_rest<W: Write>(
     skip_info: IndexRecordOption,
     rest: &Block,
@@ -304,7 +304,7 @@ fn write_rest<W: Write>(
     output_write.write_all(bytes)
 }
 
-// Whether the sum of a block's counts passes 32 bits where it is kept.
+// Returns whether the sum of a block's term frequencies is kept and exceeds 32 bits.
 fn is_sum_too_large(skip_info: IndexRecordOption, block: &Block) -> bool
     ensures { result ≡ (has_positions skip_info && nat_lt (2 ^ 32 - 1) (sum block.now.freqs)) }
 {
@@ -314,8 +314,8 @@ fn is_sum_too_large(skip_info: IndexRecordOption, block: &Block) -> bool
     block.term_freq_sum() > u64::from(u32::MAX)
 }
 
-// Packs the open block, which is full, and begins an empty one. Where that is refused no document is
-// left. Apart from what each document needs, whose call then saves few registers.
+// Packs the open block, which is full, and starts an empty one. An error drops all documents. It is apart
+// from the code for each document, so that a call for a document saves few registers.
 #[cold]
 #[inline(never)]
 fn pack_full(
@@ -332,7 +332,7 @@ fn pack_full(
     requires open { blocks.old.closed ≡ false }
     ensures block { block.new ≡ no_docs }
 
-    // What stays, and how it ends.
+    // What stays the same, and the outcomes.
     ensures same { (blocks.new.norms ≡ blocks.old.norms) × (blocks.new.skip_info ≡ blocks.old.skip_info) }
     ensures stays { OnOk result (blocks.new.closed ≡ false) }
     ensures added { AddsDocs blocks.old.skip_info blocks.old.term blocks.new.term block.old result }
@@ -347,8 +347,7 @@ fn pack_full(
     packed
 }
 
-// Adds a document to the open block, and packs that once it is full. Where that is refused no
-// document is left.
+// Adds a document to the open block, and packs the block if it is then full. An error drops all documents.
 #[inline(always)]
 fn append_doc(
     blocks: &mut PackedBlocks,
@@ -363,7 +362,7 @@ fn append_doc(
     requires open { blocks.old.closed ≡ false }
     ensures block { IsOpenBlock blocks.old.skip_info block.new }
 
-    // What stays, and how it ends.
+    // What stays the same, and the outcomes.
     ensures covered { AllByRecursion (Covers blocks.old.norms) block.new.docs }
     ensures same { (blocks.new.norms ≡ blocks.old.norms) × (blocks.new.skip_info ≡ blocks.old.skip_info) }
     ensures stays { OnOk result (blocks.new.closed ≡ false) }
@@ -379,7 +378,7 @@ fn append_doc(
 
 /// Writes the postings of one term after the other.
 ///
-/// After a refused call it is closed: each further call answers `SerializerClosed`.
+/// After an error it is closed: each further call returns `SerializerClosed`.
 pub struct PostingsSerializer {
     mode: IndexRecordOption,
     blocks: PackedBlocks,
@@ -387,7 +386,7 @@ pub struct PostingsSerializer {
     is_closed: bool,
 }
 
-// So that each drop is a call.
+// A drop has to be a call.
 impl Drop for PostingsSerializer {
     fn drop(self) {
         let PostingsSerializer {
@@ -420,9 +419,10 @@ impl Model for PostingsSerializer {
 }
 
 impl PostingsSerializer {
-    /// A serializer of postings as the field records them. With the norms of the field, the skip entry
-    /// of each full block tells the least norm id of its documents and their greatest count, at most
-    /// 255; without them both are 0.
+    /// Creates a serializer of postings as the field records them.
+    ///
+    /// With the norms of the field, the skip entry of each full block holds the least norm id of its
+    /// documents and their greatest term frequency, at most 255. Without norms both are 0.
     pub fn new(
         alloc: Global,
         mode: IndexRecordOption,
@@ -438,8 +438,8 @@ impl PostingsSerializer {
         }
     }
 
-    /// Begins a term anew, as the field records it or, where `record_term_freq` is not set, without
-    /// counts. Its documents are added by `write_doc`, and go out at `close_term`.
+    /// Starts a new term, as the field records it, or without term frequencies if `record_term_freq` is not
+    /// set. `write_doc` adds its documents; `close_term` writes them.
     pub fn new_term(&mut self, _term_doc_freq: u32, record_term_freq: bool)
         ensures { self.new ≡ record self.old { skip_info = if record_term_freq then self.old.mode else Basic; docs = []; freqs = [] } }
     {
@@ -451,7 +451,7 @@ impl PostingsSerializer {
         self.begin(skip_info);
     }
 
-    // Drops the documents of the open term, before one whose entries stand as an option.
+    // Drops the documents of the open term, before a term whose skip entries have the shape of `skip_info`.
     fn begin(&mut self, skip_info: IndexRecordOption)
         ensures { self.new ≡ record self.old { skip_info = skip_info; docs = []; freqs = [] } }
     {
@@ -459,13 +459,16 @@ impl PostingsSerializer {
         self.block.clear();
     }
 
-    /// Adds a document, above the ones before it and below `TERMINATED`, and how often the term
-    /// occurs there, which is at least once where the term has counts. The norms, where the field has
-    /// some, answer for it.
+    /// Adds a document and its term frequency. The document must be greater than all earlier ones, less than
+    /// `TERMINATED`, and covered by the norms if the field has some. The term frequency must be at least 1 if
+    /// the term has frequencies.
     ///
-    /// `Limit(BlockFrequencySum)` where the document fills a block whose counts sum up above
-    /// `u32::MAX`, in a term with positions. `OutOfMemory` where a growth was refused. The documents
-    /// are then dropped. `SerializerClosed` after an earlier refusal, whatever the document is.
+    /// # Errors
+    ///
+    /// * `Limit(BlockFrequencySum)` if, in a term with positions, the document fills a block whose term
+    ///   frequencies sum to more than `u32::MAX`; the documents are then dropped.
+    /// * `OutOfMemory` if an allocation fails; the documents are then dropped.
+    /// * `SerializerClosed` after an earlier error, whatever the document is.
     #[inline]
     pub fn write_doc(&mut self, doc_id: DocId, term_freq: u32) -> Result<(), Fault>
         requires ascending { self.old.closed ≡ false → IsTrue (are_documents (self.old.docs ++ doc_id ∷ [])) }
@@ -474,7 +477,7 @@ impl PostingsSerializer {
         ensures ok { OnOk result (self.new ≡ record self.old { docs = self.old.docs ++ doc_id ∷ []; freqs = self.old.freqs ++ term_freq ∷ []; closed = false }) }
         ensures err { OnErr result (self.new ≡ record self.old { docs = []; freqs = []; closed = true }) }
 
-        // By which fault it is refused.
+        // Which error it returns, and when.
         ensures limit { IsErrOf result (Fault.Limit LimitName.BlockFrequencySum)
             ↔ (self.old.closed ≡ false) × IsSumTooLarge self.old.skip_info (self.old.freqs ++ term_freq ∷ []) }
         ensures closed { IsErrOf result Fault.SerializerClosed ↔ IsTrue self.old.closed }
@@ -490,9 +493,11 @@ impl PostingsSerializer {
 
     /// Writes the postings of the term, which has `doc_freq` documents, and ends it.
     ///
-    /// `Write` where the writer fails, `Limit(Offset)` where a count of the writer would pass
-    /// `u64::MAX`: a prefix of the postings is then written. `SerializerClosed` after an earlier
-    /// refusal, whatever `doc_freq` is, and nothing is written.
+    /// # Errors
+    ///
+    /// * `Write` if the writer fails; a prefix of the postings is then written.
+    /// * `Limit(Offset)` if a count of the writer would exceed `u64::MAX`; a prefix is then written.
+    /// * `SerializerClosed` after an earlier error, whatever `doc_freq` is; nothing is then written.
     pub fn close_term<W: Write>(
         &mut self,
         doc_freq: u32,

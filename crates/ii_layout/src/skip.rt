@@ -13,7 +13,7 @@ use ii_io::{Fault, GhostCounter};
 use std::alloc::{AllocError, Global};
 use std::marker::Model;
 
-/// The code of a width below 32: the width, and 64 more where deltas are strict.
+/// Encodes a bit width below 32, plus 64 if the deltas are strict.
 pub fn encode_bitwidth(bitwidth: u8, delta_1: bool) -> u8
     requires { bitwidth < 32 }
     ensures { result ≡ bitwidth + (if delta_1 then 64 else 0) }
@@ -21,7 +21,7 @@ pub fn encode_bitwidth(bitwidth: u8, delta_1: bool) -> u8
     if delta_1 { bitwidth + 64 } else { bitwidth }
 }
 
-/// The width of a code, below 32, and whether its deltas are strict.
+/// Decodes a bit width, which is below 32, and whether its deltas are strict.
 pub fn decode_bitwidth(raw_bitwidth: u8) -> (u8, bool)
     ensures width { result.0 ≡ width_of_code raw_bitwidth }
     ensures strict_delta { result.1 ≡ strict_of_code raw_bitwidth }
@@ -31,7 +31,7 @@ pub fn decode_bitwidth(raw_bitwidth: u8) -> (u8, bool)
 
 /// Writes the entries of a skip list, one for each full block.
 ///
-/// After a refused call it is closed: each further call answers `SerializerClosed`.
+/// After an error it is closed: each further call returns `SerializerClosed`.
 #[derive(Drop)]
 pub struct SkipSerializer {
     buffer: Vec<u8>,
@@ -47,7 +47,7 @@ impl Model for SkipSerializer {
 }
 
 impl SkipSerializer {
-    /// A serializer of no entry.
+    /// Creates a serializer with no entries.
     pub fn new(alloc: Global) -> SkipSerializer
         ensures { result ≡ record { bytes = []; closed = false } }
     {
@@ -57,11 +57,11 @@ impl SkipSerializer {
         }
     }
 
-    /// Adds the last document of a block, in four bytes, the lowest first, and the code of the
-    /// width of its strict deltas, which is below 32.
+    /// Adds the last document of a block, in four bytes, little-endian, and the code of the width of its
+    /// strict deltas, which is below 32.
     ///
-    /// `OutOfMemory` where a growth was refused: nothing is added then. `SerializerClosed` after an
-    /// earlier refusal. So it is with the other parts of an entry.
+    /// Returns `OutOfMemory` if an allocation fails, and adds nothing then; `SerializerClosed` after an
+    /// earlier error. The calls for the other parts of an entry do the same.
     pub fn write_doc(&mut self, last_doc: DocId, doc_num_bits: u8) -> Result<(), Fault>
         requires { doc_num_bits < 32 }
         ensures { Adds self.old self.new (le_bytes 4 last_doc ++ code_of_width doc_num_bits ∷ []) result }
@@ -72,14 +72,14 @@ impl SkipSerializer {
         self.add(&bytes)
     }
 
-    /// Adds the width of the counts of a block, in one byte.
+    /// Adds the width of a block's term frequencies, in one byte.
     pub fn write_term_freq(&mut self, tf_num_bits: u8) -> Result<(), Fault>
         ensures { Adds self.old self.new (tf_num_bits ∷ []) result }
     {
         self.add(&[tf_num_bits])
     }
 
-    /// Adds the sum of the counts of a block, in four bytes, the lowest first.
+    /// Adds the sum of a block's term frequencies, in four bytes, little-endian.
     pub fn write_total_term_freq(&mut self, tf_sum: u32) -> Result<(), Fault>
         ensures { Adds self.old self.new (le_bytes 4 tf_sum) result }
     {
@@ -88,14 +88,14 @@ impl SkipSerializer {
         self.add(&bytes)
     }
 
-    /// Adds the bound of a block: the norm in one byte, and the code of the count.
+    /// Adds the bounds of a block: the norm id in one byte, and the code of the term frequency.
     pub fn write_blockwand_max(&mut self, fieldnorm_id: u8, term_freq: u32) -> Result<(), Fault>
         ensures { Adds self.old self.new (fieldnorm_id ∷ code_of_max_tf term_freq ∷ []) result }
     {
         self.add(&[fieldnorm_id, encode_block_wand_max_tf(term_freq)])
     }
 
-    // Adds bytes, all of them or none.
+    // Adds all of the bytes or none.
     fn add(&mut self, bytes: &[u8]) -> Result<(), Fault>
         ensures { Adds self.old self.new bytes.now result }
     {
@@ -108,14 +108,14 @@ impl SkipSerializer {
         Ok(())
     }
 
-    /// The bytes of the entries.
+    /// Returns the bytes of the entries.
     pub fn data(&self) -> &[u8]
         ensures { result.now ≡ self.now.bytes }
     {
         self.buffer.as_slice()
     }
 
-    /// Drops all entries.
+    /// Removes all entries.
     pub fn clear(&mut self)
         ensures { self.new ≡ record self.old { bytes = [] } }
     {
@@ -123,14 +123,14 @@ impl SkipSerializer {
     }
 }
 
-/// The byte that codes a count: the count, or 255 where that is less.
+/// Encodes a term frequency in one byte, as at most 255.
 pub fn encode_block_wand_max_tf(max_tf: u32) -> u8
     ensures { result ≡ code_of_max_tf max_tf }
 {
     max_tf.min(255) as u8
 }
 
-/// The count that a byte codes: the byte, or `u32::MAX` for the largest one.
+/// Decodes a term frequency: the byte itself, or `u32::MAX` for 255.
 pub fn decode_block_wand_max_tf(max_tf_code: u8) -> u32
     ensures { result ≡ max_tf_of_code max_tf_code }
 {
@@ -141,27 +141,27 @@ pub fn decode_block_wand_max_tf(max_tf_code: u8) -> u32
     }
 }
 
-/// What a skip list tells of a block.
+/// What a skip list holds about a block.
 #[derive(Clone, Copy, Debug, PartialEq, Eq)]
 pub enum BlockInfo {
-    /// A full block. A number that is missing in its entry is 0.
+    /// A full block. A number that its entry doesn't have is 0.
     BitPacked {
-        /// The width of the documents' deltas, below 32.
+        /// The bit width of the document deltas, below 32.
         doc_num_bits: u8,
-        /// Whether these are strict.
+        /// Whether the document deltas are strict.
         strict_delta_encoded: bool,
-        /// The width of the counts.
+        /// The bit width of the term frequencies.
         tf_num_bits: u8,
-        /// The sum of the counts.
+        /// The sum of the term frequencies.
         tf_sum: u32,
-        /// The norm of the entry's bound.
+        /// The norm id of the entry's bounds.
         block_wand_fieldnorm_id: u8,
-        /// The count of the entry's bound.
+        /// The term frequency of the entry's bounds.
         block_wand_term_freq: u32,
     },
-    /// Documents after the full blocks.
+    /// The documents after the full blocks.
     VInt {
-        /// How many these are, below 128.
+        /// The number of documents, below 128.
         num_docs: u32,
     },
 }
@@ -177,7 +177,7 @@ impl Default for BlockInfo {
     }
 }
 
-// How many bytes an entry takes.
+// Returns the size of an entry in bytes.
 pub(crate) fn entry_size(skip_info: IndexRecordOption) -> usize
     ensures { result ≡ entry_size skip_info }
 {
@@ -188,7 +188,8 @@ pub(crate) fn entry_size(skip_info: IndexRecordOption) -> usize
     }
 }
 
-// The last document of the entry at the front, and what it tells of its block. It is counted.
+// Reads the entry at the front: the last document of its block, and what it holds about the block. Counts as
+// a read.
 fn read_entry(
     bytes: &[u8],
     skip_info: IndexRecordOption,
@@ -239,7 +240,7 @@ fn read_entry(
     }
 }
 
-// The entry of block `block`, as `read_entry` answers it.
+// Reads the entry of block `block`, as `read_entry` does.
 pub(crate) fn read_entry_at(
     skip_data: &[u8],
     skip_info: IndexRecordOption,
@@ -255,7 +256,7 @@ pub(crate) fn read_entry_at(
     read_entry(&skip_data[start..], skip_info, entries_read)
 }
 
-// How many bytes a full block takes.
+// Returns the size of a full block in bytes.
 fn packed_size(info: BlockInfo) -> usize
     ensures size { result ≡ packed_size_of info }
     ensures few { result ≤ 8160 }
@@ -270,7 +271,7 @@ fn packed_size(info: BlockInfo) -> usize
     }
 }
 
-// The sum of a block's counts.
+// Returns the sum of a block's term frequencies.
 fn tf_sum(info: BlockInfo) -> u64
     ensures sum { result ≡ tf_sum_of info }
     ensures small { result < 2 ^ 32 }
@@ -281,8 +282,8 @@ fn tf_sum(info: BlockInfo) -> u64
     }
 }
 
-/// A reader of a term's skip list. It keeps places alone: each call that reads an entry is lent the
-/// bytes of the skip list.
+/// Reads a term's skip list. It keeps offsets only: each call that reads an entry borrows the bytes of the
+/// list.
 #[derive(Drop)]
 pub struct SkipReader {
     skip_info: IndexRecordOption,
@@ -319,8 +320,8 @@ impl Model for SkipReader {
 }
 
 impl SkipReader {
-    /// A reader at the first block of a term in `doc_freq` documents, whose entries have the shape
-    /// `skip_info`. The bytes begin with an entry for each full block.
+    /// Opens a reader at the first block of a term in `doc_freq` documents, whose entries have the shape of
+    /// `skip_info`. `skip_data` begins with an entry for each full block.
     pub fn new(skip_data: &[u8], doc_freq: u32, skip_info: IndexRecordOption) -> SkipReader
         requires { entry_size skip_info * (doc_freq / 128) ≤ length skip_data.now }
         ensures { result ≡ reader_at skip_info doc_freq (entries_at skip_info (doc_freq / 128) skip_data.now) 0 }
@@ -344,7 +345,7 @@ impl SkipReader {
         reader
     }
 
-    /// Begins anew at the first block of another term, with entries of the same shape.
+    /// Restarts at the first block of another term, with entries of the same shape.
     pub fn reset(&mut self, skip_data: &[u8], doc_freq: u32)
         requires { entry_size self.old.skip_info * (doc_freq / 128) ≤ length skip_data.now }
         ensures { self.new ≡ reader_at self.old.skip_info doc_freq (entries_at self.old.skip_info (doc_freq / 128) skip_data.now) 0 }
@@ -352,8 +353,8 @@ impl SkipReader {
         *self = SkipReader::new(skip_data, doc_freq, self.skip_info);
     }
 
-    /// Goes on to the next block; after the last one it stays. Where the next block is full its
-    /// entry is read.
+    /// Moves to the next block, and reads its entry if that block is full. After the last block it doesn't
+    /// move.
     pub fn advance(&mut self, skip_data: &[u8])
         requires whole { entry_size self.old.skip_info * (self.old.doc_freq / 128) ≤ length skip_data.now }
         requires same { self.old ≡ reader_at self.old.skip_info self.old.doc_freq
@@ -391,9 +392,9 @@ impl SkipReader {
         self.block_info = info;
     }
 
-    /// Goes on to the first block, from the current one on, whose last document isn't below `target`,
-    /// or else to the documents after the full blocks; from there on it stays. The entry of each
-    /// full block that it comes to is read, once. Answers whether it moved.
+    /// Moves to the first block, from the current one on, whose last document is at least `target`. If there
+    /// is none it moves to the documents after the full blocks. If it is already there, or after them, it
+    /// doesn't move. Reads the entry of each full block that it moves to, once. Returns whether it moved.
     pub fn seek(&mut self, skip_data: &[u8], target: DocId) -> bool
         requires whole { entry_size self.old.skip_info * (self.old.doc_freq / 128) ≤ length skip_data.now }
         requires same { self.old ≡ reader_at self.old.skip_info self.old.doc_freq
@@ -413,36 +414,36 @@ impl SkipReader {
         moved
     }
 
-    /// The last document of the block, or `TERMINATED` where it isn't full.
+    /// Returns the last document of the block, or `TERMINATED` if the block isn't full.
     pub fn last_doc_in_block(&self) -> DocId
         ensures { result ≡ self.now.last_doc_in_block }
     {
         self.last_doc_in_block
     }
 
-    /// The last document before the block, 0 at the first one.
+    /// Returns the last document before the block, or 0 at the first block.
     pub fn last_doc_in_previous_block(&self) -> DocId
         ensures { result ≡ self.now.last_doc_in_previous_block }
     {
         self.last_doc_in_previous_block
     }
 
-    /// Where the block begins after the skip list, or `usize::MAX` after the last block.
+    /// Returns the offset of the block after the skip list, or `usize::MAX` after the last block.
     pub fn byte_offset(&self) -> usize
         ensures { result ≡ self.now.byte_offset }
     {
         self.byte_offset
     }
 
-    /// How many positions come before the block: the sum of the counts of all blocks before it, where
-    /// entries have these sums, and else 0.
+    /// Returns the number of positions before the block: the sum of the term frequencies of all earlier
+    /// blocks if entries hold these sums, else 0.
     pub fn position_offset(&self) -> u64
         ensures { result ≡ self.now.position_offset }
     {
         self.position_offset
     }
 
-    /// What the skip list tells of the block.
+    /// Returns what the skip list holds about the block.
     pub fn block_info(&self) -> BlockInfo
         ensures { result ≡ self.now.block_info }
     {

@@ -8,11 +8,11 @@ use ii_base::IndexRecordOption;
 use ii_codes::COMPRESSION_BLOCK_SIZE;
 use ii_io::{GhostCounter, vint};
 
-/// The greatest width of counts.
+/// The greatest bit width of term frequencies.
 const MAX_TF_NUM_BITS: u8 = 32;
 
-/// Where the skip entries of a term begin in its bytes, which option their shape is that of, and
-/// where the blocks begin after them.
+/// The place where a term's skip entries begin in its bytes, the option that gives their shape, and the place
+/// where the blocks begin.
 #[derive(Clone, Copy, Debug, PartialEq, Eq)]
 pub struct SkipPlaces {
     pub skip_info: IndexRecordOption,
@@ -20,11 +20,14 @@ pub struct SkipPlaces {
     pub body: usize,
 }
 
-/// The places of the skip list of a term in `doc_freq` documents, or `None` where there is none:
-/// its number of bytes, a vint of up to 10 bytes, is missing or passes the bytes that are there, or
-/// there are too few for the entries of the full blocks, or the width of an entry's counts is above
-/// 32. A skip list of fewer than 8 bytes a block means that the term has no counts. A term of fewer
-/// documents than a block has no skip list. No memory is taken.
+/// Finds the skip list of a term in `doc_freq` documents. Never allocates.
+///
+/// The list starts with its number of bytes, a vint of up to 10 bytes. If this is less than 8 bytes per full
+/// block, the term has no term frequencies. A term of fewer than 128 documents has no skip list.
+///
+/// Returns `None` if:
+/// * the number is missing, exceeds the remaining bytes, or is too small for the entries of the full blocks;
+/// * the width of an entry's term frequencies is above 32.
 pub fn split_into_skips_and_postings(
     doc_freq: u32,
     postings: &[u8],
@@ -61,7 +64,8 @@ pub fn split_into_skips_and_postings(
     })
 }
 
-// As which option entries stand in so many bytes: too few for counts mean that there are none.
+// Returns the option that gives the shape of the entries: `Basic` if `len` bytes are too few for term
+// frequencies.
 fn skip_info_of(record_option: IndexRecordOption, blocks: u32, len: u64) -> IndexRecordOption
     ensures { result ≡ skip_info_of record_option blocks len }
 {
@@ -72,7 +76,7 @@ fn skip_info_of(record_option: IndexRecordOption, blocks: u32, len: u64) -> Inde
     }
 }
 
-// Whether the counts of each block have a width of at most 32.
+// Returns whether the term frequencies of each block have a width of at most 32.
 fn counts_are_narrow(skip_data: &[u8], skip_info: IndexRecordOption, blocks: u32) -> bool
     requires { entry_size skip_info * blocks ≤ length skip_data.now }
     ensures { result ≡ list_all (λ (e : SkipEntry). nat_le e.tf_num_bits 32) (entries_at skip_info blocks skip_data.now) }
@@ -87,7 +91,7 @@ fn counts_are_narrow(skip_data: &[u8], skip_info: IndexRecordOption, blocks: u32
     true
 }
 
-// The width of a block's counts, 0 where it has none.
+// Returns the width of a block's term frequencies, or 0 if it has none.
 fn tf_num_bits(info: BlockInfo) -> u8
     ensures { result ≡ tf_num_bits_of info }
 {
@@ -97,7 +101,7 @@ fn tf_num_bits(info: BlockInfo) -> u8
     }
 }
 
-/// The bytes from a place on, none past the end.
+/// Returns the bytes from `place` on, or none if `place` is after the end.
 pub fn bytes_from(bytes: &[u8], place: usize) -> &[u8]
     ensures { result.now ≡ drop place bytes.now }
 {

@@ -3,42 +3,42 @@ ghost use Rattle.ii_layout.specs.TermList.{ReadsTermBack, ReadsUncountedTermBack
 ghost use Rattle.ii_layout.specs.Written.{ReadsPostingsBack, ReadsUncountedBack, ReadsDocumentsBack};
 ghost use Rattle.ii_layout.specs.WrittenBounds.{BoundsTakeNoRoom, BoundsWhatIsWritten, PlainTermsHaveNoBounds};
 
-/// The law of written postings: what is written gives its list for each option that is requested,
-/// whatever follows.
+/// States that written postings read back as their list for each requested option, whatever follows them.
 pub fn reads_postings_back()
     ensures { ReadsPostingsBack }
 {}
 
-/// The law of terms that are written without counts: they give their documents, whatever the field
-/// records, where nothing follows.
+/// States that terms written without term frequencies read back as their documents, whatever the field
+/// records, if nothing follows them.
 pub fn reads_uncounted_back()
     ensures { ReadsUncountedBack }
 {}
 
-/// The law of written documents: what is written gives its list, whatever follows.
+/// States that written documents read back as their list, whatever follows them.
 pub fn reads_documents_back()
     ensures { ReadsDocumentsBack }
 {}
 
-/// The law of written positions: what is written gives its deltas.
+/// States that written positions read back as their deltas.
 pub fn reads_positions_back()
     ensures { ReadsPositionsBack }
 {}
 
-/// The law of written terms: what is written of documents, counts and positions gives their list for
-/// each option that is requested.
+/// States that a written term (documents, term frequencies and positions) reads back as its list for each
+/// requested option.
 pub fn reads_term_back()
     ensures { ReadsTermBack }
 {}
 
-/// The law of terms that are written without counts: they give their documents, whatever the field
-/// records and whatever stands in its positions.
+/// States that terms written without term frequencies read back as their documents, whatever the field
+/// records and whatever its positions hold.
 pub fn reads_uncounted_term_back()
     ensures { ReadsUncountedTermBack }
 {}
 
-/// The laws of bounds: what is written with norms has, of each full block with counts, the least norm
-/// id and the greatest count; no length depends on them, and a term without counts has none.
+/// States the laws of bounds. Postings written with norms hold the least norm id and the greatest term
+/// frequency of each full block that has frequencies. No length depends on bounds, and a term without term
+/// frequencies has none.
 pub fn bounds_what_is_written()
     ensures bounds { BoundsWhatIsWritten }
     ensures room { BoundsTakeNoRoom }

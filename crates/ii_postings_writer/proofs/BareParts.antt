@@ -1,4 +1,4 @@
--- No limit depends on bounds: what is written of parts passes one where it does so without norms.
+-- No limit depends on bounds: parts exceed a limit if they do so without norms.
 use Rattle.std.proofs.Common.{inl, inr, ◌≡◌, ℕ, zero, suc, ◌+◌, ◌≤◌, ◌<◌, ◌^◌, List, [], ◌∷◌, ◌++◌, length, map, Option, None, refl, sym, ap, ◌∙◌, subst, arith, length-append}
 use Rattle.std.specs.Prelude.{◌⊎◌, slice_index_or}
 use Rattle.std.specs.List.{AllByRecursion, flat_map, range_with_len}

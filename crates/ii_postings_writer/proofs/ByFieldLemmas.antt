@@ -1,4 +1,4 @@
--- Terms that are put to their fields one after the other.
+-- Terms that are added to their fields in order.
 use Rattle.std.proofs.Common.{add-one, eq-eqb, append-nil, zero-add, cond, ◌≡◌, ℕ, zero, suc, ◌+◌, ◌≤◌, ◌<◌, Bool, true, false, List, [], ◌∷◌, ◌++◌, length, map, take, drop, replicate, slice_index_or, slice_set, get_or, nat_eq, refl, sym, ap, ◌∙◌, subst, arith, Some}
 use Rattle.std.specs.Prelude.{slice_get, filter, Vec}
 use Rattle.std.specs.List.{AllByRecursion, range_with_len}
@@ -81,20 +81,20 @@ take_one_more [] k x at = absurd (cc)
 take_one_more (y ∷ ys) zero x at = let same : y ≡ x = cc in ap (λ z. z ∷ []) same
 take_one_more (y ∷ ys) (suc k) x at = ap (λ zs. y ∷ zs) (take_one_more ys k x at)
 
--- the terms of a map that were lent, and one more
+-- the borrowed terms of a map, and one more
 pub lent_more : {A : Type 0} (es : List (Vec ℕ A × AnyRecorder)) (k : ℕ) (e : Vec ℕ A × AnyRecorder) (ts new : List KeptTerm) (t : KeptTerm) → slice_get es k ≡ Some e → map kept_state ts ≡ map seen (take k es) → new ≡ ts ++ t ∷ [] → kept_state t ≡ seen e
     → map kept_state new ≡ map seen (take (k + 1) es)
 lent_more es k e ts new t at before new_is same =
     ap (map kept_state) new_is ∙ map-append kept_state ts (t ∷ []) ∙ (λ j. before j ++ same j ∷ [])
     ∙ sym (ap (map seen) (ap (λ (m : ℕ). take m es) (add-one k) ∙ take_one_more es k e at) ∙ map-append seen (take k es) (e ∷ []))
 
--- what is read at a place stands there
+-- what is read at an index is there
 pub got_at : {X : Type 0} (xs : List X) (k : ℕ) (x : X) → k < length xs → x ≡ get_or xs k x → slice_get xs k ≡ Some x
 got_at [] k x within is = absurd (omega (arith, within))
 got_at (y ∷ ys) zero x within is = ap Some (sym is)
 got_at (y ∷ ys) (suc k) x within is = got_at ys k x (omega (arith, within)) is
 
--- each term lies in one of the fields
+-- each term belongs to a field
 pub kept_at : {E : Type 0} (state : E → List ℕ × RecorderState) (n : ℕ) (es : List E) (k : ℕ) (e : E) → AllByRecursion (IsTermBelow n) (map state es) → slice_get es k ≡ Some e → IsTermBelow n (state e)
 kept_at state n es k e all at = all_at (IsTermBelow n) (map state es) k (state e) all (slice_get-map state es k ∙ ap (option_map state) at)
 

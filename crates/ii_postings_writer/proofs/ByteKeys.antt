@@ -32,7 +32,7 @@ apart : (bs cs ks : List ℕ) → bytes_eq bs cs ≡ false → bytes_eq bs ks �
 apart bs cs ks n y = nat_list_eq_equiv.symm cs ks ∙ sym (nat_list_eq_equiv.congr bs ks cs y) ∙ n
 
 module _ {S V : Type 0} where
-  -- what the keys have once one of them was updated
+  -- the keys after an update of a key
   pub updated : (bs : List ℕ) (m n : IndexMap Key V S) (w : Option V) → UpdatesBy (λ (x : Key) (y : Key). bytes_eq x.items y.items) (is_key bs) m n w
       → (cs : List ℕ) → get_by (is_key cs) n ≡ cond (bytes_eq bs cs) w (get_by (is_key cs) m)
   updated bs m n w h cs = by (bytes_eq bs cs) refl

@@ -28,7 +28,7 @@ use Rattle.ii_postings_writer.specs.TermLimits.{AreWithin, FirstOf, HasLargeSum,
 use Rattle.ii_postings_writer.specs.WriteFaults.{FirstPartEnds, IsFaultBy, IsPartFault, IsPartsFault, IsTermFaultAfter, IsWithinPart, all_bodies}
 use Rattle.ii_postings_writer.proofs.PartLemmas.{one_more_part, part_of, some_part}
 use Rattle.ii_postings_writer.proofs.SerializeLemmas.{all_written}
-use Rattle.ii_io.specs.CountingWriterLemmas.{full_before, full_more}
+use Rattle.ii_io.proofs.WriteSteps.{full_before, full_more}
 use Rattle.ii_fieldnorm.specs.Readers.{Norms}
 
 module _ {X : Type 0} (Q P : X → Type 0) where
@@ -277,7 +277,7 @@ split_written norms mode [] k t low is = absurd (omega (arith, low))
 split_written norms mode (u ∷ us) zero t low is = ap (λ (v : TermOfField). written_term norms mode (state_of v) ∷ all_written norms mode us) (sym is)
 split_written norms mode (u ∷ us) (suc k) t low is = ap (λ (ts : List WrittenTerm). written_term norms mode (state_of u) ∷ ts) (split_written norms mode us k t (omega (arith, low)) is)
 
--- the field can't be begun
+-- the field can't be started
 pub begun_fault : {A B : Type 0} (kept : IndexRecordOption) (tokens : ℕ) (initial : IndexBodiesState) (ts : List WrittenTerm) (e : Fault) → (e ≡ Limit limit.Offset → IsFull initial.postings.writer 8)
     → (e ≡ OutOfMemory) ⊎ (e ≡ Write) ⊎ (e ≡ Limit limit.Offset) ⊎ (e ≡ SerializerClosed) → (e ≡ SerializerClosed) ⊎ IsFaultBy A B (NoRoom kept tokens initial ts) e
 begun_fault kept tokens initial ts e full (inl memory) = inr (inl memory)

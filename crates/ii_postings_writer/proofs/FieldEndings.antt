@@ -1,10 +1,10 @@
--- How the call ends that writes a field if it has terms.
+-- How a call ends that writes a field if it has terms.
 use Rattle.std.proofs.Common.{Option, None, Some, ◌≡◌, ℕ, ◌≤◌, ◌<◌, ◌⊎◌, inl, inr, Bool, true, false, List, length, Result, Ok, Err, refl, sym, ap, ◌∙◌, subst, arith, true≢false}
 use Rattle.std.specs.Prelude.{◌↔◌, ◌^◌, MatchOption, OnErr, IfErr, IsErrOf, IsSomeAnd, IsTrue, ⊤}
 use Rattle.ii_io.specs.declared.faults.Fault.{Fault}
 use Rattle.ii_io.specs.declared.faults.Fault.TheVariants.{Limit, OutOfMemory, SerializerClosed, Write}
 use Rattle.ii_io.specs.declared.faults.LimitName.TheVariants as limit
-use Rattle.ii_io.specs.CountingWriterLemmas.{grows_not}
+use Rattle.ii_io.proofs.WriteSteps.{grows_not}
 use Rattle.ii_fieldnorm.specs.Readers.{Norms}
 use Rattle.ii_base.specs.Schema.{SchemaEntry}
 use Rattle.ii_recorder.specs.Endings.{CountsOnce, EndsUnlessClosed}
@@ -47,7 +47,7 @@ abbrev r_ok : Unit {0} → Result (Unit {0}) Fault
 r_ok x = Ok x
 
 module _ {P : Type 0} (parts : List P) (old new : IndexSerializerState) where
-  -- a refusal for want of memory that touched nothing
+  -- an allocation failure that changed nothing
   pub refused_before : (e : Fault) → e ≡ OutOfMemory → EndsParts parts old old (Err e)
   refused_before e memory = record {
     entries = refl;
@@ -86,7 +86,7 @@ pub refused_closes : {T : Type 0} (r : Result T Fault) (P : Type 0) (Q : Fault �
 refused_closes (Ok x) P Q p = tt
 refused_closes (Err e) P Q p = inl p
 
--- the part of a field by what is told of it
+-- the part of a field is determined by its contents
 pub same_part : (entries : List SchemaEntry) (field tokens t : ℕ) (norms n : Option Norms) (terms us : List SortedTerm) → tokens ≡ t → norms ≡ n → terms ≡ us → part_of entries field tokens norms terms ≡ part_of entries field t n us
 same_part entries field tokens t norms n terms us by_tokens by_norms by_terms = rw (by_tokens, by_norms, by_terms) refl
 
@@ -141,7 +141,7 @@ push_apart e (inl memory) is = absurd (cc)
 push_apart e (inr (inl closed)) is = absurd (cc)
 push_apart e (inr (inr sum)) is = absurd (cc)
 
--- why a term can't be begun
+-- why a term can't be started
 pub begin_fault : {A B C : Type 0} (e : Fault) → ¬ (e ≡ SerializerClosed) → (e ≡ OutOfMemory) ⊎ (e ≡ SerializerClosed) → IsFaultBy A B C e
 begin_fault e apart (inl memory) = inl memory
 begin_fault e apart (inr closed) = absurd (apart closed)

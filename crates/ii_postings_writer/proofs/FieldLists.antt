@@ -1,4 +1,4 @@
--- What the terms of each field of a context tell of what is written of them.
+-- What the terms of a context's fields say about what is written of them.
 use Rattle.std.proofs.Common.{◌≡◌, ℕ, ◌<◌, ◌⊎◌, List, [], length, map, Result, sym, ap, ◌∙◌, subst, arith}
 use Rattle.std.specs.Prelude.{OnOk, IfErr, slice_index_or}
 use Rattle.std.specs.List.{AllByRecursion, range_with_len}

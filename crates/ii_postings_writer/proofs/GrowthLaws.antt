@@ -1,6 +1,6 @@
 -- What the files of an index have after fields were written.
 use Rattle.std.proofs.Common.{List}
-use Rattle.ii_io.specs.CountingWriterLemmas.{wrote_grows}
+use Rattle.ii_io.proofs.WriteSteps.{wrote_grows}
 use Rattle.ii_base.specs.Schema.{SchemaEntry}
 use Rattle.ii_recorder.specs.IndexBodies.{AllGrow, IndexBodiesState}
 use Rattle.ii_postings_writer.specs.FieldParts.{FieldPart, HasFields}

@@ -1,14 +1,14 @@
--- Fields that are written one after the other.
+-- Fields that are written in order.
 use Rattle.std.proofs.Common.{Option, nat_eq, append-nil, zero-add, Result, Ok, Err, OnOk, ◌≡◌, ℕ, zero, suc, ◌+◌, ◌-◌, ◌≤◌, ◌<◌, false, List, [], ◌∷◌, ◌++◌, length, map, refl, sym, ap, ◌∙◌, subst, arith, Some}
 use Rattle.std.specs.Prelude.{◌^◌, slice_get, slice_index_or}
 use Rattle.std.specs.List.{AllByRecursion, flat_map, range_with_len}
 use Rattle.std.proofs.lemmas.Bool.{ne_eqb}
 use Rattle.std.proofs.lemmas.Grind.{flat_map-append}
 use Rattle.std.proofs.lemmas.List.{length-map, map-append}
-use Rattle.ii_termstore.specs.ListLemmas.{range_more}
+use Rattle.ii_termstore.proofs.ListLemmas.{range_more}
 use Rattle.ii_io.specs.Composite.{Body}
 use Rattle.ii_io.specs.CompositeWrite.{CompositeWriteState, HasBodies, has_start, starts_from}
-use Rattle.ii_io.specs.CompositeWriteLemmas.{HasBodies-more}
+use Rattle.ii_io.proofs.CompositeSteps.{HasBodies-more}
 use Rattle.ii_io.specs.CountingWriter.{CountingWriterState}
 use Rattle.ii_base.specs.Schema.{SchemaEntry}
 use Rattle.ii_definitions.specs.Fields.{option_of}
@@ -128,7 +128,7 @@ next_part first entries writers readers terms n field ts initial new same is at 
     let by_terms = subst (λ (us : List SortedTerm). HasFields first initial new (fs ++ parts_of first n (tokens_in writers n) (norms_in readers n) us)) at by_field in
     subst (HasFields first initial new) (sym (one_more_part first writers readers terms n)) by_terms
 
--- The lists of the terms of so many fields, of a context whose terms were sorted.
+-- The lists of the terms of the first `n` fields, of a context whose terms were sorted.
 pub record AreLists (n : ℕ) (terms sorted : TermIndex) (lists : List (List SortedTerm)) : Type 0 where
   pub same : (bytes : List ℕ) → recorder_of sorted bytes ≡ recorder_of terms bytes
   pub ascending : AreAscending (map (λ (t : List ℕ × RecorderState). t.0) sorted)

@@ -61,13 +61,13 @@ cut_with_position Basic p e = refl
 cut_with_position WithFreqs p e = refl
 cut_with_position WithFreqsAndPositions p e = refl
 
--- an entry of one token is what is recorded in a document that was begun
+-- an entry of one token is what is recorded in a document that was started
 pub cut_entry_of : (kind : IndexRecordOption) (t : IndexToken) → cut_entry kind (entry_of t) ≡ with_position kind t.position (begun kind t.doc)
 cut_entry_of Basic t = refl
 cut_entry_of WithFreqs t = refl
 cut_entry_of WithFreqsAndPositions t = refl
 
--- the last entry with one more token, or that entry and one of its own
+-- the last entry with one more token, or that entry and a new one
 abbrev pub recorded_after : IndexRecordOption → Entry → IndexToken → List Entry
 recorded_after kind e t = cond (nat_eq e.doc t.doc) (with_position kind t.position e ∷ []) (e ∷ with_position kind t.position (begun kind t.doc) ∷ [])
 

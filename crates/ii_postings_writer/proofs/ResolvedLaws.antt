@@ -1,4 +1,4 @@
--- Terms that hold ids of paths, and the keys that they stand for.
+-- Terms that hold path ids, and their keys.
 use Rattle.std.proofs.Common.{◌≡◌, ℕ, zero, suc, ◌+◌, ◌<◌, ◌^◌, ◌&&◌, ◌||◌, Bool, true, false, cond, List, [], ◌∷◌, ◌++◌, length, drop, Some, None, Option, refl, sym, ap, ◌∙◌, subst, arith, length-append, Contains}
 use Rattle.std.proofs.Common.{Ordering, Less, Equal, Greater}
 use Rattle.std.specs.Prelude.{bytes_eq, if◌then◌else◌, nat_le, slice_index_or}

@@ -1,4 +1,4 @@
--- Terms that were sorted by the ranks of their paths stand in the order of their keys.
+-- Terms that were sorted by the ranks of their paths are in the order of their keys.
 use Rattle.std.proofs.Common.{◌≡◌, ℕ, ◌<◌, ◌^◌, Bool, true, false, List, [], ◌∷◌, ◌++◌, map, drop, Some, None, Option, Vec, refl, sym, ap, ◌∙◌, subst}
 use Rattle.std.specs.Prelude.{MatchOption, bytes_eq, ⊤}
 use Rattle.std.specs.Cmp.{IsStrictWeakOrder}

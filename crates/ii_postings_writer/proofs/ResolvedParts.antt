@@ -1,4 +1,4 @@
--- What is known of the terms of a context once they stand in the order of their keys.
+-- What is known of the terms of a context in the order of their keys.
 use Rattle.std.proofs.Common.{◌≡◌, ℕ, ◌<◌, ◌≤◌, ◌^◌, Bool, true, false, List, [], ◌∷◌, ◌++◌, map, length, drop, Option, Some, None, Ok, Err, Result, inr, refl, sym, ap, ◌∙◌, subst, arith, length-append}
 use Rattle.std.specs.Prelude.{MatchOption, bytes_eq, slice_index_or, ⊤}
 use Rattle.std.specs.List.{AllByRecursion, IsDistinct}
@@ -70,13 +70,13 @@ pub no_resolved : (flags : List Bool) (paths : List (List ℕ)) (terms : TermInd
 no_resolved flags paths [] is = refl
 no_resolved flags paths (t ∷ ts) is = absurd (cc)
 
--- what a sort by lent flags and ranks gives
+-- what a sort by borrowed flags and ranks gives
 pub sorted_by : (flags : List Bool) (paths : List (List ℕ)) (old new : TermIndex) (lent : List Bool) (ranks : List ℕ) → AreDistinct paths → AreClean paths → lent ≡ flags → ranks ≡ path_ranks paths → HoldIds flags paths old
     → ((ps : List (List ℕ)) → AreDistinct ps → AreClean ps → ranks ≡ path_ranks ps → HoldIds lent ps old → AreSorted lent ps new) → AreSorted flags paths new
 sorted_by flags paths old new lent ranks unlike clean same order ids sorts =
     subst (λ (fs : List Bool). AreSorted fs paths new) same (sorts paths unlike clean order (subst (λ (fs : List Bool). HoldIds fs paths old) (sym same) ids))
 
--- terms with the bytes of their field, which is one of some
+-- terms with the bytes of their field, which is below `n`
 held_below : (flags : List Bool) (paths : List (List ℕ)) (n : ℕ) (ts : TermIndex) → AllByRecursion (λ (t : List ℕ × RecorderState). IsHeldTerm flags paths t.0) ts → AllByRecursion (λ (t : List ℕ × RecorderState). field_in t.0 < n) ts → AllByRecursion (IsTermBelow n) ts
 held_below flags paths n [] held known = tt
 held_below flags paths n (t ∷ ts) held known =
@@ -90,7 +90,7 @@ module _ (flags : List Bool) (paths : List (List ℕ)) (unlike : AreDistinct pat
   apart_keys : IsDistinct bytes_eq (map first_of (resolved_terms flags paths new))
   apart_keys = subst (λ (e : List ℕ → List ℕ → Bool). IsDistinct e (map first_of (resolved_terms flags paths new))) (λ i x y. is_eq-slice_cmp x y i) (IsDistinct-from_sorted (slice_cmp nat_cmp) (map first_of (resolved_terms flags paths new)) sorted.ascending)
 
-  -- look-ups by keys
+  -- lookups by keys
   pub same_keys : (bytes : List ℕ) → recorder_of (resolved_terms flags paths new) bytes ≡ recorder_of (resolved_terms flags paths old) bytes
   same_keys bytes =
       lookup_permutation nat_list_eq_equiv (resolved_terms flags paths old) (resolved_terms flags paths new) (IsPermutation-map (resolve flags paths) old new moved)

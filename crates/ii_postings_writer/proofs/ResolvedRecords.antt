@@ -1,4 +1,4 @@
--- A context of terms that hold ids has the tokens whose keys these stand for.
+-- A context of terms with path ids has the tokens of their keys.
 use Rattle.std.proofs.Common.{◌≡◌, ℕ, ◌<◌, ◌≤◌, ◌^◌, ◌&&◌, ◌==◌, Bool, true, false, List, [], ◌∷◌, ◌++◌, map, length, drop, Some, None, Option, refl, sym, ap, ◌∙◌, subst, arith}
 use Rattle.std.specs.Prelude.{MatchOption, bytes_eq, slice_index_or}
 use Rattle.std.specs.List.{AllByRecursion}
@@ -92,7 +92,7 @@ module _ (flags : List Bool) (paths : List (List ℕ)) (distinct : AreDistinct p
       by true is rest = rw (at_held t field key known.0 has, is) (ap (λ (us : List IndexToken). held_token flags paths t ∷ us) rest)
       by false is rest = rw (at_held t field key known.0 has, is) rest
 
-  -- look-ups by keys are look-ups by what is held
+  -- lookups by keys are lookups by held terms
   found_resolved : (terms : TermIndex) (term : List ℕ) → AllByRecursion (IsHeldTerm flags paths) (keys_of terms) → IsHeldTerm flags paths term → recorder_of (resolved_terms flags paths terms) (resolved flags paths term) ≡ recorder_of terms term
   found_resolved [] term all held = refl
   found_resolved (t ∷ ts) term all held = by (bytes_eq term t.0) refl (found_resolved ts term all.1 held)

@@ -1,4 +1,4 @@
--- Terms of a field that are written one after the other.
+-- Terms of a field that are written in order.
 use Rattle.std.proofs.Common.{Option, Result, Ok, Err, OnOk, zero, suc, ◌+◌, ◌<◌, arith, append-nil, take, map, length, Ordering, Less, get_or, ◌≡◌, ℕ, Bool, List, [], ◌∷◌, ◌++◌, refl, sym, ap, ◌∙◌, subst}
 use Rattle.std.specs.Prelude.{if◌then◌else◌, IsTrue, ◌^◌}
 use Rattle.std.specs.List.{AllByRecursion}
@@ -34,7 +34,7 @@ pushed_writing option es initial s new field tokens norms ts pending is w =
     let same : IsWriting initial (with_entries option s es) field tokens norms ts pending = record { mode = w.mode; norms_are = w.norms_are; counted = w.counted; bodies = w.bodies; terms = w.terms } in
     subst (λ (n : IndexSerializerState). IsWriting initial n field tokens norms ts pending) (sym is) same
 
--- a term that was begun
+-- a term that was started
 abbrev pub begun_term : Bool → OpenTermState → OpenTermState
 begun_term counted t = record t { skip_info = if counted then t.mode else Basic; docs = []; freqs = []; deltas = [] }
 
@@ -102,7 +102,7 @@ one_more_told mode terms k t inside is told all =
     ap (map state_of) (take_more terms k t inside) ∙ map-append state_of (take k terms) (get_or terms k t ∷ []) ∙ ap (λ (u : TermOfField). map state_of (take k terms) ++ state_of u ∷ []) (sym is) in
     subst (AllByRecursion (IsTold mode)) (sym more) (all_push (IsTold mode) (map state_of (take k terms)) (state_of t) all told)
 
--- what was told of the entries of a term that was begun
+-- what is known of the entries of a term that was started
 pub was_told : (t : OpenTermState) (key : List ℕ) (r : RecorderState) (begun : OpenTermState) (counted : Bool) → counted ≡ has_freq r.option → begun ≡ begun_term counted t
     → ¬ FillTooLarge begun.skip_info begun.freqs (pushed_freqs r.option (entries_of_recorder r)) → AllByRecursion (λ n. n < 2 ^ 32) (pushed_freqs r.option (entries_of_recorder r)) → (IsTrue (has_positions r.option) → HaveDeltas (entries_of_recorder r))
     → IsTold t.mode (record { key = key; recorder = r })

@@ -63,7 +63,7 @@ same_reversed Greater e = absurd (cc)
 nat_cmp-refl : (n : ℕ) → nat_cmp n n ≡ Equal
 nat_cmp-refl n = same_reversed (nat_cmp n n) (nat_cmp_total.antisymm n n)
 
--- what stands in front of both is not compared
+-- a prefix of both is not compared
 slice_cmp-prefix : (front xs ys : List ℕ) → slice_cmp nat_cmp (front ++ xs) (front ++ ys) ≡ slice_cmp nat_cmp xs ys
 slice_cmp-prefix [] xs ys = refl
 slice_cmp-prefix (n ∷ front) xs ys = rw (nat_cmp-refl n) (slice_cmp-prefix front xs ys)
@@ -76,7 +76,7 @@ field_of_bytes field rest small = omega (arith, small)
 pub split_bytes : (bytes : List ℕ) → AreTermBytes bytes → bytes ≡ field_bytes (field_in bytes) ++ drop 4 bytes
 split_bytes bytes are = are.are ∙ ap (λ (field : ℕ). field_bytes field ++ drop 4 bytes) (sym (ap field_in are.are ∙ field_of_bytes are.field (drop 4 bytes) are.small))
 
--- keys without the field that stands in front of each
+-- keys without the field before each
 module _ (field : ℕ) where
   abbrev IsIn : List ℕ → Type 0
   IsIn bytes = bytes ≡ field_bytes field ++ drop 4 bytes

@@ -1,4 +1,4 @@
--- The field in front of a term's bytes.
+-- The field at the start of a term's bytes.
 use Rattle.std.proofs.Common.{◌≡◌, ℕ, ◌≤◌, ◌<◌, List, ◌++◌, length, take, drop, refl, sym, ap, arith, ◌∙◌, subst, length-append}
 use Rattle.std.specs.Prelude.{◌^◌}
 use Rattle.std.proofs.Math.Seq.{drop-append_seam}
@@ -9,7 +9,7 @@ pub length_field : (field : ℕ) → length (field_bytes field) ≡ 4
 unfolding field_bytes
 length_field field = refl
 
--- 4 bytes of a field stand in front.
+-- The first 4 bytes are a field.
 abbrev pub HasField : List ℕ → ℕ → Type 0
 HasField bytes field = (4 ≤ length bytes) × (take 4 bytes ≡ field_bytes field)
 
@@ -26,7 +26,7 @@ field_in_front field bytes rest is =
 pub long_term : (t : IndexingTermState) → 4 ≤ length (term_bytes t)
 long_term t = omega (arith, length-append (field_bytes t.field) t.value, length_field t.field)
 
--- what stands behind a field
+-- the bytes after a field
 pub behind_field : (field : ℕ) (rest : List ℕ) → drop 4 (field_bytes field ++ rest) ≡ rest
 behind_field field rest = subst (λ (n : ℕ). drop n (field_bytes field ++ rest) ≡ rest) (length_field field) (drop-append_seam (field_bytes field) rest)
 

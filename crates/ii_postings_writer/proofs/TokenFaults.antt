@@ -121,7 +121,7 @@ module _ (entries : List SchemaEntry) (writers : List PostingsWriterState) (sort
       (λ field inside here. subst (PassEnds (option_of entries field)) (terms_are field inside) here)
       none_within 0 n (omega (arith)) found
 
-  -- The bodies of one of the three files.
+  -- The bodies of a file.
   module _ (part : FieldBodies → List ℕ) where
     abbrev part_body : FieldPart → Body
     part_body p = record { field = p.field; bytes = part (bodies_of entries p) }
@@ -177,7 +177,7 @@ tokens_fault old writers readers terms ts e few has fault =
     let plain = subst (λ (ps : List FieldPart). IsPartsFault old.entries old.bodies ps e) (bare_parts old.entries writers readers lists n) (bare_fault old.entries old.bodies (first_parts old.entries writers readers lists n) e fault.cause) in
     parts_fault old.entries writers fault.sorted ts (record { few = few; whole = fault.whole; ascending = fault.ascending; tokens = tokens }) old.bodies e plain
 
--- Bodies stand in a file that has as many bytes as one of other bodies.
+-- A file has bodies, and as many bytes as with other bodies.
 pub record HasFile (initial : CountingWriterState) (now : CompositeWriteState) (wanted : List Body) : Type 0 where
   pub bodies : List Body
   pub has : HasBodies initial now bodies

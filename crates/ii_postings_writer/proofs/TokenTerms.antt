@@ -46,7 +46,7 @@ unmarked : (ks : List (List ℕ)) → map (λ (e : List ℕ × Unit {0}). e.0) (
 unmarked [] = refl
 unmarked (k ∷ ks) = ap (λ (us : List (List ℕ)). k ∷ us) (unmarked ks)
 
--- the keys of a map that was made of entries, and of one of keys that ascend
+-- the keys of a map that was made of entries, and the keys of a map that was made of ascending keys
 abbrev map_of : List (List ℕ) → FinMap (slice_cmp nat_cmp) (Unit {0})
 map_of ks = from_entries {R = slice_cmp nat_cmp} (marked ks)
 

@@ -14,18 +14,18 @@ use Rattle.ii_postings_writer.specs.IndexingContext.{TermIndex}
 use Rattle.ii_postings_writer.specs.PostingsWriter.{PostingsWriterState}
 use Rattle.ii_postings_writer.specs.Records.{Records}
 
--- Bodies hold tokens, those of each field by its option.
+-- The bodies of each field hold its tokens under its option.
 pub record BodiesHold (option : ℕ → IndexRecordOption) (terms postings positions : List Body) (ts : List IndexToken) : Type 0 where
   pub present : (field : ℕ) → HasField field terms ts × HasField field postings ts × HasField field positions ts
   pub fields : (field : ℕ) (t p q : List ℕ) → body_of field terms ≡ Some t → body_of field postings ≡ Some p → body_of field positions ≡ Some q → HoldsField (option field) field t p q ts
 
--- A context and the writers of a schema have tokens: the postings of each key as its field and its tokens have them, and the number of tokens of each field.
+-- A context and its writers have these tokens: each key's postings, and each field's number of tokens.
 pub record HaveTokens (entries : List SchemaEntry) (terms : TermIndex) (writers : List PostingsWriterState) (ts : List IndexToken) : Type 0 where
   pub records : Records (λ field key. kind_of (option_of entries field) (tokens_at field key ts)) terms ts
   pub counted : (field : ℕ) → field < length entries → tokens_in writers field ≡ field_count field ts
   pub known : AllByRecursion (λ (t : IndexToken). t.field < length entries) ts
 
--- Tokens were written: the bodies that stand in the files hold them.
+-- Tokens were written: the bodies in the files hold them.
 pub record WroteTokens (old new : IndexSerializerState) (ts : List IndexToken) : Type 0 where
   pub fs : List FieldPart
   pub known : AllByRecursion (λ (p : FieldPart). p.field < length old.entries) fs

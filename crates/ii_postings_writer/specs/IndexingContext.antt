@@ -1,4 +1,4 @@
--- What an indexing context has: for each term that occurred, by its bytes, its recorder.
+-- The content of an indexing context: the recorder of each term, by the term's bytes.
 use Rattle.std.specs.Prelude.{◌≡◌, ℕ, ◌≤◌, Bool, false, ◌==◌, if◌then◌else◌, List, [], bytes_eq, Option, None, Some, IsTrue, MatchOption, unwrap_or, ⊤}
 use Rattle.std.specs.Map.{lookup}
 use Rattle.std.specs.Option.{option_map_or}
@@ -15,7 +15,7 @@ TermIndex = List (List ℕ × RecorderState)
 abbrev pub recorder_of : TermIndex → List ℕ → Option RecorderState
 recorder_of terms bytes = lookup (bytes_eq bytes) terms
 
--- a recorder of no documents
+-- a recorder without documents
 abbrev pub new_recorder : IndexRecordOption → RecorderState
 new_recorder option = record { option = option; closed = []; pending = None }
 
@@ -27,15 +27,15 @@ recorder_or_new option terms bytes = unwrap_or (recorder_of terms bytes) (new_re
 abbrev pub is_open : ℕ → RecorderState → Bool
 is_open doc r = option_map_or (λ (e : Entry). e.doc == doc) r.pending false
 
--- a recorder once a document is open in it
+-- a recorder after a document was opened in it
 abbrev pub opened_at : ℕ → RecorderState → RecorderState
 opened_at doc r = if is_open doc r then r else record { option = r.option; closed = entries_of_recorder r; pending = Some (begun r.option doc) }
 
--- what it has of that document
+-- a recorder's entry of the document that was opened
 abbrev pub entry_for_doc : ℕ → RecorderState → Entry
 entry_for_doc doc r = unwrap_or (opened_at doc r).pending (begun r.option doc)
 
--- and with one more position of it
+-- a recorder after one more position of that document
 abbrev pub recorded_at : ℕ → ℕ → RecorderState → RecorderState
 recorded_at doc position r = record (opened_at doc r) { pending = Some (with_position r.option position (entry_for_doc doc r)) }
 
@@ -43,16 +43,16 @@ recorded_at doc position r = record (opened_at doc r) { pending = Some (with_pos
 abbrev pub record_fault : ℕ → ℕ → RecorderState → Option Fault
 record_fault doc position r = position_fault r.option position (entry_for_doc doc r)
 
--- The documents of a recorder ascend; the last one is open, and isn't above a document.
+-- A recorder's documents ascend, and the last one is open and at most `doc`.
 pub record EndsBy (doc : ℕ) (r : RecorderState) : Type 0 where
   pub ascending : IsTrue (are_documents (docs_of (entries_of_recorder r)))
   pub last : MatchOption r.pending ⊥ (λ (e : Entry). e.doc ≤ doc)
 
--- So it is with each recorder.
+-- `EndsBy` holds for each recorder.
 abbrev pub AllEndBy : ℕ → TermIndex → Type 0
 AllEndBy doc terms = (bytes : List ℕ) → MatchOption (recorder_of terms bytes) ⊤ (EndsBy doc)
 
--- A position was recorded under a term, and nothing under the others.
+-- A position was recorded under a term, and all other terms are unchanged.
 abbrev pub IsRecorded : IndexRecordOption → ℕ → ℕ → List ℕ → TermIndex → TermIndex → Type 0
 IsRecorded option doc position term old new =
     (bytes : List ℕ) → recorder_of new bytes ≡ (if bytes_eq term bytes then Some (recorded_at doc position (recorder_or_new option old term)) else recorder_of old bytes)

@@ -1,4 +1,4 @@
--- What a term is once the bytes that it lent are given back.
+-- A term after the borrow of its appended bytes has ended.
 use Rattle.std.specs.Prelude.{◌≡◌, List, ℕ, ◌++◌, Result, OnErr, OnOk, ⊤}
 use Rattle.std.specs.Borrow.{Bor, Fml, MutBor, follows_so}
 use mathlib.Core.Option.{none}
@@ -6,7 +6,7 @@ use Rattle.ii_io.specs.declared.faults.Fault.{Fault}
 use Rattle.ii_postings_writer.specs.contracts.indexing_term.IndexingTerm.{the_row}
 use Rattle.ii_postings_writer.specs.IndexingTerm.{IndexingTermState}
 
--- Bytes were added to its value; nothing changed where that was refused.
+-- The bytes were appended to the value; after an error the term is unchanged.
 abbrev pub TermRestsWith : MutBor IndexingTermState → List ℕ → Result (Bor (List ℕ)) Fault → Fml
 TermRestsWith s bytes r =
     follows_so the_row the_row s.ghost_name none (λ _ _. ⊤)

@@ -8,7 +8,7 @@ use Rattle.ii_definitions.specs.Postings.{grouped, tokens_at}
 use Rattle.ii_postings_writer.specs.IndexingTerm.{field_bytes}
 use Rattle.ii_postings_writer.specs.IndexingContext.{TermIndex, recorder_of}
 
--- A recorder has the postings of these tokens, by what is kept of their key; its last document is open.
+-- A recorder has the postings of these tokens under an option, and its last document is open.
 pub record HasPostings (option : IndexRecordOption) (ts : List IndexToken) (r : RecorderState) : Type 0 where
   pub kept : r.option ≡ option
   pub entries : entries_of_recorder r ≡ map (cut_entry option) (grouped ts)

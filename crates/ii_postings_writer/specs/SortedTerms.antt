@@ -21,17 +21,17 @@ use Rattle.ii_postings_writer.specs.declared.sorted_terms.TermOfField.{TermOfFie
 use Rattle.ii_postings_writer.specs.IndexingContext.{TermIndex, recorder_of}
 use Rattle.ii_postings_writer.specs.IndexingTerm.{field_bytes, field_in}
 
--- A term of a field: its key, and what is kept of it.
+-- A term of a field: its key and its recorder.
 pub record SortedTerm : Type 0 where
   pub key : List ℕ
   pub recorder : RecorderState
 
--- a key that begins with a path, in a JSON field
+-- the key of a value, which begins with a path in a JSON field
 abbrev pub key_under : Option (Bor (List ℕ)) → List ℕ → List ℕ
 key_under None value = value
 key_under (Some path) value = json_key path.now value
 
--- a term that is lent, as what it stands for
+-- the model of a borrowed term
 abbrev pub state_of : TermOfField → SortedTerm
 state_of t = record { key = key_under t.path t.value.now; recorder = any_state t.recorder.now }
 
@@ -43,24 +43,24 @@ term_of t = record { key = drop 4 t.0; recorder = t.1 }
 abbrev pub terms_in : ℕ → TermIndex → List SortedTerm
 terms_in field terms = map term_of (filter (λ (t : List ℕ × RecorderState). field_in t.0 == field) terms)
 
--- an entry of a term map as its bytes and what is kept
+-- an entry of a term map: its bytes and its recorder
 abbrev pub seen : {A : Type 0} → Vec ℕ A × AnyRecorder → List ℕ × RecorderState
 seen e = (e.0.items, any_state e.1)
 
--- a term that is lent, as its bytes and what is kept
+-- a borrowed term: its bytes and its recorder
 abbrev pub kept_state : KeptTerm → List ℕ × RecorderState
 kept_state t = (t.term.now, any_state t.recorder.now)
 
--- A term lies in one of so many fields.
+-- A term belongs to a field below `num_fields`.
 pub record IsTermBelow (num_fields : ℕ) (t : List ℕ × RecorderState) : Type 0 where
   pub long : 4 ≤ length t.0
   pub known : field_in t.0 < num_fields
 
--- as which option the entries of a term stand, in a field that records by a mode
+-- the option of a term's entries in a field: `mode`, or `Basic` if the recorder keeps no term frequencies
 abbrev pub term_option : IndexRecordOption → SortedTerm → IndexRecordOption
 term_option mode t = if has_freq t.recorder.option then mode else Basic
 
--- a term as it is written in a field of these norms that records by a mode
+-- a term as it is written to a field with these norms and the option `mode`
 abbrev pub written_term : Option Norms → IndexRecordOption → SortedTerm → WrittenTerm
 written_term norms mode t =
     let es = entries_of_recorder t.recorder in
@@ -73,23 +73,23 @@ written_term norms mode t =
       deltas = if has_positions mode then pushed_deltas es else [];
     }
 
--- the norms of a field, if it has some
+-- the norms of a field, if it has any
 abbrev pub norms_in : List Body → ℕ → Option Norms
 norms_in readers field = option_map norms_of_ids (body_of field readers)
 
--- A term may be written in a field of these norms: its documents ascend, have counts where these are kept, and the norms answer for them.
+-- A term may be written: its documents ascend, kept frequencies aren't 0, and norms cover the documents.
 pub record IsWritable (norms : Option Norms) (t : SortedTerm) : Type 0 where
   pub ascending : IsTrue (are_documents (docs_of (entries_of_recorder t.recorder)))
   pub counted : IsTrue (has_freq t.recorder.option) → AllByRecursion (λ n. 0 < n) (pushed_freqs t.recorder.option (entries_of_recorder t.recorder))
   pub covered : AllByRecursion (Covers norms) (docs_of (entries_of_recorder t.recorder))
 
--- What was told of a term that was written: its counts have 32 bits, no block of them is too large, and its deltas give its positions back.
+-- A written term's counts fit in 32 bits, no block of counts is too large, and its deltas give its positions.
 pub record IsTold (mode : IndexRecordOption) (t : SortedTerm) : Type 0 where
   pub small : ¬ FillTooLarge (term_option mode t) [] (pushed_freqs t.recorder.option (entries_of_recorder t.recorder))
   pub fit : AllByRecursion (λ n. n < 2 ^ 32) (pushed_freqs t.recorder.option (entries_of_recorder t.recorder))
   pub located : IsTrue (has_positions t.recorder.option) → HaveDeltas (entries_of_recorder t.recorder)
 
--- What a context keeps of a term may be written, in one of so many fields, whose norms are given.
+-- A context's recorder of a term may be written to a field below `num_fields`, with the norms of that field.
 pub record MayBeWritten (num_fields : ℕ) (readers : List Body) (bytes : List ℕ) (r : RecorderState) : Type 0 where
   pub known : field_in bytes < num_fields
   pub writable : IsWritable (norms_in readers (field_in bytes)) (record { key = drop 4 bytes; recorder = r })

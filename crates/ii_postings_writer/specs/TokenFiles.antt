@@ -1,4 +1,4 @@
--- What is written of tokens, and which limits it passes.
+-- What is written for tokens, and which limits it exceeds.
 use Rattle.std.specs.Prelude.{ℕ, ◌==◌, List, filter, length, map, nat_lt, None}
 use Rattle.std.specs.Cmp.Lexicographic.{slice_cmp}
 use Rattle.std.specs.FinMap.{from_entries, keys}
@@ -20,7 +20,7 @@ use Rattle.ii_postings_writer.specs.TermLimits.{AreWithin, FirstOf, IsWithin, Pa
 abbrev pub field_keys : ℕ → List IndexToken → List (List ℕ)
 field_keys field ts = keys (from_entries {X = Unit {0}} {R = slice_cmp nat_cmp} (map (λ (t : IndexToken). (t.key, tt)) (filter (λ (t : IndexToken). t.field == field) ts)))
 
--- a key of a field that records by a mode, as it is written but for bounds, on which no length depends: its postings, as far as they are kept
+-- the postings of a key as a field with the option `mode` writes them; without bounds, which change no length
 abbrev pub key_term : IndexRecordOption → ℕ → List IndexToken → List ℕ → WrittenTerm
 key_term mode field ts key =
     let tokens = tokens_at field key ts in
@@ -36,7 +36,7 @@ token_terms entries ts field = map (key_term (option_of entries field) field ts)
 abbrev pub fields_of : List SchemaEntry → List ℕ
 fields_of entries = range_with_len 0 (length entries)
 
--- those of them that have terms
+-- the fields of a schema that have terms
 abbrev pub fields_with_terms : List SchemaEntry → List IndexToken → List ℕ
 fields_with_terms entries ts = filter (λ (field : ℕ). nat_lt 0 (length (field_keys field ts))) (fields_of entries)
 
@@ -44,17 +44,17 @@ fields_with_terms entries ts = filter (λ (field : ℕ). nat_lt 0 (length (field
 abbrev pub token_bodies : List SchemaEntry → List IndexToken → ℕ → FieldBodies
 token_bodies entries ts field = field_bodies (option_of entries field) (field_count field ts) (token_terms entries ts field)
 
--- the bodies of one of the three files, of each field that has terms
+-- a file's bodies, of each field that has terms
 abbrev pub file_bodies : (FieldBodies → List ℕ) → List SchemaEntry → List IndexToken → List Body
 file_bodies part entries ts = map (λ (field : ℕ). record { field = field; bytes = part (token_bodies entries ts field) }) (fields_with_terms entries ts)
 
--- The first term that passes a limit passes it in this way: none before it does, in the order of fields and keys.
+-- P holds for the first term that exceeds a limit, in the order of fields and keys.
 abbrev pub FirstTerm : (IndexRecordOption → WrittenTerm → Type 0) → List SchemaEntry → List IndexToken → Type 0
 FirstTerm P entries ts =
     FirstOf (λ (field : ℕ). AreWithin (option_of entries field) (token_terms entries ts field))
     (λ (field : ℕ). FirstOf (IsWithin (option_of entries field)) (P (option_of entries field)) (token_terms entries ts field)) (fields_of entries)
 
--- The terms of a field end too late, and those of the fields before it pass no limit.
+-- The terms of a field are too long in total, and the terms of the fields before it exceed no limit.
 abbrev pub FirstEnds : List SchemaEntry → List IndexToken → Type 0
 FirstEnds entries ts =
     FirstOf (λ (field : ℕ). AreWithin (option_of entries field) (token_terms entries ts field)) (λ (field : ℕ). PassEnds (option_of entries field) (token_terms entries ts field)) (fields_of entries)

@@ -4,17 +4,17 @@ use crate::term_recorders::TermRecorders;
 use ii_json::PathToUnorderedId;
 use std::alloc::Global;
 
-/// What is gathered while documents are indexed.
+/// The terms and paths that are collected while documents are indexed.
 #[derive(Drop)]
 pub struct IndexingContext {
-    /// For each term that occurred what keeps its postings.
+    /// The recorder of each term that occurred.
     pub term_index: TermRecorders,
-    /// The paths of JSON values, by the ids that they have while these are indexed.
+    /// The paths of JSON values, by their ids during indexing.
     pub path_to_unordered_id: PathToUnorderedId,
 }
 
 impl IndexingContext {
-    /// A context of no terms and no paths.
+    /// Creates a context without terms or paths.
     pub fn new(alloc: Global) -> IndexingContext
         ensures terms { result.term_index ≡ [] }
         ensures paths { result.path_to_unordered_id ≡ [] }

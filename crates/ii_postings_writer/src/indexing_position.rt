@@ -1,8 +1,8 @@
-/// What is known of the texts of a document in a field so far: it begins with no tokens, at position 0.
+/// The state of a document's texts in a field. It starts with no tokens, at position 0.
 #[derive(Debug, Default, Drop)]
 pub struct IndexingPosition {
-    /// How many tokens they have.
+    /// The number of tokens.
     pub num_tokens: u32,
-    /// Where the next text begins.
+    /// The position at which the next text starts.
     pub end_position: u32,
 }

@@ -11,10 +11,10 @@ use ii_base::{FastValue, Fault, Field};
 use std::alloc::Global;
 use std::marker::Model;
 
-// The bytes of the field, which stand before those of the value.
+// The bytes of the field, before those of the value.
 const TERM_METADATA_LENGTH: usize = 4;
 
-/// A term while it is indexed: 4 bytes of its field, the highest first, and the bytes of its value.
+/// A term during indexing: 4 bytes of its field, big-endian, then the bytes of its value.
 #[derive(Drop)]
 pub struct IndexingTerm {
     field: Field,
@@ -33,8 +33,8 @@ impl Model for IndexingTerm {
 }
 
 impl IndexingTerm {
-    /// An empty term of field 0, with room for so many bytes of a value. `OutOfMemory` where there is
-    /// none.
+    /// Creates an empty term of field 0, with capacity for `capacity` bytes of a value. Returns
+    /// `OutOfMemory` if the allocation fails.
     pub fn with_capacity(alloc: Global, capacity: usize) -> Result<IndexingTerm, Fault>
         requires { 4 + capacity < 2 ^ 64 }
         ensures ok { IfOk result (λ term. term ≡ record { field = 0; value = [] }) }
@@ -48,21 +48,21 @@ impl IndexingTerm {
         })
     }
 
-    /// Whether it has no bytes of a value.
+    /// Returns whether the value has no bytes.
     pub fn is_empty(&self) -> bool
         ensures { result ≡ (length self.now.value == 0) }
     {
         self.len_bytes() == 0
     }
 
-    /// How many bytes its value has.
+    /// Returns the length of the value in bytes.
     pub fn len_bytes(&self) -> usize
         ensures { result ≡ length self.now.value }
     {
         self.bytes.len() - TERM_METADATA_LENGTH
     }
 
-    /// Sets the field of an empty term. It takes no memory.
+    /// Sets the field of an empty term. Allocates nothing.
     pub fn set_field(&mut self, field: Field)
         requires { self.old.value ≡ [] }
         ensures { self.new ≡ record { field = field; value = [] } }
@@ -71,7 +71,7 @@ impl IndexingTerm {
         self.field = field;
     }
 
-    /// Drops the value, and sets the field. It takes no memory.
+    /// Removes the value and sets the field. Allocates nothing.
     pub fn clear_with_field(&mut self, field: Field)
         ensures { self.new ≡ record { field = field; value = [] } }
     {
@@ -79,8 +79,8 @@ impl IndexingTerm {
         self.set_field(field);
     }
 
-    /// Sets the value to an unsigned number: 8 bytes, the highest first. `OutOfMemory` where there is no
-    /// room for them: the term then stays.
+    /// Sets the value to an unsigned number: 8 bytes, big-endian. Returns `OutOfMemory` if the
+    /// allocation fails; the term is then unchanged.
     pub fn set_u64(&mut self, val: u64) -> Result<(), Fault>
         ensures ok { OnOk result (self.new ≡ record self.old { value = u64_bytes val }) }
         ensures err { OnErr result (self.new ≡ self.old) }
@@ -89,8 +89,8 @@ impl IndexingTerm {
         self.set_bytes(&val.to_be_bytes())
     }
 
-    /// Sets the value to a signed number: 8 bytes of the number plus 2^63, the highest first.
-    /// `OutOfMemory` where there is no room for them: the term then stays.
+    /// Sets the value to a signed number: 8 bytes of the number plus 2^63, big-endian. Returns
+    /// `OutOfMemory` if the allocation fails; the term is then unchanged.
     pub fn set_i64(&mut self, val: i64) -> Result<(), Fault>
         ensures ok { OnOk result (self.new ≡ record self.old { value = u64_bytes (flipped val) }) }
         ensures err { OnErr result (self.new ≡ self.old) }
@@ -99,8 +99,8 @@ impl IndexingTerm {
         self.set_u64(val.to_u64())
     }
 
-    /// Sets the value to a truth value: 8 bytes of 0 or 1, the highest first. `OutOfMemory` where there
-    /// is no room for them: the term then stays.
+    /// Sets the value to a boolean: 8 bytes of 0 or 1, big-endian. Returns `OutOfMemory` if the
+    /// allocation fails; the term is then unchanged.
     pub fn set_bool(&mut self, val: bool) -> Result<(), Fault>
         ensures ok { OnOk result (self.new ≡ record self.old { value = u64_bytes (number_of_bool val) }) }
         ensures err { OnErr result (self.new ≡ self.old) }
@@ -109,8 +109,8 @@ impl IndexingTerm {
         self.set_u64(u64::from(val))
     }
 
-    /// Sets the value to an IP address: 16 bytes, the highest first. `OutOfMemory` where there is no room
-    /// for them: the term then stays.
+    /// Sets the value to an IP address: 16 bytes, big-endian. Returns `OutOfMemory` if the allocation
+    /// fails; the term is then unchanged.
     pub fn set_ip_addr(&mut self, val: u128) -> Result<(), Fault>
         ensures ok { OnOk result (self.new ≡ record self.old { value = bytes_high_first 16 val }) }
         ensures err { OnErr result (self.new ≡ self.old) }
@@ -119,7 +119,8 @@ impl IndexingTerm {
         self.set_bytes(&val.to_be_bytes())
     }
 
-    /// Sets the value to these bytes. `OutOfMemory` where there is no room for them: the term then stays.
+    /// Sets the value to these bytes. Returns `OutOfMemory` if the allocation fails; the term is then
+    /// unchanged.
     pub fn set_bytes(&mut self, bytes: &[u8]) -> Result<(), Fault>
         ensures ok { OnOk result (self.new ≡ record self.old { value = bytes.now }) }
         ensures err { OnErr result (self.new ≡ self.old) }
@@ -131,8 +132,8 @@ impl IndexingTerm {
         Ok(())
     }
 
-    /// Adds a value in a JSON field: the letter of its type, and the 8 bytes of the number that stands
-    /// for it, the highest first. `OutOfMemory` where there is no room for them: the term then stays.
+    /// Appends a value of a JSON field: the letter of its type, then 8 big-endian bytes of its
+    /// number. Returns `OutOfMemory` if the allocation fails; the term is then unchanged.
     pub fn append_type_and_fast_value<T: FastValue>(&mut self, val: T) -> Result<(), Fault>
         ensures ok { OnOk result (self.new ≡ record self.old { value = self.old.value ++ code_of T.type_of_values ∷ u64_bytes (T.number val) }) }
         ensures err { OnErr result (self.new ≡ self.old) }
@@ -147,8 +148,8 @@ impl IndexingTerm {
         Ok(())
     }
 
-    /// Adds bytes to the value, and lends what it added. `OutOfMemory` where there is no room for them: the
-    /// term then stays.
+    /// Appends bytes to the value, and returns them borrowed. Returns `OutOfMemory` if the allocation
+    /// fails; the term is then unchanged.
     pub fn append_bytes(&mut self, bytes: &[u8]) -> Result<&[u8], Fault>
         ensures* rests { sem 𝓛 (TermRestsWith self.entry bytes.entry.now result) }
         ensures ok { IfOk result (λ added. added.now ≡ bytes.entry.now) }
@@ -159,7 +160,7 @@ impl IndexingTerm {
         Ok(&self.bytes[len..])
     }
 
-    // Adds bytes to the value.
+    // Appends bytes to the value.
     pub(crate) fn add_bytes(&mut self, bytes: &[u8]) -> Result<(), Fault>
         ensures ok { OnOk result (self.new ≡ record self.old { value = self.old.value ++ bytes.now }) }
         ensures err { OnErr result (self.new ≡ self.old) }
@@ -169,7 +170,7 @@ impl IndexingTerm {
         Ok(())
     }
 
-    /// Drops the bytes of the value after so many; where it has no more, nothing changes.
+    /// Shortens the value to `len` bytes. A shorter value is unchanged.
     pub fn truncate_value_bytes(&mut self, len: usize)
         ensures { self.new ≡ record self.old { value = take len self.old.value } }
     {
@@ -178,14 +179,14 @@ impl IndexingTerm {
         }
     }
 
-    /// The field.
+    /// Returns the field.
     pub fn field(&self) -> Field
         ensures { result ≡ self.now.field }
     {
         self.field
     }
 
-    /// All bytes, those of the field and those of the value.
+    /// Returns all bytes: those of the field, then those of the value.
     #[tactic(auto, using(crate::proofs::TermLemmas::are_term_bytes))]
     pub fn serialized_term(&self) -> &[u8]
         ensures bytes { result.now ≡ term_bytes self.now }
@@ -194,7 +195,7 @@ impl IndexingTerm {
         &self.bytes
     }
 
-    /// The same term once more. `OutOfMemory` where there is no room for it.
+    /// Copies the term. Returns `OutOfMemory` if the allocation fails.
     pub fn clone(&self) -> Result<IndexingTerm, Fault>
         ensures ok { IfOk result (λ term. term ≡ self.now) }
         ensures only { OnlyMemory result }
@@ -207,7 +208,7 @@ impl IndexingTerm {
     }
 }
 
-// Writes a field over the first bytes.
+// Overwrites the first bytes with a field.
 #[tactic(auto, unfolding(crate::specs::IndexingTerm::field_bytes))]
 fn write_field(bytes: &mut [u8], field: Field)
     requires { 4 ≤ length bytes.old }
@@ -217,7 +218,7 @@ fn write_field(bytes: &mut [u8], field: Field)
     front.copy_from_slice(&field.field_id().to_be_bytes());
 }
 
-/// The bytes of such a term, which are lent. Clauses see these bytes.
+/// The borrowed bytes of an `IndexingTerm`, which are also its model.
 #[derive(Drop)]
 pub struct IndexingTermRef<'a> {
     bytes: &'a [u8],
@@ -234,7 +235,7 @@ impl<'a> Model for IndexingTermRef<'a> {
 }
 
 impl<'a> IndexingTermRef<'a> {
-    /// The term of these bytes, at least 4, of which the first 4 are the field.
+    /// Wraps at least 4 bytes, of which the first 4 are the field.
     pub fn wrap(serialized: &'a [u8]) -> IndexingTermRef<'a>
         requires { 4 ≤ length serialized.now }
         ensures { result ≡ serialized.entry.now }
@@ -242,7 +243,7 @@ impl<'a> IndexingTermRef<'a> {
         IndexingTermRef { bytes: serialized }
     }
 
-    /// The field.
+    /// Returns the field.
     #[tactic(auto, unfolding(crate::specs::IndexingTerm::field_in))]
     pub fn field(&self) -> Field
         ensures { result ≡ field_in self.now }
@@ -255,7 +256,7 @@ impl<'a> IndexingTermRef<'a> {
         ]))
     }
 
-    /// All bytes.
+    /// Returns all bytes.
     pub fn serialized_term(&self) -> &'a [u8]
         ensures { result.now ≡ self.now }
     {

@@ -1,5 +1,5 @@
-//! The terms of documents while they are indexed: what is kept of each, how the words of texts come to
-//! it, and how the terms of all fields go out.
+//! Terms of documents during indexing: the recorder of each term, the indexing of texts and values,
+//! and the writing of all fields' terms.
 #![tactic(auto)]
 
 pub mod indexing_context;

@@ -9,7 +9,7 @@ use ii_base::{Fault, Field, FieldEntry, IndexRecordOption, Schema, ValueType};
 use std::alloc::Global;
 use std::marker::Model;
 
-/// The postings writers of a schema, one for each field. Clauses see the list of them.
+/// The postings writers of a schema, one for each field. Its model is the list of them.
 #[derive(Drop)]
 pub struct PerFieldPostingsWriter {
     writers: Vec<SpecializedPostingsWriter>,
@@ -25,8 +25,8 @@ impl Model for PerFieldPostingsWriter {
 }
 
 impl PerFieldPostingsWriter {
-    /// A writer of no tokens for each field, which keeps what the field records, or of values that
-    /// aren't text that they occur. `OutOfMemory` where there is no room for them.
+    /// Creates a writer without tokens for each field. Text and JSON fields keep what the field
+    /// records, other fields only the documents. Returns `OutOfMemory` if the allocation fails.
     pub fn for_schema(alloc: Global, schema: &Schema) -> Result<PerFieldPostingsWriter, Fault>
         ensures ok { IfOk result (λ writers. writers ≡ writers_of schema.now) }
         ensures only { OnlyMemory result }
@@ -38,7 +38,7 @@ impl PerFieldPostingsWriter {
         Ok(PerFieldPostingsWriter { writers })
     }
 
-    /// The writer of a field of this schema.
+    /// Returns the writer of a field of this schema.
     pub fn get_for_field(&self, field: Field) -> &SpecializedPostingsWriter
         requires { field < length self.now }
         ensures { slice_get self.now field ≡ Some result.now }
@@ -46,7 +46,7 @@ impl PerFieldPostingsWriter {
         &self.writers[field.field_id() as usize]
     }
 
-    /// The writer of a field of this schema, to write with.
+    /// Returns the writer of a field of this schema, mutably borrowed.
     pub fn get_for_field_mut(&mut self, field: Field) -> &mut SpecializedPostingsWriter
         requires { field < length self.old }
         ensures* writes_back { sem 𝓛 (LendsWriter self.entry field result) }
@@ -56,7 +56,7 @@ impl PerFieldPostingsWriter {
     }
 }
 
-// The writer of a field.
+// Creates the writer of a field.
 fn writer_of(entry: &FieldEntry) -> SpecializedPostingsWriter
     ensures { result ≡ writer_of entry.now }
 {

@@ -19,24 +19,24 @@ use crate::term_recorders::TermRecorders;
 use ii_base::{DocId, Fault, IndexRecordOption, LimitName, TokenStream, TokenView};
 use std::marker::Model;
 
-// How far the next text of a field lies behind the last one.
+// The number of positions between two texts of a field.
 const POSITION_GAP: u32 = 1;
 
-/// A longer token is left out, in bytes.
+/// The maximum length of a token in bytes. Longer tokens are skipped.
 pub const MAX_TOKEN_LEN: usize = 65530;
 
-/// Puts the terms of documents into an indexing context, and counts them.
+/// Records the terms of documents in an indexing context, and counts the tokens.
 ///
-/// Its meaning is what it keeps of a text's terms and of a value's, and how many tokens it had.
+/// Its model is what it keeps of a text's terms and of a value's, and the number of tokens.
 pub trait PostingsWriter: Drop {
     ghost state: { Self → PostingsWriterState };
 
-    /// Adds a position of a value's term in a document, which isn't below those that were added to the
-    /// context before.
+    /// Records a position of a value's term in a document. `doc` must not be less than the documents
+    /// recorded in the context before.
     ///
-    /// `Limit(Tokens)` for more than `u64::MAX` tokens, and then what the term's recorder says.
-    /// `OutOfMemory` where there is no room for it. After a fault no token was counted, and nothing is
-    /// said of the context.
+    /// Returns `Limit(Tokens)` for more than `u64::MAX` tokens, then any fault of the term's
+    /// recorder. Returns `OutOfMemory` if an allocation fails. After a fault the token isn't counted,
+    /// and the terms of the context are unspecified.
     fn subscribe(
         &mut self,
         doc: DocId,
@@ -55,16 +55,19 @@ pub trait PostingsWriter: Drop {
         ensures paths { ctx.new.path_to_unordered_id ≡ ctx.old.path_to_unordered_id }
         ensures refused { IsRefusedBy (subscribe_fault (state self.old).value_option (state self.old).total_num_tokens doc pos (term_bytes term.now) ctx.old.term_index) result };
 
-    /// Indexes the tokens of a text that are still to come, under the terms that the buffer's value and
-    /// their own bytes make, in a document that isn't below those before. They stand behind the texts
-    /// of `indexing_position`, which then has this one too, with a gap of 1 after it. A token of more
-    /// than `MAX_TOKEN_LEN` bytes is left out.
+    /// Indexes the remaining tokens of a text. A token's term is the buffer's value followed by the
+    /// token's bytes. `doc_id` must not be less than the documents recorded in the context before.
     ///
-    /// Token by token, `Limit(Position)` where it starts or ends above `u32::MAX`, `Limit(Tokens)` for
-    /// more than `u32::MAX` tokens of these texts or more than `u64::MAX` of the writer, and then what
-    /// the term's recorder says; in the end `Limit(Position)` where the gap ends above `u32::MAX`; the
-    /// first of these alone. `OutOfMemory` where there is no room. Nothing is said of the context after a
-    /// fault.
+    /// Positions continue after the earlier texts in `indexing_position`, which then includes this
+    /// text and a gap of 1 after it. Tokens of more than `MAX_TOKEN_LEN` bytes are skipped.
+    ///
+    /// # Errors
+    ///
+    /// Returns the first fault, token by token: `Limit(Position)` if the token starts or ends above
+    /// `u32::MAX`; `Limit(Tokens)` for more than `u32::MAX` tokens of these texts, or more than
+    /// `u64::MAX` of the writer; then any fault of the term's recorder. After the last token,
+    /// `Limit(Position)` if the gap ends above `u32::MAX`. `OutOfMemory` if an allocation fails.
+    /// After a fault the terms of the context are unspecified.
     fn index_text<S: TokenStream>(
         &mut self,
         doc_id: DocId,
@@ -83,7 +86,7 @@ pub trait PostingsWriter: Drop {
         ensures num_tokens { OnOk result (indexing_position.new.num_tokens ≡ indexing_position.old.num_tokens + length (kept_words (S.to_come token_stream.old))) }
         ensures end_position { OnOk result (indexing_position.new.end_position ≡ end_after indexing_position.old.end_position (S.to_come token_stream.old)) }
 
-        // What stays, and how it is refused.
+        // What is unchanged, and the errors.
         ensures same_term { OnOk result (term_buffer.new ≡ term_buffer.old) }
         ensures ended { OnOk result (S.to_come token_stream.new ≡ []) }
         ensures paths { ctx.new.path_to_unordered_id ≡ ctx.old.path_to_unordered_id }
@@ -91,12 +94,12 @@ pub trait PostingsWriter: Drop {
             → let p = text_piece doc_id term_buffer.old (S.to_come token_stream.old) in HasTokens kind p ctx.old.term_index (state self.old) ts
             → IsRefusedBy (text_fault (state self.old).option p indexing_position.old ts) result };
 
-    /// How many tokens it had.
+    /// Returns the number of tokens.
     fn total_num_tokens(&self) -> u64
         ensures { result ≡ (state self.now).total_num_tokens };
 }
 
-/// Keeps the same of each term of a text, and the same of each term of a value.
+/// A writer with one option for all terms of texts, and one for all terms of values.
 #[derive(Drop)]
 pub struct SpecializedPostingsWriter {
     option: IndexRecordOption,
@@ -113,7 +116,7 @@ impl Model for SpecializedPostingsWriter {
 }
 
 impl SpecializedPostingsWriter {
-    /// A writer of no tokens, which keeps of each term what `option` says.
+    /// Creates a writer without tokens that keeps what `option` says of each term.
     pub fn new(option: IndexRecordOption) -> SpecializedPostingsWriter
         ensures { result ≡ record { option = option; value_option = option; total_num_tokens = 0 } }
     {
@@ -124,8 +127,8 @@ impl SpecializedPostingsWriter {
         }
     }
 
-    /// A writer of no tokens for a JSON field, which keeps of each term of a text what `option` says, and
-    /// of a value's that it occurs.
+    /// Creates a writer without tokens for a JSON field. It keeps what `option` says of a text's
+    /// terms, and only the documents of a value's.
     pub fn for_json(option: IndexRecordOption) -> SpecializedPostingsWriter
         ensures { result ≡ record { option = option; value_option = Basic; total_num_tokens = 0 } }
     {
@@ -136,7 +139,7 @@ impl SpecializedPostingsWriter {
         }
     }
 
-    // Adds a position of a term of which so much is kept.
+    // Records a position of a term under `option`.
     #[tactic(auto, using(crate::proofs::TermLemmas::long_term))]
     fn record(
         &mut self,
@@ -162,7 +165,7 @@ impl SpecializedPostingsWriter {
         Ok(())
     }
 
-    // Adds a position of a word, whose bytes stand behind the term's.
+    // Records a position of a word, whose bytes follow the term's.
     fn subscribe_word(
         &mut self,
         doc: DocId,
@@ -177,7 +180,7 @@ impl SpecializedPostingsWriter {
         ensures ends { OnOk result (AllEndBy doc terms.new) }
         ensures counted { OnOk result (self.new ≡ tokens_counted 1 self.old) }
 
-        // When it is refused, and by which fault.
+        // Errors.
         ensures uncounted { OnErr result (self.new ≡ self.old) }
         ensures refused { IsRefusedBy (subscribe_fault self.old.option self.old.total_num_tokens doc pos (field_bytes term.old.field ++ (term.old.value ++ word.now)) terms.old) result }
         ensures same_term { OnOk result (term.new ≡ term.old) }
@@ -229,7 +232,7 @@ impl SpecializedPostingsWriter {
         ensures same_term { OnOk result (term.new ≡ term.old) }
         ensures refused { IfErr result (λ e. (words : List Word) → RefusesWords (text_piece doc term.old words) begin (kept_words (seen_word token.now ∷ [])) (text_state terms.old self.old at.old) e) }
     {
-        // that the field has 32 bits, for the proof
+        // Shows the proof that the field fits in 32 bits.
         let _field = term.field().field_id();
         if token.text.len() > MAX_TOKEN_LEN {
             return Ok(());
@@ -237,7 +240,7 @@ impl SpecializedPostingsWriter {
         self.index_kept(doc, token, begin, term, terms, at)
     }
 
-    // Indexes the words that are still to come of a text.
+    // Indexes the remaining words of a text.
     fn index_words<S: TokenStream>(
         &mut self,
         doc: DocId,
@@ -272,7 +275,7 @@ impl PostingsWriter for SpecializedPostingsWriter {
         term: &IndexingTerm,
         ctx: &mut IndexingContext,
     ) -> Result<(), Fault> {
-        // that the field has 32 bits, for the proof
+        // Shows the proof that the field fits in 32 bits.
         let _field = term.field().field_id();
         self.record(self.value_option, doc, pos, term, &mut ctx.term_index)
     }
@@ -303,7 +306,7 @@ impl PostingsWriter for SpecializedPostingsWriter {
     }
 }
 
-// Where a token stands in the texts of a field, from and to.
+// Returns the position of a token in the texts of a field, and its end.
 fn token_place(begin: u32, position: usize, position_length: usize) -> Result<(u32, u32), Fault>
     ensures ok { IfOk result (λ place. (place.0 ≡ begin + position) × (place.1 ≡ begin + position + position_length)) }
     ensures refused { result ≡ (if nat_lt u32_max (begin + position + position_length) then Err (Fault.Limit limit.Position) else Ok (begin + position, begin + position + position_length)) }
@@ -321,7 +324,7 @@ fn token_place(begin: u32, position: usize, position_length: usize) -> Result<(u
     Ok((position as u32, end as u32))
 }
 
-// One more token.
+// Counts one more token.
 fn one_more(num_tokens: u32) -> Result<u32, Fault>
     ensures { result ≡ (if nat_le u32_max num_tokens then Err (Fault.Limit limit.Tokens) else Ok (num_tokens + 1)) }
 {
@@ -331,7 +334,7 @@ fn one_more(num_tokens: u32) -> Result<u32, Fault>
     Ok(num_tokens + 1)
 }
 
-// Where the next text begins, after one that ends here.
+// Returns the start of the next text, after one that ends at `end`.
 fn next_text(end: u32) -> Result<u32, Fault>
     ensures { result ≡ (if nat_lt u32_max (end + 1) then Err (Fault.Limit limit.Position) else Ok (end + 1)) }
 {

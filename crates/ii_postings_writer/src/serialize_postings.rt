@@ -49,7 +49,7 @@ fn serialize_under_key<W: Write>(
     ensures told { OnOk result (IsTold serializer.old.index.now.field.term.mode (record { key = key.now; recorder = any_state recorder.now })) }
     ensures between { OnOk result (serializer.new.index.now.field.term_open ≡ false) }
 
-    // How it ends, and by which fault it is refused.
+    // The state afterwards, and the errors.
     ensures ends { EndsWriting serializer.old.index.now serializer.new.index.now result }
     ensures grow { AllGrow serializer.old.index.now.bodies serializer.new.index.now.bodies }
     ensures fault { (initial : IndexBodiesState) (field tokens : ℕ) (norms : Option Norms) (ts : List WrittenTerm) → IsWriting initial serializer.old.index.now field tokens norms ts []
@@ -62,7 +62,7 @@ fn serialize_under_key<W: Write>(
     serializer.close_term()
 }
 
-// Writes a term of the field, whose key is put together in a buffer if it has a path.
+// Writes a term of the field. If it has a path, its key is composed in a buffer.
 fn serialize_one_term<W: Write>(
     term: TermOfField<'_>,
     keys: &mut JsonTermSerializer,
@@ -79,7 +79,7 @@ fn serialize_one_term<W: Write>(
     ensures told { OnOk result (IsTold serializer.old.index.now.field.term.mode (state_of term.entry)) }
     ensures between { OnOk result (serializer.new.index.now.field.term_open ≡ false) }
 
-    // How it ends, and by which fault it is refused.
+    // The state afterwards, and the errors.
     ensures ends { EndsWriting serializer.old.index.now serializer.new.index.now result }
     ensures grow { AllGrow serializer.old.index.now.bodies serializer.new.index.now.bodies }
     ensures fault { (initial : IndexBodiesState) (field tokens : ℕ) (norms : Option Norms) (ts : List WrittenTerm) → IsWriting initial serializer.old.index.now field tokens norms ts []
@@ -97,7 +97,7 @@ fn serialize_one_term<W: Write>(
     serialize_under_key(keys.as_bytes(), term.recorder, buffer_lender, serializer)
 }
 
-// Writes a field with so many tokens, whose terms ascend.
+// Writes a field with its number of tokens and its terms, which ascend.
 fn serialize_field<W: Write>(
     field: Field,
     total_num_tokens: u64,
@@ -119,7 +119,7 @@ fn serialize_field<W: Write>(
     ensures told { OnOk result (AllByRecursion (IsTold (option_of serializer.old.entries field)) (map state_of terms.now)) }
     ensures within { OnOk result (AreWithin (option_of serializer.old.entries field) (map (written_term fieldnorm_reader (option_of serializer.old.entries field)) (map state_of terms.now))) }
 
-    // How it ends, and by which fault it is refused.
+    // The state afterwards, and the errors.
     ensures ends { EndsWriting serializer.old serializer.new result }
     ensures grow { AllGrow serializer.old.bodies serializer.new.bodies }
     ensures fault { IfErr result (λ e. (e ≡ Fault.SerializerClosed)
@@ -152,7 +152,7 @@ fn serialize_if_any<W: Write>(
     ensures wrote { (initial : IndexBodiesState) (fs : List FieldPart) → HasFields serializer.old.entries initial serializer.old.bodies fs
         → OnOk result (HasFields serializer.old.entries initial serializer.new.bodies (fs ++ parts_of serializer.old.entries field (tokens_in writers.now field) (norms_in norms.now field) terms.now)) }
 
-    // How it ends, and by which fault it is refused.
+    // The state afterwards, and the errors.
     ensures ends { EndsParts terms.now serializer.old serializer.new result }
     ensures fault { IfErr result (λ e. (e ≡ Fault.SerializerClosed)
         ⊎ IsPartFault serializer.old.entries serializer.old.bodies (record { field = field; tokens = tokens_in writers.now field; norms = norms_in norms.now field; terms = terms.now }) e) }
@@ -193,7 +193,7 @@ fn serialize_fields<W: Write>(
     requires writable { (field : ℕ) → field < length terms.now.items → AllByRecursion (IsWritable (norms_in norms.now field)) (slice_index_or terms.now.items field []) }
     ensures wrote { OnOk result (HasFields serializer.old.entries serializer.old.bodies serializer.new.bodies (first_parts serializer.old.entries writers.now norms.now terms.now.items (length terms.now.items))) }
 
-    // How it ends, and by which fault it is refused.
+    // The state afterwards, and the errors.
     ensures ends { EndsParts (first_parts serializer.old.entries writers.now norms.now terms.now.items (length terms.now.items)) serializer.old serializer.new result }
     ensures fault { IfErr result (λ e. (e ≡ Fault.SerializerClosed)
         ⊎ IsPartsFault serializer.old.entries serializer.old.bodies (first_parts serializer.old.entries writers.now norms.now terms.now.items (length terms.now.items)) e) }
@@ -223,7 +223,7 @@ fn serialize_fields<W: Write>(
     Ok(())
 }
 
-// Which fields of a schema hold JSON values.
+// Returns for each field of a schema whether it holds JSON values.
 fn json_fields(alloc: Global, schema: &Schema) -> Result<Vec<bool>, Fault>
     ensures ok { IfOk result (λ flags. flags.items ≡ json_fields schema.now) }
     ensures only { OnlyMemory result }
@@ -235,14 +235,14 @@ fn json_fields(alloc: Global, schema: &Schema) -> Result<Vec<bool>, Fault>
     Ok(flags)
 }
 
-// Whether a field holds JSON values.
+// Returns whether a field holds JSON values.
 fn holds_json(entry: &FieldEntry) -> bool
     ensures { result ≡ is_json entry.now.value_type }
 {
     entry.value_type().to_code() == ValueType::Json.to_code()
 }
 
-// The terms of each field of a context, by their keys.
+// Returns the terms of each field of a context, by their keys.
 fn field_terms<'a>(
     alloc: Global,
     ctx: &'a IndexingContext,
@@ -263,17 +263,26 @@ fn field_terms<'a>(
     )
 }
 
-/// Writes the terms of a context, the fields that have some in ascending order, with the numbers of
-/// tokens that their writers had. By the norms of a field, if it has some, the bounds of full blocks are
-/// written. The schema is that of the serializer and of the writers; no field was written yet; each term
-/// lies in a field of it, its documents may be written, and the norms of its field answer for them.
+/// Writes the terms of a context and the numbers of tokens, in ascending order of fields. Fields
+/// without terms are skipped. If a field has norms, its full blocks get bounds.
 ///
-/// `Write` where a writer fails, `Limit(Offset)` where a count of a writer would pass `u64::MAX` or the
-/// bytes of all terms of a field pass 2^56, `Limit(TermBytes)` where the postings or the positions of a
-/// term have more than `u32::MAX` bytes, `Limit(BlockFrequencySum)` where the counts of a block of a term
-/// with positions sum up above `u32::MAX`, `OutOfMemory` where a growth was refused;
-/// `SerializerClosed` after an earlier refusal, if there is a term. A refusal closes the serializer, except
-/// for `OutOfMemory` between two fields, which leaves it as it is there.
+/// The serializer and the writers must have this schema, and no field may have been written yet. Each
+/// term must belong to a field of the schema, with documents that may be written. The norms of its
+/// field must cover these documents.
+///
+/// # Errors
+///
+/// - `Write` if a writer fails.
+/// - `Limit(Offset)` if a writer would count more than `u64::MAX` bytes, or the terms of a field reach
+///   2^56 bytes in total.
+/// - `Limit(TermBytes)` if the postings or the positions of a term exceed `u32::MAX` bytes.
+/// - `Limit(BlockFrequencySum)` if term frequencies in a block sum up above `u32::MAX`, for a term
+///   with positions.
+/// - `OutOfMemory` if an allocation fails.
+/// - `SerializerClosed` after an earlier fault, if there is a term.
+///
+/// A fault closes the serializer, except `OutOfMemory` between two fields, which leaves it as it was
+/// there.
 pub fn serialize_postings<W: Write>(
     alloc: Global,
     ctx: IndexingContext,
@@ -292,7 +301,7 @@ pub fn serialize_postings<W: Write>(
     ensures tokens { (ts : List IndexToken) → HaveHeldTokens serializer.old.entries ctx.path_to_unordered_id ctx.term_index per_field_postings_writers.now ts
         → HaveUnlessMemory (HaveTokens serializer.old.entries (resolved_terms (json_fields schema.now) ctx.path_to_unordered_id ctx.term_index) per_field_postings_writers.now ts) result }
 
-    // How it ends, and by which fault it is refused.
+    // The state afterwards, and the errors.
     ensures ends { EndsParts ctx.term_index serializer.old serializer.new result }
     ensures fault { IfErr result (λ e. (e ≡ Fault.OutOfMemory) ⊎ (e ≡ Fault.SerializerClosed) ⊎ IsContextFault serializer.old per_field_postings_writers.now fieldnorm_readers.now (resolved_terms (json_fields schema.now) ctx.path_to_unordered_id ctx.term_index) e) }
     ensures err { IfErr result (ClosesOrStays serializer.old serializer.new) }

@@ -19,21 +19,21 @@ use std::alloc::Global;
 use std::cmp::Ordering;
 use std::marker::Model;
 
-// The bytes of a field, and those of an id, in a term.
+// The lengths of a field and of a path id in a term, in bytes.
 const FIELD_LEN: usize = 4;
 
 const ID_LEN: usize = 4;
 
-/// A term of a context as it is kept, with what keeps its postings.
+/// A term of a context, with its recorder.
 #[derive(Clone, Copy)]
 pub struct KeptTerm<'a> {
-    /// Its bytes, which hold the id of a path in a JSON field.
+    /// Its bytes, which hold a path id in a JSON field.
     pub term: &'a [u8],
-    /// What keeps its postings.
+    /// The recorder of its postings.
     pub recorder: &'a AnyRecorder,
 }
 
-/// The terms of a context, lent in an order of their own.
+/// The borrowed terms of a context, in an order of their own.
 #[derive(Drop)]
 pub(crate) struct LentTerms<'a> {
     terms: Vec<KeptTerm<'a>>,
@@ -50,8 +50,8 @@ impl<'a> Model for LentTerms<'a> {
 }
 
 impl TermRecorders {
-    // The terms in the order of their keys, where the terms of some fields hold ids of paths with
-    // these ranks.
+    // Returns the terms in the order of their keys. `flags` says which fields hold path ids, and
+    // `ranks` orders these ids.
     pub(crate) fn sorted<'a>(
         &'a self,
         alloc: Global,
@@ -72,7 +72,7 @@ impl TermRecorders {
     }
 }
 
-// The terms of a map, lent in its order.
+// Borrows the terms of a map, in its order.
 fn lent_terms<'a>(
     alloc: Global,
     recorders: &'a IndexMap<Vec<u8>, AnyRecorder>,
@@ -91,7 +91,7 @@ fn lent_terms<'a>(
     Ok(terms)
 }
 
-// Which of two terms goes out first.
+// Compares two terms in the order in which they are written.
 fn compare(flags: &[bool], ranks: &[OrderedPathId], left: &[u8], right: &[u8]) -> Ordering
     ensures { result ≡ held_cmp flags.now ranks.now left.now right.now }
 {
@@ -107,14 +107,14 @@ fn compare(flags: &[bool], ranks: &[OrderedPathId], left: &[u8], right: &[u8]) -
     behind_id(left_id, left).cmp(behind_id(right_id, right))
 }
 
-// The bytes of a term's field.
+// Returns the bytes of a term's field.
 fn front_of(term: &[u8]) -> &[u8]
     ensures { result.now ≡ front_of term.now }
 {
     &term[..term.len().min(FIELD_LEN)]
 }
 
-// What stands behind the field of a term, and behind the id if there is one.
+// Returns the bytes of a term after the field, and after the path id if there is one.
 fn behind_id(id: Option<u32>, term: &[u8]) -> &[u8]
     ensures { result.now ≡ drop (value_place id) term.now }
 {
@@ -126,7 +126,7 @@ fn behind_id(id: Option<u32>, term: &[u8]) -> &[u8]
     &term[place.min(term.len())..]
 }
 
-// The rank of a path, 0 where there is none.
+// Returns the rank of a path, or 0 if there is none.
 fn rank_of(ranks: &[OrderedPathId], id: Option<u32>) -> u32
     ensures { result ≡ rank_of ranks.now id }
 {
@@ -139,7 +139,7 @@ fn rank_of(ranks: &[OrderedPathId], id: Option<u32>) -> u32
     }
 }
 
-// The id of the path in a term, if its field holds such ids.
+// Returns the path id in a term, if its field holds such ids.
 fn path_id_in(flags: &[bool], term: &[u8]) -> Option<u32>
     ensures { result ≡ path_id_in flags.now term.now }
 {
@@ -152,7 +152,7 @@ fn path_id_in(flags: &[bool], term: &[u8]) -> Option<u32>
     Some(number_in(&term[FIELD_LEN..]))
 }
 
-// Whether a field holds JSON values.
+// Returns whether a field holds JSON values.
 fn is_json_field(flags: &[bool], field: u32) -> bool
     ensures { result ≡ is_json_field flags.now field }
 {
@@ -162,7 +162,7 @@ fn is_json_field(flags: &[bool], field: u32) -> bool
     }
 }
 
-// The number of the first 4 bytes, the highest first.
+// Reads the first 4 bytes as a big-endian number.
 #[tactic(auto, unfolding(crate::specs::IndexingTerm::field_in))]
 fn number_in(bytes: &[u8]) -> u32
     requires { 4 ≤ length bytes.now }
@@ -171,14 +171,14 @@ fn number_in(bytes: &[u8]) -> u32
     u32::from_be_bytes([bytes[0], bytes[1], bytes[2], bytes[3]])
 }
 
-/// A term of a field, with what keeps its postings.
+/// A term of a field, with its recorder.
 #[derive(Clone, Copy)]
 pub struct TermOfField<'a> {
     /// The path that its key begins with, in a JSON field.
     pub path: Option<&'a str>,
     /// The bytes of its value.
     pub value: &'a [u8],
-    /// What keeps its postings.
+    /// The recorder of its postings.
     pub recorder: &'a AnyRecorder,
 }
 
@@ -221,7 +221,7 @@ impl<'a> FieldTerms<'a> {
     }
 }
 
-// A term by its key.
+// Returns a term by its key.
 fn keyed<'a>(
     flags: &[bool],
     paths: &'a PathToUnorderedId,
@@ -265,7 +265,7 @@ fn add_term<'a>(
     fields[field].push(keyed(flags, paths, term, recorder))
 }
 
-// No terms of so many fields.
+// Creates `num_fields` empty lists of terms.
 fn no_terms<'a>(alloc: Global, num_fields: usize) -> Result<Vec<FieldTerms<'a>>, Fault>
     ensures ok { IfOk result (λ fields. fields.items ≡ replicate num_fields []) }
     ensures only { OnlyMemory result }
@@ -277,7 +277,7 @@ fn no_terms<'a>(alloc: Global, num_fields: usize) -> Result<Vec<FieldTerms<'a>>,
     Ok(fields)
 }
 
-// The terms of each of so many fields, by their keys.
+// Returns the terms of each of `num_fields` fields, by their keys.
 fn by_field<'a>(
     alloc: Global,
     terms: &[KeptTerm<'a>],
@@ -298,7 +298,7 @@ fn by_field<'a>(
 }
 
 impl<'a> LentTerms<'a> {
-    // The terms of each of so many fields, by their keys.
+    // Returns the terms of each of `num_fields` fields, by their keys.
     pub(crate) fn by_field(
         &self,
         alloc: Global,

@@ -12,7 +12,7 @@ use indexmap::IndexMap;
 use std::alloc::Global;
 use std::marker::Model;
 
-/// For each term that occurred, by its bytes, what keeps its postings.
+/// The recorder of each term that occurred, by the term's bytes.
 #[derive(Drop)]
 pub struct TermRecorders {
     pub(crate) recorders: IndexMap<Vec<u8>, AnyRecorder>,
@@ -34,7 +34,7 @@ impl Model for TermRecorders {
 }
 
 impl TermRecorders {
-    /// No terms.
+    /// Creates an empty map.
     pub fn new(alloc: Global) -> TermRecorders
         ensures { result ≡ [] }
     {
@@ -44,8 +44,7 @@ impl TermRecorders {
         }
     }
 
-    // Records a position of a document under a term, whose recorder keeps what `option` says if it is
-    // new.
+    // Records a position of a document under a term. A new term gets a recorder with `option`.
     pub(crate) fn record(
         &mut self,
         option: IndexRecordOption,
@@ -71,7 +70,7 @@ impl TermRecorders {
     }
 }
 
-// A recorder of one position.
+// Creates a recorder with one position.
 fn recorder_with(
     alloc: Global,
     option: IndexRecordOption,
@@ -87,7 +86,7 @@ fn recorder_with(
     Ok(recorder)
 }
 
-// One more position of a document, which is that of the last one or lies above it.
+// Records one more position of a document, which is the last one or greater.
 #[tactic(auto, using(crate::proofs::RecorderSteps::recorded_refusal, crate::proofs::RecordsLaws::records_more))]
 fn record_in(recorder: &mut AnyRecorder, doc: DocId, position: u32) -> Result<(), Fault>
     requires low { doc < TERMINATED }
@@ -99,7 +98,7 @@ fn record_in(recorder: &mut AnyRecorder, doc: DocId, position: u32) -> Result<()
     recorder.record_position(position)
 }
 
-// Begins a document, unless it is the last one.
+// Starts a document, unless it is the last one.
 #[tactic(auto, using(crate::proofs::RecorderSteps::opened_same, crate::proofs::RecorderSteps::opened_anew, crate::proofs::RecorderSteps::last_below))]
 fn open_doc(recorder: &mut AnyRecorder, doc: DocId) -> Result<(), Fault>
     requires low { doc < TERMINATED }

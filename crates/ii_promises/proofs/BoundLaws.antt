@@ -51,7 +51,7 @@ below_or_any code freq below = by (code == 255) refl
     by true is = inl (eqb-true code 255 is)
     by false is = inr (rw is at below)
 
--- the bounds of what is written, by places in the whole list
+-- the bounds of what is written, by indexes in the complete list
 pub within_bounds : (norms : Norms) (docs freqs rest : List ℕ) (skip : SkipList) → BoundsWhatIsWritten → IsTrue (are_documents docs) → length docs < 2 ^ 32 → AreFreqs WithFreqs docs freqs
     → skip_list WithFreqs (length docs / 128) (written_postings (Some norms) WithFreqs docs freqs ++ rest) ≡ Some skip → (i k : ℕ) → 128 * i + 128 ≤ length docs → k < 128
     → ((skip_entry skip.entries i).block_wand_fieldnorm_id ≤ id_of_doc norms (get_or docs (128 * i + k) 0))

@@ -1,4 +1,4 @@
--- What a check of an index tells, and what is left to refuse after it.
+-- What a check of an index reports, and which errors remain after it.
 use Rattle.std.proofs.Common.{◌≡◌, ◌∙◌, ◌+◌, ◌<◌, ℕ, zero, suc, List, [], ◌∷◌, length, Option, None, Some, Result, Ok, Err, zero-add, inl, inr, refl, sym, ap, subst, arith}
 use Rattle.std.specs.Prelude.{◌⊎◌, IfErr, IfNone, IfOk, IfSome, IsOk, IsSomeAnd, slice_get}
 use Rattle.std.specs.List.{All, cons_option, enumerate_from, filter_map}
@@ -52,7 +52,7 @@ module _ {X Y : Type 0} (f : ℕ × X → Option Y) where
         before = λ j z low at. absurd (omega (arith, low));
       }
 
--- a list that is told is damaged by that part, and one that isn't opens
+-- a reported list is damaged in that part, and any other list opens
 told_part : (ord : ℕ) (found : Result (List Entry) Part) (term : DamagedTerm) → option_map (damaged_term ord) (result_err found) ≡ Some term → (ord ≡ term.ord) × (found ≡ Err term.part)
 told_part ord (Ok es) term is = absurd (cc)
 told_part ord (Err part) term is =
@@ -88,7 +88,7 @@ module _ {X Y : Type 0} (f : ℕ × X → Option Y) where
 abbrev pub OpensAt : InvertedIndexReaderState → TermEntry → Type 0
 OpensAt reader e = IsOk (term_of_file reader reader.option e.1)
 
--- a field and a term stand before others
+-- a field and a term come before others
 abbrev pub IsBefore : ℕ → ℕ → ℕ × DamagedTerm → Type 0
 IsBefore field ord d = (field < d.0) ⊎ ((field ≡ d.0) × (ord < d.1.ord))
 
@@ -109,7 +109,7 @@ told_at readers d is =
     let term_is : term.place ≡ d.1.ord = sym (zero-add term.place) ∙ at_term.0 in
     there (slice_get readers d.0) field.element _ (ap (slice_get readers) (sym field_is) ∙ field.is_there) (there (slice_get field.element.terms d.1.ord) term.element _ (ap (slice_get field.element.terms) (sym term_is) ∙ term.is_there) at_term.1)
 
--- what is told is damaged
+-- what is reported is damaged
 pub told_place : (readers : List InvertedIndexReaderState) (answer : Result (Option (ℕ × DamagedTerm)) Fault) → IfOk answer (λ damage. damage ≡ first_damaged_field readers) → IfOk answer (λ damage. IfSome damage (IsToldAt readers))
 told_place readers (Ok None) is = tt
 told_place readers (Ok (Some d)) is = told_at readers d (sym is)
@@ -140,13 +140,13 @@ told_first readers (Ok None) is = tt
 told_first readers (Ok (Some d)) is = before_told readers d (sym is)
 told_first readers (Err fault) is = tt
 
--- a term that opens is refused for memory alone
+-- a term that opens fails only with `OutOfMemory`
 not_refused : (found : Result (List Entry) Part) (fault : Fault) → IsOk found → IsRefusal found fault → fault ≡ OutOfMemory
 not_refused found fault opens (inl memory) = memory
 not_refused (Ok es) fault opens (inr (part, is, err)) = absurd (cc)
 not_refused (Err other) fault opens (inr (part, is, err)) = absurd (cc)
 
--- so is a look-up where each term opens
+-- a lookup fails only with `OutOfMemory` if each term opens
 pub look_up_opens : {A : Type 0} (reader : InvertedIndexReaderState) (key : List ℕ) (requested : IndexRecordOption) (answer : Result (Option A) Fault) → AllOpen reader
     → IfNone (info_under key reader.terms) (answer ≡ Ok None) → IfSome (info_under key reader.terms) (λ info. IfErr answer (IsRefusal (term_of_file reader requested info))) → IfErr answer (λ fault. fault ≡ OutOfMemory)
 look_up_opens reader key requested answer all none err = by_case (term_of_file reader requested) (info_under key reader.terms) answer (all key requested) none err

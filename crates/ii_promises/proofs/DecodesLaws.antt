@@ -1,4 +1,4 @@
--- What the cursors of a query have decoded, as it was told and as it is promised.
+-- What the cursors of a query have decoded, as it was reported and as it is promised.
 use Rattle.std.proofs.Common.{List}
 use Rattle.std.specs.List.{AllByRecursion, AllZip}
 use Rattle.ii_query.specs.TermOrPhrase.{WentOn}
@@ -6,7 +6,7 @@ use Rattle.ii_query.specs.declared.term_or_phrase.TermOrPhrase.{TermOrPhrase}
 use Rattle.ii_query.specs.declared.term_or_phrase.TermOrPhrase.TheVariants.{Term, Phrase}
 use Rattle.ii_reader.specs.SegmentPostings.{SegmentPostingsState, SpentLazily, WentLazily}
 use Rattle.ii_search.specs.Decodes.{DecodesFew, EachDecodesFew}
-use Rattle.ii_search.specs.DecodesLaws.{all_went}
+use Rattle.ii_search.proofs.DecodesLaws.{all_went}
 use Rattle.ii_postings_writer.proofs.SortedLemmas.{all_mapped}
 use Rattle.ii_promises.specs.Decodes.{HasDecodedFew, HaveDecodedFew}
 

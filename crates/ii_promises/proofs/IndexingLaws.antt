@@ -1,4 +1,4 @@
--- What an open index answers of the tokens that it has.
+-- What an open index returns for the tokens that it has.
 use Rattle.std.proofs.Common.{inl, inr, ◌≡◌, ◌∙◌, ◌<◌, ◌≤◌, ◌^◌, ℕ, false, List, [], Option, Some, None, Result, Ok, Err, length, map, refl, ap, subst}
 use Rattle.std.specs.Prelude.{◌⊎◌, IfErr, IfOk, IsTrue, MatchOption, slice_get}
 use Rattle.ii_io.specs.declared.faults.Fault.{Fault}
@@ -36,7 +36,7 @@ found_is entries n index ts field key requested reader answer below holds at giv
     by (Ok (Some cursor)) option g = (g.0, g.1 ∙ ap (λ (o : IndexRecordOption). key_postings o field key requested ts) option)
     by (Err fault) option g = tt
 
--- a look-up is refused for memory alone
+-- a lookup fails only with `OutOfMemory`
 pub refused_alone : (entries : List SchemaEntry) (n : ℕ) (index : OpenIndexState) (ts : List IndexToken) (field : ℕ) (key : List ℕ) (requested : IndexRecordOption) (reader : InvertedIndexReaderState) (answer : Result (Option SegmentPostingsState) Fault)
     → field < length entries → IndexHolds entries n index ts → slice_get index.readers field ≡ Some reader
     → ((f : ℕ) (tokens : List IndexToken) → ReaderHolds f reader tokens → GivesPostings reader.option f key requested tokens answer)

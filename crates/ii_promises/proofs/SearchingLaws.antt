@@ -1,4 +1,4 @@
--- What a search answers of the tokens that an index has.
+-- What a search returns for the tokens that an index has.
 use Rattle.std.proofs.Common.{inl, ◌≡◌, ◌∙◌, ℕ, true, List, Result, Ok, Err, ap}
 use Rattle.std.specs.Prelude.{◌⊎◌, IfErr, IfOk}
 use Rattle.ii_io.specs.declared.faults.Fault.{Fault}

@@ -5,11 +5,11 @@ use Rattle.ii_query.specs.declared.term_or_phrase.TermOrPhrase.{TermOrPhrase}
 use Rattle.ii_query.specs.declared.term_or_phrase.TermOrPhrase.TheVariants.{Term, Phrase}
 use Rattle.ii_reader.specs.SegmentPostings.{SegmentPostingsState}
 
--- At most as many blocks of a list were decoded as the cursor has reached, of documents and of counts; the first block has the number 0.
+-- At most `block` + 1 blocks of documents were decoded, and at most as many of term frequencies.
 abbrev pub HasDecodedFew : SegmentPostingsState → Type 0
 HasDecodedFew s = (s.doc_decodes ≤ s.block + 1) × (s.freq_decodes ≤ s.block + 1)
 
--- So it is of the cursor of a term, and of each one of a phrase.
+-- `HasDecodedFew` holds for the cursor of a term, and for each cursor of a phrase.
 abbrev pub HaveDecodedFew : TermOrPhrase SegmentPostingsState → Type 0
 HaveDecodedFew (Term cursor) = HasDecodedFew cursor
 HaveDecodedFew (Phrase cursor) = AllByRecursion HasDecodedFew cursor.cursors

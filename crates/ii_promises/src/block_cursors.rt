@@ -1,4 +1,4 @@
-// A cursor over the blocks of a term: what it shows, and how often it decodes.
+// A cursor over the blocks of a term: its contents, and how often it decodes.
 ghost use Rattle.std.specs.Prelude.{◌≡◌, ◌+◌, ◌*◌, ◌/◌, ◌<◌, ◌≤◌, [], ℕ, drop, length, min, slice_index, take, Ok, Err, None, IfOk, IfErr, OnOk, OnErr};
 ghost use Rattle.ii_io.specs.Parts.{part_of};
 ghost use Rattle.ii_layout.specs.TermList.{docs_and_freqs};
@@ -6,9 +6,9 @@ ghost use Rattle.ii_layout.specs.TermList.{docs_and_freqs};
 use bytes::Bytes;
 use nequllpa::{BlockSegmentPostings, DocId, IndexRecordOption, LayoutFault};
 
-/// Any bytes open exactly where the layout relation gives documents and counts; else the first part that
-/// fails is named. One block was decoded of documents, if there is one, at most one of counts, and one
-/// skip entry was read if there is one.
+/// Bytes open exactly if the layout relation gives documents and term frequencies; otherwise the
+/// first corrupt part is returned. Opening decodes one block of documents if there is one, and at
+/// most one of term frequencies. It reads one skip entry if there is one.
 pub fn any_bytes_open_as_their_documents(
     doc_freq: u32,
     bytes: Bytes,
@@ -25,9 +25,9 @@ pub fn any_bytes_open_as_their_documents(
     BlockSegmentPostings::open(doc_freq, bytes, recorded, requested)
 }
 
-/// The documents of block b are those from the 128 * b-th on, at most 128. At every moment documents and
-/// counts were decoded at most once for each block up to the current one, and skip entries read at most
-/// once for each full one of these.
+/// Block b holds at most 128 documents, from index 128 * b on. Documents and term frequencies have
+/// been decoded at most once for each block up to the current one. Skip entries have been read at
+/// most once for each full block of these.
 pub fn decodes_are_few(cursor: &BlockSegmentPostings) -> &[DocId]
     ensures block { result.now ≡ take 128 (drop (128 * cursor.now.block) cursor.now.docs) }
     ensures docs { cursor.now.doc_decodes ≤ cursor.now.block + 1 }
@@ -38,14 +38,14 @@ pub fn decodes_are_few(cursor: &BlockSegmentPostings) -> &[DocId]
     cursor.docs()
 }
 
-/// `advance` goes on by one block, or stays at the empty one after the last, and decodes at most one block
-/// of documents and one of counts.
+/// `advance` moves to the next block, or stays at the empty block after the last one. It decodes at
+/// most one block of documents and one of term frequencies.
 pub fn advance_decodes_one_block(cursor: &mut BlockSegmentPostings)
     ensures block { cursor.new.block ≡ min (cursor.old.block + 1) (length cursor.old.docs / 128 + 1) }
     ensures list { (cursor.new.docs ≡ cursor.old.docs) × (cursor.new.freqs ≡ cursor.old.freqs) }
     ensures docs { cursor.new.doc_decodes ≤ cursor.old.doc_decodes + 1 }
     ensures counts { cursor.new.freq_decodes ≤ cursor.old.freq_decodes + 1 }
-    // where it is then
+    // Totals at the new block.
     ensures all_docs { cursor.new.doc_decodes ≤ cursor.new.block + 1 }
     ensures all_counts { cursor.new.freq_decodes ≤ cursor.new.block + 1 }
     ensures all_entries { cursor.new.entries_read ≤ min (cursor.new.block + 1) (length cursor.new.docs / 128) }
@@ -53,8 +53,8 @@ pub fn advance_decodes_one_block(cursor: &mut BlockSegmentPostings)
     cursor.advance()
 }
 
-/// `seek` goes on to the first block that doesn't end below the target, or to the last one, and decodes at
-/// most one block of documents and one of counts, and none where it stays.
+/// `seek` moves to the first block that doesn't end below the target, or to the last block. It
+/// decodes at most one block of documents and one of term frequencies, and none if it stays.
 pub fn seek_decodes_one_block(cursor: &mut BlockSegmentPostings, target: DocId) -> usize
     requires { target ≤ 2147483647 }
     ensures forward { cursor.old.block ≤ cursor.new.block }
@@ -66,7 +66,7 @@ pub fn seek_decodes_one_block(cursor: &mut BlockSegmentPostings, target: DocId) 
     ensures docs { cursor.new.doc_decodes ≤ cursor.old.doc_decodes + 1 }
     ensures counts { cursor.new.freq_decodes ≤ cursor.old.freq_decodes + 1 }
     ensures stays { cursor.new.block ≡ cursor.old.block → (cursor.new.doc_decodes ≤ cursor.old.doc_decodes) × (cursor.new.freq_decodes ≤ cursor.old.freq_decodes) }
-    // where it is then
+    // Totals at the new block.
     ensures all_docs { cursor.new.doc_decodes ≤ cursor.new.block + 1 }
     ensures all_counts { cursor.new.freq_decodes ≤ cursor.new.block + 1 }
     ensures all_entries { cursor.new.entries_read ≤ min (cursor.new.block + 1) (length cursor.new.docs / 128) }
@@ -74,8 +74,8 @@ pub fn seek_decodes_one_block(cursor: &mut BlockSegmentPostings, target: DocId) 
     cursor.seek(target)
 }
 
-/// A block cursor is reset to any other bytes as it would be opened; where these are refused it is over no
-/// documents, keeps its options, and can be reset again.
+/// `reset` opens other bytes as `open` does. If they are corrupt, the cursor has no documents, keeps
+/// its options, and can be reset again.
 pub fn reset_opens_anew(
     cursor: &mut BlockSegmentPostings,
     doc_freq: u32,

@@ -1,4 +1,4 @@
-// What bounds blocks, and what a seek by count decodes.
+// Bounds of blocks, and what a seek by term frequency decodes.
 ghost use Rattle.std.specs.Prelude.{◌≡◌, ◌+◌, ◌-◌, ◌*◌, ◌/◌, ◌<◌, ◌≤◌, ◌⊎◌, ◌&&◌, ◌==◌, ◌++◌, ℕ, List, drop, filter, length, not, nat_le, nat_lt, slice_index, take, true, if◌then◌else◌, IsTrue, Some};
 ghost use Rattle.std.specs.List.{list_all, range_with_len, slice_index_or, sum_by};
 ghost use Rattle.ii_docset.specs.Cursor.{IsTarget, doc_at};
@@ -13,7 +13,7 @@ use ii_fieldnorm::FieldNormReader;
 use ii_layout::written::bounds_what_is_written;
 use nequllpa::{BlockSegmentPostings, DocId, SegmentPostings};
 
-/// No count of a full block is above the count that bounds it, of which 0 and 255 say nothing.
+/// No term frequency of a full block exceeds the block's bound. The bounds 0 and 255 say nothing.
 pub fn counts_stay_within_bounds(blocks: &BlockSegmentPostings) -> Option<(u8, u8)>
     ensures { (freqs : List ℕ) (bounds : ℕ × ℕ) → blocks.now.freqs ≡ Some freqs → result ≡ Some bounds → 0 < bounds.1 → bounds.1 < 255
         → list_all (λ c. nat_le c bounds.1) (take 128 (drop (128 * blocks.now.block) freqs)) ≡ true }
@@ -21,8 +21,8 @@ pub fn counts_stay_within_bounds(blocks: &BlockSegmentPostings) -> Option<(u8, u
     blocks.block_bounds()
 }
 
-/// A seek by count comes to the first document that isn't below the target and has a count of at least
-/// `least`. It decodes no block whose bound is known and below that.
+/// A seek by term frequency moves to the first document that isn't below `target` and has a term
+/// frequency of at least `least`. It decodes no block whose bound is known and below `least`.
 pub fn counts_are_sought(cursor: &mut SegmentPostings, target: DocId, least: u32) -> DocId
     requires { IsTarget target cursor.old.rest }
     ensures first { result ≡ doc_at (filter (λ (e : Entry). nat_le target e.doc && nat_le least e.term_freq) cursor.old.rest) }
@@ -34,8 +34,9 @@ pub fn counts_are_sought(cursor: &mut SegmentPostings, target: DocId, least: u32
     cursor.seek_with_freq(target, least)
 }
 
-/// What is written of a term with norms has in the entry of each full block a norm id that isn't above
-/// that of any of its documents, and a count that isn't below any of theirs, or 255.
+/// A term that is written with norms has bounds in the skip entry of each full block. The norm id is
+/// at most that of each document of the block. The term frequency is at least that of each document,
+/// or 255.
 pub fn norms_stay_within_bounds(norms: &FieldNormReader)
     ensures { (docs freqs rest : List ℕ) (skip : SkipList) → IsTrue (are_documents docs) → length docs < 4294967296 → AreFreqs WithFreqs docs freqs
         → skip_list WithFreqs (length docs / 128) (written_postings (Some norms.now) WithFreqs docs freqs ++ rest) ≡ Some skip

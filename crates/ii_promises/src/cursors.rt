@@ -1,4 +1,4 @@
-// A cursor over a term: what it answers, and how often it decodes.
+// A cursor over a term: its answers, and how often it decodes.
 ghost use Rattle.std.specs.Prelude.{◌≡◌, ◌+◌, ◌*◌, ◌/◌, ◌^◌, ◌<◌, ◌≤◌, ◌++◌, ◌↔◌, [], drop, length, map, min, not, take, Ok, Err, IfOk, IfErr, IsOk, IsTrue, OnOk, OnErr};
 ghost use Rattle.std.specs.List.{All};
 ghost use Rattle.ii_io.specs.Faults.{OnlyMemory};
@@ -15,9 +15,9 @@ use nequllpa::{
 };
 use std::alloc::Global;
 
-/// Any bytes open exactly where the layout relation gives a list, as that list; else the first part that
-/// fails is named. All its documents are left. At most one block was decoded of documents, of counts and of
-/// positions, and one skip entry was read.
+/// Bytes open exactly if the layout relation gives a list, and as that list; otherwise the first
+/// corrupt part is returned. All documents remain. Opening decodes at most one block each of
+/// documents, term frequencies and positions, and reads at most one skip entry.
 pub fn any_bytes_open_as_their_list(
     doc_freq: u32,
     postings: Bytes,
@@ -35,8 +35,8 @@ pub fn any_bytes_open_as_their_list(
     SegmentPostings::open(doc_freq, postings, positions, recorded, requested)
 }
 
-/// A list that the bytes are known to give is opened as that list, and never refused: all its documents are
-/// left, and at most one block was decoded of documents, of counts and of positions.
+/// Bytes that are known to give a list open as that list, and never fail. All documents remain.
+/// Opening decodes at most one block each of documents, term frequencies and positions.
 pub fn known_lists_are_never_refused(
     doc_freq: u32,
     postings: Bytes,
@@ -52,8 +52,8 @@ pub fn known_lists_are_never_refused(
     SegmentPostings::open_known(doc_freq, postings, positions, recorded, requested)
 }
 
-/// At every moment documents and counts were decoded at most once for each block up to the current one,
-/// and skip entries read at most once for each full one of these.
+/// Documents and term frequencies have been decoded at most once for each block up to the current
+/// one. Skip entries have been read at most once for each full block of these.
 pub fn decodes_are_few(cursor: &SegmentPostings) -> DocId
     ensures docs { cursor.now.doc_decodes ≤ cursor.now.block + 1 }
     ensures counts { cursor.now.freq_decodes ≤ cursor.now.block + 1 }
@@ -65,8 +65,8 @@ pub fn decodes_are_few(cursor: &SegmentPostings) -> DocId
     cursor.doc()
 }
 
-/// `advance` drops one document, goes on by one block at most, and decodes at most one block of documents
-/// and one of counts, and no positions.
+/// `advance` passes one document and at most one block. It decodes at most one block of documents and
+/// one of term frequencies, and no positions.
 pub fn advance_decodes_one_block(cursor: &mut SegmentPostings) -> DocId
     ensures doc { result ≡ doc_at cursor.new.rest }
     ensures rest { cursor.new.rest ≡ drop 1 cursor.old.rest }
@@ -76,7 +76,7 @@ pub fn advance_decodes_one_block(cursor: &mut SegmentPostings) -> DocId
     ensures docs { cursor.new.doc_decodes ≤ cursor.old.doc_decodes + 1 }
     ensures counts { cursor.new.freq_decodes ≤ cursor.old.freq_decodes + 1 }
     ensures positions { cursor.new.position_decodes ≡ cursor.old.position_decodes }
-    // where it is then
+    // Totals at the new block.
     ensures all_docs { cursor.new.doc_decodes ≤ cursor.new.block + 1 }
     ensures all_counts { cursor.new.freq_decodes ≤ cursor.new.block + 1 }
     ensures all_entries { cursor.new.entries_read ≤ min (cursor.new.block + 1) (cursor.new.doc_freq / 128) }
@@ -84,8 +84,8 @@ pub fn advance_decodes_one_block(cursor: &mut SegmentPostings) -> DocId
     cursor.advance()
 }
 
-/// `seek` drops the documents below the target, and decodes at most one block of documents and one of
-/// counts, and no positions, however many blocks it passes.
+/// `seek` passes the documents below the target. It decodes at most one block of documents and one of
+/// term frequencies, and no positions, however many blocks it passes.
 pub fn seek_decodes_one_block(cursor: &mut SegmentPostings, target: DocId) -> DocId
     requires { IsTarget target cursor.old.rest }
     ensures doc { result ≡ doc_at cursor.new.rest }
@@ -95,7 +95,7 @@ pub fn seek_decodes_one_block(cursor: &mut SegmentPostings, target: DocId) -> Do
     ensures docs { cursor.new.doc_decodes ≤ cursor.old.doc_decodes + 1 }
     ensures counts { cursor.new.freq_decodes ≤ cursor.old.freq_decodes + 1 }
     ensures positions { cursor.new.position_decodes ≡ cursor.old.position_decodes }
-    // where it is then
+    // Totals at the new block.
     ensures all_docs { cursor.new.doc_decodes ≤ cursor.new.block + 1 }
     ensures all_counts { cursor.new.freq_decodes ≤ cursor.new.block + 1 }
     ensures all_entries { cursor.new.entries_read ≤ min (cursor.new.block + 1) (cursor.new.doc_freq / 128) }
@@ -103,8 +103,8 @@ pub fn seek_decodes_one_block(cursor: &mut SegmentPostings, target: DocId) -> Do
     cursor.seek(target)
 }
 
-/// The positions of a document with count m cost at most m / 128 + 2 decoded blocks of positions, and no
-/// other; where memory is refused the output and the list are as they were.
+/// Reading the positions of a document with term frequency m decodes at most m / 128 + 2 blocks of
+/// positions, and no others. If an allocation fails, the output and the list are unchanged.
 pub fn positions_decode_few_blocks(
     cursor: &mut SegmentPostings,
     offset: u32,
@@ -121,7 +121,7 @@ pub fn positions_decode_few_blocks(
     cursor.append_positions_with_offset(offset, output)
 }
 
-/// So it is where the positions take the place of what stood in the output.
+/// The same bound holds if the positions replace the output.
 pub fn positions_alone_decode_few_blocks(
     cursor: &mut SegmentPostings,
     output: &mut Vec<u32>,
@@ -135,7 +135,7 @@ pub fn positions_alone_decode_few_blocks(
     cursor.positions(output)
 }
 
-/// And so with an offset.
+/// The same bound holds if they replace the output with an offset.
 pub fn positions_with_offset_decode_few_blocks(
     cursor: &mut SegmentPostings,
     offset: u32,
@@ -151,8 +151,8 @@ pub fn positions_with_offset_decode_few_blocks(
     cursor.positions_with_offset(offset, output)
 }
 
-/// Asking for one document decodes no positions, and documents and counts at most once for each block that
-/// the cursor goes on by.
+/// Asking for one document decodes no positions. It decodes documents and term frequencies at most
+/// once for each block that the cursor passes.
 pub fn asking_for_a_document_decodes_no_positions(
     cursor: &mut SegmentPostings,
     target: DocId,
@@ -166,7 +166,7 @@ pub fn asking_for_a_document_decodes_no_positions(
     cursor.seek_danger(target)
 }
 
-/// The next 64 documents cost no positions, and so does counting what is left.
+/// Reading the next 64 documents decodes no positions.
 pub fn filling_decodes_no_positions(
     cursor: &mut SegmentPostings,
     buffer: &mut [DocId; COLLECT_BLOCK_BUFFER_LEN],
@@ -180,7 +180,7 @@ pub fn filling_decodes_no_positions(
     cursor.fill_buffer(buffer)
 }
 
-/// Counting what is left.
+/// Counting the remaining documents decodes no positions.
 pub fn counting_decodes_no_positions(cursor: &mut SegmentPostings) -> u32
     ensures many { result ≡ length cursor.old.rest }
     ensures docs { cursor.new.doc_decodes + cursor.old.block ≤ cursor.old.doc_decodes + cursor.new.block }
@@ -190,7 +190,7 @@ pub fn counting_decodes_no_positions(cursor: &mut SegmentPostings) -> u32
     cursor.count_including_deleted()
 }
 
-/// A cursor hints at the number of its term's documents.
+/// The hint of a cursor is the number of its term's documents.
 pub fn cursors_hint_at_their_documents(cursor: &SegmentPostings) -> (u32, u64)
     ensures hint { result.0 ≡ cursor.now.doc_freq }
     ensures cost { result.1 ≡ cursor.now.doc_freq }
@@ -198,7 +198,7 @@ pub fn cursors_hint_at_their_documents(cursor: &SegmentPostings) -> (u32, u64)
     (cursor.size_hint(), cursor.cost())
 }
 
-/// So does one in memory.
+/// The hint of a cursor in memory is the number of its documents.
 pub fn loaded_cursors_hint_at_their_documents(cursor: &LoadedPostings) -> (u32, u64)
     ensures hint { result.0 ≡ cursor.now.num_docs }
     ensures cost { result.1 ≡ cursor.now.num_docs }
@@ -206,7 +206,7 @@ pub fn loaded_cursors_hint_at_their_documents(cursor: &LoadedPostings) -> (u32, 
     (cursor.size_hint(), cursor.cost())
 }
 
-/// A cursor that is lent hints as the one that it borrows.
+/// A borrowed cursor has the same hint.
 pub fn lent_cursors_hint_alike(cursor: &mut SegmentPostings) -> (u32, u64)
     ensures hint { result.0 ≡ cursor.old.doc_freq }
     ensures cost { result.1 ≡ cursor.old.doc_freq }
@@ -215,8 +215,8 @@ pub fn lent_cursors_hint_alike(cursor: &mut SegmentPostings) -> (u32, u64)
     (lent.size_hint(), lent.cost())
 }
 
-/// Through one that is lent, `seek` decodes documents and counts at most once for each block that the cursor
-/// goes on by, and no positions.
+/// `seek` through a borrowed cursor decodes documents and term frequencies at most once for each
+/// block that the cursor passes, and no positions.
 pub fn lent_cursors_seek_as_lazily(cursor: &mut SegmentPostings, target: DocId) -> DocId
     requires { IsTarget target cursor.old.rest }
     ensures doc { result ≡ doc_at cursor.new.rest }
@@ -229,8 +229,8 @@ pub fn lent_cursors_seek_as_lazily(cursor: &mut SegmentPostings, target: DocId) 
     lent.seek(target)
 }
 
-/// And a seek through one that is lent decodes at most one block of documents and one of counts, however
-/// many it passes.
+/// `seek_once` through a borrowed cursor decodes at most one block of documents and one of term
+/// frequencies, however many blocks it passes.
 pub fn lent_cursors_seek_once(cursor: &mut SegmentPostings, target: DocId) -> DocId
     requires { IsTarget target cursor.old.rest }
     ensures doc { result ≡ doc_at cursor.new.rest }
@@ -243,7 +243,7 @@ pub fn lent_cursors_seek_once(cursor: &mut SegmentPostings, target: DocId) -> Do
     lent.seek_once(target)
 }
 
-/// So does one through a box.
+/// The same holds for `seek_once` through a box.
 pub fn boxed_cursors_seek_once(cursor: &mut Box<SegmentPostings>, target: DocId) -> DocId
     requires { IsTarget target cursor.old.value.rest }
     ensures doc { result ≡ doc_at cursor.new.value.rest }
@@ -255,7 +255,7 @@ pub fn boxed_cursors_seek_once(cursor: &mut Box<SegmentPostings>, target: DocId)
     cursor.seek_once(target)
 }
 
-/// A cursor in a box hints as the one in it.
+/// A boxed cursor has the same hint.
 pub fn boxed_cursors_hint_alike(cursor: &Box<SegmentPostings>) -> (u32, u64)
     ensures hint { result.0 ≡ cursor.now.value.doc_freq }
     ensures cost { result.1 ≡ cursor.now.value.doc_freq }
@@ -263,7 +263,7 @@ pub fn boxed_cursors_hint_alike(cursor: &Box<SegmentPostings>) -> (u32, u64)
     (cursor.size_hint(), cursor.cost())
 }
 
-/// And so in a box of any cursor.
+/// A box of any cursor has the same hint.
 pub fn cursors_of_any_kind_hint_alike(alloc: Global, cursor: SegmentPostings) -> Result<u32, Fault>
     ensures hint { IfOk result (λ n. n ≡ cursor.doc_freq) }
     ensures only { OnlyMemory result }
@@ -272,10 +272,10 @@ pub fn cursors_of_any_kind_hint_alike(alloc: Global, cursor: SegmentPostings) ->
     Ok(any.size_hint())
 }
 
-/// A lawful run of calls is answered as over the list; it goes forward, and decodes documents and counts
-/// at most once for each block that it goes on by. Of positions it decodes at most two blocks for each call
-/// that asks for them, and one more for each 128 that the counts of these documents have together; other
-/// calls decode none.
+/// A lawful run of calls gets the answers that the list gives. The cursor only moves forward. It
+/// decodes documents and term frequencies at most once for each block that it passes. Each call for
+/// positions decodes at most two blocks of positions, plus one for each 128 of the total term
+/// frequency of these documents. Other calls decode no positions.
 pub fn calls_are_answered_as_over_the_list(
     alloc: Global,
     cursor: &mut SegmentPostings,

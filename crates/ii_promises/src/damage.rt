@@ -1,4 +1,4 @@
-// What is found damaged.
+// Which damage is found.
 ghost use Rattle.std.specs.Prelude.{◌≡◌, [], IfOk};
 
 use ii_base::{Fault, Schema};
@@ -6,7 +6,7 @@ use ii_damage::{FoundDamage, Totals, find_damages};
 use nequllpa_indexing::{Documents, store};
 use std::alloc::Global;
 
-/// No damage is found in the index that was made of lines.
+/// No damage is found in an index that was built from lines.
 pub fn indexed_lines_are_not_damaged(
     alloc: Global,
     documents: Documents,

@@ -6,14 +6,14 @@ ghost use Rattle.ii_io.specs.declared.faults.Part.{Part};
 
 use nequllpa::Fault;
 
-/// The numbers by which faults are told, from 1 to 8.
+/// Each fault has a number from 1 to 8.
 pub fn faults_have_numbers(fault: Fault) -> u8
     ensures memory { fault ≡ Fault.OutOfMemory → result ≡ 1 }
     ensures write { fault ≡ Fault.Write → result ≡ 2 }
     ensures closed { fault ≡ Fault.SerializerClosed → result ≡ 3 }
     ensures failed { fault ≡ Fault.IndexerFailed → result ≡ 4 }
 
-    // Of what is indexed, of a limit, and of bytes.
+    // Faults of what is indexed, of a limit, and of bytes.
     ensures leaf { (kind : LeafKind) → fault ≡ Fault.UnsupportedLeaf kind → result ≡ 5 }
     ensures decreasing { fault ≡ Fault.DecreasingPosition → result ≡ 6 }
     ensures limit { (name : LimitName) → fault ≡ Fault.Limit name → result ≡ 7 }

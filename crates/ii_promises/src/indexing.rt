@@ -19,8 +19,8 @@ use nequllpa::{
 };
 use std::alloc::Global;
 
-/// What is indexed, written and opened is found: a key of any field gives nothing exactly where it didn't
-/// occur, and else a cursor over its postings among the tokens of the calls, as far as they are asked for.
+/// A lookup returns `None` exactly if the key didn't occur in the field. Otherwise it returns a
+/// cursor over the key's postings among the tokens of the calls, as far as they are requested.
 pub fn what_is_indexed_is_found<A: TextAnalyzer>(
     alloc: Global,
     schema: Schema,
@@ -43,7 +43,8 @@ pub fn what_is_indexed_is_found<A: TextAnalyzer>(
     index.reader(term.field()).read_postings(term, requested)
 }
 
-/// What is indexed in memory is known to open: no look-up in it tells of damage, memory alone is refused.
+/// An index in memory is known to open: lookups never report damage, and fail only with
+/// `OutOfMemory`.
 pub fn what_is_indexed_is_never_damaged<A: TextAnalyzer>(
     alloc: Global,
     schema: Schema,
@@ -62,7 +63,7 @@ pub fn what_is_indexed_is_never_damaged<A: TextAnalyzer>(
     Ok(index.reader(term.field()).read_postings(term, requested))
 }
 
-/// The number of a field's tokens, and in how many documents a key is.
+/// Returns the number of a field's tokens, and the number of documents with a key.
 pub fn what_is_indexed_is_counted<A: TextAnalyzer>(
     alloc: Global,
     schema: Schema,
@@ -84,8 +85,8 @@ pub fn what_is_indexed_is_counted<A: TextAnalyzer>(
     Ok((reader.total_num_tokens(), reader.doc_freq(term)))
 }
 
-/// The norm of a document in a field is the byte of its number of tokens there; a field without norms has
-/// none.
+/// The norm of a document in a field is the byte of its number of tokens there. A field without norms
+/// has none.
 pub fn norms_count_the_tokens<A: TextAnalyzer>(
     alloc: Global,
     schema: Schema,
@@ -110,7 +111,7 @@ pub fn norms_count_the_tokens<A: TextAnalyzer>(
     }
 }
 
-/// An index of no calls passes no limit: it is refused for memory alone, and has no tokens.
+/// An index of no calls exceeds no limit. It fails only with `OutOfMemory`, and has no tokens.
 pub fn no_calls_pass_no_limit<A: TextAnalyzer>(
     alloc: Global,
     schema: Schema,
@@ -121,13 +122,12 @@ pub fn no_calls_pass_no_limit<A: TextAnalyzer>(
     ensures holds { IfOk result (λ index. IndexHolds schema num_docs index []) }
     ensures memory { IfErr result (λ fault. fault ≡ Fault.OutOfMemory) }
 {
-    // that a schema has fewer than 2^64 fields, for the proof
+    // Shows the proof that a schema has fewer than 2^64 fields.
     let _fields = schema.num_fields();
     index_in_ram(alloc, schema, num_docs, Vec::new(alloc), analyzer)
 }
 
-/// Calls that are taken, whose terms pass no limit and whose files have room, are refused for memory
-/// alone.
+/// Valid calls whose terms exceed no limit and whose files have room fail only with `OutOfMemory`.
 pub fn terms_within_limits_are_indexed<A: TextAnalyzer>(
     alloc: Global,
     schema: Schema,
@@ -146,7 +146,7 @@ pub fn terms_within_limits_are_indexed<A: TextAnalyzer>(
     index_in_ram(alloc, schema, num_docs, calls, analyzer)
 }
 
-/// Where a call is refused its fault is answered, the first of them, unless memory was refused before.
+/// The fault of the first refused call is returned, unless an allocation failed before.
 pub fn first_refused_call_is_told<A: TextAnalyzer>(
     alloc: Global,
     schema: Schema,

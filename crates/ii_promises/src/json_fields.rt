@@ -8,8 +8,8 @@ ghost use Rattle.ii_reader.specs.JsonFields.{label_of, spaces_of};
 use nequllpa::{Fault, InvertedIndexFieldSpace, InvertedIndexReader, Part};
 use std::alloc::Global;
 
-/// The paths and types of a field's keys are listed in ascending order, each once, with sums over their
-/// terms; it is refused for memory, or where a key is no JSON key.
+/// The paths and types of a field's keys are listed once each, in ascending order, with sums over
+/// their terms. The call fails with `OutOfMemory`, or if a key isn't a JSON key.
 pub fn json_fields_ascend(
     alloc: Global,
     reader: &InvertedIndexReader,

@@ -1,5 +1,6 @@
-//! What the index promises, as a client can prove it: for each sentence of docs/PROMISES.md a short
-//! function that uses public calls alone, whose contract says the sentence with its numbers written out.
+//! What the index promises, as a client can prove it. For each sentence of docs/PROMISES.md there is
+//! a short function that uses only public calls. Its contract states the sentence with its numbers
+//! written out.
 #![tactic(auto)]
 
 pub mod block_cursors;

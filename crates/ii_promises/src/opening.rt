@@ -1,4 +1,4 @@
-// Any four files are opened, or the first fault is told; and what is open is checked once.
+// Opening any four files, and checking an open index once.
 ghost use Rattle.std.specs.Prelude.{◌≡◌, ◌↔◌, ◌⊎◌, ◌<◌, ℕ, List, length, slice_get, None, Some, Ok, Err, IfErr, IfOk, IfSome, IsOk, IsSomeAnd};
 ghost use Rattle.std.specs.List.{All};
 ghost use Rattle.ii_io.specs.declared.faults.Part.{Part};
@@ -17,8 +17,8 @@ use nequllpa::{
 };
 use std::alloc::Global;
 
-/// Any four files open as the definition gives their index; else the first part that fails is told, unless
-/// memory was refused before.
+/// Four files open as the index that the definition gives. Otherwise the first corrupt part is
+/// returned, unless an allocation failed before.
 pub fn any_files_open_as_their_index(
     alloc: Global,
     terms: Bytes,
@@ -34,8 +34,8 @@ pub fn any_files_open_as_their_index(
     open_index(alloc, terms, postings, positions, fieldnorms, schema)
 }
 
-/// Files that hold tokens and their norms are opened, and refused for memory alone: the index has the
-/// tokens and the norms.
+/// Files that hold tokens and their norms open as an index with these. Opening fails only with
+/// `OutOfMemory`.
 pub fn files_of_tokens_are_opened(
     alloc: Global,
     terms: Bytes,
@@ -52,8 +52,7 @@ pub fn files_of_tokens_are_opened(
     open_index(alloc, terms, postings, positions, fieldnorms, schema)
 }
 
-/// A term that is looked up is read whole: all its documents are left, as many as its entry in the
-/// dictionary says.
+/// A term is read completely: all its documents remain, as many as its entry in the dictionary says.
 pub fn terms_are_read_whole(
     reader: &InvertedIndexReader,
     term: &Term,
@@ -67,10 +66,10 @@ pub fn terms_are_read_whole(
     reader.read_postings(term, requested)
 }
 
-/// A check of an index that is open tells nothing exactly where each term of each field opens, however much
-/// of its list is requested. Else it tells a field, a term of it by its place in the order of the keys, and a
-/// part: that is the first part of the term's list that fails, and each term before it, of this field and of
-/// those before, opens. The index stays as it is.
+/// A check of an open index reports nothing exactly if each term of each field opens, however much of
+/// its list is requested. Otherwise it reports a field, a term by its ordinal, and the first corrupt
+/// part of the term's list. Each term before it opens, in this field and in earlier fields. The index
+/// is unchanged.
 pub fn a_check_tells_the_first_damage(
     index: &mut OpenIndex,
 ) -> Result<Option<(Field, DamagedTerm)>, Fault>
@@ -87,8 +86,8 @@ pub fn a_check_tells_the_first_damage(
     index.check()
 }
 
-/// A reader each of whose terms opens is trusted from then on, and stays as it is: a look-up gives the list
-/// of its term, and is refused for memory alone.
+/// A reader whose terms all open becomes trusted, and is otherwise unchanged. A lookup returns the
+/// list of its term, and fails only with `OutOfMemory`.
 pub fn trusted_readers_open_every_term(
     reader: &mut InvertedIndexReader,
     term: &Term,
@@ -103,8 +102,8 @@ pub fn trusted_readers_open_every_term(
     reader.read_postings(term, requested)
 }
 
-/// Any four files that open as an index are checked once. Where that tells of damage nothing is answered,
-/// else what a look-up of a term gives: from then on memory alone is refused.
+/// Four files that open as an index are checked once. If the check reports damage, the result is
+/// `None`, otherwise the lookup of a term. Neither fails but with `OutOfMemory`.
 pub fn checked_files_open_every_term(
     alloc: Global,
     terms: Bytes,

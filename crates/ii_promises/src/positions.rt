@@ -6,8 +6,8 @@ use bytes::Bytes;
 use ii_layout::PositionReader;
 use nequllpa::{LayoutFault, Part};
 
-/// Any bytes open exactly where they hold deltas of positions, and at most one block is decoded for it,
-/// the last one, which is kept.
+/// Bytes open exactly if they hold deltas of positions. Opening decodes at most one block, the last
+/// one, which is kept.
 pub fn any_bytes_open_as_their_deltas(bytes: Bytes) -> Result<PositionReader, LayoutFault>
     ensures deltas { IfOk result (λ reader. position_deltas bytes ≡ Some reader.deltas) }
     ensures block { IfOk result (λ reader. reader.block ≡ length reader.deltas / 128) }
@@ -18,7 +18,7 @@ pub fn any_bytes_open_as_their_deltas(bytes: Bytes) -> Result<PositionReader, La
     PositionReader::open(bytes)
 }
 
-/// m deltas, from any place on, cost at most m / 128 + 2 decoded blocks.
+/// Reading m deltas from any offset decodes at most m / 128 + 2 blocks.
 pub fn reading_decodes_few_blocks(reader: &mut PositionReader, offset: u64, output: &mut [u32])
     requires { offset + length output.old ≤ length reader.old.deltas }
     ensures read { output.new ≡ take (length output.old) (drop offset reader.old.deltas) }
@@ -28,7 +28,7 @@ pub fn reading_decodes_few_blocks(reader: &mut PositionReader, offset: u64, outp
     reader.read(offset, output);
 }
 
-/// A part that lies in the block that is kept is read without decoding.
+/// Reading within the kept block decodes nothing.
 pub fn reading_in_the_kept_block_decodes_nothing(
     reader: &mut PositionReader,
     offset: u64,
@@ -43,7 +43,7 @@ pub fn reading_in_the_kept_block_decodes_nothing(
     reader.read(offset, output);
 }
 
-/// After a read the block is kept in which it ended.
+/// After a read, the block in which it ended is kept.
 pub fn the_last_block_is_kept(reader: &mut PositionReader, offset: u64, output: &mut [u32])
     requires there { offset + length output.old ≤ length reader.old.deltas }
     requires some { 0 < length output.old }

@@ -1,16 +1,16 @@
-// Cursors that combine two.
+// Cursors that combine two cursors.
 ghost use Rattle.std.specs.Prelude.{◌≡◌, ◌<◌, ◌&&◌, ◌||◌, not};
 ghost use Rattle.ii_docset.specs.Cursor.{IsSound};
 ghost use Rattle.ii_docset.specs.Intersection.{has_doc};
 
 use nequllpa::{DocId, DocSet, Exclude, Intersection, SeekDangerResult, SegmentPostings, Union};
 
-/// A cursor is asked for one document: it is found exactly where the cursor has it left.
+/// A cursor finds a document exactly if the document is among its remaining documents.
 pub fn has<D: DocSet>(cursor: &mut D, doc: DocId) -> bool
     requires { doc < 2147483647 }
     ensures { result ≡ has_doc (D.rest cursor.old) doc }
 {
-    // that documents ascend, for the proof
+    // Shows the proof that documents ascend.
     let _first = cursor.doc();
     match cursor.seek_danger(doc) {
         SeekDangerResult::Found => true,
@@ -26,7 +26,7 @@ pub fn both_have(first: SegmentPostings, other: SegmentPostings, doc: DocId) -> 
     has(&mut Intersection::new(first, other), doc)
 }
 
-/// A union has those that one of the cursors has.
+/// A union has the documents that either cursor has.
 pub fn either_has(first: SegmentPostings, other: SegmentPostings, doc: DocId) -> bool
     requires { doc < 2147483647 }
     ensures { result ≡ (has_doc first.rest doc || has_doc other.rest doc) }
@@ -34,7 +34,7 @@ pub fn either_has(first: SegmentPostings, other: SegmentPostings, doc: DocId) ->
     has(&mut Union::new(first, other), doc)
 }
 
-/// What is left without another cursor's documents are those of the first that the other one hasn't.
+/// An exclusion has the documents of the first cursor that the other doesn't have.
 pub fn first_alone_has(first: SegmentPostings, other: SegmentPostings, doc: DocId) -> bool
     requires { doc < 2147483647 }
     ensures { result ≡ (has_doc first.rest doc && not (has_doc other.rest doc)) }

@@ -20,8 +20,8 @@ use nequllpa::{
 };
 use std::alloc::Global;
 
-/// Whatever index calls, a query finds exactly the documents whose tokens match it, in ascending order. It is
-/// refused for no other reason than the index is.
+/// A query finds exactly the documents whose tokens match it, in ascending order, for any index
+/// calls. It fails only for the reasons for which indexing fails.
 #[tactic(auto, using(crate::proofs::SearchingLaws::matches_are_found, crate::proofs::SearchingLaws::memory_of_search, crate::proofs::SearchingLaws::refused_search, crate::proofs::SearchingLaws::same_fields, crate::proofs::SearchingLaws::found_ascend))]
 pub fn queries_find_what_matches<A: TextAnalyzer>(
     alloc: Global,
@@ -46,8 +46,8 @@ pub fn queries_find_what_matches<A: TextAnalyzer>(
     }
 }
 
-/// So it does where the index is opened from files that hold tokens and their norms, and is then refused
-/// for memory alone.
+/// The same holds for an index that is opened from files with tokens and their norms. It then fails
+/// only with `OutOfMemory`.
 #[tactic(auto, using(crate::proofs::SearchingLaws::matches_are_found, crate::proofs::SearchingLaws::memory_of_search, crate::proofs::SearchingLaws::refused_search, crate::proofs::SearchingLaws::same_fields, crate::proofs::SearchingLaws::found_ascend))]
 pub fn queries_of_files_find_what_matches(
     alloc: Global,
@@ -72,7 +72,7 @@ pub fn queries_of_files_find_what_matches(
     }
 }
 
-/// A search decodes no block of a term's list twice, of documents or of counts.
+/// A search decodes no block of a term's list twice, neither of documents nor of term frequencies.
 #[tactic(auto, using(crate::proofs::DecodesLaws::few_are_told))]
 pub fn searches_decode_no_block_twice(
     alloc: Global,
@@ -85,7 +85,7 @@ pub fn searches_decode_no_block_twice(
     search(alloc, index, query)
 }
 
-/// Nor does going on to the next document that was found.
+/// Advancing to the next match decodes no block twice.
 #[tactic(auto, using(crate::proofs::DecodesLaws::few_go_on))]
 pub fn next_matches_decode_no_block_twice(
     cursor: &mut QueryCursor<TermOrPhrase<SegmentPostings>>,
@@ -96,7 +96,7 @@ pub fn next_matches_decode_no_block_twice(
     cursor.advance()
 }
 
-/// Nor does a seek among them.
+/// Seeking among the matches decodes no block twice.
 #[tactic(auto, using(crate::proofs::DecodesLaws::few_go_on))]
 pub fn sought_matches_decode_no_block_twice(
     cursor: &mut QueryCursor<TermOrPhrase<SegmentPostings>>,

@@ -1,4 +1,4 @@
-// What texts of queries find.
+// What query texts find.
 ghost use Rattle.std.specs.Prelude.{◌≡◌, ◌⊎◌, ℕ, List, length, true, IfErr, IfOk, Some};
 ghost use Rattle.ii_base.specs.Schema.{SchemaEntry};
 ghost use Rattle.ii_docset.specs.Cursor.{IsAscending};
@@ -15,8 +15,8 @@ use nequllpa::{
 };
 use std::alloc::Global;
 
-/// In an index of a schema that holds tokens, a text finds exactly the documents that it matches, in
-/// ascending order; it is refused for memory, or by what is wrong with it alone.
+/// In an index that holds tokens of a schema, a text finds exactly the documents that it matches, in
+/// ascending order. It fails only with `OutOfMemory`, or because of an error in the text.
 #[tactic(auto, using(crate::proofs::SearchingLaws::found_ascend, crate::proofs::SearchingLaws::same_fields))]
 pub fn texts_find_what_matches<A: TextAnalyzer>(
     alloc: Global,
@@ -41,7 +41,7 @@ pub fn texts_find_what_matches<A: TextAnalyzer>(
     }
 }
 
-// What a query finds.
+// Searches for a query.
 fn searched(
     alloc: Global,
     index: &OpenIndex,

@@ -1,4 +1,4 @@
-// What is written, and what is told where it can't be.
+// What is written, and what is reported if it can't be.
 ghost use Rattle.std.specs.Prelude.{◌≡◌, ◌+◌, ◌≤◌, ◌<◌, ◌⊎◌, ◌↔◌, ◌∷◌, ◌++◌, List, [], true, false, map, Err, IfErr, IfSome, IsErrOf, OnErr, OnOk, Some};
 ghost use Rattle.ii_base.specs.Json.{depth, json_of};
 ghost use Rattle.ii_definitions.specs.Fields.{option_of};
@@ -15,8 +15,8 @@ use nequllpa::{
 use std::alloc::Global;
 use std::io::Write;
 
-/// Calls in document order are written: with Ok the four files have the tokens of the calls and their
-/// norms behind what they had.
+/// Calls in document order are written. After success the four files hold the tokens of the calls and
+/// their norms, after their earlier bytes.
 pub fn calls_are_written<A: TextAnalyzer, W: Write>(
     alloc: Global,
     schema: Schema,
@@ -33,7 +33,7 @@ pub fn calls_are_written<A: TextAnalyzer, W: Write>(
     write_index(alloc, schema, num_docs, calls, analyzer, writers)
 }
 
-/// The first refused call is told, unless memory was refused, and nothing is written then.
+/// The first refused call is reported, unless an allocation failed. Nothing is written then.
 pub fn refused_calls_write_nothing<A: TextAnalyzer, W: Write>(
     alloc: Global,
     schema: Schema,
@@ -50,8 +50,8 @@ pub fn refused_calls_write_nothing<A: TextAnalyzer, W: Write>(
     write_index(alloc, schema, num_docs, calls, analyzer, writers)
 }
 
-/// `Write` is answered exactly where the number of failed calls of the four writers rose, and it rose by
-/// one then.
+/// `Write` is returned exactly if the number of failed calls of the four writers rose. It then rose
+/// by one.
 pub fn failed_writes_are_told_once<A: TextAnalyzer, W: Write>(
     alloc: Global,
     schema: Schema,
@@ -71,8 +71,8 @@ pub fn failed_writes_are_told_once<A: TextAnalyzer, W: Write>(
     write_index(alloc, schema, num_docs, calls, analyzer, writers)
 }
 
-/// An indexer that took a call has its tokens beside those of the calls before; one that refused it has
-/// failed.
+/// An indexer that accepts a call adds its tokens to those of earlier calls. An indexer that refuses
+/// a call has failed.
 pub fn calls_are_taken_or_fail<A: TextAnalyzer>(
     indexer: &mut Indexer,
     call: IndexCall,
@@ -89,7 +89,7 @@ pub fn calls_are_taken_or_fail<A: TextAnalyzer>(
     indexer.index(call, analyzer)
 }
 
-/// Each call may be made with an analyzer of its own: what is stored are the words that each of them made.
+/// Each call may have its own analyzer, whose words are stored.
 pub fn each_call_has_its_analyzer<A: TextAnalyzer, B: TextAnalyzer>(
     indexer: &mut Indexer,
     first: IndexCall,
@@ -111,8 +111,8 @@ pub fn each_call_has_its_analyzer<A: TextAnalyzer, B: TextAnalyzer>(
     indexer.index(second, other)
 }
 
-/// A JSON value in which more than 128 arrays and objects stand in one another is refused by name, unless
-/// memory is.
+/// A JSON value with more than 128 nested arrays and objects returns a specific error, unless an
+/// allocation fails.
 pub fn deep_values_are_refused<A: TextAnalyzer>(
     indexer: &mut Indexer,
     doc: DocId,
@@ -131,7 +131,7 @@ pub fn deep_values_are_refused<A: TextAnalyzer>(
     indexer.index(IndexCall::Json(doc, field, value), analyzer)
 }
 
-/// A failed indexer refuses each call, and changes nothing.
+/// A failed indexer refuses each call, and is unchanged.
 pub fn failed_indexers_stay<A: TextAnalyzer>(
     indexer: &mut Indexer,
     call: IndexCall,
@@ -144,7 +144,7 @@ pub fn failed_indexers_stay<A: TextAnalyzer>(
     indexer.index(call, analyzer)
 }
 
-/// And it writes nothing.
+/// A failed indexer writes nothing.
 pub fn failed_indexers_write_nothing<W: Write>(
     indexer: Indexer,
     writers: IndexWriters<W>,

@@ -75,7 +75,7 @@ all_stays doc end target up low = elim (cases_lt doc end) [
   | inr past ↦ rw (all_none doc end past) refl
 ]
 
--- a document is among so many exactly where it lies below the end
+-- `all_from` has a document if and only if it is in the range
 pub all_has : (first n doc : ℕ) → has_doc (all_from first n) doc ≡ (nat_le first doc && nat_lt doc (first + n))
 all_has first zero doc = elim (leb_tells first doc) [
   | inl h ↦ let up = h.1 in rw (h.0, le-ltb doc (first + 0) (omega (arith, up))) refl

@@ -1,4 +1,4 @@
--- What two lists have in common is the same whichever leads.
+-- The intersection of two lists is the same whichever leads.
 use Rattle.std.proofs.Common.{◌≡◌, ◌≢◌, ℕ, ◌<◌, ◌≤◌, Bool, true, false, List, [], ◌∷◌, inl, inr, refl, sym, ap, ◌∙◌, arith}
 use Rattle.std.proofs.lemmas.Bool.{eq-eqb, ne_eqb}
 use Rattle.std.proofs.lemmas.Bool.Decides.{eqb_tells}
@@ -17,7 +17,7 @@ has_first e es = rw (eq-eqb e.doc e.doc refl) refl
 not_below : (e f : Entry) (es fs : List Entry) → IsAscending (f ∷ fs) → ((d : ℕ) → has_doc (e ∷ es) d ≡ has_doc (f ∷ fs) d) → f.doc ≤ e.doc
 not_below e f es fs ascend alike = grind (arith, alike e.doc, has_first e es, has_doc_below e.doc (f ∷ fs) ascend)
 
--- a document behind the first ones
+-- a document after the first ones
 behind : (e f : Entry) (es fs : List Entry) → IsAscending (e ∷ es) → IsAscending (f ∷ fs) → e.doc ≡ f.doc → ((d : ℕ) → has_doc (e ∷ es) d ≡ has_doc (f ∷ fs) d) → (d : ℕ) → has_doc es d ≡ has_doc fs d
 behind e f es fs up also same alike d = elim (eqb_tells e.doc d) [
   | inl h ↦
@@ -42,7 +42,8 @@ same_docs (e ∷ es) (f ∷ fs) up also alike =
     let same : e.doc ≡ f.doc = omega (arith, low, high) in
     ap (λ (docs : List ℕ). e.doc ∷ docs) (same_docs es fs up.1 also.1 (behind e f es fs up also same alike)) ∙ ap (λ (d : ℕ). d ∷ docs_of fs) same
 
-docs_again : (docs : List ℕ) → docs_of (map document docs) ≡ docs
+-- documents made entries have the documents
+pub docs_again : (docs : List ℕ) → docs_of (map document docs) ≡ docs
 docs_again [] = refl
 docs_again (d ∷ ds) = ap (λ (more : List ℕ). d ∷ more) (docs_again ds)
 

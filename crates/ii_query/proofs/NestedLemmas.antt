@@ -1,4 +1,4 @@
--- What is left of cursors that are nested.
+-- The remaining documents of nested cursors.
 use Rattle.std.proofs.Common.{◌≡◌, ℕ, ◌≤◌, List, [], inl, inr, sym, ◌∙◌, arith}
 use Rattle.std.specs.Prelude.{min}
 use Rattle.std.proofs.lemmas.Bool.Decides.{leb_tells}

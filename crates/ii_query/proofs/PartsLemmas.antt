@@ -9,6 +9,7 @@ use Rattle.ii_docset.specs.Cursor.{IsAscending, IsSound, doc_at, from_doc}
 use Rattle.ii_query.specs.Combined.{QueryCursorState, StandsAt, either, put_all, put_in, union_of}
 use Rattle.ii_query.specs.QueryCursor.{WentTo, cursors_under, depth_over, rests}
 use Rattle.ii_query.specs.WorkLaws.{none_went}
+use Rattle.ii_query.proofs.CommonLemmas.{docs_again}
 use Rattle.ii_query.proofs.NestedLemmas.{either_at}
 use Rattle.ii_query.proofs.UnionLemmas.{either_from, next_from}
 use Rattle.ii_query.proofs.WorkLemmas.{all_beside}
@@ -174,9 +175,5 @@ put_none (e ∷ es) ascend = ap (put_in e.doc) (put_none es ascend.1) ∙ put_fr
     put_front doc [] low = refl
     put_front doc (e ∷ es) low = rw (le-leb doc e.doc (omega (arith, low)), lt-leb e.doc doc low) refl
 
-docs_twice : (docs : List ℕ) → docs_of (map document docs) ≡ docs
-docs_twice [] = refl
-docs_twice (d ∷ ds) = ap (λ (more : List ℕ). d ∷ more) (docs_twice ds)
-
 pub union_two : (es fs : List Entry) → IsSound fs → union_of (es ∷ fs ∷ []) ≡ either es fs
-union_two es fs sound = ap (λ (docs : List ℕ). map document (put_all (docs_of es) docs)) (docs_twice (put_all (docs_of fs) []) ∙ put_none fs sound.ascending)
+union_two es fs sound = ap (λ (docs : List ℕ). map document (put_all (docs_of es) docs)) (docs_again (put_all (docs_of fs) []) ∙ put_none fs sound.ascending)

@@ -120,7 +120,7 @@ has_here doc position (e ∷ es) ascend here low =
     let next = ascend.0 in
     rw (eq-eqb e.doc doc here, has_below doc position es ascend.1 (omega (arith, here, next))) (or-false (is_among e.positions position))
 
--- the other terms stand where they are
+-- the other terms occur at their distances, given that all are at the document
 stand_at : (others : List PhrasePartState) (doc start : ℕ) → AllByRecursion (IsAtDoc doc) others → doc < TERMINATED → stand_here others start ≡ stand_from others doc start
 stand_at [] doc start at low = refl
 stand_at (p ∷ ps) doc start at low = rw (has_here doc (start + p.distance) p.rest at.0.sound.ascending at.0.here low, stand_at ps doc start at.1 low) refl
@@ -134,7 +134,7 @@ pub met_alike : (doc bound : ℕ) (es : List Entry) (old new : List PhrasePartSt
 met_alike doc bound es old new m ascend here =
     kept_alike (begins_phrase new) (begins_phrase old) doc es ascend (omega (arith, here)) (λ e up. any_alike (stand_from new e.doc) (stand_from old e.doc) e.positions (λ p. m.alike e.doc p up))
 
--- one of them stands above it
+-- a term is at a greater document
 pub met_above : (doc bound : ℕ) (es : List Entry) (old new : List PhrasePartState) → MeetsAt doc old new bound → bound ≢ doc → bound ≤ doc_at (phrase_docs es new)
 met_above doc bound es old new m other =
     let low = m.low in
@@ -144,7 +144,7 @@ here_is : (doc : ℕ) (e : Entry) (others : List PhrasePartState) → AllByRecur
 here_is doc e others at here low =
     any_alike (stand_from others e.doc) (stand_here others) e.positions (λ p. ap (λ (d : ℕ). stand_from others d p) (sym here) ∙ sym (stand_at others doc p at low))
 
--- all stand at it, and there is a phrase
+-- all terms are at the document, and there is a phrase
 pub met_here : (doc : ℕ) (es : List Entry) (others : List PhrasePartState) → AllByRecursion (IsAtDoc doc) others → doc ≡ doc_at es → doc < TERMINATED → list_any (stand_here others) (positions_at es) ≡ true → doc_at (phrase_docs es others) ≡ doc
 met_here doc [] others at here low is = absurd (omega (arith, here, low))
 met_here doc (e ∷ es) others at here low is = rw (here_is doc e others at here low, is) (sym here)

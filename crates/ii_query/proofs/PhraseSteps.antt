@@ -1,4 +1,4 @@
--- How the terms of a phrase are looked at, one after the other, and their positions piece by piece.
+-- The terms of a phrase are visited one after the other, and their positions are read in pieces.
 use Rattle.std.proofs.Common.{◌≡◌, ◌≢◌, ◌∙◌, ℕ, zero, suc, ◌+◌, ◌-◌, ◌<◌, ◌≤◌, ◌^◌, Bool, true, false, ◌&&◌, ◌||◌, List, [], ◌∷◌, ◌++◌, add-one, drop, get_or, length, set, take, inl, inr, refl, sym, ap, subst, arith, length-drop, length-take}
 use Rattle.std.proofs.Math.Seq.{drop-cons}
 use Rattle.std.specs.Prelude.{min}
@@ -48,7 +48,7 @@ met_set doc [] i new inside met at = absurd (omega (arith, inside))
 met_set doc (p ∷ ps) zero new inside met at = (at, tt)
 met_set doc (p ∷ ps) (suc i) new inside met at = (met.0, met_set doc ps i new (omega (arith, inside)) met.1 at)
 
--- one term more stands at the document
+-- one more term is at the document
 pub meeting_next : (doc i bound : ℕ) (start now : List PhrasePartState) (old new : PhrasePartState) → IsMeeting doc i start now → i < length now → old ≡ get_or now i old → IsMoved doc bound old new → bound ≡ doc
     → IsMeeting doc (i + 1) start (set now i new)
 meeting_next doc i bound start now old new m inside is moved same = record {
@@ -57,7 +57,7 @@ meeting_next doc i bound start now old new m inside is moved same = record {
   many = length-set now i new ∙ m.many;
 }
 
--- a term stands above it
+-- a term is at a greater document
 pub meeting_stops : (doc i bound : ℕ) (start now : List PhrasePartState) (old new : PhrasePartState) → IsMeeting doc i start now → i < length now → old ≡ get_or now i old → IsMoved doc bound old new → bound ≢ doc → doc < TERMINATED
     → MeetsAt doc start (set now i new) bound
 meeting_stops doc i bound start now old new m inside is moved other low =
@@ -72,7 +72,7 @@ meeting_stops doc i bound start now old new m inside is moved other low =
       none = λ d from lower above. part_none now i new d from inside moved.sound (omega (arith, here, lower));
     }
 
--- all stand at it
+-- all terms are at the document
 pub meeting_ends : (doc : ℕ) (start now : List PhrasePartState) → IsMeeting doc (length start) start now → doc < TERMINATED → MeetsAt doc start now doc
 meeting_ends doc start now m low =
     let many = m.many in
@@ -90,7 +90,7 @@ part_at P [] i p all inside is = absurd (omega (arith, inside))
 part_at P (q ∷ qs) zero p all inside is = rw is all.0
 part_at P (q ∷ qs) (suc i) p all inside is = part_at P qs i p all.1 (omega (arith, inside)) is
 
--- whether a term stands where it is, and those after it
+-- whether a term occurs at its distance, and those after it
 pub standing_next : (parts : List PhrasePartState) (i start : ℕ) (p : PhrasePartState) → i < length parts → p ≡ get_or parts i p
     → stand_here (drop i parts) start ≡ (is_among (positions_at p.rest) (start + p.distance) && stand_here (drop (i + 1) parts) start)
 standing_next parts i start p inside is = ap (λ (ps : List PhrasePartState). stand_here ps start) (drop-cons parts i p inside) ∙ rw (← is, add-one i) refl

@@ -1,16 +1,16 @@
--- What the cursors of a phrase did while its terms were looked at in turn.
+-- The moves of a phrase's cursors while its terms are visited in turn.
 use Rattle.std.proofs.Common.{◌≡◌, ℕ, zero, suc, ◌<◌, List, [], ◌∷◌, ◌++◌, get_or, length, set, refl, ap, ◌∙◌, arith}
 use Rattle.std.specs.List.{AllZip}
 use Rattle.ii_query.specs.Phrase.{PhrasePartState, PhraseTermState, cursors_in, parts_in}
 
--- parts beside one another
+-- two lists of parts, joined
 pub all_beside : {T : Type 0} (R : T → T → Type 0) (xs ys us vs : List T) → AllZip R xs us → AllZip R ys vs → AllZip R (xs ++ ys) (us ++ vs)
 all_beside R [] ys [] vs first other = other
 all_beside R [] ys (u ∷ us) vs first other = elim first [ ]
 all_beside R (x ∷ xs) ys [] vs first other = elim first [ ]
 all_beside R (x ∷ xs) ys (u ∷ us) vs first other = (first.0, all_beside R xs ys us vs first.1 other)
 
--- a term is put in the place of another one
+-- a term is replaced
 pub parts_set : {P : Type 0} (terms : List (PhraseTermState P)) (i : ℕ) (new : PhraseTermState P) → parts_in (set terms i new) ≡ set (parts_in terms) i new.part
 parts_set [] i new = refl
 parts_set (t ∷ ts) zero new = refl

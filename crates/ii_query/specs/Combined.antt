@@ -11,7 +11,7 @@ pub record Parts (A B : Type 0) : Type 0 where
   pub first : A
   pub other : B
 
--- the remaining documents of a cursor, how deep it is nested, and the cursors under it
+-- the remaining documents of a cursor, its nesting depth, and the cursors under it
 pub record QueryCursorState (T : Type 0) : Type 0 where
   pub rest : List Entry
   pub depth : ℕ

@@ -25,17 +25,17 @@ pub record PhraseMatchState (P : Type 0) : Type 0 where
 abbrev pub parts_in : {P : Type 0} → List (PhraseTermState P) → List PhrasePartState
 parts_in terms = map (λ (t : PhraseTermState _). t.part) terms
 
--- their cursors
+-- the cursors of the terms
 abbrev pub cursors_in : {P : Type 0} → List (PhraseTermState P) → List P
 cursors_in terms = map (λ (t : PhraseTermState _). t.cursor) terms
 
--- What a cursor did from one state to another is bounded, given how often positions were read, and how many in all.
+-- A bound on what a cursor did between two states, for some number of reads and of positions read.
 pub record Spent {P : Type 0} (spent : ℕ → ℕ → P → P → Type 0) (old new : P) : Type 0 where
   pub asked : ℕ
   pub count : ℕ
   pub by : spent asked count old new
 
--- whether a number is one of some positions
+-- whether a number belongs to a list of positions
 abbrev pub is_among : List ℕ → ℕ → Bool
 is_among positions position = list_any (λ (p : ℕ). nat_eq p position) positions
 

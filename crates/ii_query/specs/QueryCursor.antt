@@ -29,7 +29,7 @@ pub record WentTo {T : Type 0} (went : T → T → Type 0) (target : ℕ) (old n
   pub depth : new.depth ≡ old.depth
   pub work : AllZip went old.cursors new.cursors
 
--- A cursor dropped at most documents below a target.
+-- A cursor dropped no documents from the target on.
 pub record KeptFrom {T : Type 0} (went : T → T → Type 0) (target : ℕ) (old new : QueryCursorState T) : Type 0 where
   pub alike : (d : ℕ) → target ≤ d → has_doc new.rest d ≡ has_doc old.rest d
   pub depth : new.depth ≡ old.depth
@@ -45,7 +45,7 @@ rest_of rest (Either first other) = either first.value.rest other.value.rest
 rest_of rest (Union parts) = union_of (rests parts.items)
 rest_of rest (Without first other) = without first.value.rest other.value.rest
 
--- how deep it is nested
+-- the nesting depth
 abbrev pub depth_of : {T : Type 0} → QueryParts T → ℕ
 depth_of Nothing = 0
 depth_of (One cursor) = 0

@@ -13,7 +13,7 @@ most_depth : {T : Type 0} (cs : List (QueryCursorState T)) → most (λ c. c.dep
 most_depth [] = omega arith
 most_depth (c ∷ cs) = omega (arith, most_depth cs)
 
--- no part is as deep
+-- each part is less deep
 pub part_depth : (T : Type 0) (t : Ghosts T) (p : QueryParts T) → max (deep-QueryParts T t p) 0 ≤ depth_of p
 part_depth T t Nothing = omega arith
 part_depth T t (One cursor) = omega arith

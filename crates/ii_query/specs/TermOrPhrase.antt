@@ -11,7 +11,7 @@ abbrev pub rest_of : {P : Type 0} → (P → List Entry) → TermOrPhrase P → 
 rest_of rest (Term cursor) = rest cursor
 rest_of rest (Phrase cursor) = phrase_docs cursor.first cursor.others
 
--- what a move may do to the term's cursor, or to each cursor of a phrase, which also reads positions
+-- what a move may do to the cursor of a term, or to each cursor of a phrase, which also reads positions
 abbrev pub WentOn : {P : Type 0} → (P → P → Type 0) → (ℕ → ℕ → P → P → Type 0) → TermOrPhrase P → TermOrPhrase P → Type 0
 WentOn went spent (Term old) (Term new) = went old new
 WentOn went spent (Phrase old) (Phrase new) = AllZip (Spent spent) old.cursors new.cursors

@@ -1,4 +1,4 @@
--- What a cursor over a term or a phrase did.
+-- Laws of the moves of a cursor over a term or a phrase.
 use Rattle.std.specs.Prelude.{ℕ}
 use Rattle.ii_query.specs.Phrase.{Spent}
 use Rattle.ii_query.specs.TermOrPhrase.{WentOn}
@@ -6,12 +6,12 @@ use Rattle.ii_query.specs.WorkLaws.{all_went_on, none_went}
 use Rattle.ii_query.specs.declared.term_or_phrase.TermOrPhrase.{TermOrPhrase}
 use Rattle.ii_query.specs.declared.term_or_phrase.TermOrPhrase.TheVariants.{Term, Phrase}
 
--- nothing was done
+-- no move
 pub went_nowhere : {P : Type 0} (went : P → P → Type 0) (spent : ℕ → ℕ → P → P → Type 0) → ((t : P) → went t t) → ((t : P) → Spent spent t t) → (s : TermOrPhrase P) → WentOn went spent s s
 went_nowhere went spent none nothing (Term cursor) = none cursor
 went_nowhere went spent none nothing (Phrase cursor) = none_went (Spent spent) nothing cursor.cursors
 
--- one move after the other
+-- one move after another
 pub went_on : {P : Type 0} (went : P → P → Type 0) (spent : ℕ → ℕ → P → P → Type 0) → ((a b c : P) → went a b → went b c → went a c) → ((a b c : P) → Spent spent a b → Spent spent b c → Spent spent a c)
     → (a b c : TermOrPhrase P) → WentOn went spent a b → WentOn went spent b c → WentOn went spent a c
 went_on went spent on more (Term a) (Term b) (Term c) first second = on a b c first second

@@ -1,14 +1,14 @@
--- What cursors did, together.
+-- Laws of the moves of several cursors.
 use Rattle.std.specs.Prelude.{ℕ, ◌+◌, List, [], ◌∷◌}
 use Rattle.std.specs.List.{AllZip}
 use Rattle.ii_query.specs.Phrase.{Spent}
 
--- nothing was done
+-- no move
 pub none_went : {T : Type 0} (R : T → T → Type 0) → ((t : T) → R t t) → (ts : List T) → AllZip R ts ts
 none_went R none [] = tt
 none_went R none (t ∷ ts) = (none t, none_went R none ts)
 
--- one after the other
+-- one move after another
 pub all_went_on : {T : Type 0} (R : T → T → Type 0) → ((a b c : T) → R a b → R b c → R a c) → (xs ys zs : List T) → AllZip R xs ys → AllZip R ys zs → AllZip R xs zs
 all_went_on R on [] [] [] first second = tt
 all_went_on R on [] [] (z ∷ zs) first second = elim second [ ]

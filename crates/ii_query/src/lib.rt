@@ -1,4 +1,4 @@
-//! Cursors over the documents that queries match, made of other cursors.
+//! Cursors over the documents that queries match, combined from other cursors.
 #![tactic(auto)]
 
 pub mod all_docs;

@@ -7,7 +7,7 @@ ghost use Rattle.ii_query.specs.Phrase.{IsAtDoc, MeetsAt, PhrasePartState, Spent
 use ii_docset::{DocId, DocSet, Postings, TERMINATED};
 use std::marker::Model;
 
-// How many positions are read at once.
+// The number of positions read at once.
 const POSITIONS_READ: usize = 64;
 
 /// A term of a phrase after the first one: a cursor over its postings, and how many positions after the first
@@ -49,7 +49,7 @@ impl<P: Postings> PhrasePart<P> {
         go_on_to(&mut self.postings, target)
     }
 
-    // Whether the term occurs in the current document at its distance from a position.
+    // Returns whether the term occurs in the current document at its distance from a position.
     fn stands_from(&mut self, start: u32) -> bool
         requires { IsCurrent self.old.part.rest }
         ensures stands { result ≡ is_among (positions_at self.old.part.rest) (start + self.old.part.distance) }
@@ -82,7 +82,7 @@ fn go_on_to<T: DocSet>(cursor: &mut T, target: DocId) -> DocId
     doc
 }
 
-// Whether a cursor's current document has a position. Positions are read in pieces.
+// Returns whether a cursor's current document has a position. Positions are read in pieces.
 fn has_position<P: Postings>(cursor: &mut P, position: u32) -> bool
     requires { IsCurrent (P.rest cursor.old) }
     ensures has { result ≡ is_among (positions_at (P.rest cursor.old)) position }
@@ -103,8 +103,8 @@ fn has_position<P: Postings>(cursor: &mut P, position: u32) -> bool
     false
 }
 
-// Moves the other terms to a document. Returns it if all of them have it, else a greater document, below
-// which there is no phrase.
+// Moves the other terms to a document. Returns it if all of them have it, else a greater document; the
+// phrase occurs in no document between.
 fn meet_others<P: Postings>(others: &mut Vec<PhrasePart<P>>, doc: DocId) -> DocId
     requires { doc < TERMINATED }
     ensures meets { MeetsAt doc (parts_in others.old.items) (parts_in others.new.items) result }
@@ -119,7 +119,7 @@ fn meet_others<P: Postings>(others: &mut Vec<PhrasePart<P>>, doc: DocId) -> DocI
     doc
 }
 
-// Whether the other terms occur in their current documents at their distances from a position.
+// Returns whether the other terms occur in their current documents at their distances from a position.
 fn stand_from<P: Postings>(others: &mut Vec<PhrasePart<P>>, start: u32) -> bool
     requires { AllByRecursion (λ part. IsCurrent part.rest) (parts_in others.old.items) }
     ensures stand { result ≡ stand_here (parts_in others.old.items) start }
@@ -134,7 +134,7 @@ fn stand_from<P: Postings>(others: &mut Vec<PhrasePart<P>>, start: u32) -> bool
     true
 }
 
-// Whether they do for at least one of some positions.
+// Returns whether they do for at least one of these positions.
 fn stand_from_one<P: Postings>(others: &mut Vec<PhrasePart<P>>, starts: &[u32]) -> bool
     requires { AllByRecursion (λ part. IsCurrent part.rest) (parts_in others.old.items) }
     ensures stand { result ≡ list_any (stand_here (parts_in others.old.items)) starts.now }
@@ -149,8 +149,8 @@ fn stand_from_one<P: Postings>(others: &mut Vec<PhrasePart<P>>, starts: &[u32]) 
     false
 }
 
-// Whether they do for a position of the first term. All terms are at its current document. Positions are
-// read in pieces.
+// Returns whether they do for a position of the first term. All terms are at its current document.
+// Positions are read in pieces.
 fn is_phrase<P: Postings>(first: &mut P, others: &mut Vec<PhrasePart<P>>) -> bool
     requires first { IsCurrent (P.rest first.old) }
     requires others { AllByRecursion (λ part. IsCurrent part.rest) (parts_in others.old.items) }
@@ -174,8 +174,8 @@ fn is_phrase<P: Postings>(first: &mut P, others: &mut Vec<PhrasePart<P>>) -> boo
     false
 }
 
-// Returns the current document of the first term if it has the phrase, else a greater document, below which
-// no document has it.
+// Returns the current document of the first term if it has the phrase, else a greater document; the phrase
+// occurs in no document between.
 fn candidate<P: Postings>(first: &mut P, others: &mut Vec<PhrasePart<P>>, doc: DocId) -> DocId
     requires low { doc < TERMINATED }
     requires here { doc ≡ doc_at (P.rest first.old) }
@@ -185,11 +185,11 @@ fn candidate<P: Postings>(first: &mut P, others: &mut Vec<PhrasePart<P>>, doc: D
     ensures least { result ≤ doc_at (phrase_docs (P.rest first.old) (parts_in others.new.items)) }
     ensures here { result ≡ doc → doc_at (phrase_docs (P.rest first.old) (parts_in others.new.items)) ≡ doc }
 
-    // what it cost
+    // the cost
     ensures first_work { Spent P.spent first.old first.new }
     ensures other_work { AllZip (Spent P.spent) (cursors_in others.old.items) (cursors_in others.new.items) }
 {
-    // that documents ascend, for the proof
+    // the invariant that documents ascend, for the proof
     let _doc = first.doc();
     let bound = meet_others(others, doc);
     if bound != doc {
@@ -221,9 +221,9 @@ fn go_to_phrase<P: Postings>(first: &mut P, others: &mut Vec<PhrasePart<P>>) -> 
     doc
 }
 
-/// A cursor over the documents that have a phrase, in ascending order: the documents of its first term in which
-/// each other term occurs at its distance from a position of the first. The first term leads, so pass the
-/// rarest term first. Positions are read in pieces, and no memory is allocated.
+/// A cursor over the documents that have a phrase, in ascending order: each other term occurs at its
+/// distance from a position of the first term. The first term leads, so pass the rarest term first.
+/// Positions are read in pieces, without allocations.
 #[derive(Drop)]
 pub struct PhraseMatch<P: Postings> {
     first: P,
@@ -262,7 +262,7 @@ impl<P: Postings> DocSet for PhraseMatch<P> {
 
     ghost rest = { λ s. phrase_docs s.first s.others };
 
-    // Its cursors go on, and read positions.
+    // Its cursors advanced, and read positions.
     ghost went = { λ a b. AllZip (Spent P.spent) a.cursors b.cursors };
 
     ghost went_nowhere = { λ s. none_went (Spent P.spent) (λ t. spent_nothing P.spent (P.spent_moving t t (P.went_nowhere t))) s.cursors };

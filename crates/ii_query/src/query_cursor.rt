@@ -11,9 +11,8 @@ use ii_docset::{DocId, DocSet, TERMINATED};
 use std::alloc::Global;
 use std::marker::Model;
 
-/// A cursor over the documents that a query matches, in ascending order. Its form is known when the program
-/// runs: it goes over no documents, over those of one cursor, over all below a number, or over an
-/// intersection, a union or a difference of such cursors.
+/// A cursor over the documents that a query matches, in ascending order. Its form is chosen at run time: no
+/// documents, those of one cursor, all below a number, or an intersection, a union or a difference.
 #[cycle(query_cursor)]
 #[derive(Drop)]
 pub struct QueryCursor<T: DocSet> {
@@ -28,9 +27,9 @@ enum QueryParts<T: DocSet> {
     Nothing,
     One(T),
     All(AllDocs),
-    // the first cursor leads, and the others are sought to its documents
+    // the first cursor leads; the others seek its documents
     Intersection(Box<QueryCursor<T>>, Vec<QueryCursor<T>>),
-    // a union of two, kept apart so that no loop goes over the parts
+    // a union of two, kept apart so that there is no loop over the parts
     Either(Box<QueryCursor<T>>, Box<QueryCursor<T>>),
     Union(Vec<QueryCursor<T>>),
     Without(Box<QueryCursor<T>>, Box<QueryCursor<T>>),
@@ -92,7 +91,7 @@ impl<T: DocSet> QueryCursor<T> {
         }
     }
 
-    /// Returns a cursor over the documents that all cursors have; without cursors, over none. The cursor
+    /// Returns a cursor over the documents that all cursors have, or over none without cursors. The cursor
     /// with the least hint leads. Fails only with `OutOfMemory`.
     #[inline(never)]
     pub fn intersection(
@@ -117,8 +116,8 @@ impl<T: DocSet> QueryCursor<T> {
         })
     }
 
-    /// Returns a cursor over the documents that at least one of the cursors has, each once; without cursors,
-    /// over none. Fails only with `OutOfMemory`.
+    /// Returns a cursor over the documents that at least one cursor has, each once, or over none without
+    /// cursors. Fails only with `OutOfMemory`.
     #[inline(never)]
     pub fn union(alloc: Global, cursors: Vec<QueryCursor<T>>) -> Result<QueryCursor<T>, Fault>
         ensures rest { IfOk result (λ cursor. cursor.rest ≡ union_of (rests cursors.items)) }
@@ -159,7 +158,7 @@ impl<T: DocSet> QueryCursor<T> {
         })
     }
 
-    // The current document.
+    // Returns the current document.
     #[tactic(auto, using(ii_docset::proofs::CursorLemmas::doc_below))]
     fn current(&self) -> DocId
         ensures doc { result ≡ doc_at self.now.rest }
@@ -169,7 +168,7 @@ impl<T: DocSet> QueryCursor<T> {
         self.doc
     }
 
-    // A hint of how many documents remain.
+    // Returns an estimate of the number of remaining documents.
     #[cycle(bound)]
     fn bound(&self) -> u32 {
         match &self.parts {
@@ -210,12 +209,12 @@ impl<T: DocSet> QueryCursor<T> {
         requires above { doc < target }
         requires up_to { target ≤ TERMINATED }
 
-        // where it is then
+        // the current document after the call
         ensures doc { result ≡ doc_at self.new.rest }
         ensures rest { self.new.rest ≡ from_doc target self.old.rest }
         ensures sound { IsSound self.new.rest }
         ensures up_to { result ≤ TERMINATED }
-        // what stays, and what its cursors did
+        // the state, and the moves of its cursors
         ensures depth { self.new.depth ≡ self.old.depth }
         ensures work { AllZip T.went self.old.cursors self.new.cursors }
     {
@@ -241,7 +240,7 @@ impl<T: DocSet> QueryCursor<T> {
         ensures sound { IsSound self.new.rest }
         ensures work { AllZip T.went self.old.cursors self.new.cursors }
     {
-        // that documents ascend, for the proof
+        // the invariant that documents ascend, for the proof
         let _doc = self.current();
         if doc != passed {
             return doc;
@@ -249,7 +248,7 @@ impl<T: DocSet> QueryCursor<T> {
         self.go_on(passed, passed + 1)
     }
 
-    // Counts the remaining documents, and drops them one by one.
+    // Counts the remaining documents one by one, and drops them.
     fn count_each(&mut self) -> u32
         ensures count { result ≡ length self.old.rest }
         ensures rest { self.new.rest ≡ [] }
@@ -275,7 +274,7 @@ fn move_to<T: DocSet>(parts: &mut QueryParts<T>, doc: DocId, target: DocId) -> D
     ensures rest { rest_of T.rest parts.new ≡ from_doc target (rest_of T.rest parts.old) }
     ensures up_to { result ≤ TERMINATED }
 
-    // what stays, and what it cost
+    // the state, and the cost
     ensures depth { depth_of parts.new ≡ depth_of parts.old }
     ensures work { AllZip T.went (cursors_of parts.old) (cursors_of parts.new) }
 {
@@ -336,7 +335,7 @@ fn rarest<T: DocSet>(cursors: &Vec<QueryCursor<T>>) -> usize
     let mut least = u32::MAX;
     for i in 0..cursors.len() {
         let cursor = &cursors[i];
-        // that documents ascend, for the proof
+        // the invariant that documents ascend, for the proof
         let _doc = cursor.current();
         let bound = cursor.bound();
         if bound < least {
@@ -347,7 +346,7 @@ fn rarest<T: DocSet>(cursors: &Vec<QueryCursor<T>>) -> usize
     at
 }
 
-// A hint of how many documents remain in a union.
+// Returns an estimate of the number of remaining documents of a union.
 #[cycle(bound)]
 fn bound_over<T: DocSet>(parts: &Vec<QueryCursor<T>>) -> u32 {
     let mut bound = 0u32;
@@ -357,7 +356,7 @@ fn bound_over<T: DocSet>(parts: &Vec<QueryCursor<T>>) -> u32 {
     bound
 }
 
-// The least of the current documents.
+// Returns the least of the current documents.
 fn least_doc<T: DocSet>(parts: &Vec<QueryCursor<T>>) -> DocId
     ensures at { StandsAt result (union_of (rests parts.now.items)) }
 {
@@ -403,8 +402,8 @@ fn meet<T: DocSet>(leader: &mut QueryCursor<T>, others: &mut Vec<QueryCursor<T>>
     doc
 }
 
-// Seeks the other cursors of an intersection to a document. Returns it if all of them have it, else a greater
-// document, below which no document is in all of them.
+// Seeks the other cursors of an intersection to a document. Returns it if all of them have it, else a
+// greater document; no document between is in all of them.
 #[cycle(go_to)]
 #[inline(always)]
 fn seek_others<T: DocSet>(others: &mut Vec<QueryCursor<T>>, doc: DocId) -> DocId
@@ -525,7 +524,7 @@ impl<T: DocSet> DocSet for QueryCursor<T> {
 
     ghost rest = { λ s. s.rest };
 
-    // Each of its cursors went on.
+    // Each of its cursors advanced.
     ghost went = { λ a b. AllZip T.went a.cursors b.cursors };
 
     ghost went_nowhere = { λ s. none_went T.went T.went_nowhere s.cursors };

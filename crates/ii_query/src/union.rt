@@ -21,7 +21,7 @@ impl<A: DocSet, B: DocSet> Union<A, B> {
     }
 }
 
-// The lesser of two current documents, or `TERMINATED` if both cursors are at the end.
+// Returns the lesser of two current documents, or `TERMINATED` if both cursors are at the end.
 fn least<A: DocSet, B: DocSet>(first: &A, other: &B) -> DocId
     ensures doc { result ≡ doc_at (either (A.rest first.now) (B.rest other.now)) }
     ensures sound { IsSound (either (A.rest first.now) (B.rest other.now)) }

@@ -1,4 +1,4 @@
--- What is in the grammar is read as its tree.
+-- Lexemes in the grammar are parsed as their tree.
 use Rattle.std.proofs.Common.{◌≡◌, ◌∙◌, ℕ, suc, ◌+◌, ◌≤◌, true, List, [], ◌∷◌, ◌++◌, append_assoc, append-nil, arith, Bool, cond, length, nat_lt, Some, Ok, Err, refl, sym, ap}
 use Rattle.std.specs.Prelude.{⊤}
 use Rattle.std.proofs.lemmas.Bool.{lt-ltb}
@@ -80,7 +80,7 @@ whole_between w e v f (after_and_minus c) is = absurd is
 whole_between w e v f after_or is = absurd is
 whole_between w e v f after_minus is = absurd is
 
--- One list of open groups leaves room for so many more.
+-- With these open groups, `more` may still be opened.
 abbrev HasRoom : ℕ → List GroupState → ℕ → Type 0
 HasRoom limit opened more = length opened + more ≤ limit
 

@@ -1,4 +1,4 @@
--- A text is taken lexeme by lexeme.
+-- A text is read lexeme by lexeme.
 use Rattle.std.proofs.Common.{◌≡◌, ◌∙◌, ℕ, zero, suc, ◌-◌, ◌<◌, ◌≤◌, Bool, true, false, cond, List, [], ◌∷◌, Option, None, Some, drop, take, length, refl, sym, ap, arith}
 use Rattle.std.proofs.lemmas.List.{length-drop}
 use Rattle.std.specs.List.{take_while}
@@ -6,7 +6,7 @@ use Rattle.ii_query_grammar.specs.declared.cut.Stop.TheVariants as stops
 use Rattle.ii_query_grammar.specs.declared.parse_error.Feature.{Feature}
 use Rattle.ii_query_grammar.specs.Lexemes.{Front, Token, after_spaces, before_stop, begins, feature_after, feature_in_front, from_stop, front, front_at, is_empty, is_space, lexemes, one_more, phrase_front, place_of, tokens, unless_feature, value_front, word_front}
 
--- A front leaves less than so many bytes.
+-- The text after the first lexeme has fewer than n bytes.
 abbrev Leaves : ℕ → Front → Type 0
 Leaves n f = length f.rest < n
 

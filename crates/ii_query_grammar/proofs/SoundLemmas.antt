@@ -1,4 +1,4 @@
--- What is read is in the grammar.
+-- A parsed tree is in the grammar.
 use Rattle.std.proofs.Common.{◌≡◌, ◌∙◌, ℕ, zero, suc, ◌+◌, Bool, true, false, cond, List, [], ◌∷◌, ◌++◌, ◌⊎◌, inl, inr, append_assoc, append-nil, length, nat_lt, Option, None, Some, Result, Ok, Err, refl, sym, ap, subst, arith}
 use Rattle.std.proofs.lemmas.Bool.{ltb-true}
 use Rattle.std.proofs.lemmas.Option.{same_Some}
@@ -125,12 +125,13 @@ whole_stands more w e (after_and_minus c) t done is ends = absurd (err_is_no_ok 
 whole_stands more w e after_or t done is ends = absurd (err_is_no_ok _ t ends)
 whole_stands more w e after_minus t done is ends = absurd (err_is_no_ok _ t ends)
 
--- Lexemes lead to open groups, the innermost first, each before its parenthesis; the limit leaves room for so many more.
+-- Lexemes lead to open groups, innermost first, each before its parenthesis; `more` groups may still be
+-- opened.
 abbrev AreOpen : ℕ → ℕ → List GroupState → List Token → Type 0
 AreOpen limit more [] outer = (more ≡ limit) × (outer ≡ [])
 AreOpen limit more (g ∷ gs) outer = (front : List Token) × (done : List Token) × (at : ℕ) × (outer ≡ (front ++ done) ++ token at opening ∷ []) × Stands (suc more) g done × AreOpen limit (suc more) gs front
 
--- the room that open groups leave
+-- the number of groups that may still be opened
 room_of : (limit more : ℕ) (opened : List GroupState) (outer : List Token) → AreOpen limit more opened outer → more + length opened ≡ limit
 room_of limit more [] outer are = omega (arith, are.0)
 room_of limit more (g ∷ gs) outer (front, done, at, outer_is, stands, are) = omega (arith, room_of limit (suc more) gs front are)
@@ -174,7 +175,7 @@ tells_end limit size more [] outer done t (Ok s) are ends is =
     (subst (λ (n : ℕ). Spells n (query t) done) are.0 (subst (λ (u : Ast). Spells more (query u) done) (ok_is s t is) (ends s refl)))
 tells_end limit size more (g ∷ opened) outer done t (Ok s) are ends is = absurd (err_is_no_ok _ t is)
 
--- a parenthesis that opens, by the room that is left
+-- an opening parenthesis, given whether one more is allowed
 tells_opening : (limit size : ℕ) (ts : List Token) (more : ℕ) (opened : List GroupState) (g : GroupState) (outer done : List Token) (t : Ast) (at : ℕ) (fits : Bool) → Tells limit size ts → AreOpen limit more opened outer → Stands more g done
     → nat_lt (length opened) limit ≡ fits → cond fits (read limit size (g ∷ opened) empty ts) (Err (Syntax LessNesting at)) ≡ Ok t → Spells limit (query t) ((outer ++ done) ++ token at opening ∷ ts)
 tells_opening limit size ts more opened g outer done t at false later are stands few is = absurd (err_is_no_ok _ t is)

@@ -1,4 +1,4 @@
--- What is spelled is read again.
+-- The text of a tree is parsed as that tree.
 use Rattle.std.proofs.Common.{◌≡◌, ◌∙◌, ℕ, zero, suc, ◌-◌, ◌≤◌, Bool, true, false, ◌&&◌, ◌||◌, ◌==◌, not, List, [], ◌∷◌, ◌++◌, append_assoc, append-nil, cond, drop, take, length, Option, None, Some, option_map, Ok, refl, sym, ap, subst, arith}
 use Rattle.std.specs.Prelude.{bytes_eq, codes, slice_index}
 use Rattle.std.specs.List.{take_while}
@@ -141,7 +141,7 @@ special_no_escape : (b : ℕ) (bs : List ℕ) → is_special b ≡ true → is_e
 special_no_escape b [] is = refl
 special_no_escape b (c ∷ cs) is = ap (λ (x : Bool). is_special c && x) (special_differs b is) ∙ and_false (is_special c)
 
--- an escaped text stands for the text
+-- the text of an escaped text
 unescapes : (end quoting : Stop) → AreTogether end quoting → ((c : ℕ) → is_special c ≡ true → stops_at quoting c true ≡ true) → (a : Bool) (text : List ℕ) → unescaped (escaped quoting a text) ≡ text
 unescapes end quoting are each a [] = refl
 unescapes end quoting are each a (b ∷ bs) = by (stops_at quoting b a) refl (λ (h : Bool). unescapes end quoting are each h bs)
@@ -605,7 +605,7 @@ lexed_any more (and_asts t (and_asts u ts)) several (lexed, each) = λ size rest
       is = ap (lexemes size) (append_assoc (part_text t) tail rest) ∙ here.is ∙ ap (λ (l : List Token). here.ts ++ l) later.is ∙ sym (append_assoc here.ts later.ts (lexemes size rest));
     }
 
--- a tree in parentheses, by the room for them
+-- a tree in parentheses, given the limit of open ones
 in_room : (more n : ℕ) (t : Ast) (text : List ℕ) → suc n ≤ more → ((m : ℕ) → n ≤ m → Lexed m (query t) text) → Lexed more (part t) (40 ∷ text ++ 41 ∷ [])
 in_room zero n t text few lexed = absurd (omega (arith, few))
 in_room (suc m) n t text few lexed = lexed_parentheses m t text (lexed m (omega (arith, few)))

@@ -1,4 +1,4 @@
--- The definitions on texts whose trees are known.
+-- Texts with known trees, as examples of the definitions.
 use Rattle.std.proofs.Common.{◌≡◌, ℕ, List, [], ◌∷◌, None, Some, Result, Ok, Err, refl}
 use Rattle.std.specs.Prelude.{codes}
 use Rattle.ii_query_grammar.specs.declared.parse_error.Expected.{Expected}

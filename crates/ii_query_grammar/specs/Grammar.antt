@@ -1,4 +1,4 @@
--- The grammar: which lexemes are which tree.
+-- The grammar: the lexemes of each tree.
 use Rattle.std.specs.Prelude.{◌≡◌, ℕ, suc, List, [], ◌∷◌, ◌++◌, Ok}
 use Rattle.ii_query_grammar.specs.Lexemes.{Lexeme, Token, and_word, closing, literal, minus, opening, or_word}
 use Rattle.ii_query_grammar.specs.Parsed.{ChainState, chain_and, chain_and_not, chain_of, whole, with_chain_tree}
@@ -17,7 +17,7 @@ pub data Kind : Type 0 where
 abbrev pub token : ℕ → Lexeme → Token
 token at lexeme = record { at = at; lexeme = lexeme }
 
--- Lexemes, at any bytes, are this together, with at most so many parentheses open at once.
+-- Lexemes, at any bytes, form this kind, with a maximum number of open parentheses.
 pub data Spells : ℕ → Kind → List Token → Type 0 where
   alone : {more : ℕ} (at : ℕ) (l : Literal) → Spells more (part (leaf l)) (token at (literal l) ∷ [])
   in_parentheses : {more : ℕ} {t : Ast} {ls : List Token} (at end : ℕ) → Spells more (query t) ls → Spells (suc more) (part t) (token at opening ∷ (ls ++ token end closing ∷ []))

@@ -17,7 +17,7 @@ use Rattle.ii_query_grammar.specs.Trees.{Literal}
 use Rattle.std.specs.Borrow.{Bor}
 use Rattle.std.specs.Option.{option_copied}
 
--- A lexeme; a broken one holds the error that is found in its place.
+-- A lexeme; a broken one holds its error.
 pub data Lexeme : Type 0 where
   literal : Literal → Lexeme
   opening : Lexeme
@@ -27,12 +27,12 @@ pub data Lexeme : Type 0 where
   or_word : Lexeme
   broken : ParseError → Lexeme
 
--- a lexeme, and the byte at which it begins
+-- a lexeme, and the byte at which it starts
 pub record Token : Type 0 where
   pub at : ℕ
   pub lexeme : Lexeme
 
--- the token that begins a text, and the text after it
+-- the first token of a text, and the text after it
 pub record Front : Type 0 where
   pub token : Token
   pub rest : List ℕ
@@ -41,11 +41,11 @@ pub record Front : Type 0 where
 abbrev pub is_space : ℕ → Bool
 is_space b = b == 32 || b == 9 || b == 10 || b == 13
 
--- what ends a word: a space, `"`, `(`, `)`, `:`, and the operators `*`, `?`, `~`, `^`, `[` and `{`
+-- whether a byte ends a word: a space, `"`, `(`, `)`, `:`, or an operator `*`, `?`, `~`, `^`, `[` or `{`
 abbrev pub ends_word : ℕ → Bool
 ends_word b = is_space b || b == 34 || b == 40 || b == 41 || b == 58 || b == 42 || b == 63 || b == 126 || b == 94 || b == 91 || b == 123
 
--- what a backslash makes literal: what ends a word, and `-`, `+`, `/`, `<`, `>`, `]` and `}`
+-- whether a backslash makes a byte literal: one that ends a word, or `-`, `+`, `/`, `<`, `>`, `]` or `}`
 abbrev pub is_special : ℕ → Bool
 is_special b = ends_word b || b == 45 || b == 43 || b == 47 || b == 60 || b == 62 || b == 93 || b == 125
 
@@ -58,7 +58,7 @@ stops_at stops.Escaped b escaped = is_special b && escaped
 stops_at stops.WordEscape b escaped = is_special b && (ends_word b || escaped)
 stops_at stops.PhraseEscape b escaped = is_special b && (b == 34 || escaped)
 
--- how many bytes come before the first such one, if there is one, by whether a backslash comes before the text
+-- the offset of the first stop, or the length, given whether a backslash comes before the text
 abbrev pub place_of : Stop → Bool → List ℕ → ℕ
 place_of stop escaped [] = 0
 place_of stop escaped (b ∷ bs) = if stops_at stop b escaped then 0 else suc (place_of stop (b == 92) bs)
@@ -68,20 +68,20 @@ abbrev pub is_escape : ℕ → List ℕ → Bool
 is_escape b [] = false
 is_escape b (c ∷ cs) = is_special c && b == 92
 
--- the text that a word or a phrase stands for: each backslash before a special byte is left out
+-- the text of a word or a phrase, without each backslash before a special byte
 abbrev pub unescaped : List ℕ → List ℕ
 unescaped [] = []
 unescaped (b ∷ bs) = if is_escape b bs then unescaped bs else b ∷ unescaped bs
 
--- what comes after the spaces in front
+-- the text after its leading spaces
 abbrev pub after_spaces : List ℕ → List ℕ
 after_spaces text = drop (length (take_while is_space text)) text
 
--- the word, or the phrase, in front
+-- the word or the phrase at the start
 abbrev pub before_stop : Stop → List ℕ → List ℕ
 before_stop stop text = take (place_of stop false text) text
 
--- what comes after it
+-- the text after it
 abbrev pub from_stop : Stop → List ℕ → List ℕ
 from_stop stop text = drop (place_of stop false text) text
 
@@ -90,12 +90,12 @@ abbrev pub is_empty : List ℕ → Bool
 is_empty [] = true
 is_empty (b ∷ bs) = false
 
--- whether a text begins with a byte
+-- whether a text starts with a byte
 abbrev pub begins : ℕ → List ℕ → Bool
 begins c [] = false
 begins c (b ∷ bs) = b == c
 
--- the feature that a byte asks for wherever it is in a word
+-- the unsupported feature that a byte means anywhere in a word
 abbrev pub feature_of : ℕ → Option Feature
 feature_of b =
     if b == 42 || b == 63 then Some features.Wildcards
@@ -104,24 +104,24 @@ feature_of b =
     else if b == 91 || b == 123 then Some features.Ranges
     else None
 
--- the feature that a byte asks for at the beginning of a word
+-- the unsupported feature that a byte means at the start of a word
 abbrev pub first_feature_of : ℕ → Option Feature
 first_feature_of b =
     if b == 47 then Some features.RegularExpressions
     else if b == 60 || b == 62 then Some features.Comparisons
     else None
 
--- the feature that the first byte of what comes after a word asks for
+-- the unsupported feature at the byte after a word
 abbrev pub feature_after : List ℕ → Option Feature
 feature_after [] = None
 feature_after (b ∷ bs) = feature_of b
 
--- the feature that the first byte of a word asks for
+-- the unsupported feature at the start of a word
 abbrev pub feature_in_front : List ℕ → Option Feature
 feature_in_front [] = None
 feature_in_front (b ∷ bs) = first_feature_of b
 
--- a lexeme at a byte, with what comes after it
+-- a lexeme at a byte, and the text after it
 abbrev pub front_with : ℕ → Lexeme → List ℕ → Front
 front_with at lexeme rest = record { token = record { at = at; lexeme = lexeme }; rest = rest }
 
@@ -129,30 +129,30 @@ front_with at lexeme rest = record { token = record { at = at; lexeme = lexeme }
 abbrev pub broken_front : ℕ → ParseError → Front
 broken_front at error = front_with at (broken error) []
 
--- what a text begins with, unless it asks for a feature at this byte
+-- the first lexeme, unless there is an unsupported feature at this byte
 abbrev pub unless_feature : Option Feature → ℕ → Front → Front
 unless_feature None at front = front
 unless_feature (Some feature) at front = broken_front at (Unsupported feature at)
 
--- a word or a phrase, by its text in the query
+-- a word or a phrase, from its text in the query
 abbrev pub literal_with : Option (List ℕ) → List ℕ → Delimiter → Lexeme
 literal_with field phrase delimiter = literal (record { field_name = option_map unescaped field; phrase = unescaped phrase; delimiter = delimiter })
 
--- a phrase, by the text from its end on: a quote, or nothing
+-- a phrase, from the text at its end: a quote, or nothing
 abbrev pub ended_phrase : ℕ → ℕ → Option (List ℕ) → List ℕ → List ℕ → Front
 ended_phrase size at field phrase rest = if begins 34 rest then front_with at (literal_with field phrase delimiters.DoubleQuotes) (drop 1 rest) else broken_front size (Syntax expected.Quote size)
 
--- a phrase, by the text after its first quote
+-- a phrase, from the text after its first quote
 abbrev pub phrase_front : ℕ → ℕ → Option (List ℕ) → List ℕ → Front
 phrase_front size at field text = ended_phrase size at field (before_stop stops.PhraseEnd text) (from_stop stops.PhraseEnd text)
 
--- a word after the name of a field, by the word and what comes after it
+-- a word after a field name, from the word and the text after it
 abbrev pub value_word : ℕ → ℕ → List ℕ → List ℕ → List ℕ → Front
 value_word size at name word rest =
     if is_empty word then broken_front (size - length rest) (Syntax expected.Value (size - length rest))
     else front_with at (literal_with (Some name) word delimiters.None) rest
 
--- what comes after the name of a field and its colon: a phrase or a word
+-- a phrase or a word after a field name and its colon
 abbrev pub value_front : ℕ → ℕ → List ℕ → List ℕ → Front
 value_front size at name text =
     if begins 34 text then phrase_front size at (Some name) (drop 1 text)
@@ -160,7 +160,7 @@ value_front size at name text =
     (unless_feature (feature_after (from_stop stops.WordEnd text)) (size - length (from_stop stops.WordEnd text))
     (value_word size at name (before_stop stops.WordEnd text) (from_stop stops.WordEnd text)))
 
--- what a word is by itself: an operator, or a word to search for
+-- the kind of a word: an operator, or a word to search for
 abbrev pub word_lexeme : List ℕ → Lexeme
 word_lexeme word =
     if bytes_eq word (codes "AND") then and_word
@@ -168,21 +168,21 @@ word_lexeme word =
     else if bytes_eq word (codes "NOT") then minus
     else literal_with None word delimiters.None
 
--- a word, by what comes after it: it is the name of a field if that is a colon
+-- a word, given the text after it: a field name if a colon follows
 abbrev pub word_or_name : ℕ → ℕ → List ℕ → List ℕ → Front
 word_or_name size at word rest =
     if is_empty word then broken_front at (Syntax expected.Operand at)
     else if begins 58 rest then value_front size at word (drop 1 rest)
     else front_with at (word_lexeme word) rest
 
--- a word in front
+-- a word at the start
 abbrev pub word_front : ℕ → ℕ → List ℕ → Front
 word_front size at text =
     unless_feature (feature_in_front text) at
     (unless_feature (feature_after (from_stop stops.WordEnd text)) (size - length (from_stop stops.WordEnd text))
     (word_or_name size at (before_stop stops.WordEnd text) (from_stop stops.WordEnd text)))
 
--- the lexeme that begins a text at a byte
+-- the first lexeme of a text that starts at a byte
 abbrev pub front_at : ℕ → ℕ → List ℕ → Front
 front_at size at text =
     if begins 40 text then front_with at opening (drop 1 text)
@@ -192,7 +192,7 @@ front_at size at text =
     else if begins 34 text then phrase_front size at None (drop 1 text)
     else word_front size at text
 
--- the same for the end of a text with this many bytes
+-- the first lexeme of a text that is the end of one of this length
 abbrev pub front : ℕ → List ℕ → Front
 front size text = front_at size (size - length text) text
 
@@ -200,20 +200,20 @@ front size text = front_at size (size - length text) text
 abbrev pub one_more : (List ℕ → List Token) → ℕ → List ℕ → List Token
 one_more others size text = if is_empty text then [] else (front size text).token ∷ others (front size text).rest
 
--- the first lexemes of a text that is the end of one with this many bytes: at most this many of them
+-- the first lexemes of a text that is the end of one of this length, up to a maximum number
 unfoldable pub tokens : ℕ → ℕ → List ℕ → List Token
 tokens zero size text = []
 tokens (suc n) size text = one_more (λ rest. tokens n size rest) size (after_spaces text)
 
--- the lexemes of a text, of which each takes a byte at least
+-- the lexemes of a text, each of at least one byte
 abbrev pub lexemes : ℕ → List ℕ → List Token
 lexemes size text = tokens (length text) size text
 
--- the literal that the program's word or phrase stands for
+-- the model of a word or a phrase
 abbrev pub literal_seen : LiteralView → Literal
 literal_seen l = record { field_name = option_map unescaped (option_copied l.field_name); phrase = unescaped l.phrase.now; delimiter = l.delimiter }
 
--- the lexeme that the program's lexeme stands for
+-- the model of a lexeme
 abbrev pub lexeme_seen : SeenLexeme → Lexeme
 lexeme_seen (seen.Literal l) = literal (literal_seen l)
 lexeme_seen seen.Opening = opening
@@ -223,15 +223,15 @@ lexeme_seen seen.And = and_word
 lexeme_seen seen.Or = or_word
 lexeme_seen (seen.Broken error) = broken error
 
--- the program's lexeme at its byte
+-- the model of a token
 abbrev pub token_seen : SeenToken → Token
 token_seen t = record { at = t.at; lexeme = lexeme_seen t.lexeme }
 
--- A token begins a text, and this comes after it.
+-- The first token of a text, and the text after it.
 pub record IsFront (front : Front) (token : Token) (rest : List ℕ) : Type 0 where
   pub token_is : token ≡ front.token
   pub rest_is : rest ≡ front.rest
 
--- A text begins with a byte, and this comes after it.
+-- A text starts with a byte, and this is the text after it.
 abbrev pub Strips : ℕ → List ℕ → Bor (List ℕ) → Type 0
 Strips byte text rest = (begins byte text ≡ true) × (rest.now ≡ drop 1 text)

@@ -1,4 +1,4 @@
--- How lexemes are read as a tree.
+-- How lexemes are parsed into a tree.
 use Rattle.std.specs.Prelude.{◌≡◌, ℕ, List, [], ◌∷◌, ◌++◌, Option, None, Some, Result, Ok, Err, IfErr, if◌then◌else◌, length, map, nat_lt, reverse, ⊤, Vec}
 use Rattle.std.specs.declared.alloc.Global.{Global}
 use Rattle.ii_query_grammar.specs.declared.group.Chain.{Chain}
@@ -13,7 +13,7 @@ use Rattle.ii_query_grammar.specs.declared.user_input_ast.UserInputAst.{UserInpu
 use Rattle.ii_query_grammar.specs.Lexemes.{Lexeme, Token, and_word, broken, closing, lexemes, literal, minus, opening, or_word}
 use Rattle.ii_query_grammar.specs.Trees.{Ast, all_of, any_of, ast_of, asts_from, leaf, without}
 
--- parts that AND joins: those that have to match, and those that must not
+-- parts joined by AND: those that must match, and those that must not
 pub record ChainState : Type 0 where
   pub wanted : List Ast
   pub excluded : List Ast
@@ -38,13 +38,13 @@ pub record GroupState : Type 0 where
 abbrev pub empty : GroupState
 empty = record { wanted = []; excluded = []; place = begins }
 
--- the tree that matches what all trees match: a single one itself
+-- the tree that matches what all trees match; a single tree itself
 abbrev pub all_tree : List Ast → Ast
 all_tree [] = all_of (asts_from [])
 all_tree (t ∷ []) = t
 all_tree (t ∷ u ∷ ts) = all_of (asts_from (t ∷ u ∷ ts))
 
--- the tree that matches what one of the trees matches: a single one itself
+-- the tree that matches what at least one tree matches; a single tree itself
 abbrev pub any_tree : List Ast → Ast
 any_tree [] = any_of (asts_from [])
 any_tree (t ∷ []) = t
@@ -75,7 +75,7 @@ chain_and_not c t = record { wanted = c.wanted; excluded = c.excluded ++ t ∷ [
 abbrev pub with_chain_tree : List Ast → ChainState → List Ast
 with_chain_tree ts c = ts ++ chain_tree c ∷ []
 
--- a group with one more part, by the place in it
+-- a group with one more part, given the place in it
 abbrev pub put_at : List Ast → List Ast → PlaceState → Ast → GroupState
 put_at wanted excluded begins t = record { wanted = wanted; excluded = excluded; place = chained (chain_of t) }
 put_at wanted excluded (chained c) t = record { wanted = with_chain_tree wanted c; excluded = excluded; place = chained (chain_of t) }
@@ -88,7 +88,7 @@ put_at wanted excluded after_minus t = record { wanted = wanted; excluded = excl
 abbrev pub put : GroupState → Ast → GroupState
 put g t = put_at g.wanted g.excluded g.place t
 
--- a group after an AND, which may only come after a chain
+-- a group after an AND, which is allowed only after a chain
 abbrev pub and_at : List Ast → List Ast → PlaceState → Option GroupState
 and_at wanted excluded begins = None
 and_at wanted excluded (chained c) = Some (record { wanted = wanted; excluded = excluded; place = after_and c })
@@ -97,11 +97,11 @@ and_at wanted excluded (after_and_minus c) = None
 and_at wanted excluded after_or = None
 and_at wanted excluded after_minus = None
 
--- a group after an AND, if one may come here
+-- a group after an AND, if one is allowed here
 abbrev pub put_and : GroupState → Option GroupState
 put_and g = and_at g.wanted g.excluded g.place
 
--- a group after an OR, which may only come after a chain
+-- a group after an OR, which is allowed only after a chain
 abbrev pub or_at : List Ast → List Ast → PlaceState → Option GroupState
 or_at wanted excluded begins = None
 or_at wanted excluded (chained c) = Some (record { wanted = with_chain_tree wanted c; excluded = excluded; place = after_or })
@@ -110,11 +110,11 @@ or_at wanted excluded (after_and_minus c) = None
 or_at wanted excluded after_or = None
 or_at wanted excluded after_minus = None
 
--- a group after an OR, if one may come here
+-- a group after an OR, if one is allowed here
 abbrev pub put_or : GroupState → Option GroupState
 put_or g = or_at g.wanted g.excluded g.place
 
--- a group after a minus, which may come where a part may, but not after an OR, and after an AND
+-- a group after a minus, which is allowed where a part is, except after an OR; an AND may come before it
 abbrev pub minus_at : List Ast → List Ast → PlaceState → Option GroupState
 minus_at wanted excluded begins = Some (record { wanted = wanted; excluded = excluded; place = after_minus })
 minus_at wanted excluded (chained c) = Some (record { wanted = with_chain_tree wanted c; excluded = excluded; place = after_minus })
@@ -123,17 +123,17 @@ minus_at wanted excluded (after_and_minus c) = None
 minus_at wanted excluded after_or = None
 minus_at wanted excluded after_minus = None
 
--- a group after a minus, if one may come here
+-- a group after a minus, if one is allowed here
 abbrev pub put_minus : GroupState → Option GroupState
 put_minus g = minus_at g.wanted g.excluded g.place
 
--- what is wanted without what is excluded; something has to be wanted
+-- the wanted trees without the excluded ones, if there is a wanted one
 abbrev pub whole : List Ast → List Ast → Result Ast Expected
 whole [] [] = Err Query
 whole [] (e ∷ es) = Err Included
 whole (t ∷ ts) excluded = Ok (without_any (any_tree (t ∷ ts)) excluded)
 
--- the tree of a group that ends, by the place in it
+-- the tree of a complete group, given the place in it
 abbrev pub whole_at : List Ast → List Ast → PlaceState → Result Ast Expected
 whole_at wanted excluded begins = whole wanted excluded
 whole_at wanted excluded (chained c) = whole (with_chain_tree wanted c) excluded
@@ -142,7 +142,7 @@ whole_at wanted excluded (after_and_minus c) = Err Excluded
 whole_at wanted excluded after_or = Err Operand
 whole_at wanted excluded after_minus = Err Excluded
 
--- the tree of a group that ends, or what is expected
+-- the tree of a complete group, or what is expected
 abbrev pub whole_of : GroupState → Result Ast Expected
 whole_of g = whole_at g.wanted g.excluded g.place
 
@@ -150,22 +150,22 @@ whole_of g = whole_at g.wanted g.excluded g.place
 abbrev pub Reading : Type 0
 Reading = List GroupState → GroupState → Result Ast ParseError
 
--- it continues if the sign may come here
+-- continues if the sign is allowed here
 abbrev pub read_sign : Reading → List GroupState → ℕ → Option GroupState → Result Ast ParseError
 read_sign others opened at None = Err (Syntax Operand at)
 read_sign others opened at (Some group) = others opened group
 
--- it continues with an empty group if one more may be open
+-- continues with an empty group if one more may be open
 abbrev pub read_opening : ℕ → Reading → List GroupState → GroupState → ℕ → Result Ast ParseError
 read_opening limit others opened group at = if nat_lt (length opened) limit then others (group ∷ opened) empty else Err (Syntax LessNesting at)
 
--- it continues with the group's tree in the one around it
+-- continues with the tree of the group in the group around it
 abbrev pub read_closing : Reading → List GroupState → ℕ → Result Ast Expected → Result Ast ParseError
 read_closing others opened at (Err expected) = Err (Syntax expected at)
 read_closing others [] at (Ok t) = Err (Syntax End at)
 read_closing others (group ∷ opened) at (Ok t) = others opened (put group t)
 
--- one lexeme, and the others
+-- reads one lexeme, then the others
 abbrev pub read_one : ℕ → Reading → List GroupState → GroupState → ℕ → Lexeme → Result Ast ParseError
 read_one limit others opened group at (literal l) = others opened (put group (leaf l))
 read_one limit others opened group at opening = read_opening limit others opened group at
@@ -175,37 +175,37 @@ read_one limit others opened group at and_word = read_sign others opened at (put
 read_one limit others opened group at or_word = read_sign others opened at (put_or group)
 read_one limit others opened group at (broken error) = Err error
 
--- at the end of a text of this many bytes no group may be open
+-- the result at the end of a text of this length; no group may be open
 abbrev pub read_end : ℕ → List GroupState → Result Ast Expected → Result Ast ParseError
 read_end size opened (Err expected) = Err (Syntax expected size)
 read_end size [] (Ok t) = Ok t
 read_end size (group ∷ opened) (Ok t) = Err (Syntax Closing size)
 
--- the tree of the lexemes of a text of this many bytes, after open groups and the current one
+-- the tree of the lexemes of a text of this length, given the open groups and the current one
 abbrev pub read : ℕ → ℕ → List GroupState → GroupState → List Token → Result Ast ParseError
 read limit size opened group [] = read_end size opened (whole_of group)
 read limit size opened group (t ∷ ts) = read_one limit (λ outer inner. read limit size outer inner ts) opened group t.at t.lexeme
 
--- the tree of a text, of whose parentheses at most this many may be open at once
+-- the tree of a text, with at most `limit` open parentheses
 abbrev pub parsed : ℕ → List ℕ → Result Ast ParseError
 parsed limit text = read limit (length text) [] empty (lexemes (length text) text)
 
--- A text was read as it is to be, unless an allocation failed.
+-- The result is the parsed tree or error, unless an allocation failed.
 abbrev pub IsReadAs : Result UserInputAst ParseError → Result Ast ParseError → Type 0
 IsReadAs (Ok ast) read = read ≡ Ok (ast_of ast)
 IsReadAs (Err (Syntax expected at)) read = read ≡ Err (Syntax expected at)
 IsReadAs (Err (Unsupported feature at)) read = read ≡ Err (Unsupported feature at)
 IsReadAs (Err OutOfMemory) read = ⊤
 
--- A call fails only if an allocation does.
+-- A call fails only with `OutOfMemory`.
 abbrev pub OnlyMemoryRefuses : {A : Type 0} → Result A ParseError → Type 0
 OnlyMemoryRefuses result = IfErr result (λ e. e ≡ OutOfMemory)
 
--- the chain that the program's chain stands for
+-- the model of a chain
 abbrev pub chain_state : Chain → ChainState
 chain_state c = record { wanted = map ast_of c.wanted.items; excluded = map ast_of c.excluded.items }
 
--- the place that the program's place stands for
+-- the model of a place
 abbrev pub place_state : Place → PlaceState
 place_state places.Begins = begins
 place_state (places.Chained c) = chained (chain_state c)
@@ -214,11 +214,11 @@ place_state (places.AfterAndMinus c) = after_and_minus (chain_state c)
 place_state places.AfterOr = after_or
 place_state places.AfterMinus = after_minus
 
--- the group that the program's group stands for
+-- the model of a group
 abbrev pub group_of : Group → GroupState
 group_of g = record { wanted = map ast_of g.wanted.items; excluded = map ast_of g.excluded.items; place = place_state g.place }
 
--- the program's list of open groups has the innermost last
+-- the model of the open groups, whose list has the innermost last
 abbrev pub stack_of : List Group → List GroupState
 stack_of groups = reverse (map group_of groups)
 

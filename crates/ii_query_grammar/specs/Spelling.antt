@@ -7,12 +7,12 @@ use Rattle.ii_query_grammar.specs.declared.user_input_ast.Delimiter.TheVariants 
 use Rattle.ii_query_grammar.specs.Lexemes.{is_empty, stops_at}
 use Rattle.ii_query_grammar.specs.Trees.{Ast, Asts, Literal, all_of, and_asts, any_of, leaf, no_asts, without}
 
--- a text with a backslash before each byte that has to be escaped, by whether a backslash comes before the text
+-- a text with each byte escaped that must be, given whether a backslash comes before the text
 abbrev pub escaped : Stop → Bool → List ℕ → List ℕ
 escaped stop after [] = []
 escaped stop after (b ∷ bs) = if stops_at stop b after then 92 ∷ b ∷ escaped stop false bs else b ∷ escaped stop (b == 92) bs
 
--- a text as a word: its first byte is escaped if it is special at all
+-- a text as a word: a special first byte is always escaped
 abbrev pub word_text : List ℕ → List ℕ
 word_text text = escaped stops.WordEscape true text
 
@@ -34,11 +34,11 @@ abbrev pub field_text : Option (List ℕ) → List ℕ
 field_text None = []
 field_text (Some name) = word_text name ++ 58 ∷ []
 
--- the text of a word or a phrase, after the name of its field
+-- the text of a word or a phrase, with the name of its field
 abbrev pub literal_text : Literal → List ℕ
 literal_text l = field_text l.field_name ++ phrase_text l
 
--- a text as that of a part: that of a word or a phrase as it is, that of any other tree in parentheses
+-- a text as a part: a word or a phrase as it is, any other tree in parentheses
 abbrev pub text_as_part : Ast → List ℕ → List ℕ
 text_as_part (leaf l) text = text
 text_as_part (all_of ts) text = 40 ∷ text ++ 41 ∷ []
@@ -69,7 +69,7 @@ is_writable text = not (slice_index text (length text - 1) == 92)
 abbrev pub is_writable_word : List ℕ → Bool
 is_writable_word text = not (is_empty text) && is_writable text
 
--- whether a word is none of the operators
+-- whether a word is not an operator
 abbrev pub is_no_operator : List ℕ → Bool
 is_no_operator text = not (bytes_eq text (codes "AND")) && not (bytes_eq text (codes "OR")) && not (bytes_eq text (codes "NOT"))
 
@@ -106,14 +106,14 @@ abbrev mutual
   have_spelling no_asts = true
   have_spelling (and_asts t ts) = has_spelling t && have_spelling ts
 
--- how many parentheses are open at once where a tree is a part
+-- the number of open parentheses when a tree is a part
 abbrev pub nesting_as_part : Ast → ℕ → ℕ
 nesting_as_part (leaf l) n = 0
 nesting_as_part (all_of ts) n = suc n
 nesting_as_part (any_of ts) n = suc n
 nesting_as_part (without first other) n = suc n
 
--- how many parentheses are open at once in the text of a tree
+-- the maximum number of open parentheses in the text of a tree
 abbrev mutual
   pub nesting : Ast → ℕ
   nesting (leaf l) = 0
@@ -125,6 +125,6 @@ abbrev mutual
   parts_nesting no_asts = 0
   parts_nesting (and_asts t ts) = max (nesting_as_part t (nesting t)) (parts_nesting ts)
 
--- the same of a tree as a part
+-- the same for a tree as a part
 abbrev pub part_nesting : Ast → ℕ
 part_nesting t = nesting_as_part t (nesting t)

@@ -29,17 +29,17 @@ abbrev pub asts_from : List Ast → Asts
 asts_from [] = no_asts
 asts_from (t ∷ ts) = and_asts t (asts_from ts)
 
--- the literal that the program's record holds
+-- the model of a literal
 abbrev pub literal_of : UserInputLiteral → Literal
 literal_of l = record { field_name = option_map (λ name. string_bytes name) l.field_name; phrase = string_bytes l.phrase; delimiter = l.delimiter }
 
--- one level of the program's value, with the trees of its parts
+-- one level of a tree, given the models of its parts
 abbrev pub ast_step : UserInputAst-F Ast → Ast
 ast_step (UserInputAst-F.Leaf l) = leaf (literal_of l)
 ast_step (UserInputAst-F.And v) = all_of (asts_from v.items)
 ast_step (UserInputAst-F.Or v) = any_of (asts_from v.items)
 ast_step (UserInputAst-F.AndNot first other) = without first.value other.value
 
--- the tree that the program's value is
+-- the model of a tree
 abbrev pub ast_of : UserInputAst → Ast
 ast_of = fold-UserInputAst Ast ast_step

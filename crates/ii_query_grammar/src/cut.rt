@@ -1,23 +1,23 @@
 ghost use Rattle.std.specs.Prelude.{◌≡◌, ◌<◌, ◌≤◌, ℕ, drop, take, false, true, length, take_while, IfSome, MatchOption};
 ghost use Rattle.ii_query_grammar.specs.Lexemes.{Strips, after_spaces, before_stop, begins, ends_word, from_stop, is_empty, is_space, is_special, place_of, stops_at};
 
-/// Which byte is looked for.
+/// The byte to search for.
 #[derive(Clone, Copy)]
 pub(crate) enum Stop {
-    /// One that ends a word.
+    /// A byte that ends a word.
     WordEnd,
     /// The quote that ends a phrase.
     PhraseEnd,
-    /// One that the backslash before it makes literal.
+    /// A byte that the backslash before it makes literal.
     Escaped,
-    /// One that has to be escaped in a word.
+    /// A byte that must be escaped in a word.
     WordEscape,
-    /// One that has to be escaped in a phrase.
+    /// A byte that must be escaped in a phrase.
     PhraseEscape,
 }
 
 impl Stop {
-    // Whether a byte is the one, by whether a backslash comes before it.
+    // Returns whether a byte is a stop. `escaped` says whether a backslash comes before it.
     fn is_at(self, byte: u8, escaped: bool) -> bool
         ensures { result ≡ stops_at self byte escaped }
     {
@@ -30,8 +30,8 @@ impl Stop {
         }
     }
 
-    /// How many bytes come before the first such one, if there is one. `escaped` says whether a backslash comes
-    /// before the text.
+    /// Returns the offset of the first stop, or the length of the text. `escaped` says whether a backslash
+    /// comes before the text.
     pub(crate) fn place_in(self, text: &[u8], escaped: bool) -> usize
         ensures { result ≡ place_of self escaped text.now }
     {
@@ -46,7 +46,7 @@ impl Stop {
     }
 }
 
-/// The text after the spaces in front.
+/// Returns the text after its leading spaces.
 pub(crate) fn after_spaces(text: &str) -> &str
     ensures rest { result.now ≡ after_spaces text.now }
     ensures shorter { length result.now ≤ length text.now }
@@ -54,7 +54,7 @@ pub(crate) fn after_spaces(text: &str) -> &str
     text.split_at(spaces_len(text.as_bytes())).1
 }
 
-/// The word or the phrase in front, and the text after it.
+/// Returns the word or the phrase at the start.
 pub(crate) fn cut_at(text: &str, stop: Stop) -> (&str, &str)
     ensures word { result.0.now ≡ before_stop stop text.now }
     ensures rest { result.1.now ≡ from_stop stop text.now }
@@ -63,7 +63,7 @@ pub(crate) fn cut_at(text: &str, stop: Stop) -> (&str, &str)
     text.split_at(stop.place_in(text.as_bytes(), false))
 }
 
-/// The text after a byte that is a character, if the text begins with it.
+/// Returns the text after this ASCII byte, if the text starts with it.
 pub(crate) fn strip(text: &str, byte: u8) -> Option<&str>
     requires { byte < 128 }
     ensures cases { MatchOption result (begins byte text.now ≡ false) (Strips byte text.now) }
@@ -79,14 +79,14 @@ pub(crate) fn strip(text: &str, byte: u8) -> Option<&str>
     Some(text.split_at(1).1)
 }
 
-/// Whether a text is empty.
+/// Returns whether a text is empty.
 pub(crate) fn is_nothing(text: &str) -> bool
     ensures { result ≡ is_empty text.now }
 {
     text.is_empty()
 }
 
-// How many bytes of spaces come first.
+// Returns the number of leading space bytes.
 fn spaces_len(text: &[u8]) -> usize
     ensures { result ≡ length (take_while is_space text.now) }
 {

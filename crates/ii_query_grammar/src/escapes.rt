@@ -6,8 +6,7 @@ ghost use Rattle.ii_query_grammar.specs.Spelling.{escaped, is_writable_word, wor
 use crate::cut::Stop;
 use std::alloc::{AllocError, Global};
 
-/// The text that a word or a phrase stands for: without each backslash that makes the next character
-/// literal.
+/// Returns the text of a word or a phrase, without each backslash that makes the next character literal.
 pub(crate) fn unescape(alloc: Global, text: &str) -> Result<String, AllocError>
     ensures { IfOk result (λ plain. string_bytes plain ≡ unescaped text.now) }
 {
@@ -21,7 +20,7 @@ pub(crate) fn unescape(alloc: Global, text: &str) -> Result<String, AllocError>
     Ok(plain)
 }
 
-// The text before the first backslash that is left out, and the text after it, if there is one.
+// Returns the text before and after the first escaping backslash, if there is one.
 fn cut_at_escape(text: &str) -> Option<(&str, &str)>
     ensures cases { MatchOption result (unescaped text.now ≡ text.now) (λ parts. unescaped text.now ≡ parts.0.now ++ unescaped parts.1.now) }
     ensures shorter { IfSome result (λ parts. length parts.1.now < length text.now) }
@@ -37,9 +36,8 @@ fn cut_at_escape(text: &str) -> Option<(&str, &str)>
     Some((text.split_at(place - 1).0, text.split_at(place).1))
 }
 
-/// Adds a text with a backslash before each character that has to be escaped. `after_backslash`
-/// says whether a backslash comes before the text, or the first character has to be escaped if it is
-/// special at all, as in a word.
+/// Appends a text, with a backslash before each character that must be escaped. If `after_backslash`, a
+/// special first character is always escaped: the text follows a backslash, or is a word.
 pub(crate) fn push_escaped(
     stop: Stop,
     after_backslash: bool,
@@ -60,7 +58,7 @@ pub(crate) fn push_escaped(
     query.push_str(rest)
 }
 
-// The text before the first character that has to be escaped, this character, and the text after it.
+// Returns the first character that must be escaped, and the text before and after it.
 fn cut_at_special(stop: Stop, after_backslash: bool, text: &str) -> Option<(&str, &str, &str)>
     ensures cases { MatchOption result (escaped stop after_backslash text.now ≡ text.now) (λ parts. escaped stop after_backslash text.now ≡ parts.0.now ++ 92 ∷ (parts.1.now ++ escaped stop false parts.2.now)) }
     ensures shorter { IfSome result (λ parts. length parts.2.now < length text.now) }
@@ -75,8 +73,8 @@ fn cut_at_special(stop: Stop, after_backslash: bool, text: &str) -> Option<(&str
     Some((before, special, after))
 }
 
-/// Whether a query can name a field: each name can be written before a colon, with escapes (`spell_name`), but
-/// for the empty one and those that end in a backslash.
+/// Returns whether a query can name a field: any name except the empty one and those that end in a
+/// backslash. Special characters are escaped by `spell_name`.
 pub fn can_name(name: &str) -> bool
     ensures { result ≡ is_writable_word name.now }
 {
@@ -86,7 +84,7 @@ pub fn can_name(name: &str) -> bool
     name.as_bytes()[name.len() - 1] != b'\\'
 }
 
-/// Returns the name of a field as a query writes it before a colon. A query can name the field if `can_name`.
+/// Returns the name of a field as written before a colon in a query. The name must satisfy `can_name`.
 pub fn spell_name(alloc: Global, name: &str) -> Result<String, AllocError>
     ensures { IfOk result (λ text. string_bytes text ≡ word_text name.now) }
 {

@@ -7,14 +7,14 @@ use crate::parse_error::{Expected, ParseError};
 use crate::user_input_ast::UserInputAst;
 use std::alloc::Global;
 
-/// Parts that AND joins: those that have to match, and those that must not.
+/// Parts joined by AND: those that must match, and those that must not.
 #[derive(Drop)]
 struct Chain {
     wanted: Vec<UserInputAst>,
     excluded: Vec<UserInputAst>,
 }
 
-/// The place in a group.
+/// The parser's place in a group.
 #[derive(Drop)]
 enum Place {
     Begins,
@@ -25,14 +25,14 @@ enum Place {
     AfterMinus,
 }
 
-/// The part of a query that was read, or of one in parentheses.
+/// The parts read so far, of a query or of one in parentheses.
 pub(crate) struct Group {
     wanted: Vec<UserInputAst>,
     excluded: Vec<UserInputAst>,
     place: Place,
 }
 
-// So that each drop is a call.
+// Makes each drop a call.
 impl Drop for Group {
     fn drop(self) {
         let Group {
@@ -44,7 +44,7 @@ impl Drop for Group {
 }
 
 impl Chain {
-    // A chain of one part.
+    // Creates a chain of one part.
     fn new(alloc: Global, ast: UserInputAst) -> Result<Chain, ParseError>
         ensures chain { IfOk result (λ chain. chain_state chain ≡ chain_of (ast_of ast)) }
         ensures only { OnlyMemoryRefuses result }
@@ -57,7 +57,7 @@ impl Chain {
         })
     }
 
-    // The chain with one more wanted part.
+    // Appends a part that must match.
     fn and(self, ast: UserInputAst) -> Result<Chain, ParseError>
         ensures chain { IfOk result (λ chain. chain_state chain ≡ chain_and (chain_state self) (ast_of ast)) }
         ensures only { OnlyMemoryRefuses result }
@@ -68,7 +68,7 @@ impl Chain {
         })
     }
 
-    // The chain with one more excluded part.
+    // Appends a part that must not match.
     fn and_not(self, ast: UserInputAst) -> Result<Chain, ParseError>
         ensures chain { IfOk result (λ chain. chain_state chain ≡ chain_and_not (chain_state self) (ast_of ast)) }
         ensures only { OnlyMemoryRefuses result }
@@ -79,7 +79,7 @@ impl Chain {
         })
     }
 
-    // The tree of the chain.
+    // Returns the tree of the chain.
     fn into_tree(self, alloc: Global) -> Result<UserInputAst, ParseError>
         ensures tree { IfOk result (λ ast. ast_of ast ≡ chain_tree (chain_state self)) }
         ensures only { OnlyMemoryRefuses result }
@@ -90,7 +90,7 @@ impl Chain {
 }
 
 impl Group {
-    /// A group without a part.
+    /// Creates a group without parts.
     pub(crate) fn new(alloc: Global) -> Group
         ensures { group_of result ≡ empty }
     {
@@ -101,7 +101,7 @@ impl Group {
         }
     }
 
-    /// The group with one more part. Fails only with `OutOfMemory`.
+    /// Appends a part. Fails only with `OutOfMemory`.
     pub(crate) fn put(self, alloc: Global, ast: UserInputAst) -> Result<Group, ParseError>
         ensures put { IfOk result (λ group. group_of group ≡ put (group_of self) (ast_of ast)) }
         ensures only { OnlyMemoryRefuses result }
@@ -138,7 +138,7 @@ impl Group {
         }
     }
 
-    // A group after a chain.
+    // Creates a group after a chain.
     fn chained(wanted: Vec<UserInputAst>, excluded: Vec<UserInputAst>, chain: Chain) -> Group
         ensures { group_of result ≡ record { wanted = map ast_of wanted.items; excluded = map ast_of excluded.items; place = chained (chain_state chain) } }
     {
@@ -149,7 +149,7 @@ impl Group {
         }
     }
 
-    /// The group after an AND, if one may come here.
+    /// Returns the group after an AND, if one is allowed here.
     pub(crate) fn put_and(self) -> Option<Group>
         ensures { option_map group_of result ≡ put_and (group_of self) }
     {
@@ -168,8 +168,7 @@ impl Group {
         })
     }
 
-    /// The group after an OR, if one may come here: `None` in the `Ok` where none may. Fails only with
-    /// `OutOfMemory`.
+    /// Returns the group after an OR, or `Ok(None)` if none is allowed here. Fails only with `OutOfMemory`.
     pub(crate) fn put_or(self, alloc: Global) -> Result<Option<Group>, ParseError>
         ensures put { IfOk result (λ group. option_map group_of group ≡ put_or (group_of self)) }
         ensures only { OnlyMemoryRefuses result }
@@ -190,7 +189,7 @@ impl Group {
         }))
     }
 
-    /// The group after a minus, if one may come here: `None` in the `Ok` where none may. Fails only with
+    /// Returns the group after a minus, or `Ok(None)` if none is allowed here. Fails only with
     /// `OutOfMemory`.
     pub(crate) fn put_minus(self, alloc: Global) -> Result<Option<Group>, ParseError>
         ensures put { IfOk result (λ group. option_map group_of group ≡ put_minus (group_of self)) }
@@ -224,7 +223,7 @@ impl Group {
         }
     }
 
-    /// The tree of the group, if it may end here; otherwise `Syntax` with what is expected at `at`.
+    /// Returns the tree of the complete group, or `Syntax` with what is expected at `at`.
     pub(crate) fn whole(self, alloc: Global, at: usize) -> Result<UserInputAst, ParseError>
         ensures { IsWhole at (whole_of (group_of self)) result }
     {
@@ -247,7 +246,7 @@ impl Group {
     }
 }
 
-// What is wanted without what is excluded; something has to be wanted.
+// Returns the wanted trees without the excluded ones. There must be a wanted tree.
 fn whole(
     alloc: Global,
     wanted: Vec<UserInputAst>,
@@ -265,7 +264,7 @@ fn whole(
     Err(ParseError::Syntax(Expected::Included, at))
 }
 
-// The tree that matches what all trees match: a single one itself.
+// Returns the tree that matches what all trees match; a single tree itself.
 fn all_tree(trees: Vec<UserInputAst>) -> UserInputAst
     ensures { ast_of result ≡ all_tree (map ast_of trees.items) }
 {
@@ -275,7 +274,7 @@ fn all_tree(trees: Vec<UserInputAst>) -> UserInputAst
     }
 }
 
-// The tree that matches what one of the trees matches: a single one itself.
+// Returns the tree that matches what at least one tree matches; a single tree itself.
 fn any_tree(trees: Vec<UserInputAst>) -> UserInputAst
     ensures { ast_of result ≡ any_tree (map ast_of trees.items) }
 {
@@ -285,7 +284,7 @@ fn any_tree(trees: Vec<UserInputAst>) -> UserInputAst
     }
 }
 
-// The only element of a list, or else the list.
+// Returns the only element of a list, or else the list.
 fn single(mut trees: Vec<UserInputAst>) -> Result<UserInputAst, Vec<UserInputAst>>
     ensures { IsSingle trees.items result }
 {
@@ -298,7 +297,7 @@ fn single(mut trees: Vec<UserInputAst>) -> Result<UserInputAst, Vec<UserInputAst
     }
 }
 
-// A tree without what the excluded ones match. Fails only with `OutOfMemory`.
+// Returns a tree without what the excluded ones match. Fails only with `OutOfMemory`.
 fn without_any(
     alloc: Global,
     ast: UserInputAst,
@@ -315,7 +314,7 @@ fn without_any(
     Ok(UserInputAst::AndNot(first, other))
 }
 
-// The trees of chains with one more. Fails only with `OutOfMemory`.
+// Appends the tree of a chain. Fails only with `OutOfMemory`.
 fn with_chain_tree(
     alloc: Global,
     trees: Vec<UserInputAst>,
@@ -328,7 +327,7 @@ fn with_chain_tree(
     pushed(trees, ast)
 }
 
-// A list with one more tree. Fails only with `OutOfMemory`.
+// Appends a tree. Fails only with `OutOfMemory`.
 fn pushed(mut trees: Vec<UserInputAst>, ast: UserInputAst) -> Result<Vec<UserInputAst>, ParseError>
     ensures pushed { IfOk result (λ all. map ast_of all.items ≡ map ast_of trees.items ++ ast_of ast ∷ []) }
     ensures only { OnlyMemoryRefuses result }

@@ -1,7 +1,7 @@
 use crate::parse_error::ParseError;
 use crate::user_input_ast::Delimiter;
 
-// A word or a phrase as the text writes it, with its escapes.
+// A word or a phrase as written in the text, with its escapes.
 #[derive(Clone, Copy)]
 pub(crate) struct LiteralView<'a> {
     pub(crate) field_name: Option<&'a str>,
@@ -9,7 +9,7 @@ pub(crate) struct LiteralView<'a> {
     pub(crate) delimiter: Delimiter,
 }
 
-// What a text consists of; a broken one holds the error that is found in its place.
+// A lexeme of a text; a broken one holds its error.
 #[derive(Clone, Copy)]
 pub(crate) enum Lexeme<'a> {
     Literal(LiteralView<'a>),
@@ -21,7 +21,7 @@ pub(crate) enum Lexeme<'a> {
     Broken(ParseError),
 }
 
-// A lexeme, and the byte at which it begins.
+// A lexeme, and the byte at which it starts.
 #[derive(Clone, Copy)]
 pub(crate) struct Token<'a> {
     pub(crate) at: usize,

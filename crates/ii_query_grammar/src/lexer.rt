@@ -9,8 +9,8 @@ use crate::parse_error::{Expected, Feature, ParseError};
 use crate::user_input_ast::Delimiter;
 use std::marker::Model;
 
-/// The words, phrases, signs and parentheses of a text, one after the other: the number of its bytes, and
-/// the text that is left.
+/// Splits a text into words, phrases, signs and parentheses. It holds the length of the complete text, and
+/// the remaining text.
 #[derive(Drop)]
 pub(crate) struct Lexer<'a> {
     size: usize,
@@ -29,7 +29,7 @@ impl<'a> Model for Lexer<'a> {
 }
 
 impl<'a> Lexer<'a> {
-    /// The lexemes of a text.
+    /// Creates a lexer of a text.
     pub(crate) fn new(text: &'a str) -> Lexer<'a>
         ensures { result ≡ lexemes (length text.now) text.now }
     {
@@ -39,7 +39,7 @@ impl<'a> Lexer<'a> {
         }
     }
 
-    /// The next one, if there is one.
+    /// Returns the next lexeme, if there is one.
     pub(crate) fn next(&mut self) -> Option<Token<'a>>
         ensures { MatchOption result (self.old ≡ []) (λ token. self.old ≡ token_seen token ∷ self.new) }
     {
@@ -53,7 +53,7 @@ impl<'a> Lexer<'a> {
     }
 }
 
-// The lexeme that begins a text, the end of one with this many bytes, and the text after it.
+// Returns the first lexeme of a text, and the text after it. The text is the end of one with `size` bytes.
 fn front(size: usize, text: &str) -> (Token<'_>, &str)
     requires { length text.now ≤ size }
     ensures front { IsFront (front size text.now) (token_seen result.0) result.1.now }
@@ -78,7 +78,7 @@ fn front(size: usize, text: &str) -> (Token<'_>, &str)
     word(size, at, text)
 }
 
-// The lexeme of a word in front, and the text after it.
+// Returns the lexeme of a word at the start, and the text after it.
 fn word(size: usize, at: usize, text: &str) -> (Token<'_>, &str)
     requires { length text.now ≤ size }
     ensures front { IsFront (word_front size at text.now) (token_seen result.0) result.1.now }
@@ -94,7 +94,7 @@ fn word(size: usize, at: usize, text: &str) -> (Token<'_>, &str)
     word_or_name(size, at, word, rest)
 }
 
-// A word, by the text after it: it is the name of a field if that begins with a colon.
+// Returns the lexeme of a word, given the text after it. The word is a field name if a colon follows.
 fn word_or_name<'a>(size: usize, at: usize, word: &'a str, rest: &'a str) -> (Token<'a>, &'a str)
     requires { length rest.now ≤ size }
     ensures front { IsFront (word_or_name size at word.now rest.now) (token_seen result.0) result.1.now }
@@ -109,7 +109,7 @@ fn word_or_name<'a>(size: usize, at: usize, word: &'a str, rest: &'a str) -> (To
     (sign(at, word_lexeme(word)), rest)
 }
 
-// The text after the name of a field and its colon: a phrase or a word.
+// Reads a phrase or a word after a field name and its colon.
 fn value<'a>(size: usize, at: usize, name: &'a str, text: &'a str) -> (Token<'a>, &'a str)
     requires { length text.now ≤ size }
     ensures front { IsFront (value_front size at name.now text.now) (token_seen result.0) result.1.now }
@@ -128,7 +128,7 @@ fn value<'a>(size: usize, at: usize, name: &'a str, text: &'a str) -> (Token<'a>
     value_word(size, at, name, word, rest)
 }
 
-// A word after the name of a field.
+// Reads a word after a field name.
 fn value_word<'a>(
     size: usize,
     at: usize,
@@ -146,7 +146,7 @@ fn value_word<'a>(
     (literal(at, Some(name), word, Delimiter::None), rest)
 }
 
-// A phrase, by the text after its first quote.
+// Reads a phrase, given the text after its first quote.
 fn phrase<'a>(
     size: usize,
     at: usize,
@@ -167,7 +167,7 @@ fn phrase<'a>(
     (syntax_error(size, Expected::Quote), "")
 }
 
-// What a word is by itself: an operator, or a word to search for.
+// Classifies a word: an operator, or a word to search for.
 fn word_lexeme(word: &str) -> Lexeme<'_>
     ensures { lexeme_seen result ≡ word_lexeme word.now }
 {
@@ -187,14 +187,14 @@ fn word_lexeme(word: &str) -> Lexeme<'_>
     })
 }
 
-// The feature that the first byte of a word asks for.
+// Returns the unsupported feature at the start of a word.
 fn feature_in_front(text: &[u8]) -> Option<Feature>
     ensures { result ≡ feature_in_front text.now }
 {
     first_feature_of(*text.first()?)
 }
 
-// The feature that the first byte after a word asks for.
+// Returns the unsupported feature at the byte after a word.
 fn feature_after(text: &[u8]) -> Option<Feature>
     ensures { result ≡ feature_after text.now }
 {
@@ -223,7 +223,7 @@ fn feature_of(byte: u8) -> Option<Feature>
     }
 }
 
-// A word or a phrase at a byte.
+// Creates the token of a word or a phrase at a byte.
 fn literal<'a>(
     at: usize,
     field_name: Option<&'a str>,
@@ -240,14 +240,14 @@ fn literal<'a>(
     Token { at, lexeme }
 }
 
-// Another lexeme at a byte.
+// Creates the token of another lexeme at a byte.
 fn sign<'a>(at: usize, lexeme: Lexeme<'a>) -> Token<'a>
     ensures { token_seen result ≡ record { at = at; lexeme = lexeme_seen lexeme.entry } }
 {
     Token { at, lexeme }
 }
 
-// The grammar expects something else at a byte.
+// Creates the token of a syntax error at a byte.
 fn syntax_error<'a>(at: usize, expected: Expected) -> Token<'a>
     ensures { token_seen result ≡ record { at = at; lexeme = broken (Syntax expected at) } }
 {
@@ -255,7 +255,7 @@ fn syntax_error<'a>(at: usize, expected: Expected) -> Token<'a>
     Token { at, lexeme }
 }
 
-// A feature that is not supported is asked for at a byte.
+// Creates the token of an unsupported feature at a byte.
 fn unsupported<'a>(at: usize, feature: Feature) -> Token<'a>
     ensures { token_seen result ≡ record { at = at; lexeme = broken (Unsupported feature at) } }
 {

@@ -1,4 +1,4 @@
-//! The grammar of queries: a text as a syntax tree, and a tree as text.
+//! The grammar of queries: parses a text into a syntax tree, and writes a tree as text.
 #![tactic(auto)]
 
 mod cut;

@@ -2,7 +2,7 @@ use std::alloc::{AllocError, AllocFailed};
 use std::fmt;
 use thiserror::Error;
 
-/// What the grammar expects at the byte where a query goes wrong.
+/// What the grammar expects at the byte of a syntax error.
 #[derive(Clone, Copy, Debug, PartialEq, Eq)]
 pub enum Expected {
     /// Something to search for: the query, or one in parentheses, is empty.
@@ -26,7 +26,7 @@ pub enum Expected {
 }
 
 impl Expected {
-    // The message, without its place.
+    // Returns the message, without the byte offset.
     fn message(self) -> &'static str {
         match self {
             Expected::Query => "the query is empty: write a word to search for",
@@ -72,7 +72,7 @@ pub enum Feature {
 }
 
 impl Feature {
-    // The message, without its place.
+    // Returns the message, without the byte offset.
     fn message(self) -> &'static str {
         match self {
             Feature::Wildcards => {
@@ -106,17 +106,16 @@ impl fmt::Display for Feature {
     }
 }
 
-/// Why a text was not read as a query.
+/// Why a text is not a valid query.
 #[derive(Clone, Copy, Debug, PartialEq, Eq, Error)]
 pub enum ParseError {
-    /// The grammar expects something else at this byte, which is the text's length where the text ends too
-    /// early.
+    /// The grammar expects something else at this byte. At an early end, it is the length of the text.
     #[error("at byte {1}: {0}")]
     Syntax(Expected, usize),
-    /// The text asks at this byte for a feature that is not supported.
+    /// The text uses an unsupported feature at this byte.
     #[error("at byte {1}: {0}")]
     Unsupported(Feature, usize),
-    /// An allocation failed.
+    /// A memory allocation failed.
     #[error("out of memory")]
     OutOfMemory,
 }

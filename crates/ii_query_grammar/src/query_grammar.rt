@@ -12,12 +12,12 @@ use crate::parse_error::{Expected, ParseError};
 use crate::user_input_ast::{UserInputAst, UserInputLiteral};
 use std::alloc::Global;
 
-/// How many parentheses of a query may be open at once. Nothing else bounds a query: a chain or a row of any
-/// number of words is one list, so the depth of a tree, and of each recursion over it, depends on the
-/// parentheses alone.
+/// The maximum number of open parentheses. Nothing else bounds a query: a chain or a row of any number of
+/// words is one list. So the depth of a tree, and of each recursion over it, depends on the parentheses
+/// alone.
 pub const MAX_NESTING: usize = 128;
 
-// The message of `Expected::LessNesting` names it.
+// The message of `Expected::LessNesting` mentions this number.
 const _: () = prove!(MAX_NESTING == 128);
 
 /// Returns the tree of a text by the grammar:
@@ -53,7 +53,7 @@ pub fn parse(alloc: Global, text: &str) -> Result<UserInputAst, ParseError>
     read_end(alloc, &opened, group, text.len())
 }
 
-// The current group after one more lexeme, with the groups that are open.
+// Reads one more lexeme into the current group and the open ones.
 fn read_one(
     alloc: Global,
     opened: &mut Vec<Group>,
@@ -74,7 +74,7 @@ fn read_one(
     }
 }
 
-// A group with one more word or phrase. Fails only with `OutOfMemory`.
+// Adds a word or a phrase to a group. Fails only with `OutOfMemory`.
 fn put_leaf(alloc: Global, group: Group, literal: LiteralView<'_>) -> Result<Group, ParseError>
     ensures put { IfOk result (λ g. group_of g ≡ put (group_of group) (leaf (literal_seen literal.entry))) }
     ensures only { OnlyMemoryRefuses result }
@@ -83,7 +83,7 @@ fn put_leaf(alloc: Global, group: Group, literal: LiteralView<'_>) -> Result<Gro
     group.put(alloc, ast)
 }
 
-// A group within the current one, if one more may be open.
+// Opens a group within the current one, if one more may be open.
 fn open(
     alloc: Global,
     opened: &mut Vec<Group>,
@@ -99,7 +99,7 @@ fn open(
     Ok(Group::new(alloc))
 }
 
-// The group around one that is closed.
+// Closes a group, and returns the group around it.
 fn close(
     alloc: Global,
     opened: &mut Vec<Group>,
@@ -118,7 +118,7 @@ fn close(
     }
 }
 
-// A group after a sign, if it may come here.
+// Returns a group after a sign, if the sign is allowed here.
 fn after_sign(group: Result<Option<Group>, ParseError>, at: usize) -> Result<Group, ParseError>
     ensures { (opened : List GroupState) (after : Option GroupState) → IfOk group (λ g. option_map group_of g ≡ after) → OnlyMemoryRefuses group
         → GoesOn result opened (λ others. read_sign others opened at after) }
@@ -130,7 +130,7 @@ fn after_sign(group: Result<Option<Group>, ParseError>, at: usize) -> Result<Gro
     }
 }
 
-// A word or a phrase as a tree. Fails only with `OutOfMemory`.
+// Returns a word or a phrase as a tree. Fails only with `OutOfMemory`.
 fn leaf(alloc: Global, literal: LiteralView<'_>) -> Result<UserInputAst, ParseError>
     ensures ok { IfOk result (λ ast. ast_of ast ≡ leaf (literal_seen literal.entry)) }
     ensures only { OnlyMemoryRefuses result }
@@ -144,7 +144,7 @@ fn leaf(alloc: Global, literal: LiteralView<'_>) -> Result<UserInputAst, ParseEr
     }))
 }
 
-// The name of a field, if there is one. Fails only with `OutOfMemory`.
+// Copies the name of a field, if there is one. Fails only with `OutOfMemory`.
 fn name_of(alloc: Global, name: Option<&str>) -> Result<Option<String>, ParseError>
     ensures ok { IfOk result (λ found. option_map (λ text. string_bytes text) found ≡ option_map unescaped (option_copied name.entry)) }
     ensures only { OnlyMemoryRefuses result }
@@ -155,7 +155,7 @@ fn name_of(alloc: Global, name: Option<&str>) -> Result<Option<String>, ParseErr
     }
 }
 
-// The tree at the end of a text with this many bytes: no group may be open.
+// Returns the tree at the end of a text of `size` bytes. No group may be open.
 fn read_end(
     alloc: Global,
     opened: &Vec<Group>,

@@ -6,7 +6,7 @@ use crate::cut::Stop;
 use crate::escapes::push_escaped;
 use std::alloc::{AllocError, Global};
 
-/// The characters around a word or a phrase.
+/// The delimiters of a word or a phrase.
 #[derive(Clone, Copy, Debug, PartialEq, Eq)]
 pub enum Delimiter {
     /// Double quotes.
@@ -18,7 +18,7 @@ pub enum Delimiter {
 /// A word or a phrase to search for.
 #[derive(Drop)]
 pub struct UserInputLiteral {
-    /// The name of the field, which a query writes before a colon; none for the default fields.
+    /// The name of the field, written before a colon; `None` for the default fields.
     pub field_name: Option<String>,
     /// The word, or the text between quotes, without escapes.
     pub phrase: String,
@@ -31,16 +31,16 @@ pub struct UserInputLiteral {
 pub enum UserInputAst {
     /// A word or a phrase.
     Leaf(UserInputLiteral),
-    /// Matches what all parts match.
+    /// Matches the documents that all parts match.
     And(Vec<UserInputAst>),
-    /// Matches what at least one part matches.
+    /// Matches the documents that at least one part matches.
     Or(Vec<UserInputAst>),
-    /// Matches what the first part matches and the other one doesn't.
+    /// Matches the documents that the first part matches and the other doesn't.
     AndNot(Box<UserInputAst>, Box<UserInputAst>),
 }
 
 impl UserInputLiteral {
-    // Adds its text.
+    // Appends its text.
     fn spell_into(&self, text: &mut String) -> Result<(), AllocError>
         ensures { OnOk result (string_bytes text.new ≡ string_bytes text.old ++ literal_text (literal_of self.now)) }
     {
@@ -52,7 +52,7 @@ impl UserInputLiteral {
         self.spell_phrase(text)
     }
 
-    // Adds its phrase, in quotes where it has these.
+    // Appends its phrase, in quotes if it has these.
     fn spell_phrase(&self, text: &mut String) -> Result<(), AllocError>
         ensures { OnOk result (string_bytes text.new ≡ string_bytes text.old ++ phrase_text (literal_of self.now)) }
     {
@@ -69,7 +69,7 @@ impl UserInputLiteral {
 }
 
 impl UserInputAst {
-    /// Returns the tree as text, each part that is not a word or a phrase in parentheses.
+    /// Returns the tree as text, with parentheses around each part that is not a word or a phrase.
     pub fn spell(&self, alloc: Global) -> Result<String, AllocError>
         ensures { IfOk result (λ text. string_bytes text ≡ spelled (ast_of self.now)) }
     {
@@ -78,7 +78,7 @@ impl UserInputAst {
         Ok(text)
     }
 
-    // Adds its text.
+    // Appends its text.
     #[cycle(spell)]
     fn spell_into(&self, text: &mut String) -> Result<(), AllocError>
         ensures { OnOk result (string_bytes text.new ≡ string_bytes text.old ++ spelled (ast_of self.now)) }
@@ -95,7 +95,7 @@ impl UserInputAst {
         }
     }
 
-    // Adds its text as that of a part.
+    // Appends its text as that of a part.
     #[cycle(spell)]
     fn spell_part(&self, text: &mut String) -> Result<(), AllocError>
         ensures { OnOk result (string_bytes text.new ≡ string_bytes text.old ++ part_text (ast_of self.now)) }
@@ -109,7 +109,7 @@ impl UserInputAst {
     }
 }
 
-// Adds the texts of parts, with one between each two.
+// Appends the texts of parts, with a separator between them.
 #[cycle(spell)]
 fn spell_parts(
     parts: &Vec<UserInputAst>,

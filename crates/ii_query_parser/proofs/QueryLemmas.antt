@@ -92,15 +92,8 @@ pub and_not_positions : (entries : List SchemaEntry) (first other : Box Query Gl
     → keeps_positions entries (AndNot first other) ≡ (keeps_positions entries first.value && keeps_positions entries other.value)
 and_not_positions entries first other = ap (holds_for_all (λ (t : TermState). true) (phrase_has_positions entries)) (and_not_tree first other)
 
--- whether a document matches, for each variant
-pub nothing_matches : (ts : List IndexToken) (doc : ℕ) → matches Empty ts doc ≡ false
-nothing_matches ts doc = ap (λ (t : QueryTree). tree_matches t ts doc) nothing_tree
-
 pub or_matches : (qs : Vec Query Global) (ts : List IndexToken) (doc : ℕ) → matches (Or qs) ts doc ≡ list_any (λ (q : Query). matches q ts doc) qs.items
 or_matches qs ts doc = ap (λ (t : QueryTree). tree_matches t ts doc) (or_tree qs) ∙ any_matched qs.items ts doc
 
 pub and_matches : (qs : Vec Query Global) (ts : List IndexToken) (doc : ℕ) → matches (And qs) ts doc ≡ (has_tree (trees_of qs.items) && list_all (λ (q : Query). matches q ts doc) qs.items)
 and_matches qs ts doc = ap (λ (t : QueryTree). tree_matches t ts doc) (and_tree qs) ∙ ap (λ (b : Bool). has_tree (trees_of qs.items) && b) (all_matched qs.items ts doc)
-
-pub and_not_matches : (first other : Box Query Global) (ts : List IndexToken) (doc : ℕ) → matches (AndNot first other) ts doc ≡ (matches first.value ts doc && not (matches other.value ts doc))
-and_not_matches first other ts doc = ap (λ (t : QueryTree). tree_matches t ts doc) (and_not_tree first other)

@@ -124,28 +124,6 @@ gathers_nothing q phrase all i first old now some end same first_is g =
     let why : refused (some_default q phrase all) ≡ Some (errors.FieldDoesNotHavePositionsIndexed first) = ap refused all_left ∙ ap (λ (f : ℕ). Some (errors.FieldDoesNotHavePositionsIndexed f)) (sym first_is) in
     inr why
 
-left_error : (entries : List SchemaEntry) (terms : Terms) (old new : List PhraseState) (e : QueryParserError) (needs : Bool) → needs_positions e ≡ needs → needs ≡ false → IsRefusedAs (refused terms) old new e → IsRefusedAs (refused (left_out terms)) old new e
-left_error entries terms old new e needs is other (inl memory) = inl memory
-left_error entries (Ok ts) old new e needs is other (inr why) = absurd (let none = why.0 in cc)
-left_error entries (Err f) old new e needs is other (inr why) =
-    let same : f ≡ e = let some = why.0 in cc in
-    inr (ap (λ (g : QueryParserError). refused (left_out (Err g))) same ∙ ap (λ (b : Bool). refused (cond b (Ok []) (Err e))) (is ∙ other), why.1)
-
--- the terms of a default field that is not left out
-pub left_stays : (terms : Terms) (entries : List SchemaEntry) (old new : List PhraseState) → AddsOrKeeps terms entries old new (Ok tt) → AddsOrKeeps (left_out terms) entries old new (Ok tt)
-left_stays terms entries old new (ts, is, new_is, within) = (ts, ap left_out is, new_is, within)
-
-pub left_stays_refused : (terms : Terms) (entries : List SchemaEntry) (old new : List PhraseState) (e : QueryParserError) → needs_positions e ≡ false → IsRefusedAs (refused terms) old new e → IsRefusedAs (refused (left_out terms)) old new e
-left_stays_refused terms entries old new e is why = left_error entries terms old new e false is refl why
-
--- a default field that is left out
-pub left_none : (terms : Terms) (entries : List SchemaEntry) (field : ℕ) (old new : List PhraseState) → IsRefusedAs (refused terms) old new (errors.FieldDoesNotHavePositionsIndexed field) → AddsOrKeeps (left_out terms) entries old new (Ok tt)
-left_none terms entries field old new (inl memory) = absurd (cc)
-left_none (Ok ts) entries field old new (inr why) = absurd (let none = why.0 in cc)
-left_none (Err f) entries field old new (inr why) =
-    let same : f ≡ errors.FieldDoesNotHavePositionsIndexed field = let some = why.0 in cc in
-    ([], ap (λ (g : QueryParserError). left_out (Err g)) same, why.1 ∙ sym (append-nil old), refl)
-
 typed_same : (analyze : List ℕ → List Word) (entries : List SchemaEntry) (field : ℕ) (keeps expand_dots : Bool) (path phrase : List ℕ) (t : ValueType)
     → typed_terms (record { analyze = analyze; entries = [] }) field keeps expand_dots path phrase t ≡ typed_terms (record { analyze = analyze; entries = entries }) field keeps expand_dots path phrase t
 typed_same analyze entries field keeps expand_dots path phrase types.Str = refl

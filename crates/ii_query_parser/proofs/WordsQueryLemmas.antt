@@ -53,15 +53,6 @@ collects_more old new words left here all is pushed i = record {
   kept = λ entries. and_on (list_all (keeps_positions entries) old) (phrase_kept entries words) (list_all (phrase_kept entries) left) (list_all (phrase_kept entries) all) _ (pushed.kept entries) (ap (λ (ps : List PhraseState). list_all (keeps_positions entries) old && list_all (phrase_kept entries) ps) (sym is) ∙ i.kept entries);
 }
 
-pub collected_any : (queries : List Query) (all : List PhraseState) → IsCollecting queries [] all → (ts : List IndexToken) (doc : ℕ) → list_any (λ (q : Query). matches q ts doc) queries ≡ has_term ts doc all
-collected_any queries all i ts doc = sym (or-false (list_any (λ (q : Query). matches q ts doc) queries)) ∙ i.found ts doc
-
-pub collected_within : (queries : List Query) (all : List PhraseState) → IsCollecting queries [] all → (n : ℕ) → list_all (has_fields n) queries ≡ list_all (phrase_within n) all
-collected_within queries all i n = sym (and-true (list_all (has_fields n) queries)) ∙ i.within n
-
-pub collected_kept : (queries : List Query) (all : List PhraseState) → IsCollecting queries [] all → (entries : List SchemaEntry) → list_all (keeps_positions entries) queries ≡ list_all (phrase_kept entries) all
-collected_kept queries all i entries = sym (and-true (list_all (keeps_positions entries) queries)) ∙ i.kept entries
-
 -- What holds of each of some queries.
 record EachMeans (q : QueryFields) (us : Asts) (queries : List Query) : Type 0 where
   taken : asts_refusal q us ≡ None
@@ -117,9 +108,6 @@ pub record IsReading (q : QueryFields) (parts left : List UserInputAst) (queries
   pub taken : asts_refusal q (trees_in parts) ≡ asts_refusal q (trees_in left)
   pub mean : (others : List Query) → MeanEach q (trees_in left) others → MeanEach q (trees_in parts) (queries ++ others)
 
-pub reads_none : (q : QueryFields) (parts : List UserInputAst) → IsReading q parts parts []
-reads_none q parts = record { taken = refl; mean = λ others means. means }
-
 pub reads_more : (q : QueryFields) (parts left here : List UserInputAst) (part : UserInputAst) (old new : List Query) (query : Query) → here ≡ part ∷ left → Means q (ast_of part) query → new ≡ old ++ query ∷ [] → IsReading q parts here old → IsReading q parts left new
 reads_more q parts left here part old new query is means new_is i = record {
   taken = i.taken ∙ ap (λ (ps : List UserInputAst). asts_refusal q (trees_in ps)) is ∙ ap (λ (r : Option QueryParserError). option_or r (asts_refusal q (trees_in left))) means.taken;
@@ -131,8 +119,3 @@ reads_more q parts left here part old new query is means new_is i = record {
 pub reads_all : (q : QueryFields) (parts left : List UserInputAst) (queries : List Query) → left ≡ [] → IsReading q parts left queries → MeanEach q (trees_in parts) queries
 reads_all q parts left queries is i =
     subst (λ (xs : List Query). MeanEach q (trees_in parts) xs) (append-nil queries) (i.mean [] (subst (λ (ps : List UserInputAst). MeanEach q (trees_in ps) []) (sym is) tt))
-
-pub reads_refused : (q : QueryFields) (parts left here : List UserInputAst) (part : UserInputAst) (queries : List Query) (e : QueryParserError) → here ≡ part ∷ left → IsReading q parts here queries → IsWhyRefused (ast_refusal q (ast_of part)) e → IsWhyRefused (asts_refusal q (trees_in parts)) e
-reads_refused q parts left here part queries e is i (inl memory) = inl memory
-reads_refused q parts left here part queries e is i (inr why) =
-    inr (i.taken ∙ ap (λ (ps : List UserInputAst). asts_refusal q (trees_in ps)) is ∙ ap (λ (r : Option QueryParserError). option_or r (asts_refusal q (trees_in left))) why)

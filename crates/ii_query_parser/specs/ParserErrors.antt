@@ -13,16 +13,16 @@ as_parser_error (Unsupported feature at) = errors.Unsupported feature at
 as_parser_error OutOfMemory = errors.Fault faults.OutOfMemory
 
 -- the field of a schema that an error concerns, if there is one
-abbrev pub field_of : QueryParserError → Option ℕ
-field_of (errors.SyntaxError expected at) = None
-field_of (errors.Unsupported feature at) = None
-field_of errors.FieldDoesNotExist = None
-field_of (errors.FieldNotIndexed field) = Some field
-field_of errors.NoDefaultFieldDeclared = None
-field_of (errors.ExpectedInt field) = Some field
-field_of (errors.ExpectedBool field) = Some field
-field_of (errors.UnsupportedPhrase field) = Some field
-field_of (errors.FieldDoesNotHavePositionsIndexed field) = Some field
-field_of (errors.UnsupportedPath field) = Some field
-field_of (errors.UnsupportedType field) = Some field
-field_of (errors.Fault fault) = None
+abbrev pub field_of_error : QueryParserError → Option ℕ
+field_of_error (errors.SyntaxError expected at) = None
+field_of_error (errors.Unsupported feature at) = None
+field_of_error errors.FieldDoesNotExist = None
+field_of_error (errors.FieldNotIndexed field) = Some field
+field_of_error errors.NoDefaultFieldDeclared = None
+field_of_error (errors.ExpectedInt field) = Some field
+field_of_error (errors.ExpectedBool field) = Some field
+field_of_error (errors.UnsupportedPhrase field) = Some field
+field_of_error (errors.FieldDoesNotHavePositionsIndexed field) = Some field
+field_of_error (errors.UnsupportedPath field) = Some field
+field_of_error (errors.UnsupportedType field) = Some field
+field_of_error (errors.Fault fault) = None

@@ -1,4 +1,4 @@
-//! Queries over the fields of a schema, and the parser of their texts.
+//! Queries over the fields of a schema, and the parser of query texts.
 #![tactic(auto)]
 
 pub mod literal;

@@ -16,7 +16,7 @@ use ii_json::convert_to_fast_value_and_append_to_json_term;
 use ii_query_grammar::UserInputLiteral;
 use std::alloc::Global;
 
-/// Adds the terms and phrases of a literal: a document matches if it has one of them.
+/// Appends the terms and phrases of a literal. A document matches if it has any of them.
 pub(crate) fn push_literal<A: TextAnalyzer>(
     alloc: Global,
     schema: &Schema,

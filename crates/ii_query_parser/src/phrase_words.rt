@@ -60,8 +60,8 @@ impl PhraseWords {
     }
 }
 
-/// Returns the phrase of a text's tokens, each after a prefix, if there is one: the first token, and the
-/// others, none of which comes before it, or 2^32 positions or more after it.
+/// Returns the phrase of a text's tokens, each after a prefix. Returns `None` if there are no tokens, or if
+/// one occurs before the first or 2^32 positions or more after it.
 pub(crate) fn words_phrase<A: TextAnalyzer>(
     alloc: Global,
     analyzer: &A,

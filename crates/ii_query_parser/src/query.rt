@@ -17,22 +17,22 @@ pub struct PhraseTerm {
     pub term: Term,
 }
 
-/// A query: which documents of an index are searched for.
+/// A query over the documents of an index.
 ///
-/// A boolean query holds any number of clauses in a list, so the depth of a query is its nesting alone.
+/// A boolean query holds any number of clauses in a list, so its depth is only that of its nesting.
 #[derive(Drop)]
 pub enum Query {
     /// Matches no document.
     Empty,
-    /// Matches each document below a number: all documents of an index that has that many. No document is
-    /// `TERMINATED` or above.
+    /// Matches each document below a number; with the index's number of documents, all of them. `TERMINATED`
+    /// and above never match.
     All(DocId),
     /// Matches the documents with a token of the term's field whose key is the term's value.
     Term(Term),
-    /// Matches the documents with a phrase: a token of its first term in a text, from whose position each
-    /// other term occurs at its distance. The fields of the terms keep positions.
+    /// Matches the documents with a phrase: a token of its first term, with each other term at its distance
+    /// after that. The fields of the terms keep positions.
     Phrase(Term, Vec<PhraseTerm>),
-    /// Matches the documents that each of the queries matches; no document where there are no queries.
+    /// Matches the documents that all queries match; no document if there are no queries.
     And(Vec<Query>),
     /// Matches the documents that at least one of the queries matches.
     Or(Vec<Query>),
@@ -41,11 +41,7 @@ pub enum Query {
 }
 
 impl Query {
-    /// Returns the query that matches what both match.
-    ///
-    /// # Errors
-    ///
-    /// `OutOfMemory` if there is no memory for a list of two.
+    /// Returns the query that matches what both match. Fails only with `OutOfMemory`.
     #[tactic(auto, using(crate::proofs::QueryLemmas::and_tree))]
     pub fn and(alloc: Global, first: Query, other: Query) -> Result<Query, Fault>
         ensures tree { IfOk result (λ query. tree_of query ≡ each_of (tree (tree_of first) (tree (tree_of other) no_tree))) }
@@ -60,11 +56,7 @@ impl Query {
         }
     }
 
-    /// Returns the query that matches what at least one of two matches.
-    ///
-    /// # Errors
-    ///
-    /// `OutOfMemory` if there is no memory for a list of two.
+    /// Returns the query that matches what at least one of two matches. Fails only with `OutOfMemory`.
     #[tactic(auto, using(crate::proofs::QueryLemmas::or_tree))]
     pub fn or(alloc: Global, first: Query, other: Query) -> Result<Query, Fault>
         ensures tree { IfOk result (λ query. tree_of query ≡ any_of (tree (tree_of first) (tree (tree_of other) no_tree))) }
@@ -79,11 +71,8 @@ impl Query {
         }
     }
 
-    /// Returns the query that matches what the first matches and the other one doesn't.
-    ///
-    /// # Errors
-    ///
-    /// `OutOfMemory` if there is no memory for two boxes.
+    /// Returns the query that matches what the first matches and the other one doesn't. Fails only with
+    /// `OutOfMemory`.
     #[tactic(auto, using(crate::proofs::QueryLemmas::and_not_tree))]
     pub fn and_not(alloc: Global, first: Query, other: Query) -> Result<Query, Fault>
         ensures tree { IfOk result (λ query. tree_of query ≡ without (tree_of first) (tree_of other)) }
@@ -98,11 +87,7 @@ impl Query {
         }
     }
 
-    /// Returns the query that matches what the first and all others match.
-    ///
-    /// # Errors
-    ///
-    /// `OutOfMemory` if there is no memory for one more query in the list.
+    /// Returns the query that matches what the first and all others match. Fails only with `OutOfMemory`.
     #[tactic(auto, using(crate::proofs::QueryLemmas::and_tree, crate::proofs::QueryLemmas::all_matched, crate::proofs::QueryLemmas::held_for_all))]
     pub fn and_all(first: Query, others: Vec<Query>) -> Result<Query, Fault>
         ensures tree { IfOk result (λ query. tree_of query ≡ each_of (tree (tree_of first) (trees_of others.items))) }
@@ -118,8 +103,8 @@ impl Query {
         }
     }
 
-    /// Returns the query that matches what at least one of some queries matches; no document where there
-    /// are none.
+    /// Returns the query that matches what at least one of some queries matches; no document if there are
+    /// none.
     #[tactic(auto, using(crate::proofs::QueryLemmas::or_tree, crate::proofs::QueryLemmas::or_matches, crate::proofs::QueryLemmas::or_fields, crate::proofs::QueryLemmas::or_positions))]
     pub fn or_any(queries: Vec<Query>) -> Query
         ensures tree { tree_of result ≡ any_of (trees_of queries.items) }
@@ -130,7 +115,7 @@ impl Query {
         Query::Or(queries)
     }
 
-    /// Returns whether the field of each term is a field of the schema.
+    /// Returns whether each term belongs to a field of the schema.
     #[cycle(has_fields)]
     #[tactic(auto, using(crate::proofs::QueryLemmas::nothing_fields, crate::proofs::QueryLemmas::all_fields, crate::proofs::QueryLemmas::term_fields, crate::proofs::QueryLemmas::phrase_fields, crate::proofs::QueryLemmas::and_fields, crate::proofs::QueryLemmas::or_fields, crate::proofs::QueryLemmas::and_not_fields))]
     pub fn has_fields(&self, schema: &Schema) -> bool

@@ -15,16 +15,16 @@ use ii_base::{Fault, Field, Schema, TextAnalyzer};
 use ii_query_grammar::{UserInputAst, UserInputLiteral, parse};
 use std::alloc::Global;
 
-/// Returns the query of a text (`ii_query_grammar::parse`) over the fields of a schema. A word or a phrase
-/// that names no field is looked up in all `default_fields`, which are fields of the schema. A default field
-/// that keeps no positions is left out of a phrase of several words, unless no default field is left; `Schema`
-/// says which fields keep positions (`FieldEntry::index_record_option`). See `query_of` for the meaning of a
-/// word or a phrase.
+/// Parses a query text (`ii_query_grammar::parse`) over the fields of a schema. A word or a phrase without a
+/// field name is searched in all `default_fields`, which are fields of the schema. Default fields without
+/// positions are skipped for a phrase of several words, unless no other default field is left.
+/// `FieldEntry::index_record_option` says which fields keep positions. `query_of` documents the meaning of
+/// words and phrases.
 ///
 /// # Errors
 ///
-/// `SyntaxError` or `Unsupported` with the first byte at which the text is not a query; otherwise the error of
-/// its first word or phrase that has one.
+/// `SyntaxError` or `Unsupported` with the first byte at which the text is not a query; otherwise the error
+/// of the first word or phrase that has one.
 pub fn parse_query<A: TextAnalyzer>(
     alloc: Global,
     schema: &Schema,
@@ -42,20 +42,20 @@ pub fn parse_query<A: TextAnalyzer>(
 
 /// Returns the query of a tree. Its words and phrases mean this:
 ///
-/// - The name of a field is that of a field of the schema, or that of one of JSON values, a dot, and a path into
-///   these: the name ends at the first dot then. `FieldDoesNotExist` if it is neither.
-/// - A text in a field of texts is the token that the analyzer makes of it, or the phrase of several, each at
-///   its position. `UnsupportedPhrase` if it makes none, or one before the first, or 2^32 positions or more
-///   after it; `FieldDoesNotHavePositionsIndexed` if there are several and the field keeps no positions.
-/// - In a field of numbers or truth values it is the value that Rust's `parse` makes of it; `ExpectedInt` or
-///   `ExpectedBool` if it makes none.
-/// - At a path of JSON values it is either of them: the value that it is taken for, as a signed number, an
-///   unsigned one or a truth value, or its token or phrase as in a field of texts; `UnsupportedPhrase` if it is
-///   neither.
+/// - A name is that of a field of the schema, or that of a JSON field, a dot and a path in its values. In
+///   that case the field's name ends at the first dot. `FieldDoesNotExist` if it is neither.
+/// - In a text field, a text is the token that the analyzer makes of it, or the phrase of several, each at
+///   its position. `UnsupportedPhrase` if there is no token, or if one occurs before the first or 2^32
+///   positions or more after it. `FieldDoesNotHavePositionsIndexed` if there are several and the field keeps
+///   no positions.
+/// - In a field of numbers or booleans, a text is the value that Rust's `parse` gives; `ExpectedInt` or
+///   `ExpectedBool` if there is none.
+/// - At a JSON path, a text matches as a value (a signed number, an unsigned one or a boolean) or as a token
+///   or phrase, as in a text field. `UnsupportedPhrase` if it is neither.
 ///
 /// # Errors
 ///
-/// The error of the first word or phrase that has one, or `OutOfMemory` in a `Fault` if an allocation fails.
+/// The error of the first word or phrase that has one, or `OutOfMemory` in a `Fault`.
 #[cycle(query_of)]
 pub fn query_of<A: TextAnalyzer>(
     alloc: Global,

@@ -3,18 +3,18 @@ use ii_query_grammar::{Expected, Feature, ParseError};
 use std::alloc::{AllocError, AllocFailed};
 use thiserror::Error;
 
-/// Why a text was not taken as a query.
+/// Why a text is not a query.
 ///
-/// An error that concerns a field of the schema holds it (`field`), so that a program can print its name.
+/// An error about a field of the schema holds that field (`field`), so that a program can print its name.
 #[derive(Clone, Copy, Debug, PartialEq, Eq, Error)]
 pub enum QueryParserError {
     /// The grammar expects something else at this byte of the text.
     #[error("at byte {1}: {0}")]
     SyntaxError(Expected, usize),
-    /// The text asks at this byte for a feature that is not supported.
+    /// The text uses an unsupported feature at this byte.
     #[error("at byte {1}: {0}")]
     Unsupported(Feature, usize),
-    /// The schema has no field of a name, or the name has a path and its field has no JSON values.
+    /// The schema has no field with a name, or a name has a path but its field is not a JSON field.
     #[error("no field has this name")]
     FieldDoesNotExist,
     /// The field is not indexed.
@@ -26,17 +26,17 @@ pub enum QueryParserError {
     /// A text is not a number of the field's type.
     #[error("expected a number")]
     ExpectedInt(Field),
-    /// A text in a field of truth values is neither `true` nor `false`.
+    /// A text in a boolean field is neither `true` nor `false`.
     #[error("expected true or false")]
     ExpectedBool(Field),
-    /// A text without tokens, in a field of texts, or at a path where it is no value either; or one with a
-    /// token before its first one, or 2^32 positions or more after it.
+    /// A text without tokens, which at a JSON path is no value either. Also one with a token before its
+    /// first, or 2^32 positions or more after it.
     #[error("expected a text with words")]
     UnsupportedPhrase(Field),
     /// A phrase in a field that keeps no positions.
     #[error("the field keeps no positions, which a phrase needs")]
     FieldDoesNotHavePositionsIndexed(Field),
-    /// A path with byte 0 in it.
+    /// A path that contains byte 0.
     #[error("a path with byte 0 is not supported")]
     UnsupportedPath(Field),
     /// A field of dates, bytes or addresses.
@@ -49,11 +49,11 @@ pub enum QueryParserError {
 
 impl QueryParserError {
     ghost use Rattle.std.specs.Prelude.{◌≡◌};
-    ghost use Rattle.ii_query_parser.specs.ParserErrors.{field_of};
+    ghost use Rattle.ii_query_parser.specs.ParserErrors.{field_of_error};
 
-    /// Returns the field that the error concerns, if it is one of a schema.
+    /// Returns the field of the schema that the error is about, if there is one.
     pub fn field(self) -> Option<Field>
-        ensures { result ≡ field_of self }
+        ensures { result ≡ field_of_error self }
     {
         match self {
             QueryParserError::FieldNotIndexed(field)

@@ -7,8 +7,8 @@ use crate::literal::{cut_at_dot, field_named, has_json};
 use ii_base::Schema;
 use ii_query_grammar::{UserInputAst, UserInputLiteral};
 
-/// Returns the first name in a tree that is neither that of a field of the schema nor that of one of JSON values
-/// and a path after a dot: the name that `FieldDoesNotExist` is about.
+/// Returns the first name in a tree that `FieldDoesNotExist` is about: it names no field of the schema, and
+/// no JSON field with a path after a dot.
 #[cycle(unknown_field_name)]
 pub fn unknown_field_name<'a>(schema: &Schema, ast: &'a UserInputAst) -> Option<&'a str>
     ensures { option_copied result ≡ unknown_in schema.now (ast_of ast.now) }

@@ -16,7 +16,7 @@ use Rattle.ii_check.specs.CheckedPostings.{AreReadFreqs, AreLastFreqs, CheckedPo
 use Rattle.ii_reader.specs.Bounds.{bounds_of, bounds_read}
 use Rattle.ii_reader.specs.BlockSegmentPostings.{AreEntries, BlockSegmentPostingsState, GoesTo, IsLazy, IsLoaded, doc_in_block, first_decodes, freqs_of_block, freq_in_block}
 
--- an entry of a block that a decoder holds, and what stands after the block
+-- an entry of a block that a decoder holds, and what follows the block
 pub entry_held : (values : List ℕ) (block padding idx : ℕ) (decoder : BlockDecoderState) → HoldsBlock values block padding decoder → idx < length (block_of values block) → get_or decoder.output idx 0 ≡ get_or (block_of values block) idx 0
 entry_held values block padding idx decoder h inside =
     let many = h.many in

@@ -1,4 +1,4 @@
--- Laws of what bounds blocks, and of seeks by count.
+-- Laws of the bounds of blocks, and of seeks by term frequency.
 use Rattle.std.proofs.Common.{◌≡◌, ℕ, zero, suc, ◌+◌, ◌-◌, ◌*◌, ◌/◌, ◌<◌, ◌≤◌, Bool, true, false, ◌&&◌, ◌==◌, List, [], ◌∷◌, ◌++◌, length, drop, map, get_or, nat_le, nat_lt, max, slice_get, Option, Some, None, option_map, IfSome, IsSome, is_some, Result, Ok, Err, refl, sym, ap, ◌∙◌, arith, length-take, length-drop, if◌then◌else◌}
 use Rattle.std.specs.List.{list_all, range_with_len, sum_by}
 use Rattle.std.proofs.lemmas.Bool.{and_parts, or_parts, le-leb, lt-leb, leb-true, ltb-true, ltb-false}
@@ -181,7 +181,7 @@ placed_behind (Some fs) target least block from idx place docs before few end is
       full = λ all. omega arith;
     }
 
--- how many blocks may have a count of so many
+-- how many blocks may have a term frequency of at least `least`
 range_parts : (a n m : ℕ) → range_with_len a (n + m) ≡ range_with_len a n ++ range_with_len (a + n) m
 range_parts a zero m =
     let none : 0 + m ≡ m = omega arith in
@@ -391,7 +391,7 @@ nothing_from_end (e ∷ es) up =
     let unwanted = lt-leb TERMINATED e.doc (omega arith) in
     rw unwanted (nothing_from_end es up.1)
 
--- the rest of a cursor's list
+-- the remaining entries of a cursor's list
 pub rest_sought : (o deltas : Option (List ℕ)) (target least n m k : ℕ) (docs : List ℕ) → IsSome o → AreEntries n docs o → IfSome o (λ (fs : List ℕ). IsFirstWanted target least docs fs m k)
     → drop k (list_of docs o deltas) ≡ sought_with_freq target least (drop m (list_of docs o deltas))
 rest_sought None deltas target least n m k docs some are first = absurd (cc)
@@ -462,7 +462,7 @@ trusted_read recorded requested doc_freq bytes reading bounds e f = by (postings
         (λ j. Ok (trusted (read j) (found j)))
     by (Err q) e f = absurd (cc)
 
--- what a reader tells of a block's bounds
+-- what a reader returns about a block's bounds
 abbrev norm_in : BlockInfo → ℕ
 norm_in (BitPacked w s f sum norm tf) = norm
 norm_in (VInt n) = 0

@@ -61,7 +61,7 @@ postings_basic recorded requested n bytes known =
     bind_less (ok_or (skip_list recorded (n / 128) bytes) Skip) (after_skip requested n) (after_skip Basic n)
     (λ skip is. bind_less (ok_or (documents_at skip (n % 128)) Documents) (after_docs requested n skip) (after_docs Basic n skip) (λ found is there. refl)) known
 
--- nor are those that aren't recorded: the entries have no room for them
+-- nor are positions that aren't recorded: the entries don't hold them
 basic_if : (t : Bool) → ◌≡◌ {A = IndexRecordOption} (if t then Basic else Basic) Basic
 basic_if true = refl
 basic_if false = refl
@@ -179,7 +179,7 @@ all_opened reader ord (e ∷ es) opens =
     let found = term_of_file reader reader.option e.1 in
     first_step reader ord e es found refl ∙ step_open reader ord e.1 (first_from reader (ord + 1) es) found refl opens.0 (all_opened reader (ord + 1) es opens.1)
 
--- what holds of each term holds of the one that a look-up finds, and the other way round where keys ascend
+-- what holds for each term holds for the one that a lookup finds, and conversely if keys ascend
 under : (P : TermInfo → Type 0) (entries : List TermEntry) (key : List ℕ) → AllByRecursion (λ (e : TermEntry). P e.1) entries → IfSome (info_under key entries) P
 under P [] key all = tt
 under P (e ∷ es) key all = by_test (bytes_eq key e.0) (under P es key all.1)
@@ -188,7 +188,8 @@ under P (e ∷ es) key all = by_test (bytes_eq key e.0) (under P es key all.1)
     by_test true others = all.0
     by_test false others = others
 
-none_above : (k : List ℕ) (es : List TermEntry) → AllByRecursion (λ (y : List ℕ). slice_cmp nat_cmp k y ≡ Less) (entry_keys es) → info_under k es ≡ None
+-- a key before all keys is none of them
+pub none_above : (k : List ℕ) (es : List TermEntry) → AllByRecursion (λ (y : List ℕ). slice_cmp nat_cmp k y ≡ Less) (entry_keys es) → info_under k es ≡ None
 none_above k [] below = refl
 none_above k (e ∷ es) below =
     let apart : bytes_eq k e.0 ≡ false = sym (is_eq-slice_cmp k e.0) ∙ ap is_eq below.0 in
@@ -243,7 +244,7 @@ step_at reader terms ord info found checking at is =
 pub checking_first : (reader : InvertedIndexReaderState) (terms : TermStreamerState) → terms ≡ record { entries = reader.terms; passed = 0 } → IsChecking reader terms 0
 checking_first reader terms is = record { terms_are = is; left = refl }
 
--- the streamer behind one more term
+-- the streamer after one more term
 pub passed_on : (reader : InvertedIndexReaderState) (terms now : TermStreamerState) (t : Bool) (ord : ℕ) → ord < length reader.terms → IsChecking reader terms ord → t ≡ nat_lt terms.passed (length terms.entries) → now ≡ record terms { passed = if t then terms.passed + 1 else terms.passed }
     → now ≡ record { entries = reader.terms; passed = ord + 1 }
 passed_on reader terms now t ord low checking t_is now_is =

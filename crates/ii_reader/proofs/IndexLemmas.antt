@@ -25,7 +25,7 @@ use Rattle.ii_reader.specs.InvertedIndexReader.{InvertedIndexReaderState, IsRefu
 use Rattle.ii_reader.specs.OpenIndex.{AnswersNorms, FieldReaderHolds, GivesNorms, IndexBodies, NormsHold, ReadersHold, all_or_first, field_readers, OpenIndexState, index_bodies, index_of_files, reader_if, reader_of_field}
 use Rattle.ii_definitions.proofs.GroupedLaws.{no_field}
 
--- what stands before what others give
+-- a list before what others give
 abbrev pub in_front : {A : Type 0} → List A → Result (List A) Part → Result (List A) Part
 in_front done (Ok others) = Ok (done ++ others)
 in_front done (Err part) = Err part
@@ -73,7 +73,7 @@ with_parts tables norms read = tables >>= λ (bodies : IndexBodies). norms >>= �
 abbrev with_readers : List Body → Result (List InvertedIndexReaderState) Part → Result OpenIndexState Part
 with_readers fieldnorms found = found >>= λ (readers : List InvertedIndexReaderState). Ok (record { readers = readers; fieldnorms = fieldnorms })
 
--- what stands in an index that was opened
+-- what an opened index holds
 opened_parts : (tables : Result IndexBodies Part) (norms : Result (List Body) Part) (read : IndexBodies → Result (List InvertedIndexReaderState) Part) (index : OpenIndexState)
     → with_parts tables norms read ≡ Ok index → ((tables >>= read) ≡ Ok index.readers) × (norms ≡ Ok index.fieldnorms)
 opened_parts (Err part) norms read index is = absurd (cc)
@@ -109,7 +109,8 @@ pub many_readers : (terms postings positions fieldnorms : List ℕ) (entries : L
 many_readers terms postings positions fieldnorms entries index is =
     many_after (index_bodies terms postings positions) entries index.readers (parts_of terms postings positions fieldnorms entries index is).0
 
-no_body : (n : ℕ) → false ≡ nat_lt 0 n → n ≡ 0
+-- a body that is not above 0 is 0
+pub no_body : (n : ℕ) → false ≡ nat_lt 0 n → n ≡ 0
 no_body n e = let none = ltb-false 0 n (sym e) in omega (arith, none)
 
 -- A reader has this option, and the tokens of a field.

@@ -104,7 +104,7 @@ offsets_more docs offsets positions more doc o last =
       within = λ i inside. (order_more docs offsets positions more i (nat_lt i (length docs)) o last refl (omega arith)).1;
     }
 
--- Part of a list was loaded: what is held and what is left make up the whole.
+-- Part of a list was loaded: the loaded and the remaining documents form the complete list.
 pub record IsLoading (all rest : List Entry) (docs offsets positions : List ℕ) : Type 0 where
   pub offsets_are : AreOffsets docs offsets positions
   pub last : get_or offsets (length docs) 0 ≡ length positions
@@ -192,7 +192,7 @@ loaded_fits es h few =
 pub loaded_sound : (es : List Entry) → IsSound es → num_positions es < 2 ^ 32 → IsSound (loaded es)
 loaded_sound es h few = record { ascending = (loaded_ascending es h.ascending).1; fits = loaded_fits es h.fits few }
 
--- the whole list was loaded
+-- the complete list was loaded
 all_loaded : (all : List Entry) (docs offsets positions : List ℕ) → IsLoading all [] docs offsets positions → entries_held docs offsets positions ≡ loaded all
 all_loaded all docs offsets positions l = sym (append-nil (entries_held docs offsets positions)) ∙ l.parts
 

@@ -38,7 +38,7 @@ middle n count start from ds within = ap (take n) (moved from count (drop start 
     firsts : (xs : List ℕ) → take n (take (count - from) xs) ≡ take n xs
     firsts xs = least n (count - from) xs (omega (arith, within))
 
--- What is read of the positions whose deltas, so many, begin at a place: so many from another place on.
+-- What is read of a range of positions, given where their deltas begin.
 pub record IsPiece (deltas : List ℕ) (start count from before many room : ℕ) : Type 0 where
   pub inside : start + count ≤ length deltas
   pub within : from < count
@@ -73,7 +73,7 @@ pub piece_fits : (deltas : List ℕ) (start count from before many room : ℕ) �
 piece_fits deltas start count from before many room p fit =
     ap fit_u32 (piece_sums deltas start count from before many room p) ∙ take_fits many _ (drop_fits from (running_sums 0 (take count (drop start deltas))) fit)
 
--- what stands in the output then
+-- what the output holds then
 pub piece_read : (deltas out : List ℕ) (start count from before many : ℕ) → IsPiece deltas start count from before many (length out)
     → running_sums before (take many (drop (start + from) deltas)) ++ drop many out ≡ take (length out) (drop from (running_sums 0 (take count (drop start deltas)))) ++ drop (count - from) out
 piece_read deltas out start count from before many p =

@@ -135,7 +135,7 @@ pub list_is : (reader : InvertedIndexReaderState) (field : ℕ) (key : List ℕ)
 list_is reader field key requested ts info rest holds found =
     ap (λ (r : Result (List Entry) Part). result_unwrap_or r []) (sym found ∙ list_held reader field key requested ts info holds)
 
--- so reading it is refused for memory alone
+-- so reading it fails only with `OutOfMemory`
 pub memory_alone : (reader : InvertedIndexReaderState) (field : ℕ) (key : List ℕ) (requested : IndexRecordOption) (ts : List IndexToken) (info : TermInfo) (fault : Fault)
     → HoldsTerm reader.option field key reader.postings reader.positions ts info → IsRefusal (term_of_file reader requested info) fault → fault ≡ OutOfMemory
 memory_alone reader field key requested ts info fault holds (inl memory) = memory

@@ -102,7 +102,7 @@ entries_are p h =
     let many = h.many in
     record { many = refl; ascending = h.ascending; freqs_are = λ fs e. rw many (h.freqs fs e) }
 
--- the rest from the target on begins at the place of the answer
+-- the remaining entries from the target on begin at the returned place
 dropped : (target : ℕ) (es : List Entry) (m n : ℕ) → target ≤ TERMINATED → ((k : ℕ) → m ≤ k → k < m + n → doc_at (drop k es) < target) → from_doc target (drop m es) ≡ from_doc target (drop (m + n) es)
 dropped target es m zero up less = let same : m ≡ m + 0 = omega arith in ap (λ (k : ℕ). from_doc target (drop k es)) same
 dropped target es m (suc n) up less =

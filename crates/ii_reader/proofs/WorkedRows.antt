@@ -55,7 +55,7 @@ row_positions = refl
 pub row_end : IsEndOf (document 0 ∷ document 2 ∷ document 10 ∷ []) (document 10 ∷ [])
 row_end = refl
 
--- a term in documents 0 and 2 whose bytes stand after another byte, in a field without positions
+-- a term in documents 0 and 2 whose bytes follow another byte, in a field without positions
 abbrev plain_info : TermInfo
 plain_info = term_info_from 2 1 3 9 1
 
@@ -95,7 +95,7 @@ pub row_dictionary : reader_of_bodies Basic (replicate 7 0) (replicate 7 0) [] �
 unfolding dictionary keys_at key_parts number_at
 row_dictionary = refl
 
--- a body that only another file lacks, and one that the terms lack
+-- a body that is missing in one other file, and one that is missing in the file of terms
 pub row_lacking : reader_if Basic (Some []) None (Some []) ≡ Err Composite
 row_lacking = refl
 

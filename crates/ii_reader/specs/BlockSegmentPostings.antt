@@ -1,4 +1,4 @@
--- A cursor over the blocks of a term's list.
+-- A cursor over the blocks of a term's postings.
 use Rattle.std.specs.Prelude.{◌≡◌, ℕ, ◌+◌, ◌-◌, ◌*◌, ◌/◌, ◌<◌, ◌≤◌, max, true, List, [], length, take, min, ⊤, Option, None, Some, slice_index}
 use Rattle.std.specs.List.{slice_index_or, sum}
 use Rattle.ii_base.specs.declared.schema.index_record_option.IndexRecordOption.{IndexRecordOption}
@@ -12,7 +12,7 @@ use Rattle.ii_check.specs.FreqReading.{reading_of_none}
 use Rattle.ii_reader.specs.Bounds.{blocks_with_freq}
 use Rattle.ii_check.specs.CheckedPostings.{AreReadFreqs, CheckedPostingsState, HasDocuments, HoldsBlock, HoldsFreqs, IsAtBlock}
 
--- the option that the field records, and the one that is requested; the documents of the list and, where they are read, their counts; whether these are read; what bounds the full blocks; the number of the block; how many decodes of documents and of counts there were, and how many skip entries were read
+-- a cursor: options, documents, frequencies, bounds of full blocks, block, and what was decoded and read
 pub record BlockSegmentPostingsState : Type 0 where
   pub recorded : IndexRecordOption
   pub requested : IndexRecordOption
@@ -25,48 +25,48 @@ pub record BlockSegmentPostingsState : Type 0 where
   pub freq_decodes : ℕ
   pub entries_read : ℕ
 
--- a cursor over no documents, by the option that a field records and the one that is requested
+-- a cursor over no documents, by the recorded and the requested option
 abbrev pub cursor_of_none : IndexRecordOption → IndexRecordOption → BlockSegmentPostingsState
 cursor_of_none recorded requested = record { recorded = recorded; requested = requested; docs = []; freqs = None; freq_reading = reading_of_none recorded requested; bounds = []; block = 0; doc_decodes = 0; freq_decodes = 0; entries_read = 0 }
 
--- the document at a place of a block, or the end after its documents
+-- the document at a place of a block, or `TERMINATED` after its documents
 abbrev pub doc_in_block : List ℕ → ℕ → ℕ → ℕ
 doc_in_block docs block idx = slice_index_or (block_of docs block) idx TERMINATED
 
--- the counts of a block, none where they aren't read
+-- the term frequencies of a block, none if they aren't read
 abbrev pub freqs_of_block : Option (List ℕ) → ℕ → List ℕ
 freqs_of_block None block = []
 freqs_of_block (Some freqs) block = block_of freqs block
 
--- the count at a place of a block, 1 where counts aren't read
+-- the term frequency at a place of a block, 1 if term frequencies aren't read
 abbrev pub freq_in_block : Option (List ℕ) → ℕ → ℕ → ℕ
 freq_in_block None block idx = 1
 freq_in_block (Some freqs) block idx = slice_index (block_of freqs block) idx
 
--- how many decodes of counts there were for the first block of a list of so many documents
+-- how often term frequencies were decoded for the first block of a list of `n` documents
 abbrev pub first_decodes : Option (List ℕ) → ℕ → ℕ
 first_decodes None n = 0
 first_decodes (Some freqs) n = min 1 n
 
--- Documents and counts are those of a list: they are so many, the documents ascend, and counts have 32 bits.
+-- Documents and frequencies of a list: `n` of each, ascending documents, and 32-bit frequencies.
 pub record AreEntries (n : ℕ) (docs : List ℕ) (freqs : Option (List ℕ)) : Type 0 where
   pub many : length docs ≡ n
   pub ascending : are_documents docs ≡ true
   pub freqs_are : (fs : List ℕ) → freqs ≡ Some fs → AreReadFreqs n fs
 
--- So many positions come before a document of a list, by its place: the sum of all counts before it.
+-- The number of positions before a document is the sum of all term frequencies before it.
 abbrev pub ComeBefore : Option (List ℕ) → ℕ → ℕ → Type 0
 ComeBefore None place offset = ⊤
 ComeBefore (Some freqs) place offset = offset ≡ sum (take place freqs)
 
--- Every block up to here was decoded at most once, its documents and its counts, and every skip entry read at most once. The empty block after the last is the end.
+-- Each block and each skip entry up to here was decoded or read at most once; the empty block is the end.
 pub record IsLazy (c : BlockSegmentPostingsState) : Type 0 where
   pub within : c.block ≤ length c.docs / 128 + 1
   pub doc_decodes : c.doc_decodes ≤ c.block + 1
   pub freq_decodes : c.freq_decodes ≤ c.block + 1
   pub entries_read : c.entries_read ≤ min (c.block + 1) (length c.docs / 128)
 
--- A cursor goes on to a block: the list stays, and a decode is only where the block is another one.
+-- A cursor moves to a block: the list stays, and it only decodes if the block is another one.
 pub record GoesTo (old new : BlockSegmentPostingsState) (to : ℕ) : Type 0 where
   pub recorded : new.recorded ≡ old.recorded
   pub requested : new.requested ≡ old.requested
@@ -78,7 +78,7 @@ pub record GoesTo (old new : BlockSegmentPostingsState) (to : ℕ) : Type 0 wher
   pub doc_decodes : new.doc_decodes ≤ old.doc_decodes + min 1 (to - old.block)
   pub freq_decodes : new.freq_decodes ≤ old.freq_decodes + min 1 (to - old.block)
 
--- A cursor looks for a count from a block on: the list stays, and only blocks are decoded that may have one of so many, as far as their bounds say.
+-- A cursor seeks a frequency: the list stays, and it only decodes blocks whose bound allows `least`.
 pub record LooksFor (least : ℕ) (old new : BlockSegmentPostingsState) : Type 0 where
   pub recorded : new.recorded ≡ old.recorded
   pub requested : new.requested ≡ old.requested
@@ -90,7 +90,7 @@ pub record LooksFor (least : ℕ) (old new : BlockSegmentPostingsState) : Type 0
   pub doc_decodes : new.doc_decodes ≤ old.doc_decodes + blocks_with_freq least old.bounds old.block new.block
   pub freq_decodes : new.freq_decodes ≤ old.freq_decodes + blocks_with_freq least old.bounds old.block new.block
 
--- What a cursor holds: a list that was checked, a skip reader at its block, and decoders with the documents and the counts of that block.
+-- The state of a cursor: validated postings, a skip reader at its block, and decoders with that block.
 pub record IsLoaded (checked : CheckedPostingsState) (skip : SkipReaderState) (docs freqs : BlockDecoderState) : Type 0 where
   pub has : HasDocuments checked
   pub at : IsAtBlock checked skip
@@ -99,13 +99,13 @@ pub record IsLoaded (checked : CheckedPostingsState) (skip : SkipReaderState) (d
   pub doc_decodes : docs.decodes ≤ skip.block + 1
   pub freq_decodes : freqs.decodes ≤ skip.block + 1
 
--- So many documents from the front on lie below the target, and the next one, if there is one, doesn't.
+-- The first `below` documents are less than the target, and the next one, if there is one, isn't.
 pub record IsBelow (target : ℕ) (docs : List ℕ) (below : ℕ) : Type 0 where
   pub within : below ≤ length docs
   pub before : (n : ℕ) → n < below → slice_index docs n < target
   pub there : below < length docs → target ≤ slice_index docs below
 
--- A seek went from block i to block k of a list, and answered how many documents of that one lie below the target: all documents from block i on and before that place lie below it, and none after it does. Block k is the first one that ends in another document, or the last one; from there on it stays.
+-- A seek from block i to the first block k that reaches the target, or to the last one; `below` are less.
 pub record IsSought (target : ℕ) (docs : List ℕ) (i k below : ℕ) : Type 0 where
   pub forward : i ≤ k
   pub within : k ≤ max i (length docs / 128)

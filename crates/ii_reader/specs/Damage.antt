@@ -1,4 +1,4 @@
--- Which terms of an index are damaged.
+-- Which terms of an index are corrupt.
 use Rattle.std.specs.Prelude.{ℕ, List, Option, slice_get}
 use Rattle.std.specs.List.{enumerate_from, filter_map}
 use Rattle.std.specs.Option.{option_map}
@@ -8,30 +8,30 @@ use Rattle.ii_termdict.specs.Dictionary.{TermEntry}
 use Rattle.ii_reader.specs.declared.damage.DamagedTerm.{DamagedTerm}
 use Rattle.ii_reader.specs.InvertedIndexReader.{InvertedIndexReaderState, term_of_file}
 
--- a damaged term
+-- a corrupt term
 abbrev pub damaged_term : ℕ → Part → DamagedTerm
 damaged_term ord part = record { ord = ord; part = part }
 
--- the term at a place in the order of keys, with the first part of its list that fails, if one does
+-- the term at an ordinal with its first corrupt part, if it has one
 abbrev pub damage_of : InvertedIndexReaderState → ℕ × TermEntry → Option DamagedTerm
 damage_of reader e = option_map (damaged_term e.0) (result_err (term_of_file reader reader.option e.1.1))
 
--- the damaged terms of a field, in the order of their keys
+-- the corrupt terms of a field, in the order of their keys
 abbrev pub damaged_terms : InvertedIndexReaderState → List DamagedTerm
 damaged_terms reader = filter_map (damage_of reader) (enumerate_from 0 reader.terms)
 
--- the first of them
+-- the first corrupt term of a field
 abbrev pub first_damaged_term : InvertedIndexReaderState → Option DamagedTerm
 first_damaged_term reader = slice_get (damaged_terms reader) 0
 
--- a field with its first damaged term, if it has one
+-- a field with its first corrupt term, if it has one
 abbrev pub damage_of_field : ℕ × InvertedIndexReaderState → Option (ℕ × DamagedTerm)
 damage_of_field f = option_map (λ term. (f.0, term)) (first_damaged_term f.1)
 
--- the fields that have damaged terms, in order, each with its first one
+-- the fields with corrupt terms, in order, each with its first one
 abbrev pub damaged_fields : List InvertedIndexReaderState → List (ℕ × DamagedTerm)
 damaged_fields readers = filter_map damage_of_field (enumerate_from 0 readers)
 
--- the first of them
+-- the first field with a corrupt term
 abbrev pub first_damaged_field : List InvertedIndexReaderState → Option (ℕ × DamagedTerm)
 first_damaged_field readers = slice_get (damaged_fields readers) 0

@@ -1,4 +1,4 @@
--- The terms of a field, as its bodies in the three files have them.
+-- The terms of a field, as its bodies in the three files hold them.
 use Rattle.std.specs.Prelude.{◌≡◌, ℕ, ◌≤◌, ◌⊎◌, Bool, true, false, not, ◌&&◌, ◌||◌, IsTrue, List, [], length, min, ◌/◌, nat_le, Option, None, Some, IfSome, IsOk, Result, Ok, Err, MatchOption}
 use Rattle.std.specs.Option.{option_map}
 use Rattle.std.specs.declared.ops.Range.{Range}
@@ -21,7 +21,7 @@ use Rattle.ii_reader.specs.Bounds.{bounds_read, bounds_trusted}
 use Rattle.ii_reader.specs.BlockSegmentPostings.{AreEntries, BlockSegmentPostingsState, first_decodes}
 use Rattle.ii_reader.specs.SegmentPostings.{SegmentPostingsState}
 
--- the entries of the dictionary, the bytes of the postings after the number of tokens, those of the positions, what the field records, and how many tokens it has
+-- a reader: dictionary entries, bytes of postings and positions, option of the field, and number of tokens
 pub record InvertedIndexReaderState : Type 0 where
   pub terms : List (List ℕ × TermInfo)
   pub postings : List ℕ
@@ -33,54 +33,54 @@ pub record InvertedIndexReaderState : Type 0 where
 abbrev pub reader_of_none : IndexRecordOption → InvertedIndexReaderState
 reader_of_none option = record { terms = []; postings = []; positions = []; option = option; num_tokens = 0 }
 
--- a reader over a dictionary and the two bodies of its postings and positions, the first of which begins with the number of tokens; nothing where that is missing
+-- a reader over a dictionary and two bodies, or nothing if the number of tokens is missing
 abbrev pub reader_over : List (List ℕ × TermInfo) → List ℕ → List ℕ → IndexRecordOption → Option InvertedIndexReaderState
 reader_over terms postings positions option =
     option_map (λ (counted : ℕ × List ℕ). record { terms = terms; postings = counted.1; positions = positions; option = option; num_tokens = counted.0 }) (number_at 8 postings)
 
--- whether a range lies in bytes
+-- whether a range is within bytes
 abbrev pub lies_in : List ℕ → Range ℕ → Bool
 lies_in bytes range = nat_le range.start range.end && nat_le range.end (length bytes)
 
--- whether positions are read of a term that has counts
+-- whether the positions of a term with term frequencies are read
 abbrev pub reads_positions : InvertedIndexReaderState → IndexRecordOption → Bool
 reads_positions reader requested = has_positions (downgrade reader.option requested)
 
--- bytes that are given, or none
+-- the bytes if they are given
 abbrev pub given_if : Bool → List ℕ → Option (List ℕ)
 given_if false bytes = None
 given_if true bytes = Some bytes
 
--- whether the ranges of a term lie in the bodies, that of its positions where they are read
+-- whether the ranges of a term are within the bodies; that of positions only counts if they are read
 abbrev pub ranges_lie : InvertedIndexReaderState → IndexRecordOption → TermInfo → Bool
 ranges_lie reader requested info =
     lies_in reader.postings info.postings_range && (not (reads_positions reader requested) || lies_in reader.positions info.positions_range)
 
--- what a term gives, or Range where its ranges don't lie in the bodies
+-- what a term gives, or Range if its ranges aren't within the bodies
 abbrev pub if_they_lie : {A : Type 0} → Bool → Result A Part → Result A Part
 if_they_lie false found = Err parts.Range
 if_they_lie true found = found
 
--- the list of a term, or the first part that fails
+-- the list of a term, or its first corrupt part
 abbrev pub term_of_file : InvertedIndexReaderState → IndexRecordOption → TermInfo → Result (List Entry) Part
 term_of_file reader requested info =
     if_they_lie (ranges_lie reader requested info)
     (term_list reader.option requested info.doc_freq (bytes_in reader.postings info.postings_range) (Some (bytes_in reader.positions info.positions_range)))
 
--- the documents of a term and, where they are read, their counts, or the first part that fails
+-- the documents of a term and, if they are read, its frequencies, or its first corrupt part
 abbrev pub docs_of_file : List ℕ → IndexRecordOption → IndexRecordOption → TermInfo → Result (List ℕ × Option (List ℕ)) Part
 docs_of_file postings recorded requested info =
     if_they_lie (lies_in postings info.postings_range) (docs_and_freqs recorded requested info.doc_freq (bytes_in postings info.postings_range))
 
--- Each term opens, however much of its list is requested.
+-- Each term opens, whatever is requested of its list.
 abbrev pub AllOpen : InvertedIndexReaderState → Type 0
 AllOpen reader = (key : List ℕ) (requested : IndexRecordOption) → IfSome (info_under key reader.terms) (λ info. IsOk (term_of_file reader requested info))
 
--- Why something wasn't read: there was no memory, or the first part that fails is damaged.
+-- The reason of an error: an allocation failure, or the first corrupt part.
 abbrev pub IsRefusal : {A : Type 0} → Result A Part → Fault → Type 0
 IsRefusal found fault = (fault ≡ OutOfMemory) ⊎ ((part : Part) × (fault ≡ Damaged part) × (found ≡ Err part))
 
--- A cursor was opened over the list of a term: all of it is left, and no block but the first was decoded.
+-- A cursor was opened at the start of a term's list, and decoded no block but the first.
 pub record OpensTerm (reader : InvertedIndexReaderState) (requested : IndexRecordOption) (info : TermInfo) (cursor : SegmentPostingsState) : Type 0 where
   pub list : term_of_file reader requested info ≡ Ok cursor.rest
   pub doc_freq : cursor.doc_freq ≡ info.doc_freq
@@ -93,7 +93,7 @@ pub record OpensTerm (reader : InvertedIndexReaderState) (requested : IndexRecor
   pub entries_read : cursor.entries_read ≤ 1
   pub position_decodes : cursor.position_decodes ≤ 1
 
--- A block cursor was opened over the documents of a term, by these options: it is at the first block, and decoded no other.
+-- A block cursor was opened at the first block of a term's documents, and decoded no other.
 pub record OpensBlocks (postings : List ℕ) (recorded requested : IndexRecordOption) (info : TermInfo) (cursor : BlockSegmentPostingsState) : Type 0 where
   pub docs : docs_of_file postings recorded requested info ≡ Ok (cursor.docs, cursor.freqs)
   pub recorded_is : cursor.recorded ≡ recorded
@@ -106,22 +106,22 @@ pub record OpensBlocks (postings : List ℕ) (recorded requested : IndexRecordOp
   pub freq_decodes : cursor.freq_decodes ≡ first_decodes cursor.freqs info.doc_freq
   pub entries_read : cursor.entries_read ≡ min 1 (info.doc_freq / 128)
 
--- A reader has the tokens of a field: how many there are, exactly the keys that occurred, and the postings of each.
+-- A reader holds the tokens of a field: their number, exactly the keys that occurred, and their postings.
 pub record ReaderHolds (field : ℕ) (reader : InvertedIndexReaderState) (ts : List IndexToken) : Type 0 where
   pub counted : reader.num_tokens ≡ field_count field ts
   pub exact : (key : List ℕ) → MatchOption (info_under key reader.terms) (occurs field key ts ≡ false) (HoldsTerm reader.option field key reader.postings reader.positions ts)
 
--- The list of a term is this one: reading it is refused for memory alone.
+-- The list of a term is this one; reading it fails only with `OutOfMemory`.
 abbrev pub GivesList : List Entry → Result SegmentPostingsState Fault → Type 0
 GivesList es (Ok cursor) = cursor.rest ≡ es
 GivesList es (Err fault) = fault ≡ OutOfMemory
 
--- The list of a term was put in place of that of a cursor: this is refused for memory alone.
+-- The list of a term replaced that of a cursor; this fails only with `OutOfMemory`.
 abbrev pub PutsList : {A : Type 0} → List Entry → Result A Fault → SegmentPostingsState → Type 0
 PutsList es (Ok done) cursor = cursor.rest ≡ es
 PutsList es (Err fault) cursor = fault ≡ OutOfMemory
 
--- A key gives nothing exactly where it didn't occur, and else its postings: reading them is refused for memory alone.
+-- A key gives its postings, or `None` exactly if it didn't occur; reading fails only with `OutOfMemory`.
 abbrev pub GivesPostings : IndexRecordOption → ℕ → List ℕ → IndexRecordOption → List IndexToken → Result (Option SegmentPostingsState) Fault → Type 0
 GivesPostings option field key requested ts (Ok None) = occurs field key ts ≡ false
 GivesPostings option field key requested ts (Ok (Some cursor)) = IsTrue (occurs field key ts) × (cursor.rest ≡ key_postings option field key requested ts)

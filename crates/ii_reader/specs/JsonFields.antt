@@ -8,7 +8,7 @@ use Rattle.ii_definitions.specs.JsonKeys.{path_in, type_in}
 use Rattle.ii_termstore.specs.declared.term_info.TermInfo.{TermInfo}
 use Rattle.ii_termdict.specs.Dictionary.{TermEntry}
 
--- A path with a type, how many bytes its terms take, and how many there are.
+-- A path with a type, the number of bytes of its terms, and how many there are.
 pub record FieldSpaceState : Type 0 where
   pub field_name : List ℕ
   pub field_type : ValueType
@@ -16,7 +16,7 @@ pub record FieldSpaceState : Type 0 where
   pub positions_size : ℕ
   pub num_terms : ℕ
 
--- what one term takes, under its path and type
+-- the size of one term, under its path and type
 abbrev pub space_of_term : List ℕ → TermInfo → ValueType → FieldSpaceState
 space_of_term key info value_type = record {
   field_name = path_in key;
@@ -26,19 +26,19 @@ space_of_term key info value_type = record {
   num_terms = 1;
 }
 
--- what one term takes, if its key has a type
+-- the size of one term, if its key has a type
 abbrev pub space_of : TermEntry → Option FieldSpaceState
 space_of e = option_map (space_of_term e.0 e.1) (type_in e.0)
 
--- what all keys of a path with a type begin with
+-- the bytes that all keys of a path with a type begin with
 abbrev pub label_of : FieldSpaceState → List ℕ
 label_of s = s.field_name ++ 0 ∷ code_of s.field_type ∷ []
 
--- whether two have the same path and type
+-- whether two spaces have the same path and type
 abbrev pub is_same_label : FieldSpaceState → FieldSpaceState → Bool
 is_same_label s t = bytes_eq s.field_name t.field_name && (code_of s.field_type == code_of t.field_type)
 
--- what two terms under one path and type take together
+-- the total size of two terms under one path and type
 abbrev pub sum_of : FieldSpaceState → FieldSpaceState → FieldSpaceState
 sum_of s t = record s {
   postings_size = s.postings_size + t.postings_size;
@@ -46,12 +46,12 @@ sum_of s t = record s {
   num_terms = s.num_terms + t.num_terms;
 }
 
--- one more term before those of these paths and types: with the first one if it is of that path and type
+-- spaces with an earlier term: in the first space if it has that path and type, else in a new one
 abbrev pub with_space : FieldSpaceState → List FieldSpaceState → List FieldSpaceState
 with_space s [] = s ∷ []
 with_space s (t ∷ ts) = if is_same_label s t then sum_of s t ∷ ts else s ∷ t ∷ ts
 
--- the paths and types of all keys in order, with what the terms of each take; nothing where a key has no type
+-- the spaces of all keys in order, or `None` if a key has no type
 abbrev pub spaces_of : List TermEntry → Option (List FieldSpaceState)
 spaces_of [] = Some []
 spaces_of (e ∷ es) = do
@@ -59,7 +59,7 @@ spaces_of (e ∷ es) = do
   spaces ← spaces_of es
   Some (with_space s spaces)
 
--- What so many terms take: as many bytes as so many ranges of 64 bits at most.
+-- The size of `n` terms is at most that of `n` ranges of 64 bits.
 pub record IsWithin (n : ℕ) (s : FieldSpaceState) : Type 0 where
   pub postings : s.postings_size ≤ n * 2 ^ 64
   pub positions : s.positions_size ≤ n * 2 ^ 64

@@ -8,12 +8,12 @@ use Rattle.ii_base.specs.declared.doc_id.TheConstants.{TERMINATED}
 use Rattle.ii_base.specs.Entries.{Entry}
 use Rattle.ii_docset.specs.Cursor.{IsSound}
 
--- what is left of the list, and how many documents were loaded
+-- the remaining documents, and how many documents were loaded
 pub record LoadedPostingsState : Type 0 where
   pub rest : List Entry
   pub num_docs : ℕ
 
--- an entry whose count is the number of its positions
+-- an entry whose term frequency is its number of positions
 abbrev pub loaded_entry : Entry → Entry
 loaded_entry e = record { doc = e.doc; term_freq = length e.positions; positions = e.positions }
 
@@ -21,34 +21,34 @@ loaded_entry e = record { doc = e.doc; term_freq = length e.positions; positions
 abbrev pub loaded : List Entry → List Entry
 loaded es = map loaded_entry es
 
--- how many positions the documents of a list have
+-- the number of positions of the documents of a list
 abbrev pub num_positions : List Entry → ℕ
 num_positions es = sum_by (λ (e : Entry). length e.positions) es
 
--- A list is an end of another one.
+-- A list is a suffix of another one.
 abbrev pub IsEndOf : List Entry → List Entry → Type 0
 IsEndOf all es = es ≡ drop (length all - length es) all
 
--- Why a list with so many positions wasn't loaded: there was no memory, or these are more than u32::MAX.
+-- Why a list wasn't loaded: an allocation failure, or more than u32::MAX positions.
 abbrev pub IsLoadFault : ℕ → Fault → Type 0
 IsLoadFault n fault = (fault ≡ OutOfMemory) ⊎ ((fault ≡ Limit LoadedPositions) × (2 ^ 32 ≤ n))
 
--- the entry of a document whose positions lie between two places
+-- the entry of a document whose positions are between two offsets
 abbrev pub entry_between : ℕ → ℕ → ℕ → List ℕ → Entry
 entry_between doc start end positions = record { doc = doc; term_freq = end - start; positions = take (end - start) (drop start positions) }
 
--- the entries of documents whose positions lie one after the other, between these offsets
+-- the entries of documents whose positions follow each other, between these offsets
 abbrev pub entries_held : List ℕ → List ℕ → List ℕ → List Entry
 entries_held [] offsets positions = []
 entries_held (d ∷ ds) offsets positions = entry_between d (slice_index offsets 0) (slice_index offsets 1) positions ∷ entries_held ds (drop 1 offsets) positions
 
--- Offsets into positions stand before each document and after the last one, and don't fall.
+-- Offsets into positions, before each document and after the last one, don't decrease.
 pub record AreOffsets (docs offsets positions : List ℕ) : Type 0 where
   pub many : length offsets ≡ length docs + 1
   pub order : (i : ℕ) → i < length docs → slice_index offsets i ≤ slice_index offsets (i + 1)
   pub within : (i : ℕ) → i < length docs → slice_index offsets (i + 1) ≤ length positions
 
--- A list in memory: its documents, the offsets of their positions, these, and the place of the current document.
+-- A list in memory: its documents, the offsets of their positions, the positions, and the current document.
 pub record IsHeld (docs offsets positions : List ℕ) (cursor : ℕ) : Type 0 where
   pub offsets_are : AreOffsets docs offsets positions
   pub few : length docs ≤ TERMINATED

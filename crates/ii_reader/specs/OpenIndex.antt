@@ -24,7 +24,7 @@ pub record IndexBodies : Type 0 where
   pub postings : List Body
   pub positions : List Body
 
--- those of three files, or Composite
+-- the bodies in three files, or Composite
 abbrev pub index_bodies : List ℕ → List ℕ → List ℕ → Result IndexBodies Part
 index_bodies terms postings positions = do
   t ← ok_or (composite terms) Composite
@@ -32,13 +32,13 @@ index_bodies terms postings positions = do
   q ← ok_or (composite positions) Composite
   Ok (record { terms = t; postings = p; positions = q })
 
--- the reader of a field's three bodies, or the first part that fails
+-- the reader of a field's three bodies, or the first corrupt part
 abbrev pub reader_of_bodies : IndexRecordOption → List ℕ → List ℕ → List ℕ → Result InvertedIndexReaderState Part
 reader_of_bodies option terms postings positions = do
   entries ← dictionary terms
   ok_or (reader_over entries postings positions option) TokenCount
 
--- the reader of a field: over no terms where the body of these is missing, else over all three, none of which may be missing then
+-- the reader of a field: over no terms if their body is missing, else over all three bodies
 abbrev pub reader_if : IndexRecordOption → Option (List ℕ) → Option (List ℕ) → Option (List ℕ) → Result InvertedIndexReaderState Part
 reader_if option None postings positions = Ok (reader_of_none option)
 reader_if option (Some terms) None positions = Err Composite
@@ -49,7 +49,7 @@ reader_if option (Some terms) (Some postings) (Some positions) = reader_of_bodie
 abbrev pub reader_of_field : IndexBodies → ℕ → IndexRecordOption → Result InvertedIndexReaderState Part
 reader_of_field bodies field option = reader_if option (body_of field bodies.terms) (body_of field bodies.postings) (body_of field bodies.positions)
 
--- what all of them give, or the first part that fails
+-- all results, or the first corrupt part
 abbrev pub all_or_first : {A : Type 0} → List (Result A Part) → Result (List A) Part
 all_or_first [] = Ok []
 all_or_first (found ∷ others) = do
@@ -57,16 +57,16 @@ all_or_first (found ∷ others) = do
   xs ← all_or_first others
   Ok (x ∷ xs)
 
--- the readers of the fields of a schema, one after the other; bodies of other fields aren't looked at
+-- the readers of the fields of a schema, one after the other; bodies of other fields are ignored
 abbrev pub field_readers : IndexBodies → List SchemaEntry → Result (List InvertedIndexReaderState) Part
 field_readers bodies entries = all_or_first (map (λ (f : ℕ × SchemaEntry). reader_of_field bodies f.0 f.1.option) (enumerate_from 0 entries))
 
--- an index that is open: the readers of the fields of its schema, and the bodies of its file of norms
+-- an open index: the readers of the fields of its schema, and the bodies of its file of norms
 pub record OpenIndexState : Type 0 where
   pub readers : List InvertedIndexReaderState
   pub fieldnorms : List Body
 
--- that of four files, or the first part that fails: the tables come before the fields
+-- the index in four files, or the first corrupt part; the tables come before the fields
 abbrev pub index_of_files : List ℕ → List ℕ → List ℕ → List ℕ → List SchemaEntry → Result OpenIndexState Part
 index_of_files terms postings positions fieldnorms entries = do
   bodies ← index_bodies terms postings positions
@@ -74,35 +74,35 @@ index_of_files terms postings positions fieldnorms entries = do
   readers ← field_readers bodies entries
   Ok (record { readers = readers; fieldnorms = norms })
 
--- A reader has what a field of the schema records, and its tokens.
+-- A reader has the option of a field of the schema, and holds its tokens.
 pub record FieldReaderHolds (entries : List SchemaEntry) (field : ℕ) (reader : InvertedIndexReaderState) (ts : List IndexToken) : Type 0 where
   pub option_is : reader.option ≡ option_of entries field
   pub holds : ReaderHolds field reader ts
 
--- The readers of the fields of a schema have the tokens of each.
+-- The readers of the fields of a schema hold the tokens of each.
 abbrev pub ReadersHold : List SchemaEntry → List InvertedIndexReaderState → List IndexToken → Type 0
 ReadersHold entries readers ts = (field : ℕ) → field < length entries → IsSomeAnd (slice_get readers field) (λ reader. FieldReaderHolds entries field reader ts)
 
--- So they do where an index is opened, which is refused for memory alone.
+-- Opening an index gives such readers; it fails only with `OutOfMemory`.
 abbrev pub GivesReaders : List SchemaEntry → List IndexToken → Result OpenIndexState Fault → Type 0
 GivesReaders entries ts (Ok index) = ReadersHold entries index.readers ts
 GivesReaders entries ts (Err fault) = fault ≡ OutOfMemory
 
--- Bodies have the norms of exactly the fields with norms: for each of so many documents the byte of its number of tokens.
+-- Bodies hold the norms of exactly the fields with norms: for each document the byte of its number of tokens.
 abbrev pub NormsHold : List SchemaEntry → ℕ → List Body → List IndexToken → Type 0
 NormsHold entries num_docs bodies ts = (field : ℕ) → body_of field bodies ≡ (if has_norms entries field then Some (norm_ids num_docs field ts) else None)
 
--- An open index has tokens: its readers those of each field, and its norms how many a document has of each field with norms.
+-- An open index holds tokens: its readers those of each field, and its norms those of fields with norms.
 pub record IndexHolds (entries : List SchemaEntry) (num_docs : ℕ) (index : OpenIndexState) (ts : List IndexToken) : Type 0 where
   pub readers : ReadersHold entries index.readers ts
   pub norms : NormsHold entries num_docs index.fieldnorms ts
 
--- A reader of norms answers for each of so many documents the byte of its number of tokens in a field.
+-- A reader of norms returns for each document the byte of its number of tokens in a field.
 pub record AnswersNorms (num_docs field : ℕ) (ts : List IndexToken) (norms : Norms) : Type 0 where
   pub num_docs_is : norms.num_docs ≡ num_docs
   pub each : (doc : ℕ) → doc < num_docs → id_of_doc norms doc ≡ id_of_norm (doc_count doc field ts)
 
--- A field gives no reader of norms exactly where it keeps none, and is refused for memory alone.
+-- A field gives its norms, or `None` exactly if it keeps none; reading fails only with `OutOfMemory`.
 abbrev pub GivesNorms : List SchemaEntry → ℕ → ℕ → List IndexToken → Result (Option Norms) Fault → Type 0
 GivesNorms entries num_docs field ts (Ok None) = has_norms entries field ≡ false
 GivesNorms entries num_docs field ts (Ok (Some norms)) = IsTrue (has_norms entries field) × AnswersNorms num_docs field ts norms

@@ -1,4 +1,4 @@
--- A cursor over the documents of a term, with their counts and positions.
+-- A cursor over the documents of a term, with their term frequencies and positions.
 use Rattle.std.specs.Prelude.{◌≡◌, ℕ, ◌+◌, ◌*◌, ◌/◌, ◌≤◌, true, List, [], Option, None, Some, length, min, ⊤}
 use Rattle.std.specs.List.{sum, list_all}
 use Rattle.ii_base.specs.Options.{downgrade, has_positions}
@@ -11,7 +11,7 @@ use Rattle.ii_check.specs.FreqReading.{reading_of_none}
 use Rattle.ii_check.specs.declared.freq_reading_option.FreqReadingOption.{FreqReadingOption}
 use Rattle.ii_reader.specs.BlockSegmentPostings.{BlockSegmentPostingsState}
 
--- what is left of its list, how many documents the list has, whether counts are read, what bounds the full blocks as far as that was looked at, the number of the block, how many decodes of documents and of counts there were, how many skip entries were read, and how many decodes of positions there were
+-- a cursor: remaining documents, `doc_freq`, validated bounds, current block, and what was decoded and read
 pub record SegmentPostingsState : Type 0 where
   pub rest : List Entry
   pub doc_freq : ℕ
@@ -23,21 +23,21 @@ pub record SegmentPostingsState : Type 0 where
   pub entries_read : ℕ
   pub position_decodes : ℕ
 
--- a cursor over no documents, by the option that a field records and the one that is requested
+-- a cursor over no documents, by the recorded and the requested option
 abbrev pub postings_of_none : IndexRecordOption → IndexRecordOption → SegmentPostingsState
 postings_of_none recorded requested = record { rest = []; doc_freq = 0; freq_reading = reading_of_none recorded requested; bounds = []; block = 0; doc_decodes = 0; freq_decodes = 0; entries_read = 0; position_decodes = 0 }
 
--- how many decodes of positions there were
+-- how often positions were decoded
 abbrev pub decodes_read : Option PositionReaderState → ℕ
 decodes_read None = 0
 decodes_read (Some reader) = reader.decodes
 
--- Deltas are the positions of documents with these counts: as many as these say, and each position has 32 bits.
+-- Deltas are the positions of documents with these frequencies: matching in number, and of 32 bits each.
 pub record HasDeltas (freqs deltas : List ℕ) : Type 0 where
   pub many : length deltas ≡ sum freqs
   pub fit : list_all fit_u32 (positions_of freqs deltas) ≡ true
 
--- So it is where there are deltas.
+-- The same, if there are deltas.
 abbrev pub AreGivenDeltas : Option (List ℕ) → Option (List ℕ) → Type 0
 AreGivenDeltas freqs None = ⊤
 AreGivenDeltas None (Some deltas) = ⊥
@@ -48,7 +48,7 @@ abbrev pub FitCursor : BlockSegmentPostingsState → Option (List ℕ) → Type 
 FitCursor cursor None = ⊤
 FitCursor cursor (Some deltas) = (has_positions (downgrade cursor.recorded cursor.requested) ≡ true) × AreGivenDeltas cursor.freqs (Some deltas)
 
--- The cursor went forward over its list, and decoded documents and counts no more often than its block number rose, and no positions.
+-- The cursor moved forward, by at least as many blocks as it decoded, and decoded no positions.
 pub record WentLazily (old new : SegmentPostingsState) : Type 0 where
   pub doc_freq : new.doc_freq ≡ old.doc_freq
   pub freq_reading : new.freq_reading ≡ old.freq_reading
@@ -58,7 +58,7 @@ pub record WentLazily (old new : SegmentPostingsState) : Type 0 where
   pub freq_decodes : new.freq_decodes + old.block ≤ old.freq_decodes + new.block
   pub position_decodes : new.position_decodes ≡ old.position_decodes
 
--- The same where positions were asked for so many times, of documents with these counts together: those blocks were decoded in which they lie.
+-- The same with `asked` reads of `counts` positions, which only decoded the blocks that hold them.
 pub record SpentLazily (asked counts : ℕ) (old new : SegmentPostingsState) : Type 0 where
   pub doc_freq : new.doc_freq ≡ old.doc_freq
   pub freq_reading : new.freq_reading ≡ old.freq_reading
@@ -68,20 +68,20 @@ pub record SpentLazily (asked counts : ℕ) (old new : SegmentPostingsState) : T
   pub freq_decodes : new.freq_decodes + old.block ≤ old.freq_decodes + new.block
   pub position_decodes : new.position_decodes ≤ old.position_decodes + counts / 128 + 2 * asked
 
--- Every block up to here was decoded at most once, its documents and its counts, and every skip entry read at most once. The empty block after the last is the end.
+-- Each block and each skip entry up to here was decoded or read at most once; the empty block is the end.
 pub record StaysLazy (s : SegmentPostingsState) : Type 0 where
   pub within : s.block ≤ s.doc_freq / 128 + 1
   pub doc_decodes : s.doc_decodes ≤ s.block + 1
   pub freq_decodes : s.freq_decodes ≤ s.block + 1
   pub entries_read : s.entries_read ≤ min (s.block + 1) (s.doc_freq / 128)
 
--- At most one block was decoded, its documents and its counts, and no positions were.
+-- At most one block was decoded, documents and frequencies, and no positions.
 pub record DecodesOnce (old new : SegmentPostingsState) : Type 0 where
   pub doc_decodes : new.doc_decodes ≤ old.doc_decodes + 1
   pub freq_decodes : new.freq_decodes ≤ old.freq_decodes + 1
   pub position_decodes : new.position_decodes ≡ old.position_decodes
 
--- No block was decoded but of positions: those in which so many lie.
+-- Only the blocks of positions that hold `count` positions were decoded.
 pub record DecodesPositions (count : ℕ) (old new : SegmentPostingsState) : Type 0 where
   pub block : new.block ≡ old.block
   pub doc_decodes : new.doc_decodes ≡ old.doc_decodes

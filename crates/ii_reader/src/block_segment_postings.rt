@@ -21,9 +21,10 @@ use ii_layout::skip::encode_block_wand_max_tf;
 use ii_layout::{BlockInfo, PositionReader, SkipReader};
 use std::marker::Model;
 
-/// A cursor over the blocks of a term's postings, of which it holds one, decoded: block b has the
-/// documents from the 128 * b-th on, at most 128, and their counts where these are read. After the
-/// last block, which has fewer than 128, comes an empty one.
+/// A cursor over the blocks of a term's postings, one of them decoded.
+///
+/// Block `b` has the documents from number 128 * b on, at most 128, and their term frequencies if they are
+/// read. After the last block, which has fewer than 128, there is an empty one.
 pub struct BlockSegmentPostings {
     checked: CheckedPostings,
     skip: SkipReader,
@@ -31,7 +32,7 @@ pub struct BlockSegmentPostings {
     freq_decoder: BlockDecoder,
 }
 
-// So that each drop is a call.
+// A drop has to be a call.
 impl Drop for BlockSegmentPostings {
     fn drop(self) {
         let BlockSegmentPostings {
@@ -66,10 +67,11 @@ impl Model for BlockSegmentPostings {
 }
 
 impl BlockSegmentPostings {
-    /// A cursor at the first block of the list of `doc_freq` documents that `bytes` begin with, by
-    /// the option that its field records and the one that is requested, or the first part of it that
-    /// is damaged. All documents are looked at and then, where they are read, all counts. Bytes
-    /// after what is read aren't looked at, and memory is never taken.
+    /// Validates the list of `doc_freq` documents at the front of `bytes`, by the recorded and the requested
+    /// option, and opens a cursor at its first block. Returns the first corrupt part.
+    ///
+    /// Validates all documents and then, if they are read, all term frequencies. Ignores the bytes after
+    /// them. Never allocates.
     pub fn open(
         doc_freq: u32,
         bytes: Bytes,
@@ -82,9 +84,9 @@ impl BlockSegmentPostings {
             × (bounds_read record_option requested_option doc_freq bytes ≡ Ok cursor.bounds)) }
         ensures entries { IfOk result (λ cursor. AreEntries doc_freq cursor.docs cursor.freqs) }
 
-        // It stands at its first block, and this was decoded and read for it.
+        // The cursor is at its first block.
         ensures first { IfOk result (λ cursor. cursor.block ≡ 0) }
-        // what was decoded and read for it
+        // What was decoded and read for it.
         ensures doc_decodes { IfOk result (λ cursor. cursor.doc_decodes ≡ min 1 doc_freq) }
         ensures freq_decodes { IfOk result (λ cursor. cursor.freq_decodes ≡ first_decodes cursor.freqs doc_freq) }
         ensures entries_read { IfOk result (λ cursor. cursor.entries_read ≡ min 1 (doc_freq / 128)) }
@@ -97,14 +99,14 @@ impl BlockSegmentPostings {
         Ok(cursor)
     }
 
-    /// A cursor over no documents, whose counts aren't read. Its options are both `Basic`.
+    /// Opens a cursor over no documents. Both options are `Basic`, and term frequencies aren't read.
     pub fn empty() -> BlockSegmentPostings
         ensures { result ≡ cursor_of_none IndexRecordOption.Basic IndexRecordOption.Basic }
     {
         BlockSegmentPostings::empty_by(IndexRecordOption::Basic, IndexRecordOption::Basic)
     }
 
-    // A cursor over no documents, by the option that a field records and the one that is requested.
+    // Opens a cursor over no documents, by the recorded and the requested option.
     #[inline(always)]
     pub(crate) fn empty_by(
         record_option: IndexRecordOption,
@@ -122,10 +124,9 @@ impl BlockSegmentPostings {
         }
     }
 
-    /// Puts another list in place of this one, as `open` does with the same two options: the list of
-    /// `doc_freq` documents that `bytes` begin with, at its first block, or the first part of it that
-    /// is damaged. The cursor is then over no documents, and can be reset again. Memory is never
-    /// taken.
+    /// Replaces the list, as `open` does with the same two options: by the list of `doc_freq` documents at
+    /// the front of `bytes`. Returns the first corrupt part; the cursor is then over no documents, and can be
+    /// reset again. Never allocates.
     pub fn reset(&mut self, doc_freq: u32, bytes: Bytes) -> Result<(), LayoutFault>
         ensures ok { OnOk result (docs_and_freqs self.old.recorded self.old.requested doc_freq bytes ≡ Ok (self.new.docs, self.new.freqs)) }
         ensures options { (self.new.recorded ≡ self.old.recorded) × (self.new.requested ≡ self.old.requested) }
@@ -133,13 +134,13 @@ impl BlockSegmentPostings {
             × (bounds_read self.old.recorded self.old.requested doc_freq bytes ≡ Ok self.new.bounds)) }
         ensures entries { OnOk result (AreEntries doc_freq self.new.docs self.new.freqs) }
 
-        // It stands at its first block, and this was decoded and read for it.
+        // The cursor is at its first block.
         ensures first { self.new.block ≡ 0 }
-        // what was decoded and read for it
+        // What was decoded and read for it.
         ensures doc_decodes { OnOk result (self.new.doc_decodes ≡ min 1 doc_freq) }
         ensures freq_decodes { OnOk result (self.new.freq_decodes ≡ first_decodes self.new.freqs doc_freq) }
         ensures entries_read { OnOk result (self.new.entries_read ≡ min 1 (doc_freq / 128)) }
-        // a refusal, and what it leaves
+        // The error, and what it leaves.
         ensures err { IfErr result (λ fault. docs_and_freqs self.old.recorded self.old.requested doc_freq bytes ≡ Err (part_of fault)) }
         ensures emptied { OnErr result (self.new ≡ cursor_of_none self.old.recorded self.old.requested) }
     {
@@ -147,7 +148,7 @@ impl BlockSegmentPostings {
         self.fill(doc_freq, bytes)
     }
 
-    // Puts a list in place of no documents, as `reset` does.
+    // Opens a list in a cursor over no documents, as `reset` does.
     pub(crate) fn fill(&mut self, doc_freq: u32, bytes: Bytes) -> Result<(), LayoutFault>
         requires { self.old ≡ cursor_of_none self.old.recorded self.old.requested }
         ensures ok { OnOk result (docs_and_freqs self.old.recorded self.old.requested doc_freq bytes ≡ Ok (self.new.docs, self.new.freqs)) }
@@ -156,13 +157,13 @@ impl BlockSegmentPostings {
             × (bounds_read self.old.recorded self.old.requested doc_freq bytes ≡ Ok self.new.bounds)) }
         ensures entries { OnOk result (AreEntries doc_freq self.new.docs self.new.freqs) }
 
-        // It stands at its first block, and this was decoded and read for it.
+        // The cursor is at its first block.
         ensures first { self.new.block ≡ 0 }
-        // what was decoded and read for it
+        // What was decoded and read for it.
         ensures doc_decodes { OnOk result (self.new.doc_decodes ≡ min 1 doc_freq) }
         ensures freq_decodes { OnOk result (self.new.freq_decodes ≡ first_decodes self.new.freqs doc_freq) }
         ensures entries_read { OnOk result (self.new.entries_read ≡ min 1 (doc_freq / 128)) }
-        // a refusal, and what it leaves
+        // The error, and what it leaves.
         ensures err { IfErr result (λ fault. docs_and_freqs self.old.recorded self.old.requested doc_freq bytes ≡ Err (part_of fault)) }
         ensures emptied { OnErr result (self.new ≡ cursor_of_none self.old.recorded self.old.requested) }
     {
@@ -188,9 +189,8 @@ impl BlockSegmentPostings {
         }
     }
 
-    /// A cursor at the first block of the list of `doc_freq` documents that `bytes` are known to begin
-    /// with, by the option that its field records and the one that is requested. No other block is
-    /// looked at, and memory is never taken.
+    /// Opens a cursor at the first block of the list of `doc_freq` documents that `bytes` are known to begin
+    /// with, by the recorded and the requested option. Reads no other block. Never allocates.
     pub fn open_known(
         doc_freq: u32,
         bytes: Bytes,
@@ -204,9 +204,9 @@ impl BlockSegmentPostings {
             × (bounds_read record_option requested_option doc_freq bytes ≡ Ok result.bounds) }
         ensures entries { AreEntries doc_freq result.docs result.freqs }
 
-        // It stands at its first block, and this was decoded and read for it.
+        // The cursor is at its first block.
         ensures first { result.block ≡ 0 }
-        // what was decoded and read for it
+        // What was decoded and read for it.
         ensures doc_decodes { result.doc_decodes ≡ min 1 doc_freq }
         ensures freq_decodes { result.freq_decodes ≡ first_decodes result.freqs doc_freq }
         ensures entries_read { result.entries_read ≡ min 1 (doc_freq / 128) }
@@ -216,7 +216,7 @@ impl BlockSegmentPostings {
         cursor
     }
 
-    // Puts a list that bytes are known to begin with in place of no documents.
+    // Opens a list that bytes are known to begin with, in a cursor over no documents.
     #[tactic(auto, using(crate::proofs::KnownLemmas::postings_known))]
     pub(crate) fn fill_known(&mut self, doc_freq: u32, bytes: Bytes)
         requires none { self.old ≡ cursor_of_none self.old.recorded self.old.requested }
@@ -227,9 +227,9 @@ impl BlockSegmentPostings {
             × (bounds_read self.old.recorded self.old.requested doc_freq bytes ≡ Ok self.new.bounds) }
         ensures entries { AreEntries doc_freq self.new.docs self.new.freqs }
 
-        // It stands at its first block, and this was decoded and read for it.
+        // The cursor is at its first block.
         ensures first { self.new.block ≡ 0 }
-        // what was decoded and read for it
+        // What was decoded and read for it.
         ensures doc_decodes { self.new.doc_decodes ≡ min 1 doc_freq }
         ensures freq_decodes { self.new.freq_decodes ≡ first_decodes self.new.freqs doc_freq }
         ensures entries_read { self.new.entries_read ≡ min 1 (doc_freq / 128) }
@@ -245,7 +245,7 @@ impl BlockSegmentPostings {
         self.checked = checked;
     }
 
-    // Puts no documents in place of the list, and keeps the two options.
+    // Removes the list, and keeps the two options.
     pub(crate) fn clear(&mut self)
         ensures { self.new ≡ cursor_of_none self.old.recorded self.old.requested }
     {
@@ -254,7 +254,7 @@ impl BlockSegmentPostings {
         self.clear_by(record_option, requested_option);
     }
 
-    // Puts no documents in place of the list, by other options.
+    // Removes the list, and sets the two options.
     pub(crate) fn clear_by(
         &mut self,
         record_option: IndexRecordOption,
@@ -268,8 +268,8 @@ impl BlockSegmentPostings {
         self.freq_decoder = BlockDecoder::with_val(NO_FREQ);
     }
 
-    /// A cursor over the same bytes, which are shared, at the same block. It has decoded and read as
-    /// many. `OutOfMemory` where a growth was refused.
+    /// Clones the cursor with its block and its numbers of decodes and reads. The bytes are shared. Returns
+    /// `OutOfMemory` if an allocation fails.
     pub fn clone(&self) -> Result<BlockSegmentPostings, Fault>
         ensures same { IfOk result (λ cursor. cursor ≡ self.now) }
         ensures only { OnlyMemory result }
@@ -286,14 +286,14 @@ impl BlockSegmentPostings {
         })
     }
 
-    /// How many documents the term is in.
+    /// Returns the number of documents of the term.
     pub fn doc_freq(&self) -> u32
         ensures { result ≡ length self.now.docs }
     {
         self.checked.doc_freq()
     }
 
-    /// Whether counts are read.
+    /// Returns whether term frequencies are read.
     pub fn freq_reading_option(&self) -> FreqReadingOption
         ensures option { result ≡ self.now.freq_reading }
         ensures read { is_some self.now.freqs ≡ is_read result }
@@ -301,7 +301,7 @@ impl BlockSegmentPostings {
         self.checked.freq_reading_option()
     }
 
-    /// The documents of the block.
+    /// Returns the documents of the block.
     pub fn docs(&self) -> &[DocId]
         ensures entries { AreEntries (length self.now.docs) self.now.docs self.now.freqs }
         ensures docs { result.now ≡ block_of self.now.docs self.now.block }
@@ -310,7 +310,8 @@ impl BlockSegmentPostings {
         self.doc_decoder.output_array()
     }
 
-    /// The document at `idx` in the block, below 128, or `TERMINATED` after the block's documents.
+    /// Returns the document at `idx` in the block, or `TERMINATED` after the block's documents. `idx` must be
+    /// below 128.
     #[inline(always)]
     pub fn doc(&self, idx: usize) -> DocId
         requires { idx < 128 }
@@ -320,15 +321,15 @@ impl BlockSegmentPostings {
         self.doc_decoder.output(idx)
     }
 
-    /// The counts of the block's documents, none where counts aren't read.
+    /// Returns the term frequencies of the block's documents, or none if they aren't read.
     pub fn freqs(&self) -> &[u32]
         ensures { result.now ≡ freqs_of_block self.now.freqs self.now.block }
     {
         self.freq_decoder.output_array()
     }
 
-    /// The count of the document at `idx`, which lies in the block, or 1 for any `idx` where counts
-    /// aren't read.
+    /// Returns the term frequency of the document at `idx` in the block, or 1 for any `idx` if term
+    /// frequencies aren't read.
     pub fn freq(&self, idx: usize) -> u32
         requires { IsSome self.now.freqs → idx < length (block_of self.now.docs self.now.block) }
         ensures { result ≡ freq_in_block self.now.freqs self.now.block idx }
@@ -339,9 +340,11 @@ impl BlockSegmentPostings {
         self.freq_decoder.output(idx)
     }
 
-    /// What bounds the current block, if it is full and the term has counts: a norm id that isn't above
-    /// that of any of its documents, and a count that isn't below any of its counts, where 0 and 255 say
-    /// nothing. The count was looked at where counts are read; the norm id is what the bytes say.
+    /// Returns the bounds of the current block, if it is full and the term has term frequencies: a norm id
+    /// that is at most that of each document, and a term frequency that is at least that of each. A frequency
+    /// of 0 or 255 means no bound.
+    ///
+    /// The frequency was validated if term frequencies are read. The norm id is not validated.
     pub fn block_bounds(&self) -> Option<(u8, u8)>
         ensures bounds { result ≡ option_map stored_bounds (slice_get self.now.bounds self.now.block) }
         ensures bounded { (freqs : List ℕ) → self.now.freqs ≡ Some freqs → bounds_counts (freq_bound self.now.bounds self.now.block) (block_of freqs self.now.block) ≡ true }
@@ -362,15 +365,15 @@ impl BlockSegmentPostings {
         }
     }
 
-    /// How many documents the block has.
+    /// Returns the number of documents of the block.
     pub fn block_len(&self) -> usize
         ensures { result ≡ length (block_of self.now.docs self.now.block) }
     {
         self.docs().len()
     }
 
-    // How many positions come before those of the document at `idx`, which lies in the block. Counts
-    // are read, and the field records positions.
+    // Returns the number of positions before those of the document at `idx` in the block. Term frequencies
+    // must be read, and the field must record positions.
     pub(crate) fn position_offset(&self, idx: usize) -> u64
         requires recorded { has_positions self.now.recorded ≡ true }
         requires read { IsSome self.now.freqs }
@@ -384,7 +387,7 @@ impl BlockSegmentPostings {
         offset
     }
 
-    // A reader of the positions that bytes hold, where these are read; or `Positions`.
+    // Opens the positions that bytes hold, if they are read, or returns `Positions`.
     pub(crate) fn open_positions(
         &self,
         bytes: Option<Bytes>,
@@ -404,7 +407,7 @@ impl BlockSegmentPostings {
         self.checked.open_positions(bytes)
     }
 
-    // A reader of the positions that bytes are known to hold, where these are read.
+    // Opens the positions that bytes are known to hold, if they are read.
     pub(crate) fn open_known_positions(&self, bytes: Option<Bytes>) -> Option<PositionReader>
         requires { IsSome (deltas_if (has_positions (downgrade self.now.recorded self.now.requested)) self.now.freqs bytes) }
         ensures ok { deltas_if (has_positions (downgrade self.now.recorded self.now.requested)) self.now.freqs bytes
@@ -414,10 +417,10 @@ impl BlockSegmentPostings {
         self.checked.open_known_positions(bytes)
     }
 
-    /// Goes on to the first block, from the current one on, whose last document isn't below `target`,
-    /// or else to the last block; from there on it stays. Blocks in between aren't decoded, and the
-    /// one that it comes to is, once. Answers how many documents of the block lie below the target,
-    /// which is at most `TERMINATED`.
+    /// Moves to the first block, from the current one on, whose last document is at least `target`, or else
+    /// to the last block. If it is already there, or after it, it doesn't move. Decodes only the block that
+    /// it moves to, once. Returns how many documents of that block are below the target, which is at most
+    /// `TERMINATED`.
     #[inline(never)]
     pub fn seek(&mut self, target: DocId) -> usize
         requires { target ≤ TERMINATED }
@@ -429,8 +432,8 @@ impl BlockSegmentPostings {
         self.seek_within_block(target)
     }
 
-    // How many documents of the block lie below `target`. If the block is full, the target isn't
-    // above its last document.
+    // Returns how many documents of the block are below `target`. In a full block the target must not exceed
+    // the last document.
     fn seek_within_block(&self, target: DocId) -> usize
         requires up_to { target ≤ TERMINATED }
         requires last { self.now.block < length self.now.docs / 128 → target ≤ slice_index self.now.docs (128 * self.now.block + 127) }
@@ -440,7 +443,7 @@ impl BlockSegmentPostings {
         self.doc_decoder.seek_within_block(target)
     }
 
-    // Goes on to the block that `seek` speaks of, and decodes it where it is another one.
+    // Moves to the block that `seek` describes, and decodes it if it is another one.
     fn seek_block(&mut self, target: DocId)
         requires { target ≤ TERMINATED }
         ensures seeks { SeeksBlock target self.old.docs self.old.block self.new.block }
@@ -455,8 +458,7 @@ impl BlockSegmentPostings {
             .load_block(&self.skip, &mut self.doc_decoder, &mut self.freq_decoder);
     }
 
-    /// Goes on to the next block; at the empty block after the last one it stays. One block is
-    /// decoded at most.
+    /// Moves to the next block; at the empty block after the last one it stays. Decodes at most one block.
     #[cold]
     #[inline(never)]
     pub fn advance(&mut self)
@@ -468,10 +470,12 @@ impl BlockSegmentPostings {
             .load_block(&self.skip, &mut self.doc_decoder, &mut self.freq_decoder);
     }
 
-    /// Goes on to the first document, from the one at `from` in the block on, that isn't below `target` and
-    /// has a count of at least `least`, or else behind all documents. Counts are read. Answers its place in
-    /// the block that the cursor comes to. Blocks are passed that end below the target or have no such
-    /// count, as their bounds say; each other one is decoded, once.
+    /// Moves to the first document, from `from` in the block on, that is at least `target` and has a term
+    /// frequency of at least `least`, or after all documents. Returns its place in the new block. Term
+    /// frequencies must be read.
+    ///
+    /// Skips blocks that end below the target or, by their bounds, have no such frequency. Decodes each other
+    /// block once.
     pub fn seek_with_freq(&mut self, from: usize, target: DocId, least: u32) -> usize
         requires read { IsSome self.old.freqs }
         requires from { from < 128 }
@@ -489,8 +493,9 @@ impl BlockSegmentPostings {
         place
     }
 
-    // The place of the first document of the block, from one on, that isn't below `target` and has a count
-    // of at least `least`; or one behind the documents, which is 128 where the block is full.
+    // Returns the place of the first document in the block, from `from` on, that is at least `target` and has
+    // a term frequency of at least `least`. If there is none, returns a place after the documents, which is
+    // 128 in a full block.
     fn place_with_freq(&self, from: usize, target: DocId, least: u32) -> usize
         requires read { IsSome self.now.freqs }
         requires from { from < 128 }
@@ -506,7 +511,8 @@ impl BlockSegmentPostings {
         len.max(from)
     }
 
-    // Whether a document of the block isn't below `target`, and has a count of at least `least`.
+    // Returns whether a document of the block is at least `target`, and has a term frequency of at least
+    // `least`.
     fn is_wanted(&self, idx: usize, target: DocId, least: u32) -> bool
         requires read { IsSome self.now.freqs }
         requires inside { idx < length (block_of self.now.docs self.now.block) }
@@ -518,8 +524,8 @@ impl BlockSegmentPostings {
         self.freq(idx) >= least
     }
 
-    // Goes on from a full block to the next one that doesn't end below `target` and may have a count of at
-    // least `least`, and decodes it.
+    // Moves from a full block to the next one that may match, and decodes it. That one ends at or above
+    // `target`, and its bound allows a term frequency of at least `least`.
     fn next_with_freq(&mut self, target: DocId, least: u32)
         requires full { self.old.block < length self.old.docs / 128 }
         requires up_to { target ≤ TERMINATED }

@@ -7,20 +7,20 @@ use super::inverted_index_reader::InvertedIndexReader;
 use ii_base::{Fault, Part};
 use ii_termdict::TermOrdinal;
 
-/// A term whose list doesn't open.
+/// A term whose postings are corrupt.
 #[derive(Clone, Copy, Debug, PartialEq, Eq)]
 pub struct DamagedTerm {
-    /// Its place in the order of the keys, from 0.
+    /// The ordinal of the term in the order of the keys, from 0.
     pub ord: TermOrdinal,
-    /// The first part of its list that the bytes fail to hold.
+    /// The first corrupt part of its postings.
     pub part: Part,
 }
 
 impl InvertedIndexReader {
-    /// Opens each term of the field once, with all that the field records, and answers the first one that
-    /// doesn't open. Where each of them does, look-ups go on as after `trust`.
+    /// Opens each term of the field once, with everything that the field records, and returns the first
+    /// corrupt term. If there is none, lookups continue as after `trust`.
     ///
-    /// `OutOfMemory` where the files' buffer can't be shared once more.
+    /// Returns `OutOfMemory` if the files' buffer can't be shared again.
     pub fn check(&mut self) -> Result<Option<DamagedTerm>, Fault>
         ensures found { IfOk result (λ damage. damage ≡ first_damaged_term self.old) }
         ensures opens { IfOk result (λ damage. (damage ≡ None) ↔ AllOpen self.old) }
@@ -35,7 +35,7 @@ impl InvertedIndexReader {
         Ok(None)
     }
 
-    // The first term that doesn't open.
+    // Returns the first corrupt term.
     fn first_damaged_term(&self) -> Result<Option<DamagedTerm>, Fault>
         ensures found { IfOk result (λ damage. damage ≡ first_damaged_term self.now) }
         ensures opens { IfOk result (λ damage. (damage ≡ None) ↔ AllOpen self.now) }

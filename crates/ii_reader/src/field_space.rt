@@ -11,18 +11,18 @@ use ii_termdict::{TermInfo, TermStreamer};
 use std::alloc::Global;
 use std::marker::Model;
 
-/// A path of a JSON field with a type of its values, and what the terms of these take.
+/// A path of a JSON field with a type of its values, and the size of its terms.
 #[derive(Drop)]
 pub struct InvertedIndexFieldSpace {
-    /// The bytes of the path, whose segments are parted by a byte 1.
+    /// The bytes of the path, with byte 1 between its segments.
     pub field_name: Vec<u8>,
     /// The type of the values.
     pub field_type: ValueType,
-    /// How many bytes the postings of its terms take.
+    /// The number of bytes of the postings of its terms.
     pub postings_size: u128,
-    /// How many bytes the positions of its terms take.
+    /// The number of bytes of the positions of its terms.
     pub positions_size: u128,
-    /// How many terms it has.
+    /// The number of terms.
     pub num_terms: u64,
 }
 
@@ -41,7 +41,7 @@ impl Model for InvertedIndexFieldSpace {
 }
 
 impl InvertedIndexFieldSpace {
-    // What one term takes.
+    // Returns the size of one term.
     fn of_term(
         alloc: Global,
         key: &[u8],
@@ -61,7 +61,7 @@ impl InvertedIndexFieldSpace {
         })
     }
 
-    // Adds a term if it is of this path and type, and answers whether it is.
+    // Adds a term if it has this path and type, and returns whether it does.
     fn record(&mut self, key: &[u8], term_info: &TermInfo, field_type: ValueType) -> bool
         requires { IsWithin (2 ^ 64 - 2) self.old }
         ensures same { result ≡ is_same_label self.old (space_of_term key.now term_info.now field_type) }
@@ -82,11 +82,11 @@ impl InvertedIndexFieldSpace {
 }
 
 impl InvertedIndexReader {
-    /// The paths and types of a JSON field's keys in their order, each once, with what its terms take.
-    /// It goes over all terms.
+    /// Lists the paths and types of a JSON field's keys in their order, each once, with the size of its
+    /// terms. Iterates over all terms.
     ///
-    /// `Damaged(JsonKey)` where a key has no byte 0, or no letter of a type after its first one.
-    /// `OutOfMemory` where there is no room for the list.
+    /// Returns `Damaged(JsonKey)` if a key has no byte 0, or no letter of a type after its first one. Returns
+    /// `OutOfMemory` if an allocation fails.
     pub fn list_encoded_json_fields(
         &self,
         alloc: Global,
@@ -107,7 +107,7 @@ impl InvertedIndexReader {
     }
 }
 
-// The paths and types from the first term on, which was passed.
+// Lists the paths and types from the first term on, which was passed.
 fn list_further(
     alloc: Global,
     terms: TermStreamer<'_>,
@@ -146,21 +146,21 @@ fn is_path_byte(byte: u8) -> bool
     byte != 0
 }
 
-// How long the path is that a key begins with.
+// Returns the length of the path at the front of a key.
 fn path_len(key: &[u8]) -> usize
     ensures { result ≡ length (path_in key.now) }
 {
     key.iter().take_while(|b| is_path_byte(**b)).count()
 }
 
-// The path that a key begins with.
+// Returns the path at the front of a key.
 fn path_in(key: &[u8]) -> &[u8]
     ensures { result.now ≡ path_in key.entry.now }
 {
     &key[..path_len(key)]
 }
 
-// The type that a key has after its path.
+// Returns the type that follows the path in a key.
 #[tactic(auto, unfolding(ii_definitions::specs::JsonKeys::type_in))]
 fn type_in(key: &[u8]) -> Option<ValueType>
     ensures { result ≡ type_in key.now }

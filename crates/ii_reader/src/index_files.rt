@@ -23,14 +23,14 @@ use ii_termdict::TermDictionary;
 use std::alloc::Global;
 use std::marker::Model;
 
-/// The readers of the fields of a schema and their norms, over the files of an index. Clauses see the
-/// readers in the order of the fields.
+/// Holds the readers of the fields of a schema and their norms, over the files of an index. The model is the
+/// readers in the order of the fields, and the norms.
 pub struct OpenIndex {
     readers: Vec<InvertedIndexReader>,
     fieldnorms: FieldNormReaders,
 }
 
-// So that each drop is a call.
+// A drop has to be a call.
 impl Drop for OpenIndex {
     fn drop(self) {
         let OpenIndex {
@@ -52,7 +52,7 @@ impl Model for OpenIndex {
 }
 
 impl OpenIndex {
-    /// The reader of a field of the schema.
+    /// Returns the reader of a field of the schema.
     pub fn reader(&self, field: Field) -> &InvertedIndexReader
         requires { field < length self.now.readers }
         ensures { slice_get self.now.readers field ≡ Some result.now }
@@ -60,8 +60,7 @@ impl OpenIndex {
         &self.readers[field.field_id() as usize]
     }
 
-    /// From now on the look-ups by a term of each reader open cursors without looking at lists whole,
-    /// since each term is known to open.
+    /// Makes later lookups of terms open cursors without validation. Each term must be known to open.
     pub fn trust(&mut self)
         requires { All AllOpen self.old.readers }
         ensures { self.new ≡ self.old }
@@ -69,11 +68,11 @@ impl OpenIndex {
         trust_all(&mut self.readers);
     }
 
-    /// Opens each term of each field once, with all that the field records, and answers the first field
-    /// that has one which doesn't open, with the first such term. Where each of them opens, look-ups go on
-    /// as after `trust`.
+    /// Opens each term of each field once, with everything that the field records, and returns the first
+    /// field with a corrupt term, and its first such term. If there is none, lookups continue as after
+    /// `trust`.
     ///
-    /// `OutOfMemory` where the files' buffer can't be shared once more.
+    /// Returns `OutOfMemory` if the files' buffer can't be shared again.
     pub fn check(&mut self) -> Result<Option<(Field, DamagedTerm)>, Fault>
         ensures found { IfOk result (λ damage. damage ≡ first_damaged_field self.old.readers) }
         ensures opens { IfOk result (λ damage. (damage ≡ None) ↔ All AllOpen self.old.readers) }
@@ -83,16 +82,16 @@ impl OpenIndex {
         check_all(&mut self.readers)
     }
 
-    /// The norms of a field, or nothing where the file of norms has none of it.
+    /// Opens the norms of a field, or returns `None` if the file of norms has none for it.
     ///
-    /// `Damaged(FieldNorms)` where it has more than `u32::MAX` of them; `OutOfMemory` where the file's
-    /// buffer can't be shared once more.
+    /// Returns `Damaged(FieldNorms)` if it has more than `u32::MAX` of them, or `OutOfMemory` if the file's
+    /// buffer can't be shared again.
     pub fn get_fieldnorms_reader(&self, field: Field) -> Result<Option<FieldNormReader>, Fault>
         ensures found { IfOk result (λ norms. norms ≡ option_map norms_of_ids (body_of field self.now.fieldnorms)) }
         ensures damaged { IsErrOf result (Fault.Damaged Part.FieldNorms)
             ↔ IsSomeAnd (body_of field self.now.fieldnorms) (λ ids. 2 ^ 32 ≤ length ids) }
         ensures only { IfErr result (λ e. (e ≡ Fault.OutOfMemory) ⊎ (e ≡ Fault.Damaged Part.FieldNorms)) }
-        // where the file has the norms of tokens
+        // If the file has the norms of tokens.
         ensures holds { (schema : List SchemaEntry) (num_docs : ℕ) (tokens : List IndexToken) → num_docs < 2 ^ 32
             → NormsHold schema num_docs self.now.fieldnorms tokens → GivesNorms schema num_docs field tokens result }
     {
@@ -100,7 +99,7 @@ impl OpenIndex {
     }
 }
 
-// Each of these readers, all of whose terms are known to open.
+// Trusts each of these readers, all of whose terms are known to open.
 fn trust_all(readers: &mut [InvertedIndexReader])
     requires { All AllOpen readers.old }
     ensures { readers.new ≡ readers.old }
@@ -110,7 +109,7 @@ fn trust_all(readers: &mut [InvertedIndexReader])
     }
 }
 
-// The first field with a term that doesn't open; those before it are trusted from now on.
+// Returns the first field with a corrupt term, and trusts the fields before it.
 fn check_all(readers: &mut [InvertedIndexReader]) -> Result<Option<(Field, DamagedTerm)>, Fault>
     requires { length readers.old < 2 ^ 32 }
     ensures found { IfOk result (λ damage. damage ≡ first_damaged_field readers.old) }
@@ -128,16 +127,23 @@ fn check_all(readers: &mut [InvertedIndexReader]) -> Result<Option<(Field, Damag
     Ok(None)
 }
 
-/// Opens an index: its files of terms, postings and positions, each of which has a body for each field
-/// that has tokens, and its file of norms, which has one for each field that keeps norms. A field that
-/// the file of terms lacks has a reader over no terms; bodies of fields that the schema hasn't aren't
-/// looked at, and bodies of norms only where they are asked for.
+/// Opens an index. Its files of terms, postings and positions have a body for each field with tokens, and its
+/// file of norms one for each field with norms.
 ///
-/// The first fault is answered, memory aside, in this order: `Damaged(Composite)` for the tables of the
-/// four files; then, for one field after the other, `Damaged(Composite)` where only the file of postings
-/// or that of positions lacks its body, `Damaged(Dictionary)` or `Damaged(TermStore)` for its dictionary,
-/// and `Damaged(TokenCount)` where its postings don't begin with the number of its tokens. `OutOfMemory`
-/// where the tables or the readers find no room, or a file's buffer can't be shared once more.
+/// A field that is missing in the file of terms has a reader over no terms. Bodies of fields outside the
+/// schema are ignored. Norms are read only on request.
+///
+/// # Errors
+///
+/// Returns the first corrupt part, first of the tables:
+/// * `Damaged(Composite)` for the tables of the four files.
+///
+/// Then for one field after the other:
+/// * `Damaged(Composite)` if it has terms, but its postings or positions are missing.
+/// * `Damaged(Dictionary)` or `Damaged(TermStore)` for its dictionary.
+/// * `Damaged(TokenCount)` if its postings don't begin with its number of tokens.
+///
+/// Returns `OutOfMemory` if an allocation fails or a file's buffer can't be shared again.
 pub fn open_index(
     alloc: Global,
     terms: Bytes,
@@ -149,7 +155,7 @@ pub fn open_index(
     ensures ok { IfOk result (λ index. index_of_files terms postings positions fieldnorms schema.now ≡ Ok index) }
     ensures many { IfOk result (λ index. length index.readers ≡ length schema.now) }
     ensures err { IfErr result (IsRefusal (index_of_files terms postings positions fieldnorms schema.now)) }
-    // where the files hold tokens
+    // If the files hold tokens.
     ensures holds { (tokens : List IndexToken) → HoldTokens (option_of schema.now) terms postings positions tokens → IsSome (composite fieldnorms) → GivesReaders schema.now tokens result }
     ensures norms { (num_docs : ℕ) (tokens : List IndexToken) → HoldNorms schema.now num_docs fieldnorms tokens → IfOk result (λ index. NormsHold schema.now num_docs index.fieldnorms tokens) }
 {
@@ -159,7 +165,7 @@ pub fn open_index(
     }
 }
 
-// The tables of all files come before the fields.
+// Opens the tables of all files before the fields.
 #[tactic(auto, using(crate::proofs::IndexLemmas::tables_refused, crate::proofs::IndexLemmas::norms_refused, crate::proofs::IndexLemmas::fields_refused, crate::proofs::IndexLemmas::index_then))]
 fn open_files(
     alloc: Global,
@@ -181,7 +187,7 @@ fn open_files(
     })
 }
 
-// The norms of all fields.
+// Opens the norms of all fields.
 fn open_norms(alloc: Global, fieldnorms: Bytes) -> Result<FieldNormReaders, Fault>
     ensures ok { IfOk result (λ readers. composite fieldnorms ≡ Some readers) }
     ensures err { IfErr result (IsRefusal (ok_or (composite fieldnorms) Part.Composite)) }
@@ -189,14 +195,14 @@ fn open_norms(alloc: Global, fieldnorms: Bytes) -> Result<FieldNormReaders, Faul
     FieldNormReaders::open(alloc, fieldnorms)
 }
 
-// The three files of an index, whose tables were read.
+// Holds the three files of an index, whose tables were read.
 struct IndexFiles {
     terms: CompositeFile,
     postings: CompositeFile,
     positions: CompositeFile,
 }
 
-// So that each drop is a call.
+// A drop has to be a call.
 impl Drop for IndexFiles {
     fn drop(self) {
         let IndexFiles {
@@ -236,7 +242,7 @@ impl IndexFiles {
         })
     }
 
-    // The readers of all fields, in order.
+    // Opens the readers of all fields, in order.
     fn open_fields(&self, alloc: Global, schema: &Schema) -> Result<Vec<InvertedIndexReader>, Fault>
         ensures ok { IfOk result (λ readers. field_readers self.now schema.now ≡ Ok readers.items) }
         ensures few { IfOk result (λ readers. length readers.items < 2 ^ 32) }
@@ -250,7 +256,7 @@ impl IndexFiles {
         Ok(readers)
     }
 
-    // The reader of a field.
+    // Opens the reader of a field.
     fn open_field(
         &self,
         field: Field,
@@ -272,7 +278,7 @@ impl IndexFiles {
     }
 }
 
-// The reader of a field's three bodies.
+// Opens the reader of a field's three bodies.
 fn open_bodies(
     terms: Bytes,
     postings: Bytes,

@@ -19,18 +19,18 @@ use ii_termdict::{TermDictionary, TermInfo};
 use std::marker::Model;
 use std::ops::Range;
 
-/// The terms of a field, and where their postings and positions are.
+/// Holds the terms of a field, and where their postings and positions are.
 pub struct InvertedIndexReader {
     terms: TermDictionary,
     postings: Bytes,
     positions: Bytes,
     option: IndexRecordOption,
     num_tokens: u64,
-    // whether each term is known to open
+    // Whether each term is known to open.
     is_known: bool,
 }
 
-// So that each drop is a call.
+// A drop has to be a call.
 impl Drop for InvertedIndexReader {
     fn drop(self) {
         let InvertedIndexReader {
@@ -68,10 +68,11 @@ impl Model for InvertedIndexReader {
 }
 
 impl InvertedIndexReader {
-    /// A reader over the dictionary of a field and its bodies in the files of postings and positions.
-    /// The former begins with the number of the field's tokens, in 8 bytes with the lowest first;
-    /// `Damaged(TokenCount)` where it has fewer. `option` is what the field records. It takes no
-    /// memory.
+    /// Opens a reader over the dictionary of a field, whose option is `option`, and its bodies in the files
+    /// of postings and positions. Never allocates.
+    ///
+    /// `postings` begins with the field's number of tokens, 8 bytes, little-endian. Returns
+    /// `Damaged(TokenCount)` if there are fewer bytes.
     pub fn new(
         terms: TermDictionary,
         postings: Bytes,
@@ -96,7 +97,7 @@ impl InvertedIndexReader {
         })
     }
 
-    /// A reader over no terms. It takes no memory.
+    /// Opens a reader over no terms. Never allocates.
     pub fn empty(option: IndexRecordOption) -> InvertedIndexReader
         ensures { result ≡ reader_of_none option }
     {
@@ -110,8 +111,8 @@ impl InvertedIndexReader {
         }
     }
 
-    /// From now on the look-ups by a term, `read_postings` and `read_block_postings`, open cursors
-    /// without looking at lists whole, since each term is known to open.
+    /// Makes later lookups by `read_postings` and `read_block_postings` open cursors without validation. Each
+    /// term must be known to open.
     pub fn trust(&mut self)
         requires { AllOpen self.old }
         ensures { self.new ≡ self.old }
@@ -119,21 +120,21 @@ impl InvertedIndexReader {
         self.is_known = true;
     }
 
-    /// The terms of the field: its dictionary.
+    /// Returns the dictionary of the field.
     pub fn terms(&self) -> &TermDictionary
         ensures { result.now ≡ self.now.terms }
     {
         &self.terms
     }
 
-    /// What the field records.
+    /// Returns what the field records.
     pub fn record_option(&self) -> IndexRecordOption
         ensures { result ≡ self.now.option }
     {
         self.option
     }
 
-    /// How many tokens the field has.
+    /// Returns the number of tokens of the field.
     pub fn total_num_tokens(&self) -> u64
         ensures value { result ≡ self.now.num_tokens }
         ensures holds { (field : ℕ) (tokens : List IndexToken) → ReaderHolds field self.now tokens → result ≡ field_count field tokens }
@@ -141,8 +142,7 @@ impl InvertedIndexReader {
         self.num_tokens
     }
 
-    /// What is kept of a term, by the bytes of its value; its field isn't looked at. It takes no
-    /// memory.
+    /// Returns the info of a term, by the bytes of its value; its field is ignored. Never allocates.
     pub fn get_term_info(&self, term: &Term) -> Option<TermInfo>
         ensures value { result ≡ info_under term.now.value self.now.terms }
         ensures holds { (field : ℕ) (tokens : List IndexToken) → ReaderHolds field self.now tokens
@@ -152,7 +152,8 @@ impl InvertedIndexReader {
         self.terms.get(term.serialized_value_bytes())
     }
 
-    /// In how many documents a term is, 0 where the field has no such term. It takes no memory.
+    /// Returns the number of documents that contain a term, or 0 if the field has no such term. Never
+    /// allocates.
     #[tactic(auto, using(crate::proofs::ReaderLemmas::none_listed))]
     pub fn doc_freq(&self, term: &Term) -> u32
         ensures value { result ≡ option_map_or (λ info. info.doc_freq) (info_under term.now.value self.now.terms) 0 }
@@ -165,13 +166,15 @@ impl InvertedIndexReader {
         }
     }
 
-    /// A cursor over the postings of a term as far as they are requested, or nothing where the field
+    /// Opens a cursor over the postings of a term, as far as they are requested. Returns `None` if the field
     /// has no such term.
     ///
-    /// `Damaged(Range)` where the range of its postings, or that of its positions where the field
-    /// records positions and they are requested, begins after its end or ends after the field's body;
-    /// else `Damaged` by the first part of its bytes that `SegmentPostings::open` refuses.
-    /// `OutOfMemory` where the files' buffer can't be shared once more.
+    /// # Errors
+    ///
+    /// * `Damaged(Range)` if the range of its postings begins after its end or ends after the field's body.
+    ///   The range of its positions too, if positions are recorded and requested.
+    /// * Else `Damaged` with the first corrupt part that `SegmentPostings::open` finds.
+    /// * `OutOfMemory` if the files' buffer can't be shared again.
     pub fn read_postings(
         &self,
         term: &Term,
@@ -181,7 +184,7 @@ impl InvertedIndexReader {
         ensures ok { IfSome (info_under term.now.value self.now.terms) (λ info. IfOk result (λ found. IsSomeAnd found (OpensTerm self.now option info))) }
         ensures err { IfSome (info_under term.now.value self.now.terms) (λ info. IfErr result (IsRefusal (term_of_file self.now option info))) }
         ensures range { IfSome (info_under term.now.value self.now.terms) (λ info. IsErrOf result (Fault.Damaged Part.Range) ↔ (ranges_lie self.now option info ≡ false)) }
-        // where the files hold tokens
+        // If the files hold tokens.
         ensures holds { (field : ℕ) (tokens : List IndexToken) → ReaderHolds field self.now tokens
             → GivesPostings self.now.option field term.now.value option tokens result }
     {
@@ -200,8 +203,8 @@ impl InvertedIndexReader {
         }
     }
 
-    /// A cursor over the postings of a term of which this is kept, as far as they are requested. See
-    /// `read_postings` for the faults.
+    /// Opens a cursor over the postings that `term_info` describes, as far as they are requested. Returns the
+    /// errors of `read_postings`.
     pub fn read_postings_from_terminfo(
         &self,
         term_info: &TermInfo,
@@ -210,7 +213,7 @@ impl InvertedIndexReader {
         ensures ok { IfOk result (OpensTerm self.now option term_info.now) }
         ensures err { IfErr result (IsRefusal (term_of_file self.now option term_info.now)) }
         ensures range { IsErrOf result (Fault.Damaged Part.Range) ↔ (ranges_lie self.now option term_info.now ≡ false) }
-        // where the files hold tokens
+        // If the files hold tokens.
         ensures holds { (field : ℕ) (key : List ℕ) (tokens : List IndexToken) → HoldsTerm self.now.option field key self.now.postings self.now.positions tokens term_info.now
             → GivesList (key_postings self.now.option field key option tokens) result }
     {
@@ -227,9 +230,10 @@ impl InvertedIndexReader {
         }
     }
 
-    /// A cursor over the postings of a term of which this is kept and which is known to open, as far as
-    /// they are requested. Its lists aren't looked at whole (`SegmentPostings::open_known`).
-    /// `OutOfMemory` where the files' buffer can't be shared once more.
+    /// Opens a cursor without validation (`SegmentPostings::open_known`) over the postings that `term_info`
+    /// describes, as far as they are requested. The term must be known to open.
+    ///
+    /// Returns `OutOfMemory` if the files' buffer can't be shared again.
     #[tactic(auto, using(crate::proofs::KnownLemmas::ranges_known, crate::proofs::KnownLemmas::list_known))]
     pub fn read_known_postings_from_terminfo(
         &self,
@@ -240,7 +244,7 @@ impl InvertedIndexReader {
         ensures ok { IfOk result (OpensTerm self.now option term_info.now) }
         ensures lie { ranges_lie self.now option term_info.now ≡ true }
         ensures only { OnlyMemory result }
-        // where the files hold tokens
+        // If the files hold tokens.
         ensures holds { (field : ℕ) (key : List ℕ) (tokens : List IndexToken) → HoldsTerm self.now.option field key self.now.postings self.now.positions tokens term_info.now
             → GivesList (key_postings self.now.option field key option tokens) result }
     {
@@ -251,12 +255,14 @@ impl InvertedIndexReader {
         Ok(SegmentPostings::open_known(doc_freq, postings, positions, record_option, option))
     }
 
-    /// A block cursor over the postings of a term as far as they are requested, or nothing where the
+    /// Opens a block cursor over the postings of a term, as far as they are requested. Returns `None` if the
     /// field has no such term.
     ///
-    /// `Damaged(Range)` where the range of its postings begins after its end or ends after the field's
-    /// body; else `Damaged` by the first part of its bytes that `BlockSegmentPostings::open` refuses.
-    /// `OutOfMemory` where the file's buffer can't be shared once more.
+    /// # Errors
+    ///
+    /// * `Damaged(Range)` if the range of its postings begins after its end or ends after the field's body.
+    /// * Else `Damaged` with the first corrupt part that `BlockSegmentPostings::open` finds.
+    /// * `OutOfMemory` if the file's buffer can't be shared again.
     pub fn read_block_postings(
         &self,
         term: &Term,
@@ -282,8 +288,8 @@ impl InvertedIndexReader {
         }
     }
 
-    /// A block cursor over the postings of a term of which this is kept, as far as they are requested.
-    /// See `read_block_postings` for the faults.
+    /// Opens a block cursor over the postings that `term_info` describes, as far as they are requested.
+    /// Returns the errors of `read_block_postings`.
     #[tactic(auto, using(crate::proofs::ReaderLemmas::docs_no_range, crate::proofs::ReaderLemmas::refused_by))]
     pub fn read_block_postings_from_terminfo(
         &self,
@@ -302,9 +308,10 @@ impl InvertedIndexReader {
         }
     }
 
-    /// A block cursor over the postings of a term of which this is kept and which is known to open, as
-    /// far as they are requested. No block but the first is looked at. `OutOfMemory` where the file's
-    /// buffer can't be shared once more.
+    /// Opens a block cursor over the postings that `term_info` describes, as far as they are requested. The
+    /// term must be known to open. Reads no block but the first.
+    ///
+    /// Returns `OutOfMemory` if the file's buffer can't be shared again.
     #[tactic(auto, using(crate::proofs::KnownLemmas::range_known, crate::proofs::KnownLemmas::docs_lie))]
     pub fn read_known_block_postings_from_terminfo(
         &self,
@@ -321,9 +328,9 @@ impl InvertedIndexReader {
         Ok(BlockSegmentPostings::open_known(term_info.doc_freq, postings, record_option, option))
     }
 
-    /// Puts the postings of a term of which this is kept in place of those of a block cursor, which
-    /// keeps its two options. See `read_block_postings` for the faults; the cursor is then over no
-    /// documents, and can be reset again.
+    /// Replaces the postings of a block cursor, which keeps its two options, with those that `term_info`
+    /// describes. Returns the errors of `read_block_postings`; the cursor is then over no documents, and can
+    /// be reset again.
     #[tactic(auto, using(crate::proofs::ReaderLemmas::docs_no_range, crate::proofs::ReaderLemmas::refused_by))]
     pub fn reset_block_postings_from_terminfo(
         &self,
@@ -347,9 +354,8 @@ impl InvertedIndexReader {
         }
     }
 
-    /// Puts the postings of a term of which this is kept in place of those of a cursor, as far as they
-    /// are requested. See `read_postings` for the faults; the cursor is then over no documents, and can
-    /// be reset again.
+    /// Replaces the postings of a cursor with those that `term_info` describes, as far as they are requested.
+    /// Returns the errors of `read_postings`; the cursor is then over no documents, and can be reset again.
     pub fn reset_postings_from_terminfo(
         &self,
         term_info: &TermInfo,
@@ -360,7 +366,7 @@ impl InvertedIndexReader {
         ensures err { IfErr result (IsRefusal (term_of_file self.now option term_info.now)) }
         ensures range { IsErrOf result (Fault.Damaged Part.Range) ↔ (ranges_lie self.now option term_info.now ≡ false) }
         ensures emptied { OnErr result (postings.new ≡ postings_of_none self.now.option option) }
-        // where the files hold tokens
+        // If the files hold tokens.
         ensures holds { (field : ℕ) (key : List ℕ) (tokens : List IndexToken) → HoldsTerm self.now.option field key self.now.postings self.now.positions tokens term_info.now
             → PutsList (key_postings self.now.option field key option tokens) result postings.new }
     {
@@ -378,8 +384,8 @@ impl InvertedIndexReader {
         }
     }
 
-    // The bytes of a term's postings, and those of its positions where they are read; or `Range` where
-    // either don't lie in the body.
+    // Returns the bytes of a term's postings, and of its positions if they are read, or `Range` if either
+    // aren't within the body.
     fn checked_bytes_of(
         &self,
         term_info: &TermInfo,
@@ -399,7 +405,8 @@ impl InvertedIndexReader {
         Ok((postings, positions))
     }
 
-    // Whether the ranges of a term lie in the bodies, that of its positions where they are read.
+    // Returns whether the ranges of a term are within the bodies; that of its positions only counts if they
+    // are read.
     fn do_ranges_lie(&self, term_info: &TermInfo, option: IndexRecordOption) -> bool
         ensures { result ≡ ranges_lie self.now option term_info.now }
     {
@@ -412,14 +419,14 @@ impl InvertedIndexReader {
         does_lie_in(&self.positions, &term_info.positions_range)
     }
 
-    // Whether positions are read of a term that has counts.
+    // Returns whether the positions of a term with term frequencies are read.
     fn reads_positions(&self, option: IndexRecordOption) -> bool
         ensures { result ≡ reads_positions self.now option }
     {
         self.option.downgrade(option).has_positions()
     }
 
-    // The bytes of a term's postings.
+    // Returns the bytes of a term's postings.
     fn postings_of(&self, term_info: &TermInfo) -> Result<Bytes, Fault>
         requires { lies_in self.now.postings term_info.now.postings_range ≡ true }
         ensures ok { IfOk result (λ found. found ≡ bytes_in self.now.postings term_info.now.postings_range) }
@@ -428,7 +435,7 @@ impl InvertedIndexReader {
         part_of(&self.postings, &term_info.postings_range)
     }
 
-    // The bytes of a term's postings, or `Range` where they don't lie in the body.
+    // Returns the bytes of a term's postings, or `Range` if they aren't within the body.
     fn checked_postings_of(&self, term_info: &TermInfo) -> Result<Bytes, Fault>
         ensures ok { IfOk result (λ found. (lies_in self.now.postings term_info.now.postings_range ≡ true) × (found ≡ bytes_in self.now.postings term_info.now.postings_range)) }
         ensures only { IfErr result (λ fault. (fault ≡ Fault.OutOfMemory) ⊎ (fault ≡ Fault.Damaged Part.Range)) }
@@ -440,7 +447,7 @@ impl InvertedIndexReader {
         self.postings_of(term_info)
     }
 
-    // The bytes of a term's positions, where they are read.
+    // Returns the bytes of a term's positions, if they are read.
     fn positions_of(
         &self,
         term_info: &TermInfo,
@@ -458,7 +465,7 @@ impl InvertedIndexReader {
     }
 }
 
-// The number that bytes begin with, if they are long enough.
+// Reads the number at the front of bytes, if they are long enough.
 #[tactic(auto, using(crate::proofs::ReaderLemmas::number_front))]
 fn read_num_tokens(bytes: &[u8]) -> Option<u64>
     ensures value { option_map (λ n. (n, drop 8 bytes.now)) result ≡ number_at 8 bytes.now }
@@ -468,7 +475,7 @@ fn read_num_tokens(bytes: &[u8]) -> Option<u64>
     u64::deserialize(&mut rest)
 }
 
-// Whether a range lies in bytes.
+// Returns whether a range is within bytes.
 fn does_lie_in(bytes: &Bytes, range: &Range<usize>) -> bool
     ensures { result ≡ lies_in bytes.now range.now }
 {
@@ -478,7 +485,7 @@ fn does_lie_in(bytes: &Bytes, range: &Range<usize>) -> bool
     range.end <= bytes.len()
 }
 
-// The bytes of a range, which are shared.
+// Returns the bytes of a range, which are shared.
 fn part_of(bytes: &Bytes, range: &Range<usize>) -> Result<Bytes, Fault>
     requires { lies_in bytes.now range.now ≡ true }
     ensures ok { IfOk result (λ part. part ≡ bytes_in bytes.now range.now) }

@@ -1,4 +1,4 @@
-//! Cursors over the postings of a term, and look-ups in the files of an index.
+//! Cursors over the postings of a term, and lookups in the files of an index.
 #![tactic(auto)]
 
 pub mod block_segment_postings;

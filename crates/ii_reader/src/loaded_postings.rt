@@ -9,8 +9,8 @@ use ii_docset::{DocId, DocSet, Postings, TERMINATED, copy_positions};
 use std::alloc::Global;
 use std::marker::Model;
 
-/// A cursor over a list that is held in memory, for terms in few documents: the documents, and their
-/// positions one after the other.
+/// A cursor over postings in memory, for terms in few documents: the documents, and their positions one after
+/// the other.
 pub struct LoadedPostings {
     doc_ids: Vec<DocId>,
     position_offsets: Vec<u32>,
@@ -18,7 +18,7 @@ pub struct LoadedPostings {
     cursor: usize,
 }
 
-// So that each drop is a call.
+// A drop has to be a call.
 impl Drop for LoadedPostings {
     fn drop(self) {
         let LoadedPostings {
@@ -45,18 +45,17 @@ impl Model for LoadedPostings {
 }
 
 impl LoadedPostings {
-    /// Loads what is left of a source, which is then at its end. The count of each document is the
-    /// number of its positions, so it is 0 where the source has none.
+    /// Loads the remaining documents of a source, which is then at its end. The term frequency of each
+    /// document is its number of positions, so 0 if the source has none.
     ///
-    /// `Limit(LoadedPositions)` exactly where the documents have more than `u32::MAX` positions, and
-    /// `OutOfMemory` where a growth was refused: the source then stands somewhere on its way.
+    /// Returns `Limit(LoadedPositions)` exactly if the documents have more than `u32::MAX` positions, or
+    /// `OutOfMemory` if an allocation fails. Part of the source may then have been read.
     pub fn load<P: Postings>(alloc: Global, source: &mut P) -> Result<LoadedPostings, Fault>
         ensures ok { IfOk result (λ postings. postings.rest ≡ loaded (P.rest source.old)) }
         ensures num_docs { IfOk result (λ postings. postings.num_docs ≡ length (P.rest source.old)) }
         ensures few { OnOk result (num_positions (P.rest source.old) < 2 ^ 32) }
-        // what is left of the source
 
-        // What is left of the source, and what it cost.
+        // The remaining documents of the source, and the cost.
         ensures rest { OnOk result (P.rest source.new ≡ []) }
         ensures on_its_way { IsEndOf (P.rest source.old) (P.rest source.new) }
         ensures kind { P.always_one source.new ≡ P.always_one source.old }
@@ -82,7 +81,7 @@ impl LoadedPostings {
         })
     }
 
-    // The positions of the current document.
+    // Returns the positions of the current document.
     fn current_positions(&self) -> &[u32]
         requires { IsCurrent self.now.rest }
         ensures positions { result.now ≡ positions_at self.now.rest }
@@ -95,23 +94,21 @@ impl LoadedPostings {
     }
 }
 
-// Adds the positions of the current document to those that were loaded, and answers how many these
-// are then.
+// Appends the positions of the current document to the loaded ones, and returns how many there are then.
 fn load_positions<P: Postings>(source: &mut P, positions: &mut Vec<u32>) -> Result<u32, Fault>
     requires { IsCurrent (P.rest source.old) }
     ensures ok { OnOk result (positions.new.items ≡ positions.old.items ++ positions_at (P.rest source.old)) }
     ensures end { IfOk result (λ end. end ≡ length positions.new.items) }
     ensures few { OnOk result (length positions.new.items < 2 ^ 32) }
-    // what is left of the source
 
-    // What is left of the source, and what it cost.
+    // The remaining documents of the source, and the cost.
     ensures rest { P.rest source.new ≡ P.rest source.old }
     ensures kind { P.always_one source.new ≡ P.always_one source.old }
     ensures work { P.spent 1 (term_freq_at (P.always_one source.old) (P.rest source.old)) source.old source.new }
-    // a refusal
+    // The error.
     ensures err { IfErr result (λ fault. IsLoadFault (length positions.old.items + length (positions_at (P.rest source.old))) fault) }
 {
-    // The current document tells that its positions have 32 bits.
+    // The current document shows that its positions have 32 bits.
     let _doc = source.doc();
     source.append_positions_with_offset(0, positions)?;
     match u32::try_from(positions.len()) {
@@ -189,7 +186,7 @@ impl Postings for LoadedPostings {
     }
 }
 
-// Adds positions, each plus an offset.
+// Appends positions, each plus an offset.
 fn append_with_offset(positions: &[u32], offset: u32, output: &mut Vec<u32>) -> Result<(), Fault>
     requires { All (λ p. p + offset < 2 ^ 32) positions.now }
     ensures ok { OnOk result (output.new.items ≡ output.old.items ++ map (λ p. p + offset) positions.now) }

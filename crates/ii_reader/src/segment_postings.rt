@@ -28,7 +28,7 @@ pub struct SegmentPostings {
     position_reader: Option<PositionReader>,
 }
 
-// So that each drop is a call.
+// A drop has to be a call.
 impl Drop for SegmentPostings {
     fn drop(self) {
         let SegmentPostings {
@@ -70,11 +70,12 @@ impl Model for SegmentPostings {
 }
 
 impl SegmentPostings {
-    /// A cursor over the list of `doc_freq` documents that `postings` begins with, by the option that
-    /// its field records and the one that is requested, or the first part of it that is damaged. All
-    /// documents are looked at, then all counts where they are read, and then all positions where
-    /// both options have them, counts are read and bytes of positions are given. Bytes after what is
-    /// read aren't looked at, nor are positions elsewhere. Memory is never taken.
+    /// Validates the list of `doc_freq` documents at the front of `postings`, by the recorded and the
+    /// requested option, and opens a cursor over it. Returns the first corrupt part.
+    ///
+    /// Validates all documents, then all term frequencies if they are read, and then all positions. Positions
+    /// are ignored unless both options have them, term frequencies are read, and bytes of positions are
+    /// given. Ignores the bytes after the list. Never allocates.
     pub fn open(
         doc_freq: u32,
         postings: Bytes,
@@ -88,21 +89,21 @@ impl SegmentPostings {
         ensures reading { IfOk result (λ cursor. (freq_reading record_option requested_option doc_freq postings ≡ Ok cursor.freq_reading)
             × (bounds_trusted record_option requested_option doc_freq postings ≡ Ok cursor.bounds)) }
 
-        // It stands at its first block, and no more than this was decoded and read for it.
+        // The cursor is at its first block.
         ensures first { IfOk result (λ cursor. cursor.block ≡ 0) }
-        // what was decoded and read for it
+        // No more than this was decoded and read for it.
         ensures doc_decodes { IfOk result (λ cursor. cursor.doc_decodes ≤ 1) }
         ensures freq_decodes { IfOk result (λ cursor. cursor.freq_decodes ≤ 1) }
         ensures entries_read { IfOk result (λ cursor. cursor.entries_read ≤ 1) }
         ensures position_decodes { IfOk result (λ cursor. cursor.position_decodes ≤ 1) }
-        // a refusal
+        // The error.
         ensures err { IfErr result (λ fault. term_list record_option requested_option doc_freq postings positions ≡ Err (part_of fault)) }
     {
         let mut block_cursor = BlockSegmentPostings::empty_by(record_option, requested_option);
         if let Err(fault) = block_cursor.fill(doc_freq, postings) {
             return Err(fault);
         }
-        // what the cursor tells of its list and of its block
+        // What the cursor gives about its list and its block.
         let _docs = block_cursor.docs();
         let _reading = block_cursor.freq_reading_option();
         if positions.is_none() {
@@ -123,10 +124,11 @@ impl SegmentPostings {
         })
     }
 
-    /// A cursor over the list of `doc_freq` documents that `postings` is known to begin with, with the
-    /// positions that `positions` are known to hold, by the option that its field records and the one
-    /// that is requested. No block but the first is looked at, and of positions the width of each of
-    /// their blocks and the last ones. Memory is never taken.
+    /// Opens a cursor over known postings and positions, by the recorded and the requested option. `postings`
+    /// must begin with a valid list of `doc_freq` documents, and `positions` must hold its positions.
+    ///
+    /// Reads only the first block. Of positions it reads the width of each block, and the last ones. Never
+    /// allocates.
     pub fn open_known(
         doc_freq: u32,
         postings: Bytes,
@@ -141,9 +143,9 @@ impl SegmentPostings {
         ensures reading { (freq_reading record_option requested_option doc_freq postings ≡ Ok result.freq_reading)
             × (bounds_trusted record_option requested_option doc_freq postings ≡ Ok result.bounds) }
 
-        // It stands at its first block, and no more than this was decoded and read for it.
+        // The cursor is at its first block.
         ensures first { result.block ≡ 0 }
-        // what was decoded and read for it
+        // No more than this was decoded and read for it.
         ensures doc_decodes { result.doc_decodes ≤ 1 }
         ensures freq_decodes { result.freq_decodes ≤ 1 }
         ensures entries_read { result.entries_read ≤ 1 }
@@ -151,7 +153,7 @@ impl SegmentPostings {
     {
         let mut block_cursor = BlockSegmentPostings::empty_by(record_option, requested_option);
         block_cursor.fill_known(doc_freq, postings);
-        // what the cursor tells of its list and of its block
+        // What the cursor gives about its list and its block.
         let _docs = block_cursor.docs();
         let _reading = block_cursor.freq_reading_option();
         if positions.is_none() {
@@ -169,10 +171,9 @@ impl SegmentPostings {
         }
     }
 
-    /// Puts another list in place of this one, as `open` does with the same arguments: the list of
-    /// `doc_freq` documents that `postings` begins with, at its first document, or the first part of
-    /// it that is damaged. The cursor is then over no documents, and can be reset again. Memory is
-    /// never taken.
+    /// Replaces the list, as `open` does with the same arguments: by the list of `doc_freq` documents at the
+    /// front of `postings`, at its first document. Returns the first corrupt part; the cursor is then over no
+    /// documents, and can be reset again. Never allocates.
     pub fn reset(
         &mut self,
         doc_freq: u32,
@@ -187,14 +188,14 @@ impl SegmentPostings {
         ensures reading { OnOk result ((freq_reading record_option requested_option doc_freq postings ≡ Ok self.new.freq_reading)
             × (bounds_trusted record_option requested_option doc_freq postings ≡ Ok self.new.bounds)) }
 
-        // It stands at its first block, and no more than this was decoded and read for it.
+        // The cursor is at its first block.
         ensures first { self.new.block ≡ 0 }
-        // what was decoded and read for it
+        // No more than this was decoded and read for it.
         ensures doc_decodes { self.new.doc_decodes ≤ 1 }
         ensures freq_decodes { self.new.freq_decodes ≤ 1 }
         ensures entries_read { self.new.entries_read ≤ 1 }
         ensures position_decodes { self.new.position_decodes ≤ 1 }
-        // a refusal, and what it leaves
+        // The error, and what it leaves.
         ensures err { IfErr result (λ fault. term_list record_option requested_option doc_freq postings positions ≡ Err (part_of fault)) }
         ensures emptied { OnErr result (self.new ≡ postings_of_none record_option requested_option) }
     {
@@ -204,7 +205,7 @@ impl SegmentPostings {
         if let Err(fault) = self.block_cursor.fill(doc_freq, postings) {
             return Err(fault);
         }
-        // what the cursor tells of its list and of its block
+        // What the cursor gives about its list and its block.
         let _docs = self.block_cursor.docs();
         let _reading = self.block_cursor.freq_reading_option();
         if positions.is_none() {
@@ -222,7 +223,7 @@ impl SegmentPostings {
         }
     }
 
-    // Puts no documents in place of the list, by the options of another field or request.
+    // Removes the list, and sets the two options.
     pub(crate) fn clear_by(
         &mut self,
         record_option: IndexRecordOption,
@@ -235,16 +236,17 @@ impl SegmentPostings {
         self.block_cursor.clear_by(record_option, requested_option);
     }
 
-    /// A cursor over no documents.
+    /// Opens a cursor over no documents.
     pub fn empty() -> SegmentPostings
         ensures { result ≡ record { rest = []; doc_freq = 0; freq_reading = FreqReadingOption.NoFreq; bounds = []; block = 0; doc_decodes = 0; freq_decodes = 0; entries_read = 0; position_decodes = 0 } }
     {
         SegmentPostings::from_block_postings(BlockSegmentPostings::empty(), None)
     }
 
-    /// A cursor over the documents of a block cursor from its block on, with the positions of a
-    /// reader. Where one is given, both options of the block cursor have positions, its counts are
-    /// read, the reader has as many deltas as they say, and each position has 32 bits.
+    /// Opens a cursor over the documents of a block cursor from its block on, with the positions of a reader.
+    ///
+    /// If a reader is given, both options of the block cursor must have positions, and its term frequencies
+    /// must be read. The reader must have as many deltas as they say, and each position must fit in 32 bits.
     #[inline(always)]
     pub fn from_block_postings(
         segment_block_postings: BlockSegmentPostings,
@@ -256,15 +258,15 @@ impl SegmentPostings {
         ensures doc_freq { result.doc_freq ≡ length segment_block_postings.docs }
         ensures reading { (result.freq_reading ≡ segment_block_postings.freq_reading) × (result.bounds ≡ trusted segment_block_postings.freq_reading segment_block_postings.bounds) }
 
-        // Where it stands, and what was decoded and read.
+        // The block of the cursor.
         ensures block { result.block ≡ segment_block_postings.block }
-        // what was decoded and read for it
+        // What was decoded and read for it.
         ensures doc_decodes { result.doc_decodes ≡ segment_block_postings.doc_decodes }
         ensures freq_decodes { result.freq_decodes ≡ segment_block_postings.freq_decodes }
         ensures entries_read { result.entries_read ≡ segment_block_postings.entries_read }
         ensures position_decodes { result.position_decodes ≡ decodes_read position_reader }
     {
-        // what the cursor tells of its list and of its block
+        // What the cursor gives about its list and its block.
         let _docs = segment_block_postings.docs();
         let _reading = segment_block_postings.freq_reading_option();
         SegmentPostings {
@@ -274,8 +276,8 @@ impl SegmentPostings {
         }
     }
 
-    /// A cursor over the same bytes, which are shared, at the same document. It has decoded as many
-    /// blocks. `OutOfMemory` where a growth was refused.
+    /// Clones the cursor with its current document and its numbers of decodes. The bytes are shared. Returns
+    /// `OutOfMemory` if an allocation fails.
     pub fn clone(&self) -> Result<SegmentPostings, Fault>
         ensures same { IfOk result (λ cursor. cursor ≡ self.now) }
         ensures only { OnlyMemory result }
@@ -292,17 +294,18 @@ impl SegmentPostings {
         })
     }
 
-    /// How many documents the term is in.
+    /// Returns the number of documents of the term.
     pub fn doc_freq(&self) -> u32
         ensures { result ≡ self.now.doc_freq }
     {
         self.block_cursor.doc_freq()
     }
 
-    /// Drops what lies before the first document that isn't below `target` and has a count of at least
-    /// `least`, where each count is 1 if counts aren't read, and answers that document, or `TERMINATED`.
-    /// Blocks are passed that end below the target or have no such count, as their bounds say; each other
-    /// one is decoded, once.
+    /// Moves to the first document that is at least `target` and has a term frequency of at least `least`,
+    /// and returns it, or `TERMINATED`. Each frequency is 1 if term frequencies aren't read.
+    ///
+    /// Skips blocks that end below the target or, by their bounds, have no such frequency. Decodes each other
+    /// block once.
     pub fn seek_with_freq(&mut self, target: DocId, least: u32) -> DocId
         requires { IsTarget target self.old.rest }
         ensures doc { result ≡ doc_at self.new.rest }
@@ -312,7 +315,7 @@ impl SegmentPostings {
         ensures decodes { self.new.doc_decodes ≤ self.old.doc_decodes + blocks_with_freq least self.old.bounds self.old.block self.new.block }
         ensures lazy { StaysLazy self.new }
     {
-        // that documents ascend, for the proof
+        // For the proof: documents ascend.
         let _doc = self.doc();
         if self.block_cursor.freq_reading_option().is_read() {
             self.cur = self.block_cursor.seek_with_freq(self.cur, target, least);
@@ -324,8 +327,8 @@ impl SegmentPostings {
         self.seek(TERMINATED)
     }
 
-    /// How many of the documents that are left are alive. The set has to tell of each of them. A copy
-    /// of the cursor goes over them: `OutOfMemory` where there is no room for it.
+    /// Returns how many of the remaining documents are alive. The set must cover each of them. Iterates over
+    /// a clone of the cursor, and returns `OutOfMemory` if that can't be allocated.
     pub fn doc_freq_given_deletes(&self, alive_bitset: &AliveBitSet) -> Result<u32, Fault>
         requires { IsCovered alive_bitset.now self.now.rest }
         ensures ok { IfOk result (λ count. count ≡ alive_in alive_bitset.now self.now.rest) }
@@ -359,11 +362,11 @@ impl DocSet for SegmentPostings {
         ensures doc { result ≡ doc_at self.new.rest }
         ensures rest { self.new.rest ≡ drop 1 self.old.rest }
 
-        // What stays, and what it cost.
+        // What stays the same, and the cost.
         ensures sound { IsSound self.new.rest }
         ensures kind { not (is_read self.new.freq_reading) ≡ not (is_read self.old.freq_reading) }
         ensures work { WentLazily self.old self.new }
-        // what a caller learns beyond the trait
+        // What a caller learns beyond the trait.
         ensures once { DecodesOnce self.old self.new }
         ensures next { self.new.block ≤ self.old.block + 1 }
         ensures lazy { StaysLazy self.new }
@@ -381,26 +384,25 @@ impl DocSet for SegmentPostings {
     fn doc(&self) -> DocId
         ensures doc { result ≡ doc_at self.now.rest }
         ensures sound { IsSound self.now.rest }
-        // what a caller learns beyond the trait
+        // What a caller learns beyond the trait.
         ensures lazy { StaysLazy self.now }
     {
         self.block_cursor.doc(self.cur)
     }
 
-    /// Drops the documents below `target`, and answers the first that is left, or `TERMINATED`. One
-    /// block is decoded at most, and none that the cursor passes. The next document is looked at
-    /// before any search.
+    /// Moves to the first document that is at least `target`, and returns it, or `TERMINATED`. Decodes at
+    /// most one block, and none that it skips. Tests the next document before any search.
     #[inline(always)]
     fn seek(&mut self, target: DocId) -> DocId
         requires { IsTarget target self.old.rest }
         ensures doc { result ≡ doc_at self.new.rest }
         ensures rest { self.new.rest ≡ from_doc target self.old.rest }
 
-        // What stays, and what it cost.
+        // What stays the same, and the cost.
         ensures sound { IsSound self.new.rest }
         ensures kind { not (is_read self.new.freq_reading) ≡ not (is_read self.old.freq_reading) }
         ensures work { WentLazily self.old self.new }
-        // what a caller learns beyond the trait
+        // What a caller learns beyond the trait.
         ensures once { DecodesOnce self.old self.new }
         ensures lazy { StaysLazy self.new }
     {
@@ -450,14 +452,14 @@ impl Postings for SegmentPostings {
     fn term_freq(&self) -> u32
         requires { IsTrue (not (is_read self.now.freq_reading)) ⊎ IsCurrent self.now.rest }
         ensures freq { result ≡ term_freq_at (not (is_read self.now.freq_reading)) self.now.rest }
-        // what a caller learns beyond the trait
+        // What a caller learns beyond the trait.
         ensures entry { result ≡ term_freq_at false self.now.rest }
     {
         self.block_cursor.freq(self.cur)
     }
 
-    /// Writes the positions of the current document, each plus `offset`, after what stands in `output`.
-    /// Of the positions those blocks are decoded in which they lie, and no document or count.
+    /// Appends the positions of the current document, each plus `offset`, to `output`. Decodes the blocks of
+    /// positions that hold them, and no documents or term frequencies.
     fn append_positions_with_offset(
         &mut self,
         offset: u32,
@@ -469,11 +471,11 @@ impl Postings for SegmentPostings {
         ensures err { OnErr result (output.new.items ≡ output.old.items) }
         ensures only { OnlyMemory result }
 
-        // What stays, and what it cost.
+        // What stays the same, and the cost.
         ensures rest { self.new.rest ≡ self.old.rest }
         ensures kind { not (is_read self.new.freq_reading) ≡ not (is_read self.old.freq_reading) }
         ensures work { SpentLazily 1 (term_freq_at (not (is_read self.old.freq_reading)) self.old.rest) self.old self.new }
-        // what a caller learns beyond the trait
+        // What a caller learns beyond the trait.
         ensures decodes { DecodesPositions (term_freq_at (not (is_read self.old.freq_reading)) self.old.rest) self.old self.new }
     {
         let Some(reader) = &mut self.position_reader else {
@@ -484,8 +486,8 @@ impl Postings for SegmentPostings {
         append_positions(reader, start, count, offset, output)
     }
 
-    /// Writes positions of the current document to the front of `output`, from the one at place `from`
-    /// on. Of the positions those blocks are decoded in which they lie, and no document or count.
+    /// Writes the positions of the current document from number `from` on to the front of `output`. Decodes
+    /// the blocks of positions that hold them, and no documents or term frequencies.
     fn read_positions(&mut self, from: usize, before: u32, output: &mut [u32]) -> usize
         requires current { IsCurrent self.old.rest }
         requires before { before ≡ position_before from (positions_at self.old.rest) }
@@ -493,14 +495,14 @@ impl Postings for SegmentPostings {
         ensures read { output.new ≡ take (length output.old) (drop from (positions_at self.old.rest)) ++ drop (length (positions_at self.old.rest) - from) output.old }
         ensures few { length (positions_at self.old.rest) < 2 ^ 32 }
 
-        // What stays, and what it cost.
+        // What stays the same, and the cost.
         ensures rest { self.new.rest ≡ self.old.rest }
         ensures kind { not (is_read self.new.freq_reading) ≡ not (is_read self.old.freq_reading) }
         ensures work { SpentLazily 1 result self.old self.new }
-        // what a caller learns beyond the trait
+        // What a caller learns beyond the trait.
         ensures decodes { DecodesPositions result self.old self.new }
     {
-        // that positions have 32 bits, for the proof
+        // For the proof: positions have 32 bits.
         let _doc = self.doc();
         let Some(reader) = &mut self.position_reader else {
             return 0;
@@ -511,7 +513,7 @@ impl Postings for SegmentPostings {
     }
 }
 
-// Adds the positions whose deltas, so many, begin at a place, each plus an offset.
+// Appends the `count` positions whose deltas begin at `start`, each plus an offset.
 fn append_positions(
     reader: &mut PositionReader,
     start: u64,
@@ -535,8 +537,8 @@ fn append_positions(
     Ok(())
 }
 
-// Reads positions of a document to the front of `output`, from a place on, as many as are left and have
-// room, and answers how many. The deltas of all of them, so many, begin at a place.
+// Reads positions of a document, from number `from` on, to the front of `output`. Returns how many: as many
+// as remain and fit. The deltas of all `count` positions of the document begin at `start`.
 fn read_piece(
     reader: &mut PositionReader,
     start: u64,
@@ -549,11 +551,11 @@ fn read_piece(
     requires low { start + count < 2 ^ 64 }
     requires fits { IsTrue (fit_u32 (running_sums 0 (take count (drop start reader.old.deltas)))) }
     requires before { before ≡ position_before from (running_sums 0 (take count (drop start reader.old.deltas))) }
-    // what is read, and what stays
+    // What is read.
     ensures count { result ≡ min (length output.old) (count - from) }
     ensures read { output.new ≡ take (length output.old) (drop from (running_sums 0 (take count (drop start reader.old.deltas)))) ++ drop (count - from) output.old }
 
-    // What stays, and what it decodes.
+    // What stays the same, and what it decodes.
     ensures deltas { reader.new.deltas ≡ reader.old.deltas }
     ensures decodes { reader.new.decodes ≤ reader.old.decodes + result / 128 + 2 }
 {
@@ -567,7 +569,7 @@ fn read_piece(
     many
 }
 
-// Reads as many positions as `output` has room for, whose deltas begin at a place, each plus an offset.
+// Fills `output` with the positions whose deltas begin at `start`, each plus an offset.
 fn read_positions(reader: &mut PositionReader, start: u64, offset: u32, output: &mut [u32])
     requires inside { start + length output.old ≤ length reader.old.deltas }
     requires fits { IsTrue (fit_u32 (running_sums offset (take (length output.old) (drop start reader.old.deltas)))) }
@@ -579,7 +581,7 @@ fn read_positions(reader: &mut PositionReader, start: u64, offset: u32, output: 
     prefix_sum(output, offset);
 }
 
-// Puts in place of each value its sum with those before it and an offset.
+// Replaces each value with its sum with an offset and all values before it.
 fn prefix_sum(values: &mut [u32], offset: u32)
     requires { IsTrue (fit_u32 (running_sums offset values.old)) }
     ensures { values.new ≡ running_sums offset values.old }

@@ -1,4 +1,4 @@
--- What a field holds whose only term has a recorder's documents.
+-- Contents of a field whose only term has a recorder's documents.
 use Rattle.std.proofs.Common.{◌≡◌, ℕ, [], ◌∷◌, List, Bool, if◌then◌else◌, Option, None, Result, refl}
 use Rattle.std.specs.Prelude.{OnOk}
 use Rattle.std.specs.List.{AllByRecursion}
@@ -20,7 +20,7 @@ use Rattle.ii_recorder.specs.Recorded.{RecorderState, entries_of_recorder}
 use Rattle.ii_recorder.specs.Terms.{WrittenTerm, field_bodies}
 use Rattle.ii_reader_tests.specs.RecordedTerm.{recorded_term}
 
--- the term that was begun, and has the documents
+-- the open term after a recorder's documents are pushed
 pub term_is : (before : OpenTermState) (opened pushed : IndexSerializerState) (r : RecorderState) (mode : IndexRecordOption) (b : Bool)
     → before.norms ≡ None → opened.field.term ≡ record before { skip_info = if b then before.mode else Basic; docs = []; freqs = []; deltas = [] } → b ≡ has_freq r.option → before.mode ≡ mode
     → pushed ≡ with_entries r.option opened (entries_of_recorder r) → term_under (97 ∷ []) pushed.field.term ≡ recorded_term mode r
@@ -34,7 +34,7 @@ pub still_writing : (option : IndexRecordOption) (initial : IndexBodiesState) (s
     → IsWriting initial new field tokens None [] pending
 still_writing option initial s new es field tokens pending is h = rw is (writing_pushed option initial s es field tokens None [] pending h)
 
--- where no norms are known, none is lacking
+-- where no norms are known, all documents are covered
 pub none_lacking : (norms : Option Norms) (docs : List ℕ) → norms ≡ None → AllByRecursion (Covers norms) docs
 none_lacking norms [] is = tt
 none_lacking norms (d ∷ ds) is = (rw is tt, none_lacking norms ds is)

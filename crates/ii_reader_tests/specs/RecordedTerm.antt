@@ -1,4 +1,4 @@
--- The term that the tests write of a recorder.
+-- The term that the tests write from a recorder.
 use Rattle.std.specs.Prelude.{[], ◌∷◌, if◌then◌else◌, None}
 use Rattle.ii_base.specs.declared.schema.index_record_option.IndexRecordOption.{IndexRecordOption}
 use Rattle.ii_base.specs.declared.schema.index_record_option.IndexRecordOption.TheVariants.{Basic}
@@ -8,7 +8,7 @@ use Rattle.ii_recorder.specs.Pushed.{pushed_deltas, pushed_freqs}
 use Rattle.ii_recorder.specs.Recorded.{RecorderState, entries_of_recorder}
 use Rattle.ii_recorder.specs.Terms.{WrittenTerm}
 
--- `a`, as the field records it or without counts
+-- the term `a` with a recorder's documents
 abbrev pub recorded_term : IndexRecordOption → RecorderState → WrittenTerm
 recorded_term mode r = record {
   key = 97 ∷ [];

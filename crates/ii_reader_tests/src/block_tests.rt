@@ -1,4 +1,4 @@
-// Lists as block cursors walk over them.
+// Lists read through block cursors.
 use bytes::Bytes;
 use ii_base::{Fault, IndexRecordOption, LayoutFault, Part};
 use ii_check::FreqReadingOption;
@@ -12,28 +12,28 @@ const FREQS: IndexRecordOption = IndexRecordOption::WithFreqs;
 
 const FULL: IndexRecordOption = IndexRecordOption::WithFreqsAndPositions;
 
-// What a block cursor answers to a call.
+// A call of a block cursor and its expected answer.
 #[derive(Clone, Copy)]
 enum Step {
-    // the documents of its block
+    // the documents of the block
     Docs(&'static [DocId]),
-    // how many these are
+    // the number of these
     Len(usize),
-    // the document at a place
+    // the document at an index
     Doc(usize, DocId),
-    // the count of the document at a place, and how many counts the block has
+    // the term frequency at an index, and how many frequencies the block has
     Freq(usize, u32, usize),
-    // what is done with counts
+    // how frequencies are read
     Reading(FreqReadingOption),
-    // nothing: it goes on to the next block
+    // advance to the next block
     Next,
-    // how many documents of the block that a seek comes to lie below a target
+    // a target to seek, and how many documents of its block are below it
     Sought(DocId, usize),
-    // what a reset to a list of so many documents refuses, and how many the cursor then has
+    // a reset to a list with this many documents, and the part that it reports as corrupt
     Reset(u32, &'static [u8], Option<Part>),
 }
 
-// The count at a place of a block, 0 where there is none.
+// Returns the term frequency at an index of a block, 0 after its end.
 fn freq_at(blocks: &BlockSegmentPostings, idx: usize) -> u32 {
     if idx < blocks.block_len() {
         blocks.freq(idx)
@@ -42,7 +42,7 @@ fn freq_at(blocks: &BlockSegmentPostings, idx: usize) -> u32 {
     }
 }
 
-// The part of a list that is damaged, to which a block cursor is reset.
+// Resets a block cursor to a list. Returns the corrupt part, if there is one.
 fn reset(blocks: &mut BlockSegmentPostings, doc_freq: u32, bytes: &'static [u8]) -> Option<Part> {
     match blocks.reset(doc_freq, Bytes::from_static(bytes)) {
         Ok(()) => None,
@@ -50,7 +50,7 @@ fn reset(blocks: &mut BlockSegmentPostings, doc_freq: u32, bytes: &'static [u8])
     }
 }
 
-// Whether a block cursor answers so.
+// Returns whether a block cursor gives the expected answer.
 fn is_so(blocks: &mut BlockSegmentPostings, step: Step) -> bool {
     match step {
         Step::Docs(docs) => blocks.docs() == docs,
@@ -67,7 +67,7 @@ fn is_so(blocks: &mut BlockSegmentPostings, step: Step) -> bool {
     }
 }
 
-// How many of these answers a block cursor gives, up to the first other one.
+// Returns how many steps pass before the first unexpected answer.
 fn answered(blocks: &mut BlockSegmentPostings, steps: &[Step]) -> usize {
     for (i, step) in steps.iter().enumerate() {
         if !is_so(blocks, *step) {
@@ -77,7 +77,7 @@ fn answered(blocks: &mut BlockSegmentPostings, steps: &[Step]) -> usize {
     steps.len()
 }
 
-// A list, what its field records and what is requested, and what a block cursor over it answers.
+// A list, the recorded and the requested option, and the expected answers of a block cursor.
 struct List {
     doc_freq: u32,
     bytes: &'static [u8],
@@ -86,7 +86,7 @@ struct List {
 }
 
 static LISTS: [List; 8] = [
-    // 128 documents from 0 on, then 129 and 130
+    // documents 0 to 127, then 129 and 130
     List {
         doc_freq: 130,
         bytes: &[0x85, 0x7F, 0, 0, 0, 0x40, 0x82, 0x81],
@@ -120,7 +120,7 @@ static LISTS: [List; 8] = [
             Step::Sought(131, 2),
         ],
     },
-    // documents 0, 2 and 10 with a count each, which are read or not
+    // documents 0, 2 and 10 with a count each, read or not
     List {
         doc_freq: 3,
         bytes: &[0x80, 0x82, 0x88, 0x81, 0x82, 0x83],
@@ -143,7 +143,7 @@ static LISTS: [List; 8] = [
             Step::Freq(2, 1, 0),
         ],
     },
-    // a term that has no counts in a field that records them
+    // a term without counts in a field that records them
     List {
         doc_freq: 3,
         bytes: &[0x80, 0x82, 0x88],
@@ -154,7 +154,7 @@ static LISTS: [List; 8] = [
             Step::Freq(2, 1, 0),
         ],
     },
-    // 128 documents from 0 on with the count 3 each, then document 128 with the count 4
+    // documents 0 to 127 with count 3, then document 128 with count 4
     List {
         doc_freq: 129,
         bytes: &[
@@ -170,7 +170,7 @@ static LISTS: [List; 8] = [
             Step::Freq(0, 4, 1),
         ],
     },
-    // a text with two positions, and a number in place of it
+    // a text with two positions, then a reset to a number
     List {
         doc_freq: 1,
         bytes: &[0x80, 0x82],
@@ -182,7 +182,7 @@ static LISTS: [List; 8] = [
             Step::Reading(FreqReadingOption::NoFreq),
         ],
     },
-    // odd documents in place of even ones, one that comes twice, and document 7
+    // resets from even to odd documents, to a repeated document, and to document 7
     List {
         doc_freq: 3,
         bytes: &[0x80, 0x82, 0x82],
@@ -199,8 +199,7 @@ static LISTS: [List; 8] = [
     },
 ];
 
-// How many documents a list has, how many of its answers a block cursor gives, and a copy that then comes
-// behind it.
+// Returns the number of documents, and how many steps pass for a block cursor and for its copy.
 fn answered_by_copy(list: &List) -> Result<(u32, [usize; 2]), Fault> {
     let bytes = Bytes::from_static(list.bytes);
     let mut blocks = BlockSegmentPostings::open(
@@ -227,7 +226,7 @@ fn lists_are_walked_block_by_block(rt: HostRuntime) -> Result<(), Fail> {
     Ok(())
 }
 
-// Over nothing.
+// Steps over an empty list.
 static NOTHING: [Step; 4] = [
     Step::Docs(&[]),
     Step::Next,

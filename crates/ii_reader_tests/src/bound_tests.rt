@@ -1,4 +1,4 @@
-// Bounds of blocks, and seeks by count.
+// Bounds of blocks, and seeks by term frequency.
 use crate::list_tests::sought;
 use bytes::Bytes;
 use ii_base::{Fault, IndexRecordOption, LayoutFault};
@@ -11,27 +11,26 @@ const FREQS: IndexRecordOption = IndexRecordOption::WithFreqs;
 
 const BASIC: IndexRecordOption = IndexRecordOption::Basic;
 
-// The entries of three full blocks of documents 0 to 383: those of the first block have a count of 1 each,
-// those of the second one of 5, and those of the third one of 1, but for document 300, which has 9. The norm
-// of each has the id 20.
+// Entries of three full blocks of documents 0 to 383. The counts are 1, 5 and 1 by block, but document 300
+// has 9. Each norm has the id 20.
 static BOUNDED: [u8; 25] = [
     0x98, 0x7F, 0, 0, 0, 0x40, 0, 20, 1, 0xFF, 0, 0, 0, 0x40, 3, 20, 5, 0x7F, 1, 0, 0, 0x40, 4, 20,
     9,
 ];
 
-// The same where nothing is known of norms and counts.
+// The same where no norms and counts are known.
 static UNKNOWN: [u8; 25] = [
     0x98, 0x7F, 0, 0, 0, 0x40, 0, 0, 0, 0xFF, 0, 0, 0, 0x40, 3, 0, 0, 0x7F, 1, 0, 0, 0x40, 4, 0, 0,
 ];
 
-// The same where a greatest count is taken for any.
+// The same with 255 as each largest count, which bounds nothing.
 static ANY: [u8; 25] = [
     0x98, 0x7F, 0, 0, 0, 0x40, 0, 0, 0xFF, 0xFF, 0, 0, 0, 0x40, 3, 0, 0xFF, 0x7F, 1, 0, 0, 0x40, 4,
     0, 0xFF,
 ];
 
-// Their counts: 128 times 5 - 1 in three bits, and 128 numbers of four bits, all of them 0 but the one of
-// document 300, the 45th of its block.
+// Their counts: 128 times 5 - 1 in three bits, then 128 entries of four bits. All of these are 0 except that
+// of document 300, the 45th of its block.
 static COUNTS: [u8; 112] = [
     0x24, 0x49, 0x92, 0x24, 0x49, 0x92, 0x24, 0x49, 0x92, 0x24, 0x49, 0x92, 0x24, 0x49, 0x92, 0x24,
     0x49, 0x92, 0x24, 0x49, 0x92, 0x24, 0x49, 0x92, 0x24, 0x49, 0x92, 0x24, 0x49, 0x92, 0x24, 0x49,
@@ -41,7 +40,7 @@ static COUNTS: [u8; 112] = [
     0,
 ];
 
-// A list of such entries.
+// Builds a list with such entries.
 fn three_blocks(alloc: Global, entries: &'static [u8]) -> Result<Bytes, Fault> {
     let mut bytes = Vec::new(alloc);
     bytes.extend_from_slice(entries)?;
@@ -49,7 +48,7 @@ fn three_blocks(alloc: Global, entries: &'static [u8]) -> Result<Bytes, Fault> {
     Ok(Bytes::from_vec(bytes)?)
 }
 
-// The bounds of the blocks that a cursor over them comes to, and twice behind them.
+// Returns the bounds of its three blocks, and twice the bounds after the end.
 fn bounds_of(
     alloc: Global,
     requested_option: IndexRecordOption,
@@ -67,7 +66,7 @@ fn bounds_of(
 // A block of documents alone.
 static DOCUMENTS: [u8; 6] = [0x85, 0x7F, 0, 0, 0, 0x40];
 
-// The bounds of that block.
+// Returns the bounds of that block.
 fn bounds_without_counts() -> Result<Option<(u8, u8)>, LayoutFault> {
     let documents = Bytes::from_static(&DOCUMENTS);
     Ok(BlockSegmentPostings::open(128, documents, FREQS, FREQS)?.block_bounds())
@@ -76,7 +75,7 @@ fn bounds_without_counts() -> Result<Option<(u8, u8)>, LayoutFault> {
 #[test]
 fn full_blocks_with_counts_have_bounds(rt: HostRuntime) -> Result<(), Fail> {
     let bounds = [Some((20, 1)), Some((20, 5)), Some((20, 9)), None, None];
-    // counts need not be read for them
+    // bounds don't need counts to be read
     for option in [FREQS, BASIC] {
         assert!(rt; bounds_of(rt.alloc(), option)? == bounds);
     }
@@ -84,7 +83,7 @@ fn full_blocks_with_counts_have_bounds(rt: HostRuntime) -> Result<(), Fail> {
     Ok(())
 }
 
-// Where a seek by count leaves a cursor, if it may be made, and the count there.
+// Seeks by term frequency if that is allowed. Returns the document and its term frequency.
 fn sought_with_freq(cursor: &mut SegmentPostings, target: DocId, least: u32) -> (DocId, u32) {
     if target > TERMINATED || cursor.doc() > target {
         return (cursor.doc(), 0);
@@ -97,7 +96,7 @@ fn sought_with_freq(cursor: &mut SegmentPostings, target: DocId, least: u32) -> 
     }
 }
 
-// Where seeks by count leave a cursor, the first of them behind a seek to the same document.
+// Seeks the first document, then runs three seeks by term frequency.
 fn sought_by_count(
     doc_freq: u32,
     bytes: Bytes,
@@ -114,7 +113,7 @@ fn sought_by_count(
     ])
 }
 
-// Seeks by count over the three blocks, and where they end.
+// Seeks by term frequency over the three blocks, and where they end.
 static SEEKS: [([(DocId, u32); 3], [(DocId, u32); 3]); 3] = [
     (
         [(0, 6), (300, 9), (300, 10)],
@@ -149,8 +148,8 @@ fn seeks_by_count_go_by_one_where_counts_are_not_read(rt: HostRuntime) -> Result
     Ok(())
 }
 
-// Documents 0 to 127 with a count of 300 each, whose greatest count is taken for any: 128 times 300 - 1 in nine
-// bits, which repeat after nine bytes.
+// Documents 0 to 127 with a count of 300; the largest count is stored as 255, which bounds nothing. The
+// counts are 128 times 300 - 1 in nine bits, and their bytes repeat after nine.
 static OFTEN: [u8; 153] = [
     0x88, 0x7F, 0, 0, 0, 0x40, 0x09, 0x48, 0xFF, 0x2B, 0x57, 0xAE, 0x5C, 0xB9, 0x72, 0xE5, 0xCA,
     0x95, 0x2B, 0x57, 0xAE, 0x5C, 0xB9, 0x72, 0xE5, 0xCA, 0x95, 0x2B, 0x57, 0xAE, 0x5C, 0xB9, 0x72,

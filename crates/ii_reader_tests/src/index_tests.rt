@@ -14,7 +14,7 @@ const BASIC: IndexRecordOption = IndexRecordOption::Basic;
 
 const FULL: IndexRecordOption = IndexRecordOption::WithFreqsAndPositions;
 
-// The number 5 in document 0: a dictionary of one key of 8 bytes, whose postings are one byte.
+// The number 5 in document 0: a dictionary with one key of 8 bytes, whose postings are one byte.
 static TERMS: [u8; 104] = [
     1, 0, 0, 0, 0, 0, 0, 0, 8, 0, 0, 0, 0, 0, 0, 0, 0, 0, 0, 0, 0, 0, 0, 5, 39, 0, 0, 0, 0, 0, 0,
     0, 1, 0, 0, 0, 0, 0, 0, 0, 0, 0, 0, 0, 0, 0, 0, 0, 1, 0, 0, 0, 0, 0, 0, 0, 0, 0, 0, 0, 1, 0, 0,
@@ -28,7 +28,7 @@ static POSTINGS: [u8; 33] = [
     0, 0,
 ];
 
-// An empty body of field 0.
+// An empty body for field 0.
 static POSITIONS: [u8; 24] = [
     0, 0, 0, 0, 0, 0, 0, 0, 0, 0, 0, 0, 0, 0, 0, 0, 0, 0, 0, 0, 1, 0, 0, 0,
 ];
@@ -41,15 +41,15 @@ static SHORT: [u8; 31] = [
     1, 0, 0, 0, 0, 0, 0, 0, 0, 0, 0, 0, 0, 0, 0, 0, 0, 0, 0, 7, 0, 0, 0, 0, 0, 0, 0, 1, 0, 0, 0,
 ];
 
-// An index of a field of numbers: its files of terms, postings and positions, and that of norms.
+// The files of an index: terms, postings, positions, norms.
 type Files = [&'static [u8]; 4];
 
-// The index of the number 5, without norms.
+// Returns the index of the number 5, without norms.
 fn five() -> Files {
     [&TERMS, &POSTINGS, &POSITIONS, &NONE]
 }
 
-// A field of numbers.
+// Builds a schema of one field of numbers.
 pub(crate) fn numbers(alloc: Global) -> Result<Schema, Fault>
     ensures { IfOk result (λ schema. 0 < length schema) }
 {
@@ -59,7 +59,7 @@ pub(crate) fn numbers(alloc: Global) -> Result<Schema, Fault>
     Ok(Schema::new(entries))
 }
 
-// An index by a schema.
+// Opens an index with a schema.
 fn opened_by(alloc: Global, files: Files, schema: &Schema) -> Result<OpenIndex, Fault>
     ensures { IfOk result (λ index. length index.readers ≡ length schema.now) }
 {
@@ -74,7 +74,7 @@ fn opened_by(alloc: Global, files: Files, schema: &Schema) -> Result<OpenIndex, 
     )
 }
 
-// An index of a field of numbers.
+// Opens an index with one field of numbers.
 fn opened(alloc: Global, files: Files) -> Result<OpenIndex, Fault>
     ensures { IfOk result (λ index. 0 < length index.readers) }
 {
@@ -82,7 +82,7 @@ fn opened(alloc: Global, files: Files) -> Result<OpenIndex, Fault>
     opened_by(alloc, files, &schema)
 }
 
-// The part of files that are damaged.
+// Returns the corrupt part of the files.
 fn damage_of(alloc: Global, files: Files) -> Option<Part> {
     match opened(alloc, files) {
         Err(Fault::Damaged(part)) => Some(part),
@@ -90,8 +90,8 @@ fn damage_of(alloc: Global, files: Files) -> Option<Part> {
     }
 }
 
-// The file that a letter names: those of the index of the number 5, a body of 7 bytes, or none; by a capital
-// letter it is cut.
+// Returns the file that a letter names: one of the index of the number 5, a body of 7 bytes, or none. A
+// capital letter cuts it.
 fn named(letter: u8) -> &'static [u8] {
     match letter {
         b't' => &TERMS,
@@ -106,7 +106,7 @@ fn named(letter: u8) -> &'static [u8] {
     }
 }
 
-// Four files by their letters, and the part of them that is damaged.
+// Four files by their letters, and their corrupt part.
 struct Row {
     letters: [u8; 4],
     part: Option<Part>,
@@ -117,7 +117,7 @@ static DAMAGED: [Row; 13] = [
         letters: *b"tpqn",
         part: None,
     },
-    // tables that are cut, also that of norms
+    // cut tables, also that of norms
     Row {
         letters: *b"Tpqn",
         part: Some(Part::Composite),
@@ -138,7 +138,7 @@ static DAMAGED: [Row; 13] = [
         letters: *b"spqN",
         part: Some(Part::Composite),
     },
-    // bodies that are missing
+    // missing bodies
     Row {
         letters: *b"tnqn",
         part: Some(Part::Composite),
@@ -160,7 +160,7 @@ static DAMAGED: [Row; 13] = [
         letters: *b"ssnn",
         part: Some(Part::Composite),
     },
-    // a field that the file of terms lacks has no terms
+    // a field missing in the file of terms has no terms
     Row {
         letters: *b"npqn",
         part: None,
@@ -194,7 +194,7 @@ fn fields_that_the_schema_lacks_are_left(rt: HostRuntime) -> Result<(), Fail> {
     Ok(())
 }
 
-// How many norms a field of the number 5 has in a file of norms, if it has any.
+// Returns how many norms a field has in a file of norms, if it has any.
 fn num_norms(alloc: Global, fieldnorms: &'static [u8], field: u32) -> Result<Option<u32>, Fault> {
     let index = opened(alloc, [&TERMS, &POSTINGS, &POSITIONS, fieldnorms])?;
     match index.get_fieldnorms_reader(Field::from_field_id(field))? {
@@ -216,7 +216,7 @@ fn norms_are_opened(rt: HostRuntime) -> Result<(), Fail> {
     Ok(())
 }
 
-// The first two documents of a term, the end where there is no such term.
+// Returns the first two documents of a term, `TERMINATED` if it doesn't exist.
 fn walked(
     reader: &InvertedIndexReader,
     term: &Term,
@@ -228,7 +228,7 @@ fn walked(
     }
 }
 
-// The same by a block cursor.
+// Returns the same from a block cursor.
 fn first_two(
     reader: &InvertedIndexReader,
     term: &Term,
@@ -240,7 +240,7 @@ fn first_two(
     }
 }
 
-// How many documents a number is in, and by both kinds of cursor the first two.
+// Returns the number of documents with a number, and the first two from both kinds of cursor.
 fn found(
     alloc: Global,
     reader: &InvertedIndexReader,
@@ -255,7 +255,7 @@ fn found(
     Ok((reader.doc_freq(&term), docs))
 }
 
-// The same in the index of the number 5.
+// Returns the same for the index of the number 5.
 fn found_by_five(
     alloc: Global,
     number: u64,
@@ -276,7 +276,7 @@ fn numbers_are_looked_up(rt: HostRuntime) -> Result<(), Fail> {
     Ok(())
 }
 
-// How many tokens and how many terms a reader has, and what it keeps of the number 5.
+// The number of tokens, the number of terms, and the term info of the number 5.
 type Kept = (u64, usize, Option<TermInfo>);
 
 fn kept_in(alloc: Global, reader: &InvertedIndexReader) -> Result<Kept, Fault> {
@@ -289,7 +289,7 @@ fn kept_in(alloc: Global, reader: &InvertedIndexReader) -> Result<Kept, Fault> {
     ))
 }
 
-// The same in the first field of an index.
+// Returns this for the first field of an index.
 fn kept(alloc: Global, files: Files) -> Result<Kept, Fault> {
     let index = opened(alloc, files)?;
     kept_in(alloc, index.reader(Field::from_field_id(0)))
@@ -319,8 +319,8 @@ fn readers_of_no_terms_have_nothing(rt: HostRuntime) -> Result<(), Fail> {
     Ok(())
 }
 
-// The first term that a check of the index of the number 5 finds damaged, over a body of postings, and the
-// documents that are then read, if there is none.
+// Checks the index of the number 5 over these postings. Returns the first corrupt term, or the documents read
+// after the check.
 fn checked(
     alloc: Global,
     postings: &'static [u8],
@@ -334,7 +334,7 @@ fn checked(
     Ok((None, docs[0]))
 }
 
-// The same file with a document that doesn't end, behind the number of tokens.
+// The same file with an unterminated document after the number of tokens.
 static DAMAGED_POSTINGS: [u8; 33] = [
     1, 0, 0, 0, 0, 0, 0, 0, 0, 0, 0, 0, 0, 0, 0, 0, 0, 0, 0, 0, 0, 9, 0, 0, 0, 0, 0, 0, 0, 1, 0, 0,
     0,
@@ -352,7 +352,7 @@ fn indexes_are_checked_once(rt: HostRuntime) -> Result<(), Fail> {
     Ok(())
 }
 
-// A reader over a body of postings, without terms and positions.
+// Opens a reader over a body of postings, without terms and positions.
 fn reader_over(
     body: &'static [u8],
     option: IndexRecordOption,
@@ -361,7 +361,7 @@ fn reader_over(
     InvertedIndexReader::new(TermDictionary::empty(), body, Bytes::new(), option)
 }
 
-// What is kept of a term of so many documents, whose postings lie between two places, and whose positions nowhere.
+// Returns the info of a term with this postings range; its positions range is invalid.
 fn info_at(doc_freq: u32, start: usize, end: usize) -> TermInfo {
     TermInfo {
         doc_freq,
@@ -370,7 +370,7 @@ fn info_at(doc_freq: u32, start: usize, end: usize) -> TermInfo {
     }
 }
 
-// What a cursor and a block cursor over a term are refused for.
+// Returns the errors of opening a cursor and a block cursor over a term.
 fn faults_at(
     reader: &InvertedIndexReader,
     info: &TermInfo,
@@ -382,7 +382,7 @@ fn faults_at(
     ]
 }
 
-// The same of a term of one document between two places of a document's postings.
+// Returns the same for a term of one document with this postings range.
 fn faults_of(
     start: usize,
     end: usize,
@@ -402,7 +402,7 @@ fn ranges_lie_in_their_bodies(rt: HostRuntime) -> Result<(), Fail> {
         (0, 2, FULL, [range; 2]),
         (1, 0, FULL, [range; 2]),
         (0, 0, BASIC, [documents; 2]),
-        // that of positions is looked at where these are requested
+        // the positions range is only checked if positions are requested
         (0, 1, BASIC, [None; 2]),
         (0, 1, FULL, [range, None]),
     ];
@@ -420,10 +420,10 @@ fn short_bodies_have_no_number_of_tokens(rt: HostRuntime) -> Result<(), Fail> {
     Ok(())
 }
 
-// Six tokens, and the documents of two terms: even ones, and odd ones.
+// Six tokens, and the postings of two terms: even documents and odd ones.
 static TWO_TERMS: [u8; 14] = [6, 0, 0, 0, 0, 0, 0, 0, 0x80, 0x82, 0x82, 0x81, 0x82, 0x82];
 
-// How a reset of a cursor to what is kept of a term ends, and the first four documents that it then has.
+// Resets a cursor to a term. Returns the result and the cursor's first four documents.
 fn cursor_reset(
     reader: &InvertedIndexReader,
     info: &TermInfo,
@@ -439,7 +439,7 @@ fn cursor_reset(
     (answer, docs)
 }
 
-// The same of a block cursor.
+// Does the same with a block cursor.
 fn blocks_reset(
     reader: &InvertedIndexReader,
     info: &TermInfo,
@@ -450,10 +450,10 @@ fn blocks_reset(
     (answer, docs)
 }
 
-// Places of a term's postings there, how resets to them end, and the documents of both kinds of cursor.
+// A postings range, the result of a reset to it, and the documents after that.
 type Reset = (usize, usize, (Result<(), Fault>, [DocId; 4]));
 
-// Whether each of these resets of two cursors over the even documents ends so.
+// Returns whether resets of both kinds of cursor, opened over the even documents, end as expected.
 fn are_reset(reader: &InvertedIndexReader, resets: &[Reset]) -> Result<bool, Fault> {
     let even = info_at(3, 0, 3);
     let mut cursor = reader.read_postings_from_terminfo(&even, BASIC)?;

@@ -5,7 +5,7 @@ use ii_termdict::TermDictionary;
 use std::alloc::Global;
 use std::test::Fail;
 
-// A store of one term in 3 documents, whose postings are 3 bytes, and what stands after it.
+// A store of one term in 3 documents with 3 bytes of postings, and what follows it.
 static STORE: [u8; 56] = [
     39, 0, 0, 0, 0, 0, 0, 0, 1, 0, 0, 0, 0, 0, 0, 0, 0, 0, 0, 0, 0, 0, 0, 0, 3, 0, 0, 0, 0, 0, 0,
     0, 0, 0, 0, 0, 3, 0, 0, 0, 0, 0, 0, 0, 0, 0, 0, 0, 0, 0, 0, 0, 0, 2, 0, 3,
@@ -14,7 +14,7 @@ static STORE: [u8; 56] = [
 // Three tokens, and three documents.
 static POSTINGS: [u8; 11] = [3, 0, 0, 0, 0, 0, 0, 0, 0x80, 0x81, 0x81];
 
-// A dictionary of one term under a key: their number, the key with its length, and the store behind it.
+// Opens a dictionary of one term: the number of keys, the key with its length, and the store.
 fn terms_of(alloc: Global, key: &[u8]) -> Result<TermDictionary, Fault> {
     let mut bytes = Vec::from_slice(alloc, &1u64.to_le_bytes())?;
     bytes.extend_from_slice(&(key.len() as u64).to_le_bytes())?;
@@ -23,7 +23,7 @@ fn terms_of(alloc: Global, key: &[u8]) -> Result<TermDictionary, Fault> {
     Ok(TermDictionary::open(Bytes::from_vec(bytes)?)?)
 }
 
-// The paths and types of a reader of one term under a key.
+// Returns the paths and types of a reader with one term.
 fn fields_of(alloc: Global, key: &[u8]) -> Result<Vec<InvertedIndexFieldSpace>, Fault> {
     let terms = terms_of(alloc, key)?;
     let postings = Bytes::from_static(&POSTINGS);
@@ -35,7 +35,7 @@ fn fields_of(alloc: Global, key: &[u8]) -> Result<Vec<InvertedIndexFieldSpace>, 
     )?.list_encoded_json_fields(alloc)
 }
 
-// Whether the only path is this one with a number, of one term with 3 bytes of postings.
+// Returns whether this is the only path, with a number of one term with 3 bytes of postings.
 fn is_only_number(fields: &[InvertedIndexFieldSpace], path: &[u8]) -> bool {
     if fields.len() != 1 {
         return false;
@@ -47,7 +47,7 @@ fn is_only_number(fields: &[InvertedIndexFieldSpace], path: &[u8]) -> bool {
     (field.postings_size, field.positions_size, field.num_terms) == (3, 0, 1)
 }
 
-// Whether a key has this path with a number.
+// Returns whether a key has this path and a number.
 fn has_number(alloc: Global, key: &[u8], path: &[u8]) -> Result<bool, Fault> {
     let fields = fields_of(alloc, key)?;
     Ok(is_only_number(fields.as_slice(), path))

@@ -1,4 +1,4 @@
-//! Tests of `ii_recorder`, and of the cursors and the look-ups of `ii_reader`, by their public calls.
+//! Tests `ii_recorder`, and the cursors and lookups of `ii_reader`, through their public calls.
 #![tactic(auto)]
 
 #[cfg(test)]

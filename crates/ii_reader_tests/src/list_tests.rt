@@ -13,24 +13,24 @@ const FREQS: IndexRecordOption = IndexRecordOption::WithFreqs;
 
 const FULL: IndexRecordOption = IndexRecordOption::WithFreqsAndPositions;
 
-// What a cursor answers to a call.
+// A call of a cursor and its expected answer.
 #[derive(Clone, Copy)]
 enum Step {
-    // where it is
+    // the current document
     At(DocId),
-    // where it then goes
+    // the document after `advance`
     Next(DocId),
-    // where a seek to a target leaves it
+    // a target, and the document after a seek to it
     Sought(DocId, DocId),
-    // whether it has a target, or what it has instead
+    // a target, and the answer of `seek_danger`
     Asked(DocId, SeekDangerResult),
-    // how often its term stands where it is, 0 at its end
+    // the term frequency, 0 at the end
     Count(u32),
-    // the positions there, none at its end
+    // the positions, none at the end
     Positions(&'static [u32]),
 }
 
-// Where a seek leaves a cursor, if it may be made.
+// Seeks a target if that is allowed. Returns the current document.
 pub(crate) fn sought<P: Postings>(cursor: &mut P, target: DocId) -> DocId {
     let doc = cursor.doc();
     if target > TERMINATED {
@@ -45,7 +45,7 @@ pub(crate) fn sought<P: Postings>(cursor: &mut P, target: DocId) -> DocId {
     cursor.seek(target)
 }
 
-// The count of the current document of a cursor, 0 at its end.
+// Returns the term frequency of the current document, 0 at the end.
 fn counted<P: Postings>(cursor: &P) -> u32 {
     if cursor.doc() < TERMINATED {
         cursor.term_freq()
@@ -54,7 +54,7 @@ fn counted<P: Postings>(cursor: &P) -> u32 {
     }
 }
 
-// Whether the positions of the current document are these, none at the end.
+// Returns whether the current document has these positions; at the end it has none.
 fn has_positions<P: Postings>(alloc: Global, cursor: &mut P, want: &[u32]) -> bool {
     let mut output = Vec::new(alloc);
     if cursor.doc() < TERMINATED && cursor.positions(&mut output).is_err() {
@@ -63,7 +63,7 @@ fn has_positions<P: Postings>(alloc: Global, cursor: &mut P, want: &[u32]) -> bo
     output.as_slice() == want
 }
 
-// Whether a cursor answers so.
+// Returns whether a cursor gives the expected answer.
 fn is_so<P: Postings>(alloc: Global, cursor: &mut P, step: Step) -> bool {
     match step {
         Step::At(doc) => cursor.doc() == doc,
@@ -77,7 +77,7 @@ fn is_so<P: Postings>(alloc: Global, cursor: &mut P, step: Step) -> bool {
     }
 }
 
-// How many of these answers a cursor gives, up to the first other one.
+// Returns how many steps pass before the first unexpected answer.
 fn answered<P: Postings>(alloc: Global, cursor: &mut P, steps: &[Step]) -> usize {
     for (i, step) in steps.iter().enumerate() {
         if !is_so(alloc, cursor, *step) {
@@ -87,7 +87,7 @@ fn answered<P: Postings>(alloc: Global, cursor: &mut P, steps: &[Step]) -> usize
     steps.len()
 }
 
-// A list, what its field records and what is requested, and what a cursor over it answers.
+// A list, the recorded and the requested option, and the expected answers of a cursor.
 struct List {
     doc_freq: u32,
     postings: &'static [u8],
@@ -96,7 +96,7 @@ struct List {
     steps: &'static [Step],
 }
 
-// 128 documents from 0 on, then 129 and 130.
+// Documents 0 to 127, then 129 and 130.
 static LONG: [u8; 8] = [0x85, 0x7F, 0, 0, 0, 0x40, 0x82, 0x81];
 
 static LISTS: [List; 9] = [
@@ -201,7 +201,7 @@ static LISTS: [List; 9] = [
             Step::Positions(&[0, 1, 2]),
         ],
     },
-    // the same without what isn't requested
+    // the same without data that isn't requested
     List {
         doc_freq: 128,
         postings: &[
@@ -238,7 +238,7 @@ static LISTS: [List; 9] = [
     },
 ];
 
-// A cursor over a list.
+// Opens a cursor over a list.
 fn opened(list: &List) -> Result<SegmentPostings, LayoutFault> {
     let postings = Bytes::from_static(list.postings);
     let positions = Some(Bytes::from_static(list.positions));
@@ -252,7 +252,7 @@ fn opened(list: &List) -> Result<SegmentPostings, LayoutFault> {
     )
 }
 
-// Whether a cursor says that its list is so long.
+// Returns whether a cursor reports this length.
 fn is_so_long(cursor: &SegmentPostings, len: u32) -> bool {
     let mut same = cursor.doc_freq() == len;
     same &= cursor.size_hint() == len;
@@ -260,7 +260,8 @@ fn is_so_long(cursor: &SegmentPostings, len: u32) -> bool {
     same & (u64::from(len) == cursor.len() as u64)
 }
 
-// How many answers of a list its cursor gives, and a copy of it, with whether it says how long its list is.
+// Returns how many steps pass for a cursor and for its copy, and whether the cursor reports the list's
+// length.
 fn answered_by_copy(alloc: Global, list: &List) -> Result<([usize; 2], bool), Fault> {
     let mut cursor = opened(list)?;
     let mut copy = cursor.clone()?;
@@ -269,7 +270,7 @@ fn answered_by_copy(alloc: Global, list: &List) -> Result<([usize; 2], bool), Fa
     Ok(([first, other], is_so_long(&cursor, list.doc_freq)))
 }
 
-// How many answers a cursor gives over the list once it is known to open.
+// Validates the list, then returns how many steps pass for a cursor opened without validation.
 fn answered_known(alloc: Global, list: &List) -> usize {
     let (recorded, requested) = list.options;
     let postings = Bytes::from_static(list.postings);
@@ -303,8 +304,8 @@ fn lists_are_walked(rt: HostRuntime) -> Result<(), Fail> {
     Ok(())
 }
 
-// Whether a cursor from the second block of the long list on says how long the list is, where it is, and how
-// many documents are left.
+// Starts a cursor at the second block of the long list. Returns whether it reports the list's length, its
+// document, and the number of remaining documents.
 fn from_second_block() -> Result<(bool, DocId, u32), LayoutFault> {
     let mut blocks = BlockSegmentPostings::open(130, Bytes::from_static(&LONG), BASIC, BASIC)?;
     blocks.advance();
@@ -313,7 +314,7 @@ fn from_second_block() -> Result<(bool, DocId, u32), LayoutFault> {
     Ok((is_long, doc, cursor.count_including_deleted()))
 }
 
-// The count of a cursor over nothing, whether it says that it has nothing, and where it goes.
+// Returns the term frequency of an empty cursor, whether it reports being empty, and its next document.
 fn of_nothing() -> (u32, [bool; 2], DocId) {
     let mut cursor = SegmentPostings::empty();
     let count = cursor.term_freq();
@@ -327,7 +328,7 @@ fn cursors_begin_behind_documents(rt: HostRuntime) {
     assert!(rt; of_nothing() == (1, [true; 2], TERMINATED));
 }
 
-// Where a cursor is sought before what is left of it is loaded, how many documents that is, and what it answers.
+// A target to seek before loading, the number of documents loaded, and the list with expected answers.
 static LOADED: [(DocId, u32, List); 3] = [
     (
         0,
@@ -383,7 +384,7 @@ static LOADED: [(DocId, u32, List); 3] = [
     ),
 ];
 
-// Where the source of what is loaded then is, how many documents this has, and how many of its answers it gives.
+// Loads the remaining documents. Returns the source's document, the number loaded, and how many steps pass.
 fn answered_loaded(alloc: Global, from: DocId, list: &List) -> Result<(DocId, u32, usize), Fault> {
     let mut source = opened(list)?;
     let _first = sought(&mut source, from);
@@ -404,14 +405,14 @@ fn what_is_left_is_loaded(rt: HostRuntime) -> Result<(), Fail> {
     Ok(())
 }
 
-// How many of its answers a list gives in a box of any kind.
+// Returns how many steps pass for a `dyn Postings`.
 fn answered_in_box(alloc: Global, list: &List) -> Result<usize, Fault> {
     let cursor = opened(list)?;
     let mut erased: Box<dyn Postings> = Box::new(alloc, cursor)?;
     Ok(answered(alloc, &mut erased, list.steps))
 }
 
-// Where a single seek leaves a cursor, if it may be made.
+// Seeks once if that is allowed. Returns the current document.
 fn sought_once<C: SeekOnce>(cursor: &mut C, target: DocId) -> DocId {
     if target <= TERMINATED && cursor.doc() <= target {
         cursor.seek_once(target)
@@ -420,7 +421,7 @@ fn sought_once<C: SeekOnce>(cursor: &mut C, target: DocId) -> DocId {
     }
 }
 
-// Where single seeks leave a cursor that is lent, itself, and then in a box.
+// Returns the documents after single seeks of a borrowed, a plain and a boxed cursor.
 fn sought_thrice(alloc: Global, list: &List) -> Result<[DocId; 3], Fault> {
     let mut cursor = opened(list)?;
     let first = sought_once(&mut Lent { inner: &mut cursor }, 1);
@@ -437,12 +438,12 @@ fn cursors_are_lent_and_boxed(rt: HostRuntime) -> Result<(), Fail> {
     Ok(())
 }
 
-// Document 0, in which a term stands at 0 and 4.
+// Document 0, with a term at positions 0 and 4.
 static TWO_POSTINGS: [u8; 2] = [0x80, 0x82];
 
 static TWO_POSITIONS: [u8; 3] = [0x80, 0x80, 0x84];
 
-// A cursor over it.
+// Opens a cursor over it.
 fn two_positions() -> Option<SegmentPostings>
     ensures { IfSome result (λ cursor. cursor.rest ≡ record { doc = 0; term_freq = 2; positions = 0 ∷ 4 ∷ [] } ∷ []) }
 {
@@ -458,7 +459,7 @@ static SEVEN_AND_TEN_MORE: [u32; 3] = [7, 10, 14];
 
 static ONE_MORE: [u32; 2] = [1, 5];
 
-// Whether the positions of such a cursor are appended, each 10 more.
+// Returns whether the positions plus 10 are appended.
 fn are_appended(cursor: &mut SegmentPostings, output: &mut Vec<u32>) -> bool
     requires { cursor.old.rest ≡ record { doc = 0; term_freq = 2; positions = 0 ∷ 4 ∷ [] } ∷ [] }
     ensures { cursor.new.rest ≡ cursor.old.rest }
@@ -467,7 +468,7 @@ fn are_appended(cursor: &mut SegmentPostings, output: &mut Vec<u32>) -> bool
     appended.is_ok() && output.as_slice() == SEVEN_AND_TEN_MORE.as_slice()
 }
 
-// Whether they are put in place of what was there, each 1 more.
+// Returns whether the positions plus 1 replace the contents.
 fn are_put(cursor: &mut SegmentPostings, output: &mut Vec<u32>) -> bool
     requires { cursor.old.rest ≡ record { doc = 0; term_freq = 2; positions = 0 ∷ 4 ∷ [] } ∷ [] }
     ensures { cursor.new.rest ≡ cursor.old.rest }
@@ -476,7 +477,7 @@ fn are_put(cursor: &mut SegmentPostings, output: &mut Vec<u32>) -> bool
     put.is_ok() && output.as_slice() == ONE_MORE.as_slice()
 }
 
-// Whether each of these is so behind a 7, and where the cursor then is.
+// Returns whether both hold for an output that starts with 7, and the current document.
 fn asked(cursor: &mut SegmentPostings, output: &mut Vec<u32>) -> ([bool; 2], DocId)
     requires { cursor.old.rest ≡ record { doc = 0; term_freq = 2; positions = 0 ∷ 4 ∷ [] } ∷ [] }
 {
@@ -484,7 +485,7 @@ fn asked(cursor: &mut SegmentPostings, output: &mut Vec<u32>) -> ([bool; 2], Doc
     (are_told, cursor.doc())
 }
 
-// The same of a new cursor, if there is one.
+// Returns the same for a new cursor, if it opens.
 fn asked_of_two(output: &mut Vec<u32>) -> Option<([bool; 2], DocId)> {
     match two_positions() {
         Some(mut cursor) => Some(asked(&mut cursor, output)),

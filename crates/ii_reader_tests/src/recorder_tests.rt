@@ -20,7 +20,7 @@ use std::alloc::Global;
 use std::io::Write;
 use std::test::Fail;
 
-// Document 0 at 0 and 4, and document 3 at 1, which stays open.
+// Records document 0 with positions 0 and 4, and document 3 with position 1, which stays open.
 fn two_documents(alloc: Global) -> Result<TfAndPositionRecorder, Fault>
     ensures docs { IfOk result (λ r. IsTrue (are_documents (docs_of (entries_of_recorder r)))) }
     ensures counted { IfOk result (λ r. AllByRecursion (λ n. 0 < n) (pushed_freqs r.option (entries_of_recorder r))) }
@@ -35,7 +35,7 @@ fn two_documents(alloc: Global) -> Result<TfAndPositionRecorder, Fault>
     Ok(recorder)
 }
 
-// The same without positions.
+// Records the same without positions.
 fn two_counts(alloc: Global) -> Result<TermFrequencyRecorder, Fault>
     ensures docs { IfOk result (λ r. IsTrue (are_documents (docs_of (entries_of_recorder r)))) }
     ensures counted { IfOk result (λ r. AllByRecursion (λ n. 0 < n) (pushed_freqs r.option (entries_of_recorder r))) }
@@ -50,7 +50,7 @@ fn two_counts(alloc: Global) -> Result<TermFrequencyRecorder, Fault>
     Ok(recorder)
 }
 
-// And without counts.
+// Records the same without term frequencies.
 fn two_ids(alloc: Global) -> Result<DocIdRecorder, Fault>
     ensures docs { IfOk result (λ r. IsTrue (are_documents (docs_of (entries_of_recorder r)))) }
     ensures counted { IfOk result (λ r. has_freq r.option ≡ false) }
@@ -62,7 +62,7 @@ fn two_ids(alloc: Global) -> Result<DocIdRecorder, Fault>
     Ok(recorder)
 }
 
-// Writes a field of three tokens with one term, whose documents a recorder has.
+// Writes a field of three tokens whose only term has a recorder's documents.
 fn write_recorder<R: Recorder, W: Write>(
     alloc: Global,
     recorder: &R,
@@ -82,8 +82,7 @@ fn write_recorder<R: Recorder, W: Write>(
     field.close()
 }
 
-// Whether the bodies of postings and of positions of a field with one term begin with these bytes, and how
-// long they are.
+// Returns whether the postings and positions of a field with one term have these prefixes, and their lengths.
 fn told_of<R: Recorder>(
     alloc: Global,
     recorder: &R,
@@ -110,8 +109,8 @@ fn told_of<R: Recorder>(
 
 #[test]
 fn recorders_are_serialized(rt: HostRuntime) -> Result<(), Fail> {
-    // after three tokens, documents by their deltas, and counts; no block of positions, and deltas; then a
-    // table of 24 bytes
+    // postings: three tokens, document deltas and counts; positions: no full block, then deltas; both are
+    // followed by a table of 24 bytes
     let postings = [3, 0, 0, 0, 0, 0, 0, 0, 0x80, 0x83, 0x82, 0x81];
     let positions = [0x80, 0x80, 0x84, 0x81];
     let located = two_documents(rt.alloc())?;
@@ -129,8 +128,8 @@ fn recorders_are_serialized(rt: HostRuntime) -> Result<(), Fail> {
     Ok(())
 }
 
-// What a recorder without documents answers to a position below the last one and to one that is too large, in
-// document 3, and then of documents 3 and 7.
+// The results for a decreasing and a too large position in document 3; then the current document and the
+// number of documents after document 7 is started.
 type Answers = ([Result<(), Fault>; 2], DocId, Option<u32>);
 
 fn go_on<R: Recorder>(recorder: &mut R) -> Result<Answers, Fault>
@@ -148,7 +147,7 @@ fn go_on<R: Recorder>(recorder: &mut R) -> Result<Answers, Fault>
     Ok(([falling, last], current, recorder.term_doc_freq()))
 }
 
-// The same of a new recorder, and what it answers before.
+// Returns the same for a new recorder, after what it answers before any document.
 fn answers_of(alloc: Global, option: IndexRecordOption) -> Result<(DocId, bool, Answers), Fault> {
     let mut recorder = AnyRecorder::new(alloc, option);
     let (doc, has_term_freq) = (recorder.current_doc(), recorder.has_term_freq());
@@ -178,7 +177,7 @@ static SPELLED: [u8; 12] = [
     0x80, 0x81, 0x7A, 0x57, 0x4D, 0x1A, 0x81, 0x7F, 0x7F, 0x7F, 0x7F, 0x8F,
 ];
 
-// The next five numbers of a reader.
+// Returns the next five numbers of a reader.
 fn first_numbers(numbers: &mut VInt32Reader<'_>) -> [Option<u32>; 5] {
     [
         numbers.next(),
@@ -195,7 +194,7 @@ fn vints_are_read_one_by_one(rt: HostRuntime) {
     assert!(rt; first_numbers(&mut VInt32Reader::new(&SPELLED)) == numbers);
 }
 
-// Whether the buffer of bytes is lent empty, and then both; something is left in each.
+// Returns whether the byte buffer is empty when borrowed, and then both buffers; data is left in each.
 fn are_lent_empty(lender: &mut BufferLender) -> Result<[bool; 2], Fault> {
     let bytes = lender.lend_u8();
     let is_empty = bytes.is_empty();

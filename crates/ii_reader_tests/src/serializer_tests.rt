@@ -8,13 +8,13 @@ use std::alloc::Global;
 use std::io::Write;
 use std::test::Fail;
 
-// One body of 9 bytes, of field 0: a token, and a document.
+// One body of 9 bytes for field 0: the number of tokens, and a document.
 const POSTINGS: [u8; 33] = [
     1, 0, 0, 0, 0, 0, 0, 0, 0x80, 0, 0, 0, 0, 0, 0, 0, 0, 0, 0, 0, 0, 9, 0, 0, 0, 0, 0, 0, 0, 1, 0,
     0, 0,
 ];
 
-// The number 5 in document 0.
+// Writes the number 5 in document 0.
 fn write_five<W: Write>(index: &mut InvertedIndexSerializer<W>) -> Result<(), Fault>
     requires known { 0 < length index.old.entries }
     requires lacks { index.old.closed ≡ false → LacksField 0 index.old.bodies }
@@ -25,7 +25,7 @@ fn write_five<W: Write>(index: &mut InvertedIndexSerializer<W>) -> Result<(), Fa
     field.close()
 }
 
-// A field of texts with positions.
+// Builds a schema of one text field with positions.
 pub(crate) fn texts(alloc: Global) -> Result<Schema, Fault>
     ensures { IfOk result (λ schema. 0 < length schema) }
 {
@@ -36,8 +36,8 @@ pub(crate) fn texts(alloc: Global) -> Result<Schema, Fault>
     Ok(Schema::new(entries))
 }
 
-// Writes it to writers of which one fails at a call: how that ends, whether its postings are these, and how long
-// the files of terms and positions are.
+// Writes it to writers that fail at these calls. Returns the result, whether the postings are these, and the
+// lengths of the files of terms and positions.
 fn told_of_five(
     alloc: Global,
     failing_calls: (u64, u64, u64),
@@ -61,7 +61,7 @@ fn told_of_five(
     Ok((written.and(closed), are_postings, lens))
 }
 
-// How it ends where a call fails.
+// Returns the result when a call fails.
 fn answer_at(alloc: Global, failing_calls: (u64, u64, u64)) -> Result<Result<(), Fault>, Fault> {
     let (answer, _, _) = told_of_five(alloc, failing_calls)?;
     Ok(answer)
@@ -102,7 +102,7 @@ fn a_failing_writer_is_told(rt: HostRuntime) -> Result<(), Fail> {
     Ok(())
 }
 
-// Whether each call of a closed field is refused.
+// Returns whether each call of a closed field fails with `SerializerClosed`.
 fn is_closed<W: Write>(alloc: Global, field: &mut FieldSerializer<'_, W>) -> bool
     requires { IsTrue field.old.index.now.closed }
     ensures same_reference { field.new.index.ghost_name ≡ field.old.index.ghost_name }
@@ -117,7 +117,7 @@ fn is_closed<W: Write>(alloc: Global, field: &mut FieldSerializer<'_, W>) -> boo
     all & (recorder.serialize(&mut BufferLender::new(alloc), field) == closed)
 }
 
-// Whether no field can be begun in a closed index.
+// Returns whether starting a field in a closed index fails with `SerializerClosed`.
 fn begins_no_field<W: Write>(index: &mut InvertedIndexSerializer<W>) -> bool
     requires known { 0 < length index.old.entries }
     requires closed { IsTrue index.old.closed }
@@ -128,7 +128,7 @@ fn begins_no_field<W: Write>(index: &mut InvertedIndexSerializer<W>) -> bool
     }
 }
 
-// Whether a term that can't be ended closes the field and the index.
+// Returns whether a term that fails to close also closes the field and the index.
 fn term_closes<W: Write>(
     alloc: Global,
     index: &mut InvertedIndexSerializer<W>,
@@ -152,7 +152,7 @@ fn term_closes<W: Write>(
     Ok(all)
 }
 
-// Whether a field that can't be begun closes the index.
+// Returns whether a field that fails to start closes the index.
 fn field_closes<W: Write>(index: &mut InvertedIndexSerializer<W>) -> bool
     requires known { 0 < length index.old.entries }
     requires lacks { index.old.closed ≡ false → LacksField 0 index.old.bodies }
@@ -168,7 +168,7 @@ fn field_closes<W: Write>(index: &mut InvertedIndexSerializer<W>) -> bool
     begins_no_field(index)
 }
 
-// An index of texts, of whose writers one fails at a call.
+// Opens an index of texts over writers that fail at these calls.
 fn open_texts(
     alloc: Global,
     failing_calls: (u64, u64, u64),
@@ -190,7 +190,7 @@ fn open_texts(
 #[test]
 fn a_refused_term_closes(rt: HostRuntime) -> Result<(), Fail> {
     let alloc = rt.alloc();
-    // The postings' second write is that of a term, the positions' first.
+    // The second write of postings and the first write of positions belong to a term.
     for failing_calls in [(0, 2, 0), (0, 0, 1)] {
         let mut index = open_texts(alloc, failing_calls)?;
         assert!(rt; term_closes(alloc, &mut index)?);

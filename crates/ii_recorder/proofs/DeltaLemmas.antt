@@ -1,4 +1,4 @@
--- Positions that don't fall, and their deltas.
+-- Positions that don't decrease, and their deltas.
 use Rattle.std.proofs.Common.{append-nil, zero, ◌≡◌, ℕ, suc, ◌+◌, ◌-◌, ◌^◌, ◌<◌, ◌≤◌, true, List, [], ◌∷◌, ◌++◌, length, map, Option, Some, None, refl, sym, ap, ◌∙◌, arith, get_or, length-append}
 use Rattle.std.specs.Option.{option_to_list}
 use Rattle.std.specs.List.{AllByRecursion, list_all, sum}
@@ -14,7 +14,7 @@ use Rattle.ii_recorder.specs.Kept.{IsLocated}
 use Rattle.ii_recorder.specs.Pushed.{HaveDeltas, counts_of, pushed_deltas}
 use Rattle.ii_recorder.specs.Recorded.{last_position}
 
--- the last of numbers, or what stands before them
+-- the last of the numbers, or the one before them
 abbrev last_from : ℕ → List ℕ → ℕ
 last_from before [] = before
 last_from before (q ∷ qs) = last_from q qs

@@ -1,4 +1,4 @@
--- Documents lie below 2 ^ 31, so there are fewer.
+-- Documents are below 2 ^ 31, so there are fewer of them.
 use Rattle.std.proofs.Common.{◌≡◌, ◌<◌, ℕ, arith, true, List, length}
 use Rattle.ii_base.proofs.AscentLemmas.{ascent_below}
 use Rattle.ii_base.specs.Entries.{are_documents}

@@ -1,4 +1,4 @@
--- What numbers say of documents, one number more at their end, or from the first one on.
+-- What numbers say about documents, with one more number at the end, or from the first one on.
 use Rattle.std.proofs.Common.{◌≡◌, ℕ, zero, suc, ◌+◌, ◌≤◌, List, [], ◌∷◌, ◌++◌, length, take, drop, Option, Some, None, refl, sym, ap, ◌∙◌, arith, append-nil, append_assoc}
 use Rattle.std.specs.Prelude.{slice_get, unwrap_or}
 use Rattle.std.specs.List.{sum}
@@ -29,7 +29,7 @@ position_after xs closed None last n = refl
 position_after xs closed (Some e) last zero = ap (λ (es : List Entry). record { closed = es; pending = None; last = last }) (append_assoc xs closed (e ∷ []))
 position_after xs closed (Some e) last (suc p) = refl
 
--- what is read behind one document
+-- what is read after one document
 pub counts_behind : (e : Entry) (last : ℕ) (ns : List ℕ) → gathered with_count (record { closed = e ∷ []; pending = None; last = last }) ns ≡ after (e ∷ []) (gathered with_count (none_after last) ns)
 counts_behind e last ns = read_after with_count (λ xs g n. count_after xs g.closed g.pending g.last n) (e ∷ []) (none_after last) ns
 
@@ -54,7 +54,7 @@ positions_read xs e last (suc p ∷ ns) =
     positions_read xs (more_positions e (p ∷ [])) last ns
     ∙ ap (λ (f : Entry). all_of (gathered with_number (record { closed = xs ++ f ∷ []; pending = None; last = last }) (behind_positions ns))) (more_assoc e p (first_positions ns))
 
--- the first document of numbers with counts, and those behind it
+-- the first document of numbers with frequencies, and those after it
 pub counts_step : (count last d : ℕ) (ns : List ℕ)
     → counted_all count (gathered with_count (none_after last) (d ∷ ns)) ≡ counted (last + d) (unwrap_or (slice_get ns 0) count) ∷ counted_all count (gathered with_count (none_after (last + d)) (drop 1 ns))
 counts_step count last d [] = refl
@@ -65,7 +65,7 @@ located_is doc ps =
     let count : 0 + length ps ≡ length ps = omega arith in
     ap (λ (n : ℕ). record { doc = doc; term_freq = n; positions = ps }) count
 
--- the first document of numbers with positions, and those behind it
+-- the first document of numbers with positions, and those after it
 pub positions_step : (last d : ℕ) (ns : List ℕ)
     → all_of (gathered with_number (none_after last) (d ∷ ns)) ≡ located_at (last + d) (first_positions ns) ∷ all_of (gathered with_number (none_after (last + d)) (behind_positions ns))
 positions_step last d ns =
@@ -81,7 +81,7 @@ pub positions_left : (last d : ℕ) (all ns : List ℕ) → all ≡ d ∷ ns
     → all_of (gathered with_number (none_after last) all) ≡ located_at (last + d) (first_positions ns) ∷ all_of (gathered with_number (none_after (last + d)) (behind_positions ns))
 positions_left last d all ns first = rw first (positions_step last d ns)
 
--- numbers behind the positions are no more than before
+-- numbers after the positions are no more than before
 pub fewer_behind : (ns : List ℕ) → length (behind_positions ns) ≤ length ns
 fewer_behind [] = omega arith
 fewer_behind (zero ∷ ns) = omega arith

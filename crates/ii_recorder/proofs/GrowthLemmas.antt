@@ -1,6 +1,6 @@
--- What the writers of an index have after calls that went well or were refused.
+-- What the writers of an index have after successful and failed calls.
 use Rattle.std.proofs.Common.{ℕ}
-use Rattle.ii_io.specs.CountingWriterLemmas.{Grows-trans, wrote_grows}
+use Rattle.ii_io.proofs.WriteSteps.{Grows-trans, wrote_grows}
 use Rattle.ii_recorder.specs.IndexBodies.{AddsBodies, AllGrow, IndexBodiesState}
 use Rattle.ii_recorder.specs.Terms.{FieldBodies}
 
@@ -11,7 +11,7 @@ AllGrow-trans a b c h k = record {
   positions = Grows-trans a.positions.writer b.positions.writer c.positions.writer h.positions k.positions;
 }
 
--- bodies that were begun
+-- bodies that were started
 pub bodies_grow : (a b : IndexBodiesState) (field : ℕ) (bodies : FieldBodies) → AddsBodies a b field bodies → AllGrow a b
 bodies_grow a b field bodies h = record {
   terms = wrote_grows a.terms.writer b.terms.writer bodies.terms h.terms.writer;

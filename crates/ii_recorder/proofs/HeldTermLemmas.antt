@@ -27,7 +27,7 @@ use Rattle.ii_recorder.specs.HeldTerms.{AreHoldable, HoldsEachTerm, HoldsKey, Ke
 use Rattle.ii_recorder.specs.TermPlaces.{TermPlacesState}
 use Rattle.std.proofs.Math.Bool.{or-true}
 
--- The bytes of terms stand one after the other from these places to the ends.
+-- The bytes of terms follow each other from these places to the ends.
 record StandFrom (mode : IndexRecordOption) (postings positions : List ℕ) (a p : ℕ) (ts : List WrittenTerm) : Type 0 where
   before : List ℕ
   before_too : List ℕ

@@ -1,4 +1,4 @@
--- What stands in the files of an index after a term is ended.
+-- What the files of an index hold after a term is ended.
 use Rattle.std.proofs.Common.{◌≡◌, ℕ, ◌+◌, ◌^◌, ◌<◌, List, [], ◌∷◌, ◌++◌, length, map, refl, sym, ◌∙◌, ap, arith, length-append, append_assoc, Option, Result, Ok, Err}
 use Rattle.std.specs.Prelude.{OnOk}
 use Rattle.ii_io.specs.declared.faults.Fault.{Fault}
@@ -7,7 +7,7 @@ use Rattle.std.proofs.lemmas.Grind.{flat_map-append}
 use Rattle.std.specs.List.{flat_map}
 use Rattle.ii_base.specs.declared.schema.index_record_option.IndexRecordOption.{IndexRecordOption}
 use Rattle.ii_io.specs.CompositeWrite.{CompositeWriteState, AddsBody}
-use Rattle.ii_io.specs.CountingWriterLemmas.{Wrote-trans}
+use Rattle.ii_io.proofs.WriteSteps.{Wrote-trans}
 use Rattle.ii_io.specs.Numbers.{le_bytes}
 use Rattle.ii_fieldnorm.specs.Readers.{Norms}
 use Rattle.ii_termstore.specs.declared.term_info.TermInfo.{TermInfo}

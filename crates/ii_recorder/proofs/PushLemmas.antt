@@ -1,4 +1,4 @@
--- Entries that are pushed one after the other.
+-- Entries that are added one after the other.
 use Rattle.std.proofs.Common.{◌^◌, ◌≡◌, ℕ, ◌+◌, ◌-◌, ◌<◌, ◌≤◌, Bool, true, false, if◌then◌else◌, List, [], ◌∷◌, ◌++◌, length, take, Result, Ok, Err, is_err, refl, sym, ap, subst, ◌∙◌, arith, append_assoc, length-append, ⊎_elim}
 use Rattle.std.proofs.lemmas.Bool.{and_parts, cases_lt, ltb-true}
 use Rattle.std.specs.Prelude.{◌&&◌, nat_le, nat_lt, Option, IsTrue, IsErrOf}
@@ -162,7 +162,7 @@ pub refused_next : (option : IndexRecordOption) (s b c : IndexSerializerState) (
     → Pushes option b c (e ∷ []) result → Pushes option s c es result
 refused_next option s b c xs e ys es result parts refused h k = rw parts (pushes_then option s b c xs (e ∷ ys) result h (pushes_refused_by option b c (e ∷ []) ys result refused k))
 
--- Entries of which some were pushed, and the rest is left.
+-- Entries some of which were added, and the remaining ones.
 pub record IsPushing (option : IndexRecordOption) (s b : IndexSerializerState) (es rest : List Entry) : Type 0 where
   pub done : List Entry
   pub parts : es ≡ done ++ rest

@@ -1,4 +1,4 @@
--- What a recorder has after a document was begun, had a position, or was closed.
+-- What a recorder has after a document was started, got a position, or was closed.
 use Rattle.std.proofs.Common.{◌≡◌, ℕ, ◌+◌, ◌-◌, ◌<◌, ◌≤◌, List, [], ◌∷◌, ◌++◌, length, Option, Some, None, refl, sym, ap, ◌∙◌, arith, append-nil, length-append}
 use Rattle.std.specs.Prelude.{slice_get, unwrap_or, min, IfSome}
 use Rattle.std.specs.Option.{option_to_list}
@@ -38,7 +38,7 @@ above_by (Some l) last doc h e = omega (arith, h, e)
 pub closed_alone : (s : RecorderState) → s.pending ≡ None → entries_of_recorder s ≡ s.closed
 closed_alone s none = ap (λ (p : Option Entry). s.closed ++ option_to_list p) none ∙ append-nil s.closed
 
--- a document that is begun lies above the last one
+-- a document that is started is greater than the last one
 pub above_last : (s : RecorderState) (last doc : ℕ) → s.pending ≡ None → IfSome (last_doc s.closed) (λ l. l < doc) → IsLastDoc last s → last ≤ doc
 above_last s last doc none above is = above_by (last_doc s.closed) last doc above (sym (ap (λ (es : List Entry). unwrap_or (last_doc es) 0) (closed_alone s none)) ∙ is)
 

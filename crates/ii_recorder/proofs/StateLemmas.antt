@@ -1,4 +1,4 @@
--- Recorders after a number more.
+-- Recorders after one more number.
 use Rattle.std.proofs.Common.{◌≡◌, ℕ, suc, ◌+◌, ◌-◌, ◌^◌, ◌<◌, ◌≤◌, Bool, true, false, List, [], ◌∷◌, ◌++◌, length, map, take, rules, Option, Some, None, refl, sym, ap, subst, ◌∙◌, arith, append-nil, length-append}
 use Rattle.std.specs.Prelude.{unwrap_or, min, IfSome, IsSome, if◌then◌else◌}
 use Rattle.std.proofs.Math.Seq.{take-append_seam}
@@ -124,7 +124,7 @@ counts_closed : (closed : List Entry) (pending : Option Entry) (last count : ℕ
 counts_closed closed None last count some = absurd (search rules)
 counts_closed closed (Some e) last count some = refl
 
--- What follows of a step: the new state, and what is kept beside the new bytes.
+-- What a step gives: the new state, and what is kept in addition to the new bytes.
 pub record CountsGo (bytes : List ℕ) (last freq count : ℕ) (s : RecorderState) : Type 0 where
   pub state : counts_state bytes freq ≡ s
   pub keeps : KeepsCounts bytes last freq count

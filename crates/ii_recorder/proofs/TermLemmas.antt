@@ -1,4 +1,4 @@
--- What holds of a field's terms after one is ended.
+-- What holds for a field's terms after one is ended.
 use Rattle.std.proofs.Common.{◌≡◌, ℕ, ◌+◌, ◌^◌, ◌<◌, Bool, true, false, List, [], ◌∷◌, ◌++◌, length, ⊎_elim, refl, ◌∙◌, arith, length-append}
 use Rattle.ii_layout.specs.Written.{written_postings}
 use Rattle.ii_recorder.specs.Terms.{positions_bytes}
@@ -34,7 +34,7 @@ ends_unrefused old new h inside ends =
       inside = λ e. absurd (cc);
     }
 
--- and after one is begun
+-- and after one is started
 pub begins_unrefused : (old new : FieldTermsState) (key : List ℕ) (skip_info : IndexRecordOption) → IsUnrefused old → old.term_open ≡ false → new.term ≡ record old.term { skip_info = skip_info; docs = []; freqs = [] }
     → new.places ≡ record old.places { keys = old.places.keys ++ key ∷ [] } → new.term_open ≡ true → IsUnrefused new
 begins_unrefused old new key skip_info h between term place inside =

@@ -1,4 +1,4 @@
--- What recorders hold and push of document 0 at 0 and 4 and of document 3 at 1, and a term that is found by its key.
+-- What recorders hold and add for two documents with positions, and a term that is found by its key.
 use Rattle.std.proofs.Common.{◌≡◌, List, [], ◌∷◌, true, false, Some, None, refl}
 use Rattle.ii_base.specs.declared.schema.index_record_option.IndexRecordOption.TheVariants.{Basic, WithFreqs, WithFreqsAndPositions}
 use Rattle.ii_base.specs.Entries.{Entry, counted, docs_of, document}

@@ -1,9 +1,9 @@
--- What a recorder of any option has.
+-- The state of a recorder for any option.
 use Rattle.ii_recorder.specs.declared.recorder.any_recorder.AnyRecorder.{AnyRecorder}
 use Rattle.ii_recorder.specs.declared.recorder.any_recorder.AnyRecorder.TheVariants.{DocId, TermFrequency, TfAndPosition}
 use Rattle.ii_recorder.specs.Recorded.{RecorderState}
 
--- what a recorder of any kind has
+-- the state of a recorder of any kind
 abbrev pub any_state : AnyRecorder → RecorderState
 any_state (DocId r) = r
 any_state (TermFrequency r) = r

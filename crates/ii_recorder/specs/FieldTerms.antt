@@ -1,4 +1,4 @@
--- The terms of a field that were written, and the open one.
+-- The written terms of a field, and the open one.
 use Rattle.std.specs.Prelude.{◌≡◌, ℕ, ◌+◌, ◌^◌, ◌<◌, ◌≤◌, ◌⊎◌, Bool, true, false, if◌then◌else◌, IsTrue, List, [], ◌++◌, length, map}
 use Rattle.std.specs.List.{flat_map, AllByRecursion}
 use Rattle.ii_io.specs.declared.faults.Fault.{Fault}
@@ -20,11 +20,11 @@ pub record FieldTermsState : Type 0 where
   pub places : TermPlacesState
   pub term_open : Bool
 
--- these parts together
+-- the state from its parts
 abbrev pub field_terms : OpenTermState → TermPlacesState → Bool → FieldTermsState
 field_terms term places term_open = record { term = term; places = places; term_open = term_open }
 
--- What holds until a call is refused: each key but that of an open term has its term, no deltas are left of an ended one, and there are none where the field doesn't record positions.
+-- Before any error: only an open term has a key without info, or deltas, and deltas only with positions.
 pub record IsUnrefused (s : FieldTermsState) : Type 0 where
   pub term : s.term.closed ≡ false
   pub places : s.places.closed ≡ false
@@ -32,7 +32,7 @@ pub record IsUnrefused (s : FieldTermsState) : Type 0 where
   pub plain : has_positions s.term.mode ≡ false → s.term.deltas ≡ []
   pub inside : s.term_open ≡ true → length s.places.keys ≡ length s.places.infos + 1
 
--- What is left of an ended term.
+-- The state that an ended term leaves.
 pub record IsLeft (old new : OpenTermState) : Type 0 where
   pub unrefused : new.closed ≡ false
   pub mode : new.mode ≡ old.mode
@@ -44,7 +44,7 @@ pub record IsLeft (old new : OpenTermState) : Type 0 where
 abbrev pub term_under : List ℕ → OpenTermState → WrittenTerm
 term_under key t = record { key = key; norms = t.norms; skip_info = t.skip_info; docs = t.docs; freqs = t.freqs; deltas = t.deltas }
 
--- These terms were written, each of fewer than 2 ^ 32 bytes and all ends below 2 ^ 56, and then come the keys of terms that are not.
+-- Written terms, each shorter than 2 ^ 32 bytes and ending below 2 ^ 56, then the keys of unwritten ones.
 pub record HasTerms (mode : IndexRecordOption) (places : TermPlacesState) (ts : List WrittenTerm) (pending : List (List ℕ)) : Type 0 where
   pub keys : places.keys ≡ map (λ (t : WrittenTerm). t.key) ts ++ pending
   pub infos : places.infos ≡ infos_from mode 0 0 ts
@@ -54,43 +54,43 @@ pub record HasTerms (mode : IndexRecordOption) (places : TermPlacesState) (ts : 
   pub short : AllByRecursion (IsShort mode) ts
   pub within : (places.postings_end < 2 ^ 56) × (places.positions_end < 2 ^ 56)
 
--- the bytes that go out where the open term is ended
+-- the bytes that are written when the open term is ended
 abbrev pub bytes_of : OpenTermState → FieldBodies
 bytes_of t = record { terms = []; postings = written_postings t.norms t.skip_info t.docs t.freqs; positions = positions_bytes t.mode t.deltas }
 
--- The postings or the positions of a term have more bytes than 32 bits count.
+-- The postings or the positions of a term have 2 ^ 32 bytes or more.
 abbrev pub IsTooLong : OpenTermState → Type 0
 IsTooLong t = (2 ^ 32 ≤ length (written_postings t.norms t.skip_info t.docs t.freqs)) ⊎ (2 ^ 32 ≤ length (positions_bytes t.mode t.deltas))
 
--- The postings or the positions of all terms would end at 2 ^ 56 or after with this one.
+-- With this term, the postings or the positions of all terms would end at 2 ^ 56 or later.
 abbrev pub PassOffsets : TermPlacesState → OpenTermState → Type 0
 PassOffsets p t = (2 ^ 56 ≤ p.postings_end + length (written_postings t.norms t.skip_info t.docs t.freqs)) ⊎ (2 ^ 56 ≤ p.positions_end + length (positions_bytes t.mode t.deltas))
 
--- Neither limit of a term is passed.
+-- Neither limit of a term is exceeded.
 abbrev pub IsWithinLimits : FieldTermsState → Type 0
 IsWithinLimits s = (¬ IsTooLong s.term) × (¬ PassOffsets s.places s.term)
 
--- There is no room for a term: a count of a writer would pass its type, or an end 2 ^ 56.
+-- A term doesn't fit: a count of a writer would exceed its type, or an end 2 ^ 56.
 abbrev pub HasNoRoom : OpenTermState → TermPlacesState → CountingWriterState → CountingWriterState → Type 0
 HasNoRoom t p postings positions =
     IsFull postings (length (written_postings t.norms t.skip_info t.docs t.freqs)) ⊎ (IsTrue (has_positions t.mode) × IsFull positions (length (positions_bytes t.mode t.deltas))) ⊎ PassOffsets p t
 
--- Why a term can't be ended.
+-- The errors of ending a term.
 abbrev pub IsEndFault : OpenTermState → TermPlacesState → CountingWriterState → CountingWriterState → Fault → Type 0
 IsEndFault t p postings positions fault =
     (fault ≡ OutOfMemory) ⊎ (fault ≡ Write) ⊎ ((fault ≡ Limit limit.Offset) × HasNoRoom t p postings positions) ⊎ ((fault ≡ Limit limit.TermBytes) × IsTooLong t)
 
--- what is kept of the terms where the open one is ended, if there is one
+-- the terms after the open one is ended, if there is one
 abbrev pub places_after : FieldTermsState → TermPlacesState
 places_after s =
     if s.term_open then with_term s.places (length s.term.docs) (length (written_postings s.term.norms s.term.skip_info s.term.docs s.term.freqs)) (length (positions_bytes s.term.mode s.term.deltas))
     else s.places
 
--- the bytes that go out where a field is ended in which no term is open
+-- the bytes that are written when a field without an open term is ended
 abbrev pub dictionary_of : FieldTermsState → FieldBodies
 dictionary_of s = record { terms = written_dictionary s.places.keys s.places.infos; postings = []; positions = [] }
 
--- and where the open one is ended first, if there is one
+-- the bytes that are written when the open term, if there is one, and the field are ended
 abbrev pub closing_bytes : FieldTermsState → FieldBodies
 closing_bytes s = record {
   terms = written_dictionary (places_after s).keys (places_after s).infos;
@@ -98,7 +98,7 @@ closing_bytes s = record {
   positions = if s.term_open then (bytes_of s.term).positions else [];
 }
 
--- A term was ended: its place is kept, and no limit was passed.
+-- A term was ended: its place is kept, and no limit was exceeded.
 pub record EndsTerm (old new : FieldTermsState) : Type 0 where
   pub places : new.places ≡ with_term old.places (length old.term.docs)
       (length (written_postings old.term.norms old.term.skip_info old.term.docs old.term.freqs)) (length (positions_bytes old.term.mode old.term.deltas))

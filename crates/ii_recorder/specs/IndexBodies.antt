@@ -1,4 +1,4 @@
--- The three composites of an index as they are written: terms, postings and positions.
+-- The three composite files of an index while they are written: terms, postings and positions.
 use Rattle.std.specs.Prelude.{List, ◌≡◌, ℕ, ◌+◌, ◌-◌, ◌^◌, ◌<◌, ◌≤◌, ◌⊎◌, false, length, Result}
 use Rattle.ii_io.specs.declared.faults.Fault.{Fault}
 use Rattle.ii_io.specs.Composite.{table_bytes}
@@ -16,38 +16,38 @@ pub record IndexBodiesState : Type 0 where
 abbrev pub failed_calls : IndexBodiesState → ℕ
 failed_calls b = b.terms.writer.failed_calls + b.postings.writer.failed_calls + b.positions.writer.failed_calls
 
--- How a call ends for the three writers, which then stand so: a refusal by one of them is counted once, nothing else is, and no writer's count falls.
+-- The outcome for the three writers: an error of one counts once, nothing else does, and no count falls.
 pub record CountsFailuresOf {A : Type 0} (old : IndexBodiesState) (terms postings positions : CountingWriterState) (result : Result A Fault) : Type 0 where
   pub once : CountsOnce (failed_calls old) (terms.failed_calls + postings.failed_calls + positions.failed_calls) result
   pub terms_kept : old.terms.writer.failed_calls ≤ terms.failed_calls
   pub postings_kept : old.postings.writer.failed_calls ≤ postings.failed_calls
   pub positions_kept : old.positions.writer.failed_calls ≤ positions.failed_calls
 
--- And where they stay in their files.
+-- The same outcome for writers that stay in their files.
 abbrev pub CountsFailures : {A : Type 0} → IndexBodiesState → IndexBodiesState → Result A Fault → Type 0
 CountsFailures old new result = CountsFailuresOf old new.terms.writer new.postings.writer new.positions.writer result
 
--- Each writer has what it had, and maybe more behind it.
+-- Each output may have been appended to.
 pub record AllGrow (old new : IndexBodiesState) : Type 0 where
   pub terms : Grows old.terms.writer new.terms.writer
   pub postings : Grows old.postings.writer new.postings.writer
   pub positions : Grows old.positions.writer new.positions.writer
 
--- The count of one of the writers would pass its type by its bytes, or by a failed call.
+-- A count of one of the writers would exceed its type, by its bytes or by a failed call.
 abbrev pub OneIsFull : IndexBodiesState → FieldBodies → Type 0
 OneIsFull b more = IsFull b.terms.writer (length more.terms) ⊎ IsFull b.postings.writer (length more.postings) ⊎ IsFull b.positions.writer (length more.positions)
 
--- the tables that are written where the three are closed
+-- the tables that are written when the three files are closed
 abbrev pub tables_of : IndexBodiesState → FieldBodies
 tables_of b = record { terms = table_bytes (places_of b.terms); postings = table_bytes (places_of b.postings); positions = table_bytes (places_of b.positions) }
 
--- None of the three was closed by a refusal.
+-- None of the three files was closed by an error.
 pub record AreUnclosed (b : IndexBodiesState) : Type 0 where
   pub terms : b.terms.closed ≡ false
   pub postings : b.postings.closed ≡ false
   pub positions : b.positions.closed ≡ false
 
--- The body of a field may begin in each.
+-- The body of a field may start in each file.
 pub record LacksField (field : ℕ) (b : IndexBodiesState) : Type 0 where
   pub terms : has_start field b.terms.starts ≡ false
   pub postings : has_start field b.postings.starts ≡ false
@@ -56,7 +56,7 @@ pub record LacksField (field : ℕ) (b : IndexBodiesState) : Type 0 where
   pub few_postings : length b.postings.starts < 2 ^ 32 - 1
   pub few_positions : length b.positions.starts < 2 ^ 32 - 1
 
--- The body of a field was begun in each, and has these bytes so far.
+-- The body of a field was started in each file, and has these bytes so far.
 pub record AddsBodies (old new : IndexBodiesState) (field : ℕ) (bodies : FieldBodies) : Type 0 where
   pub terms : AddsBody old.terms new.terms field bodies.terms
   pub postings : AddsBody old.postings new.postings field bodies.postings
@@ -69,13 +69,13 @@ pub record AddsBytes (old new : CompositeWriteState) (bytes : List ℕ) : Type 0
   pub starts : new.starts ≡ old.starts
   pub closed : new.closed ≡ old.closed
 
--- And after the last body of each.
+-- Bytes were written after the last body of each file.
 pub record AddsMore (old new : IndexBodiesState) (more : FieldBodies) : Type 0 where
   pub terms : AddsBytes old.terms new.terms more.terms
   pub postings : AddsBytes old.postings new.postings more.postings
   pub positions : AddsBytes old.positions new.positions more.positions
 
--- The body of a field was begun in each.
+-- The body of a field was started in each file.
 pub record AreBegun (b : IndexBodiesState) : Type 0 where
   pub terms : 0 < length b.terms.starts
   pub postings : 0 < length b.postings.starts

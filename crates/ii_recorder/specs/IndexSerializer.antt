@@ -1,4 +1,4 @@
--- What writes the fields of an index, one after the other.
+-- A serializer of the fields of an index, one after the other.
 use Rattle.std.specs.Prelude.{◌≡◌, ℕ, ◌^◌, ◌<◌, ◌⊎◌, Bool, IsTrue, List, Option, Result}
 use Rattle.ii_io.specs.declared.faults.Fault.{Fault}
 use Rattle.ii_io.specs.declared.faults.Fault.TheVariants.{Limit, Write}
@@ -11,14 +11,14 @@ use Rattle.ii_recorder.specs.Terms.{WrittenTerm, open_bodies}
 use Rattle.ii_recorder.specs.FieldTerms.{FieldTermsState, HasTerms, IsEndFault, closing_bytes}
 use Rattle.ii_recorder.specs.IndexBodies.{IndexBodiesState, AddsBodies, CountsFailures, OneIsFull}
 
--- The fields of the schema, the three files, the terms of the field that was begun last, and whether a call was refused.
+-- The fields of the schema, the three files, the terms of the last field, and whether a call failed.
 pub record IndexSerializerState : Type 0 where
   pub entries : List SchemaEntry
   pub bodies : IndexBodiesState
   pub field : FieldTermsState
   pub closed : Bool
 
--- A field with so many tokens and these norms was begun after what stood in the files at first: these terms of it were written, and then come the keys of terms that are not.
+-- A field was started after the initial bodies: its written terms, then the keys of unwritten ones.
 pub record IsWriting (initial : IndexBodiesState) (now : IndexSerializerState) (field tokens : ℕ) (norms : Option Norms) (ts : List WrittenTerm) (pending : List (List ℕ)) : Type 0 where
   pub counted : tokens < 2 ^ 64
   pub mode : now.field.term.mode ≡ option_of now.entries field
@@ -26,21 +26,21 @@ pub record IsWriting (initial : IndexBodiesState) (now : IndexSerializerState) (
   pub bodies : AddsBodies initial now.bodies field (open_bodies now.field.term.mode tokens ts)
   pub terms : HasTerms now.field.term.mode now.field.places ts pending
 
--- Why the open term of a field can't be ended.
+-- The errors of ending the open term of a field.
 abbrev pub IsTermFault : IndexSerializerState → Fault → Type 0
 IsTermFault s fault = IsEndFault s.field.term s.field.places s.bodies.postings.writer s.bodies.positions.writer fault
 
--- Why a field can't be ended.
+-- The errors of ending a field.
 abbrev pub IsFieldFault : IndexSerializerState → Fault → Type 0
 IsFieldFault s fault = (IsTrue s.field.term_open × IsTermFault s fault) ⊎ (fault ≡ Write) ⊎ ((fault ≡ Limit limit.Offset) × OneIsFull s.bodies (closing_bytes s.field))
 
--- How a call ends that writes.
+-- The outcome of a call that writes.
 pub record EndsWriting {A : Type 0} (old new : IndexSerializerState) (result : Result A Fault) : Type 0 where
   pub entries : new.entries ≡ old.entries
   pub failures : CountsFailures old.bodies new.bodies result
   pub closing : EndsUnlessClosed old.closed new.closed old new result
 
--- And one that writes nothing.
+-- The outcome of a call that writes nothing.
 pub record EndsInMemory {A : Type 0} (old new : IndexSerializerState) (result : Result A Fault) : Type 0 where
   pub entries : new.entries ≡ old.entries
   pub bodies : new.bodies ≡ old.bodies

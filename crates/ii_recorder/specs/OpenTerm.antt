@@ -1,4 +1,4 @@
--- The open term of a field: what the field records and its norms, as which option the term's entries stand, its documents with their counts and the deltas of their positions so far, and whether a call was refused.
+-- The open term of a field: options, norms, documents, frequencies, deltas, and whether a call failed.
 use Rattle.std.specs.Prelude.{ℕ, Bool, List, Option}
 use Rattle.ii_base.specs.declared.schema.index_record_option.IndexRecordOption.{IndexRecordOption}
 use Rattle.ii_fieldnorm.specs.Readers.{Norms}

@@ -1,4 +1,4 @@
--- What a recorder pushes to the serializer of a field, and how that ends.
+-- What a recorder adds to the serializer of a field, and the outcomes.
 use Rattle.std.specs.Prelude.{◌≡◌, ℕ, ◌+◌, ◌^◌, ◌<◌, ◌⊎◌, true, false, if◌then◌else◌, IsTrue, List, [], ◌++◌, Ok, Option, Some, length, map, take, Result, OnOk, IfErr, IsErrOf}
 use Rattle.std.specs.List.{AllByRecursion, flat_map}
 use Rattle.ii_io.specs.declared.faults.Fault.{Fault}
@@ -18,15 +18,15 @@ use Rattle.ii_definitions.specs.Cut.{cut_entry}
 use Rattle.ii_recorder.specs.Terms.{positions_bytes}
 use Rattle.ii_recorder.specs.IndexSerializer.{EndsInMemory, IndexSerializerState}
 
--- the counts of entries, 0 where the option keeps none
+-- the term frequencies of entries, 0 if the option keeps none
 abbrev pub pushed_freqs : IndexRecordOption → List Entry → List ℕ
 pushed_freqs option es = map (λ (e : Entry). if has_freq option then e.term_freq else 0) es
 
--- how far each position of a document lies after the one before it, the first one from 0
+-- the distance of each position of a document from the previous one, the first from 0
 abbrev pub pushed_deltas : List Entry → List ℕ
 pushed_deltas es = flat_map (λ (e : Entry). differences 0 e.positions) es
 
--- a serializer whose open term has these entries more
+-- a serializer whose open term has these additional entries
 abbrev pub with_entries : IndexRecordOption → IndexSerializerState → List Entry → IndexSerializerState
 with_entries option s es =
     let t = s.field.term in
@@ -40,27 +40,27 @@ with_entries option s es =
       };
     }
 
--- the counts of entries
+-- the term frequencies of entries
 abbrev pub counts_of : List Entry → List ℕ
 counts_of es = map (λ (e : Entry). e.term_freq) es
 
--- The deltas of entries may be written, and give their positions back.
+-- The deltas of entries may be written, and give their positions.
 pub record HaveDeltas (es : List Entry) : Type 0 where
   pub deltas : AreDeltas (counts_of es) (pushed_deltas es)
   pub give : positions_of (counts_of es) (pushed_deltas es) ≡ map (λ (e : Entry). e.positions) es
 
--- With one of the counts that follow the old ones, a block is full whose sum is too large.
+-- One of the added frequencies fills a block whose sum is too large.
 abbrev pub FillTooLarge : IndexRecordOption → List ℕ → List ℕ → Type 0
 FillTooLarge skip_info old added = (n : ℕ) × (n < length added) × IsSumTooLarge skip_info (old ++ take (n + 1) added)
 
--- Entries may be pushed: a term is open, the documents follow its own, each has a count where the term has counts, and the field's norms answer for it.
+-- Entries may be added: a term is open, and their documents, frequencies and norms are valid for it.
 pub record MayPush (option : IndexRecordOption) (s : IndexSerializerState) (es : List Entry) : Type 0 where
   pub inside : s.closed ≡ false → s.field.term_open ≡ true
   pub ascending : s.closed ≡ false → IsTrue (are_documents (s.field.term.docs ++ docs_of es))
   pub counted : s.closed ≡ false → IsTrue (has_freq s.field.term.skip_info) → AllByRecursion (λ n. 0 < n) (pushed_freqs option es)
   pub covered : s.closed ≡ false → AllByRecursion (Covers s.field.term.norms) (docs_of es)
 
--- How a call ends that pushes entries.
+-- The outcomes of adding entries.
 pub record Pushes (option : IndexRecordOption) (old new : IndexSerializerState) (es : List Entry) (result : Result (Unit {0}) Fault) : Type 0 where
   pub ok : OnOk result (new ≡ with_entries option old es)
   pub small : OnOk result (¬ FillTooLarge old.field.term.skip_info old.field.term.freqs (pushed_freqs option es))
@@ -69,7 +69,7 @@ pub record Pushes (option : IndexRecordOption) (old new : IndexSerializerState) 
   pub limit : IsErrOf result (Limit BlockFrequencySum) → FillTooLarge old.field.term.skip_info old.field.term.freqs (pushed_freqs option es)
   pub only : IfErr result (λ e. (e ≡ OutOfMemory) ⊎ (e ≡ SerializerClosed) ⊎ (e ≡ Limit BlockFrequencySum))
 
--- Entries that a term of a field may have, where the term's counts and positions are those that the field records.
+-- Valid entries of a term of a field that records the term's frequencies and positions.
 pub record AreReadable (mode : IndexRecordOption) (es : List Entry) : Type 0 where
   pub documents : IsTrue (are_documents (docs_of es))
   pub some : 0 < length es
@@ -78,7 +78,7 @@ pub record AreReadable (mode : IndexRecordOption) (es : List Entry) : Type 0 whe
   pub small : ¬ FillTooLarge mode [] (pushed_freqs mode es)
   pub located : IsTrue (has_positions mode) → HaveDeltas es
 
--- What is written of pushed entries gives them, as far as they are requested.
+-- Written entries read back, as far as they are requested.
 abbrev pub ReadsEntriesBack : Type 0
 ReadsEntriesBack =
     (norms : Option Norms) (mode requested : IndexRecordOption) (es : List Entry) → AreReadable mode es

@@ -1,4 +1,4 @@
--- What is kept of the terms of a field: the keys, the terms, where the postings and the positions of the last one end, and whether a call was refused.
+-- The places of a field's terms: keys, infos, the ends of postings and positions, and whether a call failed.
 use Rattle.std.specs.Prelude.{ℕ, ◌+◌, Bool, List, ◌∷◌, [], ◌++◌}
 use Rattle.ii_termstore.specs.declared.term_info.TermInfo.{TermInfo}
 use Rattle.ii_termstore.specs.TermInfos.{term_info_from}
@@ -10,7 +10,7 @@ pub record TermPlacesState : Type 0 where
   pub positions_end : ℕ
   pub closed : Bool
 
--- and with a term more, of so many documents and bytes
+-- the places with one more term of a given document frequency and size
 abbrev pub with_term : TermPlacesState → ℕ → ℕ → ℕ → TermPlacesState
 with_term p doc_freq postings positions =
     record p {

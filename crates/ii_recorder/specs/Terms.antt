@@ -1,4 +1,4 @@
--- The terms of a field: the bytes that go out for each, and what is kept of it.
+-- The terms of a field: the bytes that are written for each, and its info.
 use Rattle.std.specs.Prelude.{ℕ, ◌+◌, ◌^◌, ◌<◌, if◌then◌else◌, List, [], ◌∷◌, ◌++◌, length, map, Option}
 use Rattle.std.specs.List.{flat_map}
 use Rattle.ii_base.specs.declared.schema.index_record_option.IndexRecordOption.{IndexRecordOption}
@@ -11,7 +11,7 @@ use Rattle.ii_termstore.specs.declared.term_info.TermInfo.{TermInfo}
 use Rattle.ii_termstore.specs.TermInfos.{term_info_from}
 use Rattle.ii_termdict.specs.Written.{written_dictionary}
 
--- A term: its key, the norms of its field, as which option its entries stand, its documents with their counts, and the deltas of all its positions.
+-- A term: its key, the norms of its field, the shape of its entries, documents, frequencies, and all deltas.
 pub record WrittenTerm : Type 0 where
   pub key : List ℕ
   pub norms : Option Norms
@@ -24,7 +24,7 @@ pub record WrittenTerm : Type 0 where
 abbrev pub postings_bytes : WrittenTerm → List ℕ
 postings_bytes t = written_postings t.norms t.skip_info t.docs t.freqs
 
--- the bytes of positions by their deltas: none in a field that doesn't record them
+-- the bytes of positions by their deltas, none in a field that doesn't record them
 abbrev pub positions_bytes : IndexRecordOption → List ℕ → List ℕ
 positions_bytes mode deltas = if has_positions mode then written_positions deltas else []
 
@@ -32,7 +32,7 @@ positions_bytes mode deltas = if has_positions mode then written_positions delta
 abbrev pub IsShort : IndexRecordOption → WrittenTerm → Type 0
 IsShort mode t = (length (postings_bytes t) < 2 ^ 32) × (length (positions_bytes mode t.deltas) < 2 ^ 32)
 
--- what is kept of terms whose postings and positions stand one after the other from these places on
+-- the infos of terms whose postings and positions follow each other from these places on
 abbrev pub infos_from : IndexRecordOption → ℕ → ℕ → List WrittenTerm → List TermInfo
 infos_from mode postings positions [] = []
 infos_from mode postings positions (t ∷ ts) =
@@ -58,6 +58,6 @@ field_bodies mode tokens ts = record {
   positions = positions_body mode ts;
 }
 
--- and before the dictionary is written
+-- the bodies before the dictionary is written
 abbrev pub open_bodies : IndexRecordOption → ℕ → List WrittenTerm → FieldBodies
 open_bodies mode tokens ts = record (field_bodies mode tokens ts) { terms = [] }

@@ -2,13 +2,13 @@ ghost use Rattle.std.specs.Prelude.{◌≡◌, []};
 
 use std::alloc::Global;
 
-/// Two buffers that are lent again and again, so that they grow once. They are empty when they are lent.
+/// Holds two buffers that are reused, so that they grow only once. They are empty when they are borrowed.
 pub struct BufferLender {
     buffer_u8: Vec<u8>,
     buffer_u32: Vec<u32>,
 }
 
-// So that each drop is a call.
+// A drop has to be a call.
 impl Drop for BufferLender {
     fn drop(self) {
         let BufferLender {
@@ -19,7 +19,7 @@ impl Drop for BufferLender {
 }
 
 impl BufferLender {
-    /// A lender whose buffers have no room yet.
+    /// Creates a lender whose buffers have no capacity yet.
     pub fn new(alloc: Global) -> BufferLender {
         BufferLender {
             buffer_u8: Vec::new(alloc),
@@ -27,7 +27,7 @@ impl BufferLender {
         }
     }
 
-    /// The buffer of bytes.
+    /// Borrows the buffer of bytes.
     pub fn lend_u8(&mut self) -> &mut Vec<u8>
         ensures { result.now.items ≡ [] }
     {
@@ -35,7 +35,7 @@ impl BufferLender {
         &mut self.buffer_u8
     }
 
-    /// Both buffers.
+    /// Borrows both buffers.
     pub fn lend_all(&mut self) -> (&mut Vec<u8>, &mut Vec<u32>)
         ensures bytes { result.0.now.items ≡ [] }
         ensures numbers { result.1.now.items ≡ [] }

@@ -22,9 +22,9 @@ use ii_fieldnorm::FieldNormReader;
 use ii_io::{Fault, Field, LimitName};
 use std::io::Write;
 
-/// Writes the terms of one field to the three files of an index, which are lent to it.
+/// Writes the terms of one field to the three files of a borrowed index.
 ///
-/// After a refused call the index is closed: each further call answers `SerializerClosed`.
+/// After an error the index is closed: each further call returns `SerializerClosed`.
 #[derive(Drop)]
 pub struct FieldSerializer<'a, W: Write> {
     index: &'a mut InvertedIndexSerializer<W>,
@@ -32,11 +32,15 @@ pub struct FieldSerializer<'a, W: Write> {
 }
 
 impl<W: Write> InvertedIndexSerializer<W> {
-    /// Begins a field of the schema, which wasn't written yet, with the number of all its tokens. By its
-    /// norms, if it has some, the bounds of full blocks are written.
+    /// Starts a field of the schema that wasn't written yet, with the number of all its tokens. Its norms, if
+    /// it has some, give the bounds of full blocks.
     ///
-    /// `Write` where a writer fails, `Limit(Offset)` where a count of a writer would pass `u64::MAX`,
-    /// `OutOfMemory` where a table can't grow; `SerializerClosed` after an earlier refusal.
+    /// # Errors
+    ///
+    /// * `Write` if a writer fails.
+    /// * `Limit(Offset)` if a count of a writer would exceed `u64::MAX`.
+    /// * `OutOfMemory` if a table can't grow.
+    /// * `SerializerClosed` after an earlier error.
     pub fn new_field(
         &mut self,
         field: Field,
@@ -51,7 +55,7 @@ impl<W: Write> InvertedIndexSerializer<W> {
         ensures entries { IfOk result (λ f. f.index.now.entries ≡ self.old.entries) }
         ensures open { IfOk result (λ f. f.index.now.closed ≡ false) }
 
-        // When it is refused, and by which fault.
+        // Which errors it returns, and when.
         ensures* refused { sem 𝓛 (RestsIfErr (the_row W.row W.Write) self.entry (λ f. f.index.ghost_name) result
             (λ n. EndsWriting self.old n result × AllGrow self.old.bodies n.bodies)) }
         ensures full { IsErrOf result (Fault.Limit LimitName.Offset) → IsFull self.old.bodies.postings.writer 8 }
@@ -64,11 +68,11 @@ impl<W: Write> InvertedIndexSerializer<W> {
 }
 
 impl<'a, W: Write> FieldSerializer<'a, W> {
-    /// Begins a term, whose key is above the one before it by its bytes, as the field records it or,
-    /// where `record_term_freq` is not set, without counts. No term is open. The number of documents that
-    /// the term will have isn't looked at.
+    /// Starts a term, as the field records it, or without term frequencies if `record_term_freq` is not set.
+    /// Its key must be greater than the previous key by its bytes, and no term may be open. `term_doc_freq`
+    /// is ignored.
     ///
-    /// `OutOfMemory` where a growth was refused; `SerializerClosed` after an earlier refusal.
+    /// Returns `OutOfMemory` if an allocation fails; `SerializerClosed` after an earlier error.
     pub fn new_term(
         &mut self,
         term: &[u8],
@@ -84,16 +88,16 @@ impl<'a, W: Write> FieldSerializer<'a, W> {
             ≡ record self.old.index.now.field.term { skip_info = if record_term_freq then self.old.index.now.field.term.mode else Basic; docs = []; freqs = []; deltas = [] }) }
         ensures inside { OnOk result (self.new.index.now.field.term_open ≡ true) }
 
-        // How it ends, and by which fault it is refused.
+        // The outcomes, and which errors it returns.
         ensures ends { EndsInMemory self.old.index.now self.new.index.now result }
         ensures only { OnlyMemoryOrClosed result }
     {
         self.index.new_term(term, term_doc_freq, record_term_freq)
     }
 
-    /// Begins a term without counts, as `new_term` does.
+    /// Starts a term without term frequencies, as `new_term` does.
     ///
-    /// `OutOfMemory` where a growth was refused; `SerializerClosed` after an earlier refusal.
+    /// Returns `OutOfMemory` if an allocation fails; `SerializerClosed` after an earlier error.
     pub fn new_term_without_freq(&mut self, term: &[u8]) -> Result<(), Fault>
         requires between { self.old.index.now.closed ≡ false → self.old.index.now.field.term_open ≡ false }
         requires ascending { self.old.index.now.closed ≡ false → AreAscending (self.old.index.now.field.places.keys ++ term.now ∷ []) }
@@ -104,20 +108,25 @@ impl<'a, W: Write> FieldSerializer<'a, W> {
             ≡ record self.old.index.now.field.term { skip_info = Basic; docs = []; freqs = []; deltas = [] }) }
         ensures inside { OnOk result (self.new.index.now.field.term_open ≡ true) }
 
-        // How it ends, and by which fault it is refused.
+        // The outcomes, and which errors it returns.
         ensures ends { EndsInMemory self.old.index.now self.new.index.now result }
         ensures only { OnlyMemoryOrClosed result }
     {
         self.new_term(term, 0, false)
     }
 
-    /// Adds a document of the open term, above the ones before it and below `TERMINATED`, with its
-    /// count, at least 1 where the term has counts, and the deltas of its positions, which are left
-    /// out where the field doesn't record positions. The norms, where the field has some, answer for it.
+    /// Adds a document to the open term, with its term frequency and the deltas of its positions. The deltas
+    /// are ignored if the field doesn't record positions.
     ///
-    /// `Limit(BlockFrequencySum)` where the document fills a block whose counts sum up above
-    /// `u32::MAX`, in a term with positions; `OutOfMemory` where a growth was refused;
-    /// `SerializerClosed` after an earlier refusal.
+    /// The document must be greater than all earlier ones, less than `TERMINATED`, and covered by the norms
+    /// if the field has some. The term frequency must be at least 1 if the term has frequencies.
+    ///
+    /// # Errors
+    ///
+    /// * `Limit(BlockFrequencySum)` if, in a term with positions, the document fills a block whose term
+    ///   frequencies sum to more than `u32::MAX`.
+    /// * `OutOfMemory` if an allocation fails.
+    /// * `SerializerClosed` after an earlier error.
     pub fn write_doc(
         &mut self,
         doc_id: DocId,
@@ -139,7 +148,7 @@ impl<'a, W: Write> FieldSerializer<'a, W> {
           };
         }) }
 
-        // How it ends, and by which fault it is refused.
+        // The outcomes, and which errors it returns.
         ensures ends { EndsInMemory self.old.index.now self.new.index.now result }
         ensures limit { IsErrOf result (Fault.Limit LimitName.BlockFrequencySum)
             ↔ (self.old.index.now.closed ≡ false) × IsSumTooLarge self.old.index.now.field.term.skip_info (self.old.index.now.field.term.freqs ++ term_freq ∷ []) }
@@ -148,15 +157,15 @@ impl<'a, W: Write> FieldSerializer<'a, W> {
         self.index.write_doc(doc_id, term_freq, position_deltas)
     }
 
-    // Whether a call was refused.
+    // Returns `SerializerClosed` if an earlier call failed.
     pub(crate) fn check_open(&self) -> Result<(), Fault>
         ensures { result ≡ (if self.now.index.now.closed then Err Fault.SerializerClosed else Ok tt) }
     {
         self.index.check_open()
     }
 
-    /// Takes it that a call was refused: each further one answers `SerializerClosed`. For whoever lacks
-    /// memory for a term's key.
+    /// Closes the index as after an error: each further call returns `SerializerClosed`. For callers that
+    /// fail to allocate a term's key.
     pub fn shut(&mut self)
         ensures same_reference { self.new.index.ghost_name ≡ self.old.index.ghost_name }
         ensures shut { self.new.index.now ≡ record self.old.index.now { closed = true } }
@@ -164,13 +173,17 @@ impl<'a, W: Write> FieldSerializer<'a, W> {
         self.index.shut();
     }
 
-    /// Ends the open term: writes its postings and then, where the field records them, its positions.
-    /// Without an open term it does nothing.
+    /// Ends the open term: writes its postings and then, if the field records them, its positions. Does
+    /// nothing if no term is open.
     ///
-    /// `Write` where a writer fails, `Limit(Offset)` where a count of a writer would pass `u64::MAX`
-    /// or the bytes of all terms pass 2^56, `Limit(TermBytes)` where the postings or the positions of
-    /// the term have more than `u32::MAX` bytes, `OutOfMemory` where a growth was refused;
-    /// `SerializerClosed` after an earlier refusal, and nothing is written.
+    /// # Errors
+    ///
+    /// * `Write` if a writer fails.
+    /// * `Limit(Offset)` if a count of a writer would exceed `u64::MAX`, or the bytes of all terms exceed
+    ///   2^56.
+    /// * `Limit(TermBytes)` if the postings or the positions of the term have more than `u32::MAX` bytes.
+    /// * `OutOfMemory` if an allocation fails.
+    /// * `SerializerClosed` after an earlier error; nothing is then written.
     pub fn close_term(&mut self) -> Result<(), Fault>
         ensures same_reference { self.new.index.ghost_name ≡ self.old.index.ghost_name }
         ensures writing { (initial : IndexBodiesState) (field tokens : ℕ) (norms : Option Norms) (ts : List WrittenTerm) (key : List ℕ) → IsTrue self.old.index.now.field.term_open
@@ -180,20 +193,19 @@ impl<'a, W: Write> FieldSerializer<'a, W> {
             → (result ≡ Ok tt) × (self.new.index.now ≡ self.old.index.now) }
         ensures between { OnOk result (self.new.index.now.field.term_open ≡ false) }
 
-        // How it ends: a failed call is counted once, and each writer keeps what it had.
+        // The outcomes: a failed call counts once, and each writer keeps what was written.
         ensures ends { EndsWriting self.old.index.now self.new.index.now result }
         ensures grow { AllGrow self.old.index.now.bodies self.new.index.now.bodies }
 
-        // When it is refused, and by which fault.
+        // Which errors it returns, and when.
         ensures limits { IsTrue self.old.index.now.field.term_open → OnOk result (IsWithinLimits self.old.index.now.field) }
         ensures fault { IfErr result (λ e. (e ≡ Fault.SerializerClosed) ⊎ IsTermFault self.old.index.now e) }
     {
         self.index.end_term()
     }
 
-    /// Ends the open term, if there is one, and the field: writes its dictionary, and flushes.
-    ///
-    /// The faults are those of `close_term`.
+    /// Ends the open term, if there is one, and the field: writes its dictionary, and flushes. Returns the
+    /// errors of `close_term`.
     pub fn close(self) -> Result<(), Fault>
         ensures wrote { (initial : IndexBodiesState) (field tokens : ℕ) (norms : Option Norms) (ts : List WrittenTerm) → self.entry.index.now.field.term_open ≡ false
             → IsWriting initial self.entry.index.now field tokens norms ts []
@@ -208,11 +220,11 @@ impl<'a, W: Write> FieldSerializer<'a, W> {
             → IsWriting initial self.entry.index.now field tokens norms ts (key ∷ [])
             → OnOk result (HoldsTerms self.entry.index.now.field.term.mode tokens (field_bodies self.entry.index.now.field.term.mode tokens (ts ++ term_under key self.entry.index.now.field.term ∷ [])) (ts ++ term_under key self.entry.index.now.field.term ∷ [])) }
 
-        // How it ends: a failed call is counted once, and each writer keeps what it had.
+        // The outcomes: a failed call counts once, and each writer keeps what was written.
         ensures ends { EndsWriting self.entry.index.now self.exit.0.now result }
         ensures grow { AllGrow self.entry.index.now.bodies self.exit.0.now.bodies }
 
-        // When it is refused, and by which fault.
+        // Which errors it returns, and when.
         ensures limits { IsTrue self.entry.index.now.field.term_open → OnOk result (IsWithinLimits self.entry.index.now.field) }
         ensures fault { IfErr result (λ e. (e ≡ Fault.SerializerClosed) ⊎ IsFieldFault self.entry.index.now e) }
     {

@@ -4,21 +4,21 @@ ghost use Rattle.ii_recorder.specs.Pushed.{ReadsEntriesBack};
 use ii_layout::written::reads_term_back;
 use ii_termdict::written::reads_dictionary_back;
 
-/// The law of written fields: their bodies hold the number of their tokens, exactly the keys of their
-/// terms, and of each key what is kept of its term, in whose ranges that term's bytes stand.
+/// States what the bodies of a written field hold: the number of its tokens, exactly the keys of its terms,
+/// and the info of each. The ranges of the info hold that term's bytes.
 pub fn holds_what_is_written()
     ensures { HoldsWhatIsWritten }
 {
     reads_dictionary_back();
 }
 
-/// The law of held terms: each of them is found under its own key.
+/// States that each held term is found under its own key.
 pub fn holds_each_term()
     ensures { HoldsEachTerm }
 {}
 
-/// The law of recorded terms: what is written of a recorder's documents, in a term that has none before
-/// them, gives these documents, with counts and positions as far as they are requested.
+/// States that the written documents of a recorder, in a term with no documents before them, read back with
+/// term frequencies and positions as far as they are requested.
 pub fn reads_entries_back()
     ensures { ReadsEntriesBack }
 {

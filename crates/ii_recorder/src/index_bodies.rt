@@ -20,14 +20,14 @@ use std::alloc::Global;
 use std::io::Write;
 use std::marker::Model;
 
-/// The three composites of an index: terms, postings and positions.
+/// Holds the three composite files of an index: terms, postings and positions.
 pub struct IndexBodies<W: Write> {
     terms: CompositeWrite<W>,
     postings: CompositeWrite<W>,
     positions: CompositeWrite<W>,
 }
 
-// So that each drop is a call.
+// A drop has to be a call.
 impl<W: Write + Drop> Drop for IndexBodies<W> {
     fn drop(self) {
         let IndexBodies {
@@ -66,7 +66,7 @@ impl<W: Write> IndexBodies<W> {
         }
     }
 
-    // Begins the body of a field in each, that of postings by the number of its tokens.
+    // Starts the body of a field in each file. The postings begin with the number of its tokens.
     pub fn begin_field(&mut self, field: Field, total_num_tokens: u64) -> Result<(), Fault>
         requires unclosed { AreUnclosed self.old }
         requires lacks { LacksField field self.old }
@@ -74,11 +74,11 @@ impl<W: Write> IndexBodies<W> {
         ensures unclosed { OnOk result (AreUnclosed self.new) }
         ensures begun { OnOk result (AreBegun self.new) }
 
-        // How it ends for the writers: a failed call is counted once, and each keeps what it had.
+        // The outcomes: a failed call counts once, and each writer keeps what was written.
         ensures failures { CountsFailures self.old self.new result }
         ensures grow { AllGrow self.old self.new }
 
-        // When it is refused, and by which fault.
+        // Which errors it returns, and when.
         ensures full { IsErrOf result (Fault.Limit LimitName.Offset) → IsFull self.old.postings.writer 8 }
         ensures only { IfErr result (λ e. (e ≡ Fault.OutOfMemory) ⊎ (e ≡ Fault.Write) ⊎ (e ≡ Fault.Limit LimitName.Offset)) }
     {
@@ -88,8 +88,8 @@ impl<W: Write> IndexBodies<W> {
         total_num_tokens.serialize(self.postings.writer())
     }
 
-    // Ends a term of the field that was begun last, whose postings and positions follow what stands
-    // there, and keeps its place.
+    // Ends a term of the field that was started last: appends its postings and positions, and keeps its
+    // place.
     pub fn end_term(&mut self, term: &mut OpenTerm, places: &mut TermPlaces) -> Result<(), Fault>
         requires begun { AreBegun self.old }
         requires open { (term.old.closed ≡ false) × (places.old.closed ≡ false) }
@@ -99,11 +99,11 @@ impl<W: Write> IndexBodies<W> {
         ensures unclosed { AreUnclosed self.old → AreUnclosed self.new }
         ensures begun { AreBegun self.new }
 
-        // How it ends for the writers: a failed call is counted once, and each keeps what it had.
+        // The outcomes: a failed call counts once, and each writer keeps what was written.
         ensures failures { CountsFailures self.old self.new result }
         ensures grow { AllGrow self.old self.new }
 
-        // When it is refused, and by which fault.
+        // Which errors it returns, and when.
         ensures fault { IfErr result (λ e. IsEndFault term.old places.old self.old.postings.writer self.old.positions.writer e) }
     {
         put_term(
@@ -114,7 +114,7 @@ impl<W: Write> IndexBodies<W> {
         )
     }
 
-    // Writes the dictionary of the field that was begun last, and flushes.
+    // Writes the dictionary of the field that was started last, and flushes.
     pub fn finish_field(&mut self, places: &mut TermPlaces) -> Result<(), Fault>
         requires begun { AreBegun self.old }
         requires open { places.old.closed ≡ false }
@@ -125,11 +125,11 @@ impl<W: Write> IndexBodies<W> {
         ensures begun { AreBegun self.new }
         ensures places { OnOk result (places.new.closed ≡ false) × (places.new.keys ≡ places.old.keys) × (places.new.infos ≡ places.old.infos) }
 
-        // How it ends for the writers: a failed call is counted once, and each keeps what it had.
+        // The outcomes: a failed call counts once, and each writer keeps what was written.
         ensures failures { CountsFailures self.old self.new result }
         ensures grow { AllGrow self.old self.new }
 
-        // When it is refused, and by which fault.
+        // Which errors it returns, and when.
         ensures fault { IfErr result (λ e. (e ≡ Fault.Write)
             ⊎ ((e ≡ Fault.Limit LimitName.Offset) × OneIsFull self.old (record { terms = written_dictionary places.old.keys places.old.infos; postings = []; positions = [] }))) }
     {
@@ -147,11 +147,11 @@ impl<W: Write> IndexBodies<W> {
         ensures unclosed { AreUnclosed self.old → AreUnclosed self.new }
         ensures begun { AreBegun self.new }
 
-        // How it ends for the writers: a failed call is counted once, and each keeps what it had.
+        // The outcomes: a failed call counts once, and each writer keeps what was written.
         ensures failures { CountsFailures self.old self.new result }
         ensures grow { AllGrow self.old self.new }
 
-        // When it is refused, and by which fault.
+        // Which errors it returns, and when.
         ensures full { IsErrOf result (Fault.Limit LimitName.Offset) → OneIsFull self.old (record { terms = []; postings = []; positions = [] }) }
         ensures only { IfErr result (λ e. (e ≡ Fault.Write) ⊎ (e ≡ Fault.Limit LimitName.Offset)) }
     {
@@ -160,7 +160,7 @@ impl<W: Write> IndexBodies<W> {
         self.positions.writer().flush()
     }
 
-    // The three writers as they stand, with no table written.
+    // Returns the three writers without writing tables.
     pub fn into_writers(self) -> (CountingWriter<W>, CountingWriter<W>, CountingWriter<W>)
         ensures terms { result.0 ≡ self.terms.writer }
         ensures postings { result.1 ≡ self.postings.writer }
@@ -178,7 +178,7 @@ impl<W: Write> IndexBodies<W> {
         )
     }
 
-    // Writes the tables of the three composites, and hands the writers back.
+    // Writes the tables of the three composite files, and returns the writers.
     pub fn close(
         self,
     ) -> (
@@ -192,11 +192,11 @@ impl<W: Write> IndexBodies<W> {
         ensures postings { (initial : CountingWriterState) (bodies : List Body) → HasBodies initial self.postings bodies → fit_fields bodies ≡ true → OnOk result.3 (WroteComposite initial result.1 bodies) }
         ensures positions { (initial : CountingWriterState) (bodies : List Body) → HasBodies initial self.positions bodies → fit_fields bodies ≡ true → OnOk result.3 (WroteComposite initial result.2 bodies) }
 
-        // How it ends for the writers: a failed call is counted once, and each keeps what it had.
+        // The outcomes: a failed call counts once, and each writer keeps what was written.
         ensures failures { CountsFailuresOf self result.0 result.1 result.2 result.3 }
         ensures grow { Grows self.terms.writer result.0 × Grows self.postings.writer result.1 × Grows self.positions.writer result.2 }
 
-        // When it is refused, and by which fault.
+        // Which errors it returns, and when.
         ensures full { IsErrOf result.3 (Fault.Limit LimitName.Offset) → OneIsFull self (tables_of self) }
         ensures only { IfErr result.3 (λ e. (e ≡ Fault.Write) ⊎ (e ≡ Fault.Limit LimitName.Offset)) }
     {
@@ -228,7 +228,7 @@ impl<W: Write> IndexBodies<W> {
     }
 }
 
-// Begins the body of a field.
+// Starts the body of a field.
 fn begin_body<W: Write>(composite: &mut CompositeWrite<W>, field: Field) -> Result<(), Fault>
     requires unclosed { composite.old.closed ≡ false }
     requires unwritten { has_start field composite.old.starts ≡ false }
@@ -238,7 +238,7 @@ fn begin_body<W: Write>(composite: &mut CompositeWrite<W>, field: Field) -> Resu
     ensures begun { OnOk result (0 < length composite.new.starts) }
     ensures writer { composite.new.writer ≡ composite.old.writer }
 
-    // When it is refused, and by which fault.
+    // Which errors it returns.
     ensures only { OnlyMemory result }
 {
     composite.for_field(field)?;
@@ -258,13 +258,13 @@ fn put_term<W: Write>(
     ensures positions { OnOk result (Wrote positions_write.old positions_write.new (positions_bytes term.old.mode term.old.deltas)) }
     ensures ends { OnOk result (EndsTerm (field_terms term.old places.old true) (field_terms term.new places.new false)) }
 
-    // How it ends for the writers: a failed call is counted once, and each keeps what it had.
+    // The outcomes: a failed call counts once, and each writer keeps what was written.
     ensures once { CountsOnce (postings_write.old.failed_calls + positions_write.old.failed_calls)
         (postings_write.new.failed_calls + positions_write.new.failed_calls) result }
     ensures kept { (postings_write.old.failed_calls ≤ postings_write.new.failed_calls) × (positions_write.old.failed_calls ≤ positions_write.new.failed_calls) }
     ensures grow { Grows postings_write.old postings_write.new × Grows positions_write.old positions_write.new }
 
-    // When it is refused, and by which fault.
+    // Which errors it returns, and when.
     ensures fault { IfErr result (λ e. IsEndFault term.old places.old postings_write.old positions_write.old e) }
 {
     let doc_freq = term.doc_freq();

@@ -1,5 +1,5 @@
-//! What is gathered of each term while documents are indexed, and how the terms of a field go out:
-//! their postings and positions one after the other, and what the dictionary keeps of each.
+//! Gathers the postings of each term while documents are indexed, and writes the terms of a field: postings
+//! and positions one after the other, and the dictionary.
 #![tactic(auto)]
 
 pub mod buffer_lender;

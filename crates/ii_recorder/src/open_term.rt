@@ -17,8 +17,8 @@ use std::alloc::Global;
 use std::io::Write;
 use std::marker::Model;
 
-/// The open term of a field: its documents with their counts, and the deltas of their positions,
-/// until both are written.
+/// Holds the open term of a field until it is written: its documents with their term frequencies, and the
+/// deltas of their positions.
 pub struct OpenTerm {
     mode: IndexRecordOption,
     postings: PostingsSerializer,
@@ -26,7 +26,7 @@ pub struct OpenTerm {
     doc_freq: u32,
 }
 
-// So that each drop is a call.
+// A drop has to be a call.
 impl Drop for OpenTerm {
     fn drop(self) {
         let OpenTerm {
@@ -74,7 +74,7 @@ impl OpenTerm {
         }
     }
 
-    // Begins a term anew, as the field records it or without counts.
+    // Starts a new term, as the field records it or without term frequencies.
     pub fn begin(&mut self, term_doc_freq: u32, record_term_freq: bool)
         ensures { self.new ≡ record self.old { skip_info = if record_term_freq then self.old.mode else Basic; docs = []; freqs = [] } }
     {
@@ -82,14 +82,14 @@ impl OpenTerm {
         self.doc_freq = 0;
     }
 
-    // How many documents the term has.
+    // Returns the number of documents of the term.
     pub fn doc_freq(&self) -> u32
         ensures { result ≡ length self.now.docs }
     {
         self.doc_freq
     }
 
-    // Adds a document with its count, and the deltas of its positions where the field records them.
+    // Adds a document with its term frequency, and the deltas of its positions if the field records them.
     pub fn write_doc(
         &mut self,
         doc_id: DocId,
@@ -108,7 +108,7 @@ impl OpenTerm {
         ensures err { OnErr result (IsTrue self.new.closed) }
         ensures mode { self.new.mode ≡ self.old.mode }
 
-        // When it is refused, and by which fault.
+        // Which errors it returns, and when.
         ensures limit { IsErrOf result (Fault.Limit LimitName.BlockFrequencySum) ↔ IsSumTooLarge self.old.skip_info (self.old.freqs ++ term_freq ∷ []) }
         ensures only { IfErr result (λ e. (e ≡ Fault.OutOfMemory) ⊎ (e ≡ Fault.Limit LimitName.BlockFrequencySum)) }
     {
@@ -124,7 +124,7 @@ impl OpenTerm {
         self.positions.write_positions_delta(position_deltas)
     }
 
-    // Writes the postings, and answers how many bytes they have.
+    // Writes the postings, and returns how many bytes they take.
     pub fn write_postings<W: Write>(&mut self, writer: &mut CountingWriter<W>) -> Result<u32, Fault>
         requires open { self.old.closed ≡ false }
         ensures ok { IfOk result (λ len. len ≡ length (written_postings self.old.norms self.old.skip_info self.old.docs self.old.freqs)) }
@@ -133,12 +133,12 @@ impl OpenTerm {
         ensures short { OnOk result (length (written_postings self.old.norms self.old.skip_info self.old.docs self.old.freqs) < 2 ^ 32) }
         ensures mode { self.new.mode ≡ self.old.mode }
 
-        // How it ends for the writer: a failed call is counted once, and it keeps what it had.
+        // The outcomes: a failed call counts once, and the writer keeps what was written.
         ensures once { CountsOnce writer.old.failed_calls writer.new.failed_calls result }
         ensures kept { writer.old.failed_calls ≤ writer.new.failed_calls }
         ensures grows { Grows writer.old writer.new }
 
-        // When it is refused, and by which fault.
+        // Which errors it returns, and when.
         ensures full { IsErrOf result (Fault.Limit LimitName.Offset) → IsFull writer.old (length (written_postings self.old.norms self.old.skip_info self.old.docs self.old.freqs)) }
         ensures long { IsErrOf result (Fault.Limit LimitName.TermBytes) → 2 ^ 32 ≤ length (written_postings self.old.norms self.old.skip_info self.old.docs self.old.freqs) }
         ensures only { IfErr result (λ e. (e ≡ Fault.Write) ⊎ (e ≡ Fault.Limit LimitName.Offset) ⊎ (e ≡ Fault.Limit LimitName.TermBytes)) }
@@ -152,7 +152,7 @@ impl OpenTerm {
         }
     }
 
-    // Writes the positions where the field records them, and answers how many bytes they have.
+    // Writes the positions if the field records them, and returns how many bytes they take.
     pub fn write_positions<W: Write>(
         &mut self,
         writer: &mut CountingWriter<W>,
@@ -164,12 +164,12 @@ impl OpenTerm {
         ensures short { OnOk result (length (positions_bytes self.old.mode self.old.deltas) < 2 ^ 32) }
         ensures mode { self.new.mode ≡ self.old.mode }
 
-        // How it ends for the writer: a failed call is counted once, and it keeps what it had.
+        // The outcomes: a failed call counts once, and the writer keeps what was written.
         ensures once { CountsOnce writer.old.failed_calls writer.new.failed_calls result }
         ensures kept { writer.old.failed_calls ≤ writer.new.failed_calls }
         ensures grows { Grows writer.old writer.new }
 
-        // When it is refused, and by which fault.
+        // Which errors it returns, and when.
         ensures full { IsErrOf result (Fault.Limit LimitName.Offset) → IsTrue (has_positions self.old.mode) × IsFull writer.old (length (positions_bytes self.old.mode self.old.deltas)) }
         ensures long { IsErrOf result (Fault.Limit LimitName.TermBytes) → 2 ^ 32 ≤ length (positions_bytes self.old.mode self.old.deltas) }
         ensures only { IfErr result (λ e. (e ≡ Fault.Write) ⊎ (e ≡ Fault.Limit LimitName.Offset) ⊎ (e ≡ Fault.Limit LimitName.TermBytes)) }
@@ -185,7 +185,7 @@ impl OpenTerm {
     }
 }
 
-// How many bytes stand between two places.
+// Returns the number of bytes between two places.
 fn len_between(start: u64, end: u64) -> Result<u32, Fault>
     requires { start ≤ end }
     ensures ok { IfOk result (λ len. start + len ≡ end) }

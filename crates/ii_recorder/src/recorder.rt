@@ -17,20 +17,20 @@ pub mod term_frequency_recorder;
 pub mod tf_and_position_recorder;
 pub mod vint32_reader;
 
-/// Gathers what the index keeps of one term: the documents in which it is, in ascending order, and as
-/// far as its option has these, how often the term is there, and where.
+/// Gathers the postings of one term: the documents that contain it, in ascending order, and as far as its
+/// option has them, the term frequencies and positions.
 ///
-/// Its meaning is the documents that were closed, and the one that is open.
+/// Its model is the closed documents and the open one.
 pub trait Recorder: Drop {
     ghost state: { Self → RecorderState };
 
-    /// The document that was begun last, or `u32::MAX` where none was.
+    /// Returns the document that was started last, or `u32::MAX` if there is none.
     fn current_doc(&self) -> DocId
         ensures { result ≡ current_doc (state self.now) };
 
-    /// Begins a document. It lies above the one before it, which is closed.
+    /// Starts a document. It must be greater than the previous one, which must be closed.
     ///
-    /// `OutOfMemory` where there is no room for it: the recorder then stays.
+    /// Returns `OutOfMemory` if an allocation fails; the recorder is then unchanged.
     fn new_doc(&mut self, doc: DocId) -> Result<(), Fault>
         requires closed { (state self.old).pending ≡ None }
         requires above { IfSome (last_doc (state self.old).closed) (λ last. last < doc) }
@@ -38,12 +38,16 @@ pub trait Recorder: Drop {
         ensures err { OnErr result (state self.new ≡ state self.old) }
         ensures only { OnlyMemory result };
 
-    /// Adds a position of the term in the open document.
+    /// Adds a position of the term in the open document. After an error the recorder is unchanged.
     ///
-    /// Where positions are kept, `Limit(Position)` for the position `u32::MAX`, and
-    /// `DecreasingPosition` for one below the last; where counts are kept, `Limit(Count)` for more than
-    /// `u32::MAX` of them; the first of these alone. `OutOfMemory` where there is no room for it. After
-    /// a fault the recorder is as it was.
+    /// # Errors
+    ///
+    /// Returns the first of these that applies:
+    /// * `Limit(Position)` for the position `u32::MAX`, if positions are kept.
+    /// * `DecreasingPosition` for a position below the last one, if positions are kept.
+    /// * `Limit(Count)` for more than `u32::MAX` positions, if term frequencies are kept.
+    ///
+    /// Returns `OutOfMemory` if an allocation fails.
     fn record_position(&mut self, position: u32) -> Result<(), Fault>
         requires { IsSome (state self.old).pending }
         ensures ok { OnOk result (state self.new ≡ record (state self.old) { pending = option_map (with_position (state self.old).option position) (state self.old).pending }) }
@@ -52,21 +56,27 @@ pub trait Recorder: Drop {
 
     /// Closes the open document.
     ///
-    /// `OutOfMemory` where there is no room for it: the recorder then stays.
+    /// Returns `OutOfMemory` if an allocation fails; the recorder is then unchanged.
     fn close_doc(&mut self) -> Result<(), Fault>
         requires { IsSome (state self.old).pending }
         ensures ok { OnOk result (state self.new ≡ record (state self.old) { closed = entries_of_recorder (state self.old); pending = None }) }
         ensures err { OnErr result (state self.new ≡ state self.old) }
         ensures only { OnlyMemory result };
 
-    /// Pushes all documents, the open one last, to the open term of a field, each with its count, 0
-    /// where counts aren't kept, and with the position deltas that are kept. The documents follow those
-    /// of the term, have counts where it has, and the norms of the field, if it has some, answer for them.
+    /// Adds all documents, the open one last, to the open term of a field. Each has its term frequency, or 0
+    /// if none are kept, and the position deltas that are kept.
     ///
-    /// `Limit(BlockFrequencySum)` where a document fills a block whose counts sum up above `u32::MAX`, in
-    /// a term with positions; `OutOfMemory` where a growth was refused; `SerializerClosed` after an
-    /// earlier refusal. The serializer is then closed; the recorder stays, and the buffers can be lent
+    /// The documents must be greater than those of the term, have term frequencies if it has, and be covered
+    /// by the field's norms if it has some.
+    ///
+    /// # Errors
+    ///
+    /// After an error the serializer is closed. The recorder is unchanged, and the buffers can be borrowed
     /// again.
+    /// * `Limit(BlockFrequencySum)` if, in a term with positions, a document fills a block whose term
+    ///   frequencies sum to more than `u32::MAX`.
+    /// * `OutOfMemory` if an allocation fails.
+    /// * `SerializerClosed` after an earlier error.
     fn serialize<W: Write>(
         &self,
         buffer_lender: &mut BufferLender,
@@ -77,12 +87,12 @@ pub trait Recorder: Drop {
         ensures located { IsTrue (has_positions (state self.now).option) → HaveDeltas (entries_of_recorder (state self.now)) }
         ensures pushes { Pushes (state self.now).option serializer.old.index.now serializer.new.index.now (entries_of_recorder (state self.now)) result };
 
-    /// In how many documents the term is, the open one included, or `u32::MAX` if there are more; nothing
-    /// where documents alone are kept.
+    /// Returns the number of documents, including the open one, or `u32::MAX` if there are more. Returns
+    /// `None` if only documents are kept.
     fn term_doc_freq(&self) -> Option<u32>
         ensures { result ≡ (if has_freq (state self.now).option then Some (min (length (entries_of_recorder (state self.now))) u32_max) else None) };
 
-    /// Whether counts are kept.
+    /// Returns whether term frequencies are kept.
     fn has_term_freq(&self) -> bool
         ensures { result ≡ has_freq (state self.now).option };
 }

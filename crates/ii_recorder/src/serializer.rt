@@ -26,10 +26,10 @@ use std::alloc::Global;
 use std::io::Write;
 use std::marker::Model;
 
-/// Writes the terms, the postings and the positions of the fields of an index, one field after the
-/// other, each file to a writer of its own.
+/// Writes the terms, the postings and the positions of the fields of an index, one field after the other, to
+/// three writers that it owns.
 ///
-/// After a refused call it is closed: each further call answers `SerializerClosed`.
+/// After an error it is closed: each further call returns `SerializerClosed`.
 pub struct InvertedIndexSerializer<W: Write> {
     schema: Schema,
     bodies: IndexBodies<W>,
@@ -40,7 +40,7 @@ pub struct InvertedIndexSerializer<W: Write> {
     is_closed: bool,
 }
 
-// So that each drop is a call.
+// A drop has to be a call.
 impl<W: Write + Drop> Drop for InvertedIndexSerializer<W> {
     fn drop(self) {
         let InvertedIndexSerializer {
@@ -75,8 +75,8 @@ impl<W: Write> Model for InvertedIndexSerializer<W> {
 }
 
 impl<W: Write> InvertedIndexSerializer<W> {
-    /// A serializer of the fields of a schema, to three writers, whose places are counted from where
-    /// they stand now.
+    /// Creates a serializer of the fields of a schema, to three writers. Offsets are relative to the current
+    /// position of each writer.
     pub fn open(
         alloc: Global,
         terms: CountingWriter<W>,
@@ -103,11 +103,14 @@ impl<W: Write> InvertedIndexSerializer<W> {
         }
     }
 
-    /// Writes the tables of the three files, flushes, and hands the writers of terms, postings and
-    /// positions back. The bodies of the fields are then read back from what was written.
+    /// Writes the tables of the three files, flushes, and returns the writers of terms, postings and
+    /// positions. The written files read back as the bodies of the fields.
     ///
-    /// `Write` where a writer fails, `Limit(Offset)` where a count of a writer would pass `u64::MAX`;
-    /// `SerializerClosed` after an earlier refusal, and nothing is written.
+    /// # Errors
+    ///
+    /// * `Write` if a writer fails.
+    /// * `Limit(Offset)` if a count of a writer would exceed `u64::MAX`.
+    /// * `SerializerClosed` after an earlier error; nothing is then written.
     pub fn close(
         self,
     ) -> (
@@ -120,11 +123,11 @@ impl<W: Write> InvertedIndexSerializer<W> {
         ensures postings { (initial : CountingWriterState) (bodies : List Body) → HasBodies initial self.bodies.postings bodies → fit_fields bodies ≡ true → OnOk result.3 (WroteComposite initial result.1 bodies) }
         ensures positions { (initial : CountingWriterState) (bodies : List Body) → HasBodies initial self.bodies.positions bodies → fit_fields bodies ≡ true → OnOk result.3 (WroteComposite initial result.2 bodies) }
 
-        // How it ends for the writers: a failed call is counted once, and each keeps what it had.
+        // The outcomes: a failed call counts once, and each writer keeps what was written.
         ensures failures { CountsFailuresOf self.bodies result.0 result.1 result.2 result.3 }
         ensures grow { Grows self.bodies.terms.writer result.0 × Grows self.bodies.postings.writer result.1 × Grows self.bodies.positions.writer result.2 }
 
-        // When it is refused, and by which fault.
+        // Which errors it returns, and when.
         ensures full { IsErrOf result.3 (Fault.Limit LimitName.Offset) → OneIsFull self.bodies (tables_of self.bodies) }
         ensures refused { IsTrue self.closed → (result.0 ≡ self.bodies.terms.writer) × (result.1 ≡ self.bodies.postings.writer) × (result.2 ≡ self.bodies.positions.writer) }
         ensures closed { IsErrOf result.3 Fault.SerializerClosed ↔ IsTrue self.closed }
@@ -147,7 +150,7 @@ impl<W: Write> InvertedIndexSerializer<W> {
         bodies.close()
     }
 
-    /// The writers of terms, postings and positions as they stand, with no table written.
+    /// Returns the writers of terms, postings and positions without writing tables.
     pub fn into_writers(self) -> (CountingWriter<W>, CountingWriter<W>, CountingWriter<W>)
         ensures { result ≡ (self.bodies.terms.writer, self.bodies.postings.writer, self.bodies.positions.writer) }
     {
@@ -164,7 +167,7 @@ impl<W: Write> InvertedIndexSerializer<W> {
         bodies.into_writers()
     }
 
-    // Begins a field of the schema, which wasn't written yet.
+    // Starts a field of the schema that wasn't written yet.
     pub(crate) fn begin(
         &mut self,
         field: Field,
@@ -177,11 +180,11 @@ impl<W: Write> InvertedIndexSerializer<W> {
         ensures begun { OnOk result (AreBegun self.new.bodies) }
         ensures between { OnOk result (self.new.field.term_open ≡ false) }
 
-        // How it ends: a failed call is counted once, and each writer keeps what it had.
+        // The outcomes: a failed call counts once, and each writer keeps what was written.
         ensures ends { EndsWriting self.old self.new result }
         ensures grow { AllGrow self.old.bodies self.new.bodies }
 
-        // When it is refused, and by which fault.
+        // Which errors it returns, and when.
         ensures full { IsErrOf result (Fault.Limit LimitName.Offset) → IsFull self.old.bodies.postings.writer 8 }
         ensures only { IfErr result (λ e. (e ≡ Fault.OutOfMemory) ⊎ (e ≡ Fault.Write) ⊎ (e ≡ Fault.Limit LimitName.Offset) ⊎ (e ≡ Fault.SerializerClosed)) }
     {
@@ -197,7 +200,7 @@ impl<W: Write> InvertedIndexSerializer<W> {
         begun
     }
 
-    // Begins a term of the field.
+    // Starts a term of the field.
     pub(crate) fn new_term(
         &mut self,
         key: &[u8],
@@ -212,7 +215,7 @@ impl<W: Write> InvertedIndexSerializer<W> {
             ≡ record self.old.field.term { skip_info = if record_term_freq then self.old.field.term.mode else Basic; docs = []; freqs = []; deltas = [] }) }
         ensures inside { OnOk result (self.new.field.term_open ≡ true) }
 
-        // How it ends, and by which fault it is refused.
+        // The outcomes, and which errors it returns.
         ensures ends { EndsInMemory self.old self.new result }
         ensures only { OnlyMemoryOrClosed result }
     {
@@ -226,7 +229,7 @@ impl<W: Write> InvertedIndexSerializer<W> {
         added
     }
 
-    // Adds a document of the open term.
+    // Adds a document to the open term.
     pub(crate) fn write_doc(
         &mut self,
         doc_id: DocId,
@@ -247,7 +250,7 @@ impl<W: Write> InvertedIndexSerializer<W> {
           };
         }) }
 
-        // How it ends, and by which fault it is refused.
+        // The outcomes, and which errors it returns.
         ensures ends { EndsInMemory self.old self.new result }
         ensures limit { IsErrOf result (Fault.Limit LimitName.BlockFrequencySum)
             ↔ (self.old.closed ≡ false) × IsSumTooLarge self.old.field.term.skip_info (self.old.field.term.freqs ++ term_freq ∷ []) }
@@ -261,7 +264,7 @@ impl<W: Write> InvertedIndexSerializer<W> {
         added
     }
 
-    // Whether a call was refused.
+    // Returns `SerializerClosed` if an earlier call failed.
     pub(crate) fn check_open(&self) -> Result<(), Fault>
         ensures { result ≡ (if self.now.closed then Err Fault.SerializerClosed else Ok tt) }
     {
@@ -271,7 +274,7 @@ impl<W: Write> InvertedIndexSerializer<W> {
         Ok(())
     }
 
-    // Takes it that a call was refused.
+    // Closes the serializer as after an error.
     pub(crate) fn shut(&mut self)
         ensures { self.new ≡ record self.old { closed = true } }
     {
@@ -290,11 +293,11 @@ impl<W: Write> InvertedIndexSerializer<W> {
         ensures begun { self.old.closed ≡ false → AreBegun self.new.bodies }
         ensures mode { OnOk result (self.new.field.term.mode ≡ self.old.field.term.mode) }
 
-        // How it ends: a failed call is counted once, and each writer keeps what it had.
+        // The outcomes: a failed call counts once, and each writer keeps what was written.
         ensures ends { EndsWriting self.old self.new result }
         ensures grow { AllGrow self.old.bodies self.new.bodies }
 
-        // When it is refused, and by which fault.
+        // Which errors it returns, and when.
         ensures limits { IsTrue self.old.field.term_open → OnOk result (IsWithinLimits self.old.field) }
         ensures fault { IfErr result (λ e. (e ≡ Fault.SerializerClosed) ⊎ IsTermFault self.old e) }
         ensures room { OnOk result (OneIsFull self.new.bodies (dictionary_of self.new.field) → OneIsFull self.old.bodies (closing_bytes self.old.field)) }
@@ -321,11 +324,11 @@ impl<W: Write> InvertedIndexSerializer<W> {
             → OnOk result (HoldsTerms self.old.field.term.mode tokens (field_bodies self.old.field.term.mode tokens ts) ts) }
         ensures begun { self.old.closed ≡ false → AreBegun self.new.bodies }
 
-        // How it ends: a failed call is counted once, and each writer keeps what it had.
+        // The outcomes: a failed call counts once, and each writer keeps what was written.
         ensures ends { EndsWriting self.old self.new result }
         ensures grow { AllGrow self.old.bodies self.new.bodies }
 
-        // When it is refused, and by which fault.
+        // Which errors it returns, and when.
         ensures fault { IfErr result (λ e. (e ≡ Fault.SerializerClosed) ⊎ (e ≡ Fault.Write) ⊎ ((e ≡ Fault.Limit LimitName.Offset) × OneIsFull self.old.bodies (dictionary_of self.old.field))) }
     {
         if self.is_closed {
@@ -353,11 +356,11 @@ impl<W: Write> InvertedIndexSerializer<W> {
             → OnOk result (HoldsTerms self.old.field.term.mode tokens (field_bodies self.old.field.term.mode tokens (ts ++ term_under key self.old.field.term ∷ [])) (ts ++ term_under key self.old.field.term ∷ [])) }
         ensures begun { self.new.closed ≡ false → AreBegun self.new.bodies }
 
-        // How it ends: a failed call is counted once, and each writer keeps what it had.
+        // The outcomes: a failed call counts once, and each writer keeps what was written.
         ensures ends { EndsWriting self.old self.new result }
         ensures grow { AllGrow self.old.bodies self.new.bodies }
 
-        // When it is refused, and by which fault.
+        // Which errors it returns, and when.
         ensures limits { IsTrue self.old.field.term_open → OnOk result (IsWithinLimits self.old.field) }
         ensures fault { IfErr result (λ e. (e ≡ Fault.SerializerClosed) ⊎ IsFieldFault self.old e) }
     {

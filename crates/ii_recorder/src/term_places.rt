@@ -13,18 +13,18 @@ use std::alloc::Global;
 use std::io::Write;
 use std::marker::Model;
 
-// An end of a term's bytes lies below this.
+// The end of a term's bytes is below this limit.
 const OFFSET_LIMIT: usize = 1 << 56;
 
-/// What is kept of the terms of a field, whose postings and positions stand one after the other: the
-/// dictionary, and where the bytes of the last term end.
+/// Holds the dictionary of a field whose terms' postings and positions follow each other, and where the bytes
+/// of the last term end.
 pub struct TermPlaces {
     dictionary: TermDictionaryWriter,
     postings_end: usize,
     positions_end: usize,
 }
 
-// So that each drop is a call.
+// A drop has to be a call.
 impl Drop for TermPlaces {
     fn drop(self) {
         let TermPlaces {
@@ -64,7 +64,8 @@ impl TermPlaces {
         }
     }
 
-    // Adds the key of a term, above the key before it by its bytes, whose term was added.
+    // Adds the key of a term, which must be greater than the previous key by its bytes. The previous term
+    // must have been added.
     pub fn insert_key(&mut self, key: &[u8]) -> Result<(), Fault>
         requires ascending { self.old.closed ≡ false → AreAscending (self.old.keys ++ key.now ∷ []) }
         requires whole { self.old.closed ≡ false → length self.old.keys ≡ length self.old.infos }
@@ -76,7 +77,7 @@ impl TermPlaces {
         self.dictionary.insert_key(key)
     }
 
-    // Adds the term whose key was added last, with so many bytes of postings and of positions.
+    // Adds the term of the last key, given how many bytes its postings and positions take.
     pub fn insert_term(
         &mut self,
         doc_freq: u32,
@@ -113,7 +114,7 @@ impl TermPlaces {
         Ok(())
     }
 
-    // Writes the dictionary of all terms. It takes no memory.
+    // Writes the dictionary of all terms. Never allocates.
     pub fn finish<W: Write>(&mut self, writer: &mut CountingWriter<W>) -> Result<(), Fault>
         requires whole { self.old.closed ≡ false → length self.old.keys ≡ length self.old.infos }
         ensures written { WritesUnlessClosed self.old.closed writer.old writer.new (written_dictionary self.old.keys self.old.infos) result }

@@ -1,4 +1,4 @@
--- What texts say, by hand.
+-- Example texts and their schemas.
 use Rattle.std.proofs.Common.{◌≡◌, true, false, [], ◌∷◌, Ok, Err, codes, refl}
 use Rattle.toml.specs.Data.{array, boolean, integer, item, member, no_items, no_members, string, table}
 use Rattle.std.specs.Prelude.{pos}
@@ -40,7 +40,7 @@ number_record : entry_in [] (table (member (codes "name") (string (codes "n")) (
 unfolding entry_in settings_in type_named option_named is_known_key
 number_record = refl
 
--- a name stands once
+-- a name may occur only once
 same_name : table_schema (member (codes "field") (array (item (table (member (codes "name") (string (codes "a")) (member (codes "type") (string (codes "json")) no_members)))
     (item (table (member (codes "name") (string (codes "a")) (member (codes "type") (string (codes "bool")) no_members))) no_items))) no_members) ≡ Err (wrong_key 1 keys.Name)
 unfolding table_schema entry_in settings_in type_named option_named is_known_key

@@ -1,4 +1,4 @@
--- Which schema a text in TOML says.
+-- The schema that a TOML text describes.
 use Rattle.std.specs.Prelude.{◌≡◌, Bool, ◌&&◌, ◌||◌, not, ◌^◌, ℕ, List, [], ◌∷◌, ◌++◌, bytes_eq, codes, if◌then◌else◌, length, nat_lt, Option, None, Some, ok_or, Result, Ok, Err, ⊤, string_bytes}
 use Rattle.std.specs.List.{list_any}
 use Rattle.toml.specs.Data.{Data, Items, Members, get, get_member, as_array, as_str, item, no_items, member, no_members, table}
@@ -19,7 +19,7 @@ use Rattle.ii_schema_text.specs.declared.settings.Settings.{Settings}
 use Rattle.ii_schema_text.specs.Settings.{has_texts, is_json_type, named, settings_in}
 use Rattle.ii_schema_text.specs.Steps.{◌>>=◌}
 
--- Why a text is no schema.
+-- Why a text is not a valid schema.
 pub data Refusal : Type 0 where
   not_toml : Refusal
   unknown_key : List ℕ → Refusal
@@ -28,7 +28,7 @@ pub data Refusal : Type 0 where
   unknown_field_key : ℕ → List ℕ → Refusal
   wrong_key : ℕ → FieldKey → Refusal
 
--- what a fault tells of the text
+-- the refusal that a fault reports, if it is about the text
 abbrev pub told_of_text : SchemaFault → Option Refusal
 told_of_text faults.OutOfMemory = None
 told_of_text (faults.NotToml e) = Some not_toml
@@ -38,39 +38,39 @@ told_of_text faults.TooManyFields = Some too_many_fields
 told_of_text (faults.UnknownFieldKey place key) = Some (unknown_field_key place (string_bytes key))
 told_of_text (faults.WrongKey place key) = Some (wrong_key place key)
 
--- nothing is told, or that this is the answer
+-- the reported refusal, if any, is the expected result
 abbrev pub TellsOfText : {Y : Type 0} → Option Refusal → Result Y Refusal → Type 0
 TellsOfText None wanted = ⊤
 TellsOfText (Some refusal) wanted = wanted ≡ Err refusal
 
--- a call answered this, by a view, unless there was no memory
+-- the result, by its view, is the expected one, unless an allocation failed
 abbrev pub AnswersFromText : {X Y : Type 0} → (X → Y) → Result X SchemaFault → Result Y Refusal → Type 0
 AnswersFromText view (Ok x) wanted = wanted ≡ Ok (view x)
 AnswersFromText view (Err e) wanted = TellsOfText (told_of_text e) wanted
 
--- the keys that a text may have, and those of a field's table
+-- whether a key is allowed in the text, or in a field's table
 unfoldable pub is_known_key : KnownKeys → List ℕ → Bool
 is_known_key OfText key = bytes_eq key (codes "field")
 is_known_key OfField key =
     bytes_eq key (codes "name") || (bytes_eq key (codes "type") || (bytes_eq key (codes "indexed")
     || (bytes_eq key (codes "record") || (bytes_eq key (codes "fieldnorms") || bytes_eq key (codes "expand_dots")))))
 
--- the first key that isn't known
+-- the first unknown key
 abbrev pub unknown_key_in : KnownKeys → Members → Option (List ℕ)
 unknown_key_in known no_members = None
 unknown_key_in known (member key d ms) = if is_known_key known key then unknown_key_in known ms else Some key
 
--- an unknown key is refused
+-- fails at an unknown key
 abbrev pub knows_keys : (List ℕ → Refusal) → Option (List ℕ) → Result (Unit {0}) Refusal
 knows_keys refusal None = Ok tt
 knows_keys refusal (Some key) = Err (refusal key)
 
--- a name that isn't empty
+-- a name, if it isn't empty
 abbrev pub not_empty : List ℕ → Option (List ℕ)
 not_empty [] = None
 not_empty (byte ∷ bytes) = Some (byte ∷ bytes)
 
--- the name of a field, which no field before has
+-- the name of a field, if no earlier field has it
 abbrev pub name_in : List SchemaEntry → Option Data → Option (List ℕ)
 name_in before None = None
 name_in before (Some d) = named (λ name. if list_any (λ (e : SchemaEntry). bytes_eq e.name name) before then None else not_empty name) (as_str d)
@@ -85,7 +85,7 @@ value_type_of types.Bytes = values.Bytes
 value_type_of types.IpAddr = values.IpAddr
 value_type_of types.Json = values.Json
 
--- a field of this name with these settings, each where it may stand
+-- the entry of a field with these settings
 abbrev pub entry_with : List ℕ → Settings → SchemaEntry
 entry_with name s = record {
   name = name;
@@ -101,12 +101,12 @@ abbrev pub members_in : Data → Members
 members_in (table ms) = ms
 members_in _ = no_members
 
--- what a key says is wrong is refused
+-- converts the error of a key to the error of a field
 abbrev pub right : {A : Type 0} → ℕ → Result A FieldKey → Result A Refusal
 right place (Ok x) = Ok x
 right place (Err key) = Err (wrong_key place key)
 
--- the entry of a field behind others
+-- the entry of a field after others
 unfoldable pub entry_in : List SchemaEntry → Data → Result SchemaEntry Refusal
 entry_in before d = do
   _ ← knows_keys (unknown_field_key (length before)) (unknown_key_in OfField (members_in d))
@@ -114,21 +114,21 @@ entry_in before d = do
   settings ← right (length before) (settings_in d)
   Ok (entry_with name settings)
 
--- the entries of fields behind others, one after the other
+-- the entries of fields after others
 abbrev pub schema_entries_from : List SchemaEntry → Items → Result (List SchemaEntry) Refusal
 schema_entries_from before no_items = Ok before
 schema_entries_from before (item d ds) = entry_in before d >>= λ e. schema_entries_from (before ++ e ∷ []) ds
 
--- a schema has fewer than 2^32 fields
+-- fails if there are 2^32 fields or more
 abbrev pub few : List SchemaEntry → Result (List SchemaEntry) Refusal
 few entries = if nat_lt (length entries) (2 ^ 32) then Ok entries else Err too_many_fields
 
--- the fields of a text
+-- the tables of the fields
 abbrev pub fields_in : Option Data → Option Items
 fields_in None = None
 fields_in (Some d) = as_array d
 
--- the schema that a table says
+-- the schema that a table describes
 unfoldable pub table_schema : Members → Result (List SchemaEntry) Refusal
 table_schema ms = do
   _ ← knows_keys unknown_key (unknown_key_in OfText ms)
@@ -136,6 +136,6 @@ table_schema ms = do
   entries ← schema_entries_from [] fields
   few entries
 
--- the schema that a text says
+-- the schema that a text describes
 unfoldable pub text_schema : List ℕ → Result (List SchemaEntry) Refusal
 text_schema text = ok_or (parse_document text) not_toml >>= table_schema

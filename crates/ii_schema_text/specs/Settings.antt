@@ -1,4 +1,4 @@
--- What the table of a field says beside its name.
+-- The settings in the table of a field, apart from its name.
 use Rattle.std.specs.Prelude.{Bool, true, false, ◌&&◌, not, List, ℕ, bytes_eq, codes, if◌then◌else◌, Option, None, Some, ok_or, Result, Ok}
 use Rattle.toml.specs.Data.{Data, as_bool, as_str, get}
 use Rattle.ii_base.specs.declared.schema.index_record_option.IndexRecordOption.{IndexRecordOption}
@@ -20,7 +20,7 @@ is_text types.Bytes = false
 is_text types.IpAddr = false
 is_text types.Json = false
 
--- whether they are JSON values
+-- whether values of a type are JSON values
 abbrev pub is_json_type : FieldType → Bool
 is_json_type types.Text = false
 is_json_type types.U64 = false
@@ -30,7 +30,7 @@ is_json_type types.Bytes = false
 is_json_type types.IpAddr = false
 is_json_type types.Json = true
 
--- whether they are texts or have texts in them
+-- whether values of a type are or contain texts
 abbrev pub has_texts : FieldType → Bool
 has_texts types.Text = true
 has_texts types.U64 = false
@@ -40,7 +40,7 @@ has_texts types.Bytes = false
 has_texts types.IpAddr = false
 has_texts types.Json = true
 
--- the type that a name stands for
+-- the type with this name
 unfoldable pub type_named : List ℕ → Option FieldType
 type_named name =
     if bytes_eq name (codes "text") then Some types.Text
@@ -52,7 +52,7 @@ type_named name =
     else if bytes_eq name (codes "json") then Some types.Json
     else None
 
--- the option that a name stands for
+-- the option with this name
 unfoldable pub option_named : List ℕ → Option IndexRecordOption
 option_named name =
     if bytes_eq name (codes "basic") then Some Basic
@@ -60,27 +60,27 @@ option_named name =
     else if bytes_eq name (codes "position") then Some WithFreqsAndPositions
     else None
 
--- what a text gives
+-- the result of a function of a text, if there is a text
 abbrev pub named : {A : Type 0} → (List ℕ → Option A) → Option (List ℕ) → Option A
 named by None = None
 named by (Some name) = by name
 
--- the type of a field, which has to be named
+-- the type of a field, which must be given
 abbrev pub field_type_in : Option Data → Option FieldType
 field_type_in None = None
 field_type_in (Some d) = named type_named (as_str d)
 
--- what is kept of a term, positions too where nothing is said
+-- what is kept of a term; the default includes positions
 abbrev pub option_in : Bool → Option Data → Option IndexRecordOption
 option_in allowed None = Some (if allowed then WithFreqsAndPositions else Basic)
 option_in allowed (Some d) = if allowed then named option_named (as_str d) else None
 
--- a truth value, and what is taken where nothing is said
+-- a boolean, or its default
 abbrev pub flag_in : Bool → Bool → Option Data → Option Bool
 flag_in allowed default None = Some (allowed && default)
 flag_in allowed default (Some d) = if allowed then as_bool d else None
 
--- what a table says, or the first key at which it doesn't say what it has to
+-- the settings in a table, or its first key with a missing or invalid value
 unfoldable pub settings_in : Data → Result Settings FieldKey
 settings_in d = do
   value_type ← ok_or (field_type_in (get (codes "type") d)) keys.Type

@@ -13,7 +13,7 @@ use ii_base::{FieldEntry, ValueType};
 use std::alloc::Global;
 use toml::Value;
 
-// Whether an entry has this name.
+// Returns whether an entry has this name.
 fn has_name(entries: &[FieldEntry], name: &str) -> bool
     ensures { result ≡ list_any (λ (e : SchemaEntry). bytes_eq e.name name.now) entries.now }
 {
@@ -25,7 +25,7 @@ fn has_name(entries: &[FieldEntry], name: &str) -> bool
     false
 }
 
-// The name of a field behind others, if it is one.
+// Returns the name of a field after others, if it is valid.
 fn name_of<'a>(before: &[FieldEntry], value: Option<&'a Value>) -> Option<&'a str>
     ensures { option_map (λ name. name.now) result ≡ name_in before.now (option_map (λ v. view v.now) value.entry) }
 {
@@ -44,7 +44,7 @@ fn name_of<'a>(before: &[FieldEntry], value: Option<&'a Value>) -> Option<&'a st
     Some(name)
 }
 
-// The first key of a field's table that isn't known.
+// Returns the first unknown key of a field's table.
 fn unknown_key(field: &Value) -> Option<&str>
     ensures { option_map (λ key. key.now) result ≡ unknown_key_in OfField (members_in (view field.now)) }
 {
@@ -54,7 +54,7 @@ fn unknown_key(field: &Value) -> Option<&str>
     }
 }
 
-// The entry of a field.
+// Creates the entry of a field.
 fn entry_with(name: String, settings: Settings) -> FieldEntry
     ensures { result ≡ entry_with (string_bytes name) settings }
 {
@@ -73,7 +73,7 @@ fn entry_with(name: String, settings: Settings) -> FieldEntry
     }
 }
 
-// The entry that the table of a field behind others says.
+// Reads the entry of a field after others from its table.
 #[tactic(auto, unfolding(crate::specs::SchemaText::entry_in))]
 pub(crate) fn entry_of(
     alloc: Global,

@@ -9,10 +9,10 @@ use std::fmt;
 use thiserror::Error;
 use toml::de::Error as TomlError;
 
-/// A key that the table of a field may have.
+/// A key that is allowed in the table of a field.
 #[derive(Clone, Copy, Debug, PartialEq, Eq)]
 pub enum FieldKey {
-    /// The name of the field: a text that isn't empty, and that no field before has.
+    /// The name of the field: not empty, and different from the names before it.
     Name,
     /// The type of its values.
     Type,
@@ -20,14 +20,14 @@ pub enum FieldKey {
     Indexed,
     /// What is kept of a term.
     Record,
-    /// Whether norms are kept.
+    /// Whether field norms are kept.
     FieldNorms,
     /// Whether dots in the keys of its JSON values are expanded.
     ExpandDots,
 }
 
 impl FieldKey {
-    // What it is called.
+    // Returns the key as text.
     fn name(self) -> &'static str {
         match self {
             FieldKey::Name => "name: a text that is not empty, and that no field before has",
@@ -49,16 +49,16 @@ impl fmt::Display for FieldKey {
     }
 }
 
-/// Why a text is no schema. Fields are numbered from 0.
+/// Why a text is not a valid schema. Fields are numbered from 0.
 #[derive(Debug, Drop, Error)]
 pub enum SchemaFault {
-    /// No memory was found.
+    /// A memory allocation failed.
     #[error("out of memory")]
     OutOfMemory,
     /// The text isn't TOML.
     #[error("{0}")]
     NotToml(TomlError),
-    /// A key beside `field`.
+    /// There is a key other than `field`.
     #[error("unknown key {0}: a schema has tables [[field]] alone")]
     UnknownKey(String),
     /// There is no table `[[field]]`.
@@ -67,16 +67,16 @@ pub enum SchemaFault {
     /// There are 2^32 fields or more.
     #[error("too many fields")]
     TooManyFields,
-    /// The table of a field has a key that is none of `FieldKey`.
+    /// The table of a field has an unknown key.
     #[error("field {0}: unknown key {1}")]
     UnknownFieldKey(usize, String),
-    /// What the table of a field says at a key isn't what it has to be, or is missing.
+    /// A key in the table of a field is missing or has an invalid value.
     #[error("field {0}: {1}")]
     WrongKey(usize, FieldKey),
 }
 
 impl SchemaFault {
-    // Why a text wasn't read as TOML: it isn't TOML, or no memory was found.
+    // Converts a TOML error: the text isn't TOML, or an allocation failed.
     pub(crate) fn of_toml(error: TomlError) -> SchemaFault
         ensures { (wanted : Result (List SchemaEntry) Refusal) → (¬ IsMemory error → wanted ≡ Err not_toml) → TellsOfText (told_of_text result) wanted }
     {

@@ -19,7 +19,7 @@ pub enum FieldType {
 }
 
 impl FieldType {
-    // The type that a schema has for it.
+    // Returns the type in a schema.
     pub(crate) fn value_type(self) -> ValueType
         ensures { result ≡ value_type_of self }
     {
@@ -34,7 +34,7 @@ impl FieldType {
         }
     }
 
-    // Whether its values are texts or have texts in them.
+    // Returns whether its values are or contain texts.
     pub(crate) fn has_texts(self) -> bool
         ensures { result ≡ has_texts self }
     {
@@ -48,7 +48,7 @@ impl FieldType {
         }
     }
 
-    // Whether its values are texts.
+    // Returns whether its values are texts.
     pub(crate) fn is_text(self) -> bool
         ensures { result ≡ is_text self }
     {
@@ -63,7 +63,7 @@ impl FieldType {
         }
     }
 
-    // Whether its values are JSON values.
+    // Returns whether its values are JSON values.
     pub(crate) fn is_json(self) -> bool
         ensures { result ≡ is_json_type self }
     {
@@ -79,7 +79,7 @@ impl FieldType {
     }
 }
 
-// The type that a name stands for.
+// Returns the type with this name.
 #[tactic(auto, unfolding(crate::specs::Settings::type_named))]
 fn type_named(name: &str) -> Option<FieldType>
     ensures { result ≡ type_named name.now }
@@ -108,7 +108,7 @@ fn type_named(name: &str) -> Option<FieldType>
     None
 }
 
-// The type that a value names.
+// Returns the type that a TOML value names.
 pub(crate) fn type_of(value: Option<&Value>) -> Option<FieldType>
     ensures { result ≡ field_type_in (option_map (λ v. view v.now) value.entry) }
 {

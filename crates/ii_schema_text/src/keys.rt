@@ -5,17 +5,17 @@ ghost use Rattle.ii_schema_text.specs.SchemaText.{is_known_key, unknown_key_in};
 
 use toml::Table;
 
-/// Which keys a table may have.
+/// The keys that a table may have.
 #[derive(Clone, Copy, Debug, PartialEq, Eq)]
 pub enum KnownKeys {
-    /// Those of the whole text.
+    /// Those of the complete text.
     OfText,
     /// Those of the table of a field.
     OfField,
 }
 
 impl KnownKeys {
-    // Whether this is one of them.
+    // Returns whether a key is allowed.
     #[tactic(auto, unfolding(crate::specs::SchemaText::is_known_key))]
     fn has(self, key: &str) -> bool
         ensures { result ≡ is_known_key self key.now }
@@ -26,7 +26,7 @@ impl KnownKeys {
         }
     }
 
-    // The first key of a table that isn't one of them.
+    // Returns the first key of a table that isn't allowed.
     pub(crate) fn unknown(self, table: &Table) -> Option<&str>
         ensures { option_map (λ key. key.now) result ≡ unknown_key_in self (table_view table.now) }
     {
@@ -39,7 +39,7 @@ impl KnownKeys {
     }
 }
 
-// Whether a field's table may have this key.
+// Returns whether a key is allowed in a field's table.
 #[tactic(auto, unfolding(crate::specs::SchemaText::is_known_key))]
 fn is_field_key(key: &str) -> bool
     ensures { result ≡ is_known_key OfField key.now }

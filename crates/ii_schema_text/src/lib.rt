@@ -1,4 +1,4 @@
-//! A schema as a text in TOML, with a table `[[field]]` for each field, in order.
+//! Reads a schema from TOML, with a table `[[field]]` for each field, in order.
 #![tactic(auto)]
 
 pub mod entry_table;

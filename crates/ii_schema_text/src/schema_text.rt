@@ -12,20 +12,21 @@ use ii_base::{FieldEntry, Schema};
 use std::alloc::Global;
 use toml::{Table, Value};
 
-/// The schema that a text in TOML says: a table `[[field]]` for each field, in order, with
-/// - `name`, a text that isn't empty and that no field before has,
-/// - `type`, one of `text`, `u64`, `i64`, `bool`, `bytes`, `ip_addr` and `json`,
-/// - `indexed`, whether it is indexed: `true` where it isn't said,
-/// - `record`, for an indexed field of texts or JSON values: what is kept of a term, one of `basic`, `freq`
-///   and `position`, which is taken where it isn't said,
-/// - `fieldnorms`, for an indexed field that isn't of JSON values: whether norms are kept, `true` for
-///   texts and `false` for others where it isn't said,
-/// - `expand_dots`, for an indexed field of JSON values: whether dots in keys are expanded, `false` where
-///   it isn't said.
+/// Reads a schema from TOML: a table `[[field]]` for each field, in order, with these keys:
+/// - `name`: a text that isn't empty and differs from the names before it,
+/// - `type`: `text`, `u64`, `i64`, `bool`, `bytes`, `ip_addr` or `json`,
+/// - `indexed`: whether it is indexed; the default is `true`,
+/// - `record`, for an indexed text or JSON field: what is kept of a term: `basic`, `freq` or `position`,
+///   the default,
+/// - `fieldnorms`, for an indexed field that isn't JSON: whether field norms are kept; the default is
+///   `true` for texts, else `false`,
+/// - `expand_dots`, for an indexed JSON field: whether dots in keys are expanded; the default is `false`.
 ///
-/// Refused by the first fault: `NotToml`; `UnknownKey` for the first key, in the order of their bytes, that
-/// isn't `field`; `NoFields`; then field after field `UnknownFieldKey`, and `WrongKey` of the first key, in
-/// the order of `FieldKey`, that isn't as above; `TooManyFields`. `OutOfMemory` where there is no room.
+/// # Errors
+///
+/// The first fault: `NotToml`; `UnknownKey` for the first key, in byte order, that isn't `field`;
+/// `NoFields`; then for each field `UnknownFieldKey`, or `WrongKey` for the first invalid key in the order
+/// of `FieldKey`; `TooManyFields`. `OutOfMemory` if allocation fails.
 #[tactic(auto, unfolding(crate::specs::SchemaText::text_schema))]
 pub fn read_schema(alloc: Global, text: &str) -> Result<Schema, SchemaFault>
     ensures { AnswersFromText (λ (s : List SchemaEntry). s) result (text_schema text.now) }
@@ -36,8 +37,8 @@ pub fn read_schema(alloc: Global, text: &str) -> Result<Schema, SchemaFault>
     }
 }
 
-/// Returns the name in the table `[[field]]` of a number, counted from 0, if the text has such a table and
-/// its name is a text: for messages about a schema that `read_schema` refused.
+/// Returns the name of a field, counted from 0, if its table exists and the name is a text. It is meant for
+/// messages about an invalid schema.
 ///
 /// # Errors
 ///
@@ -57,7 +58,7 @@ pub fn field_name_at(
     }
 }
 
-// The name in the table of a field.
+// Returns the name in the table of a field.
 fn name_at(table: &Table, number: usize) -> Option<&str> {
     match fields_of(table)?.get(number)?.get("name") {
         Some(name) => name.as_str(),
@@ -65,7 +66,7 @@ fn name_at(table: &Table, number: usize) -> Option<&str> {
     }
 }
 
-// The schema that a table says.
+// Reads the schema from the complete table.
 #[tactic(auto, unfolding(crate::specs::SchemaText::table_schema))]
 fn schema_of(alloc: Global, table: &Table) -> Result<Schema, SchemaFault>
     ensures { AnswersFromText (λ (s : List SchemaEntry). s) result (table_schema (table_view table.now)) }
@@ -84,7 +85,7 @@ fn schema_of(alloc: Global, table: &Table) -> Result<Schema, SchemaFault>
     Ok(Schema::new(entries))
 }
 
-// The tables of the fields.
+// Returns the tables of the fields.
 fn fields_of(table: &Table) -> Option<&Vec<Value>>
     ensures { option_map (λ fields. items_view fields.now.items) result ≡ fields_in (get_member (codes "field") (table_view table.now)) }
 {
@@ -94,7 +95,7 @@ fn fields_of(table: &Table) -> Option<&Vec<Value>>
     }
 }
 
-// The entries of the fields.
+// Reads the entries of the fields.
 fn entries_of(alloc: Global, fields: &Vec<Value>) -> Result<Vec<FieldEntry>, SchemaFault>
     ensures { AnswersFromText (λ v. v.items) result (schema_entries_from [] (items_view fields.now.items)) }
 {

@@ -7,7 +7,7 @@ use crate::field_type::{FieldType, type_of};
 use ii_base::IndexRecordOption;
 use toml::Value;
 
-/// What the table of a field says beside its name.
+/// The settings in the table of a field, apart from its name.
 #[derive(Clone, Copy, Debug, PartialEq, Eq)]
 pub struct Settings {
     pub value_type: FieldType,
@@ -17,7 +17,8 @@ pub struct Settings {
     pub expands_dots: bool,
 }
 
-// What a table says at a key, if it may say so: a truth value. Where it says nothing, what is taken then.
+// Returns the boolean at a key: `default` if it is missing and allowed, `None` if it is invalid or not
+// allowed.
 fn flag_of(value: Option<&Value>, allowed: bool, default: bool) -> Option<bool>
     ensures { result ≡ flag_in allowed default (option_map (λ v. view v.now) value.entry) }
 {
@@ -30,7 +31,7 @@ fn flag_of(value: Option<&Value>, allowed: bool, default: bool) -> Option<bool>
     value.as_bool()
 }
 
-// The option that a name stands for.
+// Returns the option with this name.
 #[tactic(auto, unfolding(crate::specs::Settings::option_named))]
 fn option_named(name: &str) -> Option<IndexRecordOption>
     ensures { result ≡ option_named name.now }
@@ -47,7 +48,7 @@ fn option_named(name: &str) -> Option<IndexRecordOption>
     None
 }
 
-// What a table says is kept of a term: positions too, where it says nothing of a field that has texts.
+// Returns the option at a key. If it is missing, it is `position` if allowed, else `basic`.
 fn option_of(value: Option<&Value>, allowed: bool) -> Option<IndexRecordOption>
     ensures { result ≡ option_in allowed (option_map (λ v. view v.now) value.entry) }
 {
@@ -66,7 +67,7 @@ fn option_of(value: Option<&Value>, allowed: bool) -> Option<IndexRecordOption>
     option_named(name)
 }
 
-// Whether an indexed field has texts.
+// Returns whether a field is indexed and has texts.
 fn allows_record(is_indexed: bool, value_type: FieldType) -> bool
     ensures { result ≡ (is_indexed && has_texts value_type) }
 {
@@ -76,7 +77,7 @@ fn allows_record(is_indexed: bool, value_type: FieldType) -> bool
     value_type.has_texts()
 }
 
-// Whether an indexed field may have norms.
+// Returns whether a field is indexed and may have field norms.
 fn allows_norms(is_indexed: bool, value_type: FieldType) -> bool
     ensures { result ≡ (is_indexed && not (is_json_type value_type)) }
 {
@@ -86,7 +87,7 @@ fn allows_norms(is_indexed: bool, value_type: FieldType) -> bool
     !value_type.is_json()
 }
 
-// Whether an indexed field has JSON values.
+// Returns whether a field is indexed and has JSON values.
 fn allows_dots(is_indexed: bool, value_type: FieldType) -> bool
     ensures { result ≡ (is_indexed && is_json_type value_type) }
 {
@@ -96,7 +97,7 @@ fn allows_dots(is_indexed: bool, value_type: FieldType) -> bool
     value_type.is_json()
 }
 
-// What the table of a field says, or the first key at which it doesn't say what it has to.
+// Returns the settings in a field's table, or its first key with a missing or invalid value.
 #[tactic(auto, unfolding(crate::specs::Settings::settings_in))]
 pub(crate) fn settings_of(field: &Value) -> Result<Settings, FieldKey>
     ensures { result ≡ settings_in (view field.now) }

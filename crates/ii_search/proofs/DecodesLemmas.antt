@@ -9,7 +9,7 @@ use Rattle.ii_query.specs.declared.term_or_phrase.TermOrPhrase.{TermOrPhrase}
 use Rattle.ii_reader.specs.SegmentPostings.{SegmentPostingsState, SpentLazily, WentLazily}
 use Rattle.ii_search.specs.Decodes.{EachDecodesFew}
 use Rattle.ii_definitions.proofs.ListLaws.{all_both}
-use Rattle.ii_search.specs.DecodesLaws.{all_went}
+use Rattle.ii_search.proofs.DecodesLaws.{all_went}
 
 -- one beside the other
 pub few_beside : (xs ys : List (TermOrPhrase SegmentPostingsState)) (r : Result (QueryCursorState (TermOrPhrase SegmentPostingsState)) Fault) → AllByRecursion EachDecodesFew xs → AllByRecursion EachDecodesFew ys

@@ -4,3 +4,4 @@ pub mod PartLemmas
 pub mod QueryLemmas
 pub mod SameDocs
 pub mod TopLemmas
+pub mod DecodesLaws

@@ -23,7 +23,7 @@ use Rattle.ii_reader.specs.OpenIndex.{OpenIndexState}
 use Rattle.ii_reader.specs.SegmentPostings.{SegmentPostingsState, SpentLazily, WentLazily}
 use Rattle.ii_definitions.proofs.ListLaws.{all_both}
 use Rattle.ii_search.specs.Decodes.{EachDecodesFew}
-use Rattle.ii_search.specs.DecodesLaws.{all_went}
+use Rattle.ii_search.proofs.DecodesLaws.{all_went}
 use Rattle.ii_search.specs.Found.{found_in, lists_found, with_list}
 
 -- the fields of the parts of a query

@@ -1,4 +1,3 @@
 pub mod Decodes
-pub mod DecodesLaws
 pub mod Found
 pub mod TopByCount

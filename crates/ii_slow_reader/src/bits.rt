@@ -1,4 +1,4 @@
-/// Bit `at` of bytes, the lowest bit of each byte first.
+/// Returns bit `at`, counted from the lowest bit of each byte.
 pub(crate) fn bit(bytes: &[u8], at: u64) -> Option<u64> {
     let mut byte = *bytes.get((at / 8) as usize)?;
     for _ in 0..at % 8 {
@@ -7,7 +7,7 @@ pub(crate) fn bit(bytes: &[u8], at: u64) -> Option<u64> {
     Some(u64::from(byte % 2))
 }
 
-/// The number of `width` bits from bit `at` on, its lowest bit first.
+/// Reads a number of `width` bits at bit `at`, lowest bit first.
 pub(crate) fn number(bytes: &[u8], at: u64, width: u64) -> Option<u64> {
     let mut value = 0u64;
     let mut power = 1u64;
@@ -19,7 +19,7 @@ pub(crate) fn number(bytes: &[u8], at: u64, width: u64) -> Option<u64> {
     Some(value)
 }
 
-/// Entry `entry` of the packed block that begins at byte `start`, of entries of `width` bits.
+/// Reads an entry of `width` bits of the packed block at byte `start`.
 pub(crate) fn entry(bytes: &[u8], start: u64, width: u64, entry: u64) -> Option<u64> {
     let at = start
         .saturating_mul(8)
@@ -27,7 +27,7 @@ pub(crate) fn entry(bytes: &[u8], start: u64, width: u64, entry: u64) -> Option<
     number(bytes, at, width)
 }
 
-/// The number of so many bytes from byte `start` on, the lowest byte first.
+/// Reads a number of `size` bytes at byte `start`, lowest byte first.
 pub(crate) fn fixed(bytes: &[u8], start: u64, size: u64) -> Option<u64> {
     number(bytes, start.saturating_mul(8), size.saturating_mul(8))
 }

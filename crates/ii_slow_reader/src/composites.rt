@@ -1,18 +1,18 @@
 use crate::bits::fixed;
 use std::alloc::{AllocError, Global};
 
-/// A body of a composite file: its field, and where it begins and ends.
+/// A body of a composite file: its field and its range.
 #[derive(Clone, Copy)]
 pub struct Body {
     /// The field's id.
     pub field: u64,
-    /// The place of its first byte.
+    /// The offset of its first byte.
     pub start: u64,
-    /// The place behind its last byte.
+    /// The offset after its last byte.
     pub end: u64,
 }
 
-/// The bodies of a composite file in the order of its table, or nothing where the table is damaged.
+/// Reads the bodies of a composite file in the order of its table. Returns `None` if the table is corrupt.
 pub fn read_composite(alloc: Global, bytes: &[u8]) -> Result<Option<Vec<Body>>, AllocError> {
     let len = bytes.len() as u64;
     let mut found = Vec::new(alloc);
@@ -39,7 +39,7 @@ pub fn read_composite(alloc: Global, bytes: &[u8]) -> Result<Option<Vec<Body>>, 
     Ok(Some(found))
 }
 
-/// The body of a field, if there is one.
+/// Returns the body of a field, if it exists.
 pub fn body_of(bodies: &[Body], field: u64) -> Option<Body> {
     for body in bodies {
         if body.field == field {
@@ -49,7 +49,7 @@ pub fn body_of(bodies: &[Body], field: u64) -> Option<Body> {
     None
 }
 
-/// The bytes from a place to another, if they are there.
+/// Returns the bytes of a range, if they exist.
 pub fn bytes_in(bytes: &[u8], start: u64, end: u64) -> Option<&[u8]> {
     if start > end || end > bytes.len() as u64 {
         return None;
@@ -57,13 +57,13 @@ pub fn bytes_in(bytes: &[u8], start: u64, end: u64) -> Option<&[u8]> {
     bytes.get(start as usize..end as usize)
 }
 
-// The last four bytes.
+// Reads the last four bytes.
 fn number_of_bodies(bytes: &[u8]) -> Option<u64> {
     let start = (bytes.len() as u64).checked_sub(4)?;
     fixed(bytes, start, 4)
 }
 
-// A line of the table.
+// Reads a row of the table.
 fn read_place(bytes: &[u8], at: u64) -> Option<Body> {
     Some(Body {
         field: fixed(bytes, at, 4)?,

@@ -4,7 +4,7 @@ use crate::lists::Damage;
 use crate::stores::{Info, read_store};
 use std::alloc::{AllocError, Global};
 
-/// A term of a dictionary: its key, and what is kept of it.
+/// A term of a dictionary: its key, and what the store keeps of it.
 #[derive(Drop)]
 pub struct Entry<'a> {
     /// The bytes of its key.
@@ -13,7 +13,7 @@ pub struct Entry<'a> {
     pub info: Info,
 }
 
-/// The terms of a dictionary in order.
+/// Reads the terms of a dictionary in order.
 pub fn read_dictionary<'a>(
     alloc: Global,
     bytes: &'a [u8],
@@ -31,7 +31,7 @@ pub fn read_dictionary<'a>(
     Ok(Ok(entries_of(alloc, keys.as_slice(), infos.as_slice())?))
 }
 
-// The terms of these keys, of which this is kept.
+// Pairs keys with what the store keeps of them.
 fn entries_of<'a>(
     alloc: Global,
     keys: &[&'a [u8]],
@@ -47,7 +47,7 @@ fn entries_of<'a>(
     Ok(entries)
 }
 
-// Adds the keys, and answers the bytes behind them; nothing where they are damaged.
+// Appends the keys. Returns the bytes after them, or `None` if they are corrupt.
 fn read_keys<'a>(
     bytes: &'a [u8],
     keys: &mut Vec<&'a [u8]>,
@@ -79,7 +79,7 @@ fn read_keys<'a>(
     Ok(bytes_in(bytes, base.saturating_add(before), len))
 }
 
-// Whether a key comes after those before it.
+// Returns whether a key is greater than the last one.
 fn is_last(keys: &[&[u8]], key: &[u8]) -> bool {
     match keys.last() {
         Some(last) => *last < key,

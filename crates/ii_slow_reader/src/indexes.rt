@@ -21,19 +21,19 @@ pub struct Files<'a> {
 /// A field of an index.
 #[derive(Drop)]
 pub struct FieldFiles<'a> {
-    /// How many tokens it has.
+    /// The number of tokens.
     pub tokens: u64,
-    /// Its terms.
+    /// The terms.
     pub entries: Vec<Entry<'a>>,
-    /// The bytes of their postings.
+    /// The postings of all terms.
     pub postings: &'a [u8],
-    /// The bytes of their positions.
+    /// The positions of all terms.
     pub positions: &'a [u8],
-    /// A norm's id for each document, if it has norms.
+    /// A norm id for each document, if the field has norms.
     pub norms: Option<&'a [u8]>,
 }
 
-/// A field of an index.
+/// Reads a field of an index.
 pub fn read_index<'a>(
     alloc: Global,
     files: Files<'a>,
@@ -49,7 +49,7 @@ pub fn read_index<'a>(
     read_field(alloc, files, tables.as_slice())
 }
 
-/// The list of a term of a field that records so much, as far as it is requested.
+/// Reads the list of a term, as far as it is recorded and requested.
 pub fn read_term(
     alloc: Global,
     field: &FieldFiles<'_>,
@@ -71,7 +71,7 @@ pub fn read_term(
     read_list(alloc, docs, postings, positions, recorded, requested)
 }
 
-// Reads a field that has these bodies in the four files.
+// Reads a field from its bodies in the four files.
 fn read_field<'a>(
     alloc: Global,
     files: Files<'a>,
@@ -111,7 +111,7 @@ fn read_field<'a>(
     }))
 }
 
-// The bytes of a body in a file, if there is one.
+// Returns the bytes of a body in a file, if it exists.
 fn bytes_of<'a>(bytes: &'a [u8], bodies: &[Option<Body>], file: usize) -> Option<&'a [u8]> {
     match bodies.get(file) {
         Some(Some(body)) => bytes_in(bytes, body.start, body.end),

@@ -1,6 +1,5 @@
-//! A second reader of lists, term stores, dictionaries, composite files and whole indexes, written from
-//! docs/FORMATS.md alone: bit by bit, whole lists at once, slow. It shares no code with the crates that it
-//! is compared with.
+//! Reads lists, term stores, dictionaries, composite files and complete indexes, bit by bit and slowly. It is
+//! written from docs/FORMATS.md alone and shares no code with the crates that it is compared with.
 #![tactic(auto)]
 
 mod bits;

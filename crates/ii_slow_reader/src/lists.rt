@@ -3,13 +3,13 @@ use crate::positions::read_positions;
 use crate::vints::{vint_32, vint_64};
 use std::alloc::{AllocError, Global};
 
-// Documents lie below it.
+// Document ids are less than this.
 const END: u64 = 2_147_483_647;
 
 /// What a field records, or a reader requests.
 #[derive(Clone, Copy, PartialEq, Eq)]
 pub enum Mode {
-    /// Documents alone.
+    /// Documents only.
     Documents,
     /// Counts too.
     Counts,
@@ -17,7 +17,7 @@ pub enum Mode {
     Positions,
 }
 
-/// The part that bytes fail to hold.
+/// The corrupt part.
 #[derive(Clone, Copy, PartialEq, Eq)]
 pub enum Damage {
     /// The skip list.
@@ -40,27 +40,26 @@ pub enum Damage {
     Range,
 }
 
-/// What a list holds: documents, the counts if they are read, and the positions of all documents if they
-/// are read, one document after the other.
+/// The contents of a list: documents, and the counts and positions if they are read. Positions of all
+/// documents follow one another.
 #[derive(Drop)]
 pub struct Listed {
     /// The documents.
     pub docs: Vec<u64>,
     /// Whether counts are read.
     pub has_counts: bool,
-    /// A count for each document, where they are read.
+    /// A count for each document, if they are read.
     pub counts: Vec<u64>,
-    /// The positions, where they are read.
+    /// The positions, if they are read.
     pub positions: Vec<u64>,
-    // what the skip list says
+    // the entries of the skip list
     blocks: Vec<Block>,
-    // the deltas of positions
+    // the deltas of the positions
     deltas: Vec<u64>,
 }
 
-// What the skip list says of a full block: its last document, the widths, whether deltas are strict, the
-// sum of its counts where that is kept, a count that none of them passes where that is known, and at which
-// byte after the skip list it begins.
+// A skip entry: the last document of the block, the widths, whether deltas are strict, the sum of its counts
+// and an upper bound of each if known, and the block's offset after the skip list.
 #[derive(Drop)]
 struct Block {
     last: u64,
@@ -82,7 +81,7 @@ impl Mode {
     }
 }
 
-/// Reads a list of so many documents.
+/// Reads a list of `doc_freq` documents.
 pub fn read_list(
     alloc: Global,
     doc_freq: u32,
@@ -107,7 +106,7 @@ pub fn read_list(
     }
 }
 
-// Reads what of a list is recorded and requested; the answer says what is damaged.
+// Reads what is recorded and requested of a list. Returns the corrupt part, if there is one.
 fn read_parts(
     doc_freq: u64,
     postings: &[u8],
@@ -124,7 +123,7 @@ fn read_parts(
     let Some(end) = read_documents(postings, start, blocks, others, &mut list.docs)? else {
         return Ok(Some(Damage::Documents));
     };
-    // without a skip list there are counts where bytes are left
+    // a list without a skip list has counts if bytes remain after its documents
     let has_counts = may_count && (full > 0 || end < postings.len() as u64);
     if !has_counts || !requested.has_counts() {
         return Ok(None);
@@ -148,8 +147,8 @@ fn read_parts(
     Ok(None)
 }
 
-// Reads the skip list of so many full blocks; answers the place after it, and whether there may be counts, or
-// nothing where it is damaged.
+// Reads the skip list of `full` blocks. Returns the offset after it and whether the list may have counts, or
+// `None` if it is corrupt.
 fn read_skip(
     postings: &[u8],
     full: u64,
@@ -172,7 +171,7 @@ fn read_skip(
     Ok(Some((after.saturating_add(len), has_counts)))
 }
 
-// Reads the entries of a skip list; false where they aren't there.
+// Reads the entries of a skip list. Returns false if they are corrupt.
 fn read_entries(
     postings: &[u8],
     start: u64,
@@ -208,7 +207,7 @@ fn read_entries(
     Ok(true)
 }
 
-// Reads an entry of so many bytes.
+// Reads an entry of `size` bytes.
 fn read_entry(postings: &[u8], at: u64, size: u64, place: u64) -> Option<Block> {
     let code = fixed(postings, at.saturating_add(4), 1)?;
     let count_width = if size > 5 {
@@ -232,7 +231,7 @@ fn read_entry(postings: &[u8], at: u64, size: u64, place: u64) -> Option<Block> 
     })
 }
 
-// The count that an entry of so many bytes ends in; none where it has no counts, or that one says nothing.
+// Returns the upper bound at the end of an entry, or `None` if there are no counts or the bound is unknown.
 fn bound_of(postings: &[u8], at: u64, size: u64) -> Option<Option<u64>> {
     if size == 5 {
         return Some(None);
@@ -245,7 +244,7 @@ fn bound_of(postings: &[u8], at: u64, size: u64) -> Option<Option<u64>> {
     })
 }
 
-// Reads all documents, and answers the place after them; nothing where they aren't there or don't ascend.
+// Reads all documents. Returns the offset after them, or `None` if they are missing or don't ascend.
 fn read_documents(
     postings: &[u8],
     start: u64,
@@ -291,7 +290,7 @@ fn read_documents(
     })
 }
 
-// Whether documents ascend strictly, below the end.
+// Returns whether documents ascend strictly and are less than `END`.
 fn ascend(docs: &[u64]) -> bool {
     let mut next = 0;
     for doc in docs {
@@ -303,8 +302,8 @@ fn ascend(docs: &[u64]) -> bool {
     true
 }
 
-// Reads the counts of full blocks; false where they aren't there, don't fit, have another sum, or pass their
-// bound.
+// Reads the counts of full blocks. Returns false if they are missing, exceed their bound, or have another
+// sum.
 fn read_counts(
     postings: &[u8],
     start: u64,
@@ -333,7 +332,7 @@ fn read_counts(
     Ok(true)
 }
 
-// Reads the counts after those of the blocks; false where they aren't there.
+// Reads the counts after the full blocks. Returns false if they are missing.
 fn read_last_counts(
     postings: &[u8],
     start: u64,

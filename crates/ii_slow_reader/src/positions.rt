@@ -2,8 +2,8 @@ use crate::bits::{entry, fixed};
 use crate::vints::{vint_32, vint_64};
 use std::alloc::AllocError;
 
-/// Reads the positions of documents with these counts, after their deltas; false where the bytes don't hold
-/// them.
+/// Reads the deltas, then the positions of documents with these counts. Returns false if the bytes don't hold
+/// exactly these.
 pub(crate) fn read_positions(
     bytes: &[u8],
     counts: &[u64],
@@ -31,7 +31,7 @@ pub(crate) fn read_positions(
     Ok(used == deltas.len())
 }
 
-// Reads all deltas; false where the bytes don't hold them.
+// Reads all deltas. Returns false if they are corrupt.
 fn read_deltas(bytes: &[u8], deltas: &mut Vec<u64>) -> Result<bool, AllocError> {
     let Some((blocks, widths)) = vint_64(bytes, 0) else {
         return Ok(false);
@@ -59,7 +59,7 @@ fn read_deltas(bytes: &[u8], deltas: &mut Vec<u64>) -> Result<bool, AllocError> 
     read_others(bytes, at, deltas)
 }
 
-// Reads the deltas after the blocks, to the end of the bytes.
+// Reads the deltas after the blocks up to the end of the bytes.
 fn read_others(bytes: &[u8], start: u64, deltas: &mut Vec<u64>) -> Result<bool, AllocError> {
     let len = bytes.len() as u64;
     let mut at = start;

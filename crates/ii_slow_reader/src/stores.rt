@@ -1,19 +1,18 @@
 use crate::bits::{fixed, number};
 use std::alloc::{AllocError, Global};
 
-/// What a store keeps of a term: how many documents it has, and where its postings and its positions
-/// begin and end.
+/// What a store keeps of a term: its number of documents, and the ranges of its postings and positions.
 #[derive(Clone, Copy, PartialEq, Eq)]
 pub struct Info {
     /// The number of documents.
     pub docs: u64,
-    /// Where the postings begin.
+    /// The start of the postings.
     pub postings_start: u64,
-    /// Where they end.
+    /// The end of the postings.
     pub postings_end: u64,
-    /// Where the positions begin.
+    /// The start of the positions.
     pub positions_start: u64,
-    /// Where they end.
+    /// The end of the positions.
     pub positions_end: u64,
 }
 
@@ -27,7 +26,7 @@ struct Meta {
     positions_width: u64,
 }
 
-/// The terms of a store, or nothing where it is damaged.
+/// Reads the terms of a store. Returns `None` if it is corrupt.
 pub fn read_store(alloc: Global, bytes: &[u8]) -> Result<Option<Vec<Info>>, AllocError> {
     let mut found = Vec::new(alloc);
     let (Some(metas), Some(terms)) = (fixed(bytes, 0, 8), fixed(bytes, 8, 8)) else {
@@ -53,7 +52,7 @@ pub fn read_store(alloc: Global, bytes: &[u8]) -> Result<Option<Vec<Info>>, Allo
     Ok(Some(found))
 }
 
-// Where the numbers of a meta begin, and how many bytes each has.
+// The offset and size of each number of a meta, in bytes.
 static META: [(u64, u64); 9] = [
     (0, 8),
     (8, 4),
@@ -66,7 +65,7 @@ static META: [(u64, u64); 9] = [
     (38, 1),
 ];
 
-// The meta at a place, unless it is damaged.
+// Reads the meta at an offset, unless it is corrupt.
 fn read_meta(bytes: &[u8], at: u64) -> Option<Meta> {
     let mut read = [0u64; 9];
     for k in 0..9 {
@@ -103,7 +102,7 @@ fn read_meta(bytes: &[u8], at: u64) -> Option<Meta> {
     Some(meta)
 }
 
-// Adds the terms of a block, whose bits count from a place; false where they are damaged.
+// Appends the terms of a block. Returns false if they are corrupt.
 fn read_block(
     bytes: &[u8],
     bits: u64,
@@ -121,7 +120,7 @@ fn read_block(
     Ok(true)
 }
 
-// A term of a block that isn't its first one.
+// Reads a term of a block other than the first.
 fn read_term(bytes: &[u8], bits: u64, meta: Meta, count: u64, term: u64) -> Option<Info> {
     let (postings_start, positions_start) = read_starts(bytes, bits, meta, term)?;
     let (postings_end, positions_end) = read_starts(bytes, bits, meta, term.saturating_add(1))?;
@@ -132,7 +131,7 @@ fn read_term(bytes: &[u8], bits: u64, meta: Meta, count: u64, term: u64) -> Opti
     if !is_range(postings_start, postings_end) || !is_range(positions_start, positions_end) {
         return None;
     }
-    // the last bits of the block have to be there
+    // the last bits of the block must exist
     let last = bit_of(meta, count);
     let ends = meta.postings_width.saturating_add(meta.positions_width);
     let _ends = read_bits(bytes, bits, meta, last, ends.min(56))?;
@@ -145,7 +144,7 @@ fn read_term(bytes: &[u8], bits: u64, meta: Meta, count: u64, term: u64) -> Opti
     })
 }
 
-// Whether a range has fewer bytes than 2^32, and none below its start.
+// Returns whether a range doesn't end before its start and is shorter than 2^32 bytes.
 fn is_range(start: u64, end: u64) -> bool {
     match end.checked_sub(start) {
         Some(len) => len <= u64::from(u32::MAX),
@@ -153,7 +152,7 @@ fn is_range(start: u64, end: u64) -> bool {
     }
 }
 
-// Where the postings and the positions of a term begin; behind the last term, where they end.
+// Reads where the postings and positions of a term start; for the term after the last, where they end.
 fn read_starts(bytes: &[u8], bits: u64, meta: Meta, term: u64) -> Option<(u64, u64)> {
     let at = bit_of(meta, term);
     let postings = read_bits(bytes, bits, meta, at, meta.postings_width)?;
@@ -165,7 +164,7 @@ fn read_starts(bytes: &[u8], bits: u64, meta: Meta, term: u64) -> Option<(u64, u
     ))
 }
 
-// The first bit of a term, from 1 on, within its block.
+// Returns the first bit of a term in its block; terms count from 1.
 fn bit_of(meta: Meta, term: u64) -> u64 {
     meta.postings_width
         .saturating_add(meta.positions_width)
@@ -173,7 +172,7 @@ fn bit_of(meta: Meta, term: u64) -> u64 {
         .saturating_mul(term.saturating_sub(1))
 }
 
-// The number of so many bits from a bit of a block on.
+// Reads a number of `width` bits at a bit of a block.
 fn read_bits(bytes: &[u8], bits: u64, meta: Meta, at: u64, width: u64) -> Option<u64> {
     if width == 0 {
         return Some(0);

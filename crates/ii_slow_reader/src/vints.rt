@@ -1,6 +1,6 @@
 use crate::bits::fixed;
 
-/// A vint of at most so many bytes that isn't above `greatest`, from byte `start` on, and the place after it.
+/// Reads a vint of at most `most` bytes and at most `greatest`. Returns it and the offset after it.
 pub(crate) fn vint(bytes: &[u8], start: u64, most: u64, greatest: u64) -> Option<(u64, u64)> {
     let mut value = 0u64;
     let mut power = Some(1u64);
@@ -24,12 +24,12 @@ pub(crate) fn vint(bytes: &[u8], start: u64, most: u64, greatest: u64) -> Option
     None
 }
 
-/// A vint of 32 bits.
+/// Reads a vint of 32 bits.
 pub(crate) fn vint_32(bytes: &[u8], start: u64) -> Option<(u64, u64)> {
     vint(bytes, start, 5, u64::from(u32::MAX))
 }
 
-/// A vint of 64 bits.
+/// Reads a vint of 64 bits.
 pub(crate) fn vint_64(bytes: &[u8], start: u64) -> Option<(u64, u64)> {
     vint(bytes, start, 10, u64::MAX)
 }

@@ -11,7 +11,7 @@ use Rattle.ii_store.specs.declared.name.Kind.{Kind}
 use Rattle.ii_store.specs.declared.name.Kind.TheVariants.{Schema, Terms, Postings, Positions, FieldNorms}
 use Rattle.ii_store.specs.declared.name.Slot.{Slot}
 use Rattle.ii_store.specs.declared.name.Slot.TheVariants.{First, Second}
-use Rattle.ii_store.specs.Index.{Index, entry, file_in, format, meta_bytes, meta_body, head, index_at, num_docs_in, slot_in, version_in, whole_num_docs_in}
+use Rattle.ii_store.specs.Index.{Index, entry, file_in, format, meta_file, meta_body, head, index_at, num_docs_in, slot_in, version_in, whole_num_docs_in}
 use Rattle.ii_store.proofs.Steps.{reads_all}
 
 drop_seam : (n : ℕ) (a b : List ℕ) → length a ≡ n → drop n (a ++ b) ≡ b
@@ -36,8 +36,8 @@ parts slot i more = head slot i.num_docs ++ (entry i.schema ++ (entry i.terms ++
 regroup : (a b c d e f g : List ℕ) → (a ++ b ++ c ++ d ++ e ++ f) ++ g ≡ a ++ (b ++ (c ++ (d ++ (e ++ (f ++ g)))))
 regroup a b c d e f g = simp append_assoc
 
-meta_is : (slot : Slot) (i : Index) → meta_bytes slot i ≡ parts slot i (sha256 (meta_body slot i))
-unfolding meta_bytes meta_body
+meta_is : (slot : Slot) (i : Index) → meta_file slot i ≡ parts slot i (sha256 (meta_body slot i))
+unfolding meta_file meta_body
 meta_is slot i = regroup (head slot i.num_docs) (entry i.schema) (entry i.terms) (entry i.postings) (entry i.positions) (entry i.fieldnorms) (sha256 (meta_body slot i))
 
 length_head : (slot : Slot) (n : ℕ) → length (head slot n) ≡ 17
@@ -69,8 +69,8 @@ length_meta_body slot i =
       length_entry i.fieldnorms,
     )
 
-length_meta : (slot : Slot) (i : Index) → length (meta_bytes slot i) ≡ 249
-unfolding meta_bytes
+length_meta : (slot : Slot) (i : Index) → length (meta_file slot i) ≡ 249
+unfolding meta_file
 length_meta slot i = length-append (meta_body slot i) (sha256 (meta_body slot i)) ∙ omega (arith, length_meta_body slot i, length-sha256 (meta_body slot i))
 
 -- the bytes after an entry
@@ -86,21 +86,21 @@ unfolding head format
 head_8 slot i = refl
 
 -- the bytes before the entries
-front_8 : (slot : Slot) (i : Index) → take 8 (meta_bytes slot i) ≡ format
+front_8 : (slot : Slot) (i : Index) → take 8 (meta_file slot i) ≡ format
 front_8 slot i = ap (take 8) (meta_is slot i) ∙ head_8 slot i
 
 head_at_8 : (slot : Slot) (i : Index) → take 4 (drop 8 (parts slot i (sha256 (meta_body slot i)))) ≡ to_le_bytes w32 1
 unfolding head format
 head_at_8 slot i = refl
 
-version_at_8 : (slot : Slot) (i : Index) → take 4 (drop 8 (meta_bytes slot i)) ≡ to_le_bytes w32 1
+version_at_8 : (slot : Slot) (i : Index) → take 4 (drop 8 (meta_file slot i)) ≡ to_le_bytes w32 1
 version_at_8 slot i = ap (λ bytes. take 4 (drop 8 bytes)) (meta_is slot i) ∙ head_at_8 slot i
 
 head_at_13 : (slot : Slot) (i : Index) → take 4 (drop 13 (parts slot i (sha256 (meta_body slot i)))) ≡ to_le_bytes w32 i.num_docs
 unfolding head format
 head_at_13 slot i = refl
 
-docs_at_13 : (slot : Slot) (i : Index) → take 4 (drop 13 (meta_bytes slot i)) ≡ to_le_bytes w32 i.num_docs
+docs_at_13 : (slot : Slot) (i : Index) → take 4 (drop 13 (meta_file slot i)) ≡ to_le_bytes w32 i.num_docs
 docs_at_13 slot i = ap (λ bytes. take 4 (drop 13 bytes)) (meta_is slot i) ∙ head_at_13 slot i
 
 named : (slot : Slot) (i : Index) → slot_in (parts slot i (sha256 (meta_body slot i))) ≡ slot
@@ -109,38 +109,38 @@ named First i = refl
 named Second i = refl
 
 -- the slot of a meta file is the one that it was made for
-pub slot_of_meta : (slot : Slot) (i : Index) → slot_in (meta_bytes slot i) ≡ slot
+pub slot_of_meta : (slot : Slot) (i : Index) → slot_in (meta_file slot i) ≡ slot
 unfolding slot_in
 slot_of_meta slot i = ap (λ meta. slot_in meta) (meta_is slot i) ∙ named slot i
 
-version_of_meta : (slot : Slot) (i : Index) → version_in (meta_bytes slot i) ≡ Ok 1
+version_of_meta : (slot : Slot) (i : Index) → version_in (meta_file slot i) ≡ Ok 1
 unfolding version_in
 version_of_meta slot i = rw (length_meta slot i, front_8 slot i, nat_list_eq_equiv.refl format, version_at_8 slot i) refl
 
-checksum_of : (slot : Slot) (i : Index) → drop 217 (meta_bytes slot i) ≡ sha256 (meta_body slot i)
-unfolding meta_bytes
+checksum_of : (slot : Slot) (i : Index) → drop 217 (meta_file slot i) ≡ sha256 (meta_body slot i)
+unfolding meta_file
 checksum_of slot i = drop_seam 217 (meta_body slot i) (sha256 (meta_body slot i)) (length_meta_body slot i)
 
-meta_body_of : (slot : Slot) (i : Index) → take 217 (meta_bytes slot i) ≡ meta_body slot i
-unfolding meta_bytes
+meta_body_of : (slot : Slot) (i : Index) → take 217 (meta_file slot i) ≡ meta_body slot i
+unfolding meta_file
 meta_body_of slot i = take_seam 217 (meta_body slot i) (sha256 (meta_body slot i)) (length_meta_body slot i)
 
-whole_of_meta : (slot : Slot) (i : Index) → i.num_docs < 2 ^ 32 → whole_num_docs_in (meta_bytes slot i) ≡ Ok i.num_docs
+whole_of_meta : (slot : Slot) (i : Index) → i.num_docs < 2 ^ 32 → whole_num_docs_in (meta_file slot i) ≡ Ok i.num_docs
 unfolding whole_num_docs_in
 whole_of_meta slot i small =
-    let end : drop 217 (meta_bytes slot i) ≡ sha256 (meta_body slot i) = checksum_of slot i in
-    let front : take 217 (meta_bytes slot i) ≡ meta_body slot i = meta_body_of slot i in
+    let end : drop 217 (meta_file slot i) ≡ sha256 (meta_body slot i) = checksum_of slot i in
+    let front : take 217 (meta_file slot i) ≡ meta_body slot i = meta_body_of slot i in
     rw (length_meta slot i, end, front, nat_list_eq_equiv.refl (sha256 (meta_body slot i)), docs_at_13 slot i, from_le_bytes-to_le_bytes_4 i.num_docs small) refl
 
-docs_of_meta : (slot : Slot) (i : Index) → i.num_docs < 2 ^ 32 → num_docs_in (meta_bytes slot i) ≡ Ok i.num_docs
+docs_of_meta : (slot : Slot) (i : Index) → i.num_docs < 2 ^ 32 → num_docs_in (meta_file slot i) ≡ Ok i.num_docs
 unfolding num_docs_in
 docs_of_meta slot i small = rw (version_of_meta slot i) (whole_of_meta slot i small)
 
 -- a meta file and the files that it was made of are the index
 pub index_of_meta : (slot : Slot) (i : Index) → i.num_docs < 2 ^ 32
-    → index_at (meta_bytes slot i) (Some i.schema) (Some i.terms) (Some i.postings) (Some i.positions) (Some i.fieldnorms) ≡ Ok i
+    → index_at (meta_file slot i) (Some i.schema) (Some i.terms) (Some i.postings) (Some i.positions) (Some i.fieldnorms) ≡ Ok i
 index_of_meta slot i small =
-    let meta = meta_bytes slot i in
+    let meta = meta_file slot i in
     let end = sha256 (meta_body slot i) in
     let r4 : List ℕ = entry i.fieldnorms ++ end in
     let r3 : List ℕ = entry i.positions ++ r4 in

@@ -6,7 +6,7 @@ use Rattle.ii_store.specs.declared.name.Name.TheVariants.{Meta, NewMeta, File}
 use Rattle.ii_store.specs.declared.name.Slot.{Slot}
 use Rattle.ii_store.specs.declared.name.Slot.TheVariants.{First, Second}
 use Rattle.ii_store.specs.Directory.{Elapses, Elsewhere, Files, IsOther, IsPut, IsRenamed, MayBeRenamed, Same}
-use Rattle.ii_store.specs.Index.{Index, bytes_of_file, meta_bytes, index_in, index_of, slot_in, used_slot}
+use Rattle.ii_store.specs.Index.{Index, bytes_of_file, meta_file, index_in, index_of, slot_in, used_slot}
 use Rattle.ii_store.specs.Names.{kind_at, kind_number, other_slot}
 use Rattle.ii_store.specs.Save.{HoldsFiles, IsOldOrNew, IsOutside, LeavesOne, LeavesSame}
 use Rattle.std.proofs.Math.Nat.{eq-or-lt_of_le}
@@ -108,11 +108,11 @@ pub index_of_same : (a c : Files) → Same a c → index_of c ≡ index_of a
 index_of_same a c same = index_outside a c (outside_same (other_slot (used_slot (a Meta))) a c same)
 
 -- a meta file with its files is the index
-pub index_of_new : (slot : Slot) (i : Index) (files : Files) → i.num_docs < 2 ^ 32 → HoldsFiles slot i files → files Meta ≡ Some (meta_bytes slot i) → index_of files ≡ Ok i
+pub index_of_new : (slot : Slot) (i : Index) (files : Files) → i.num_docs < 2 ^ 32 → HoldsFiles slot i files → files Meta ≡ Some (meta_file slot i) → index_of files ≡ Ok i
 unfolding index_of
 index_of_new slot i files small holds at =
     ap (λ meta. index_in meta (λ kind. files (File (used_slot meta) kind))) at
-    ∙ index_in_same (Some (meta_bytes slot i)) (λ kind. files (File (slot_in (meta_bytes slot i)) kind)) (λ kind. Some (bytes_of_file i kind))
+    ∙ index_in_same (Some (meta_file slot i)) (λ kind. files (File (slot_in (meta_file slot i)) kind)) (λ kind. Some (bytes_of_file i kind))
     (λ kind. ap (λ s. files (File s kind)) (slot_of_meta slot i) ∙ holds kind)
     ∙ index_of_meta slot i small
 
@@ -158,7 +158,7 @@ module _ {D : Type 0} (moment : D → ℕ) (left_since : D → ℕ → Files →
       time = elapses_none old (IsOutside slot (seen old));
     }
 
-    -- one call more, also a refused one
+    -- one more call, which may have failed
     pub filling_time : (old now new : D) (count : ℕ) (kind : Kind) → IsFilling is_known seen slot content old now count
         → Elapses (moment now) (moment new) (left_since now) (left_since new) (Elsewhere (File slot kind) (seen now))
         → Elapses (moment old) (moment new) (left_since old) (left_since new) (IsOutside slot (seen old))
@@ -193,10 +193,10 @@ pub record IsReady (slot : Slot) (i : Index) (old ready : Files) : Type 0 where
   pub small : i.num_docs < 2 ^ 32
   pub outside : IsOutside slot old ready
   pub files : HoldsFiles slot i ready
-  pub meta : ready NewMeta ≡ Some (meta_bytes slot i)
+  pub meta : ready NewMeta ≡ Some (meta_file slot i)
 
 pub is_ready : (slot : Slot) (i : Index) (old mid ready : Files) → slot ≡ other_slot (used_slot (old Meta)) → i.num_docs < 2 ^ 32 → IsOutside slot old mid → HoldsFiles slot i mid
-    → IsPut NewMeta (Some (meta_bytes slot i)) mid ready → IsReady slot i old ready
+    → IsPut NewMeta (Some (meta_file slot i)) mid ready → IsReady slot i old ready
 is_ready slot i old mid ready free small outside files put = record {
   free = free;
   small = small;

@@ -56,20 +56,20 @@ unfoldable pub head : Slot → ℕ → List ℕ
 head slot num_docs = format ++ to_le_bytes w32 1 ++ slot_number slot ∷ to_le_bytes w32 num_docs
 
 -- the offset of a file's entry in a `meta` file
-abbrev pub entry_at : Kind → ℕ
-entry_at Schema = 17
-entry_at Terms = 57
-entry_at Postings = 97
-entry_at Positions = 137
-entry_at FieldNorms = 177
+abbrev pub meta_entry_at : Kind → ℕ
+meta_entry_at Schema = 17
+meta_entry_at Terms = 57
+meta_entry_at Postings = 97
+meta_entry_at Positions = 137
+meta_entry_at FieldNorms = 177
 
 -- a `meta` file without its checksum
 unfoldable pub meta_body : Slot → Index → List ℕ
 meta_body slot i = head slot i.num_docs ++ entry i.schema ++ entry i.terms ++ entry i.postings ++ entry i.positions ++ entry i.fieldnorms
 
 -- a `meta` file
-unfoldable pub meta_bytes : Slot → Index → List ℕ
-meta_bytes slot i = meta_body slot i ++ sha256 (meta_body slot i)
+unfoldable pub meta_file : Slot → Index → List ℕ
+meta_file slot i = meta_body slot i ++ sha256 (meta_body slot i)
 
 -- the slot that a `meta` file names
 unfoldable pub slot_in : List ℕ → Slot
@@ -118,11 +118,11 @@ file_in kind entry (Some bytes) =
 unfoldable pub index_at : List ℕ → Option (List ℕ) → Option (List ℕ) → Option (List ℕ) → Option (List ℕ) → Option (List ℕ) → Result Index IndexFault
 index_at meta a b c d e = do
   num_docs ← num_docs_in meta
-  schema ← file_in Schema (drop (entry_at Schema) meta) a
-  terms ← file_in Terms (drop (entry_at Terms) meta) b
-  postings ← file_in Postings (drop (entry_at Postings) meta) c
-  positions ← file_in Positions (drop (entry_at Positions) meta) d
-  fieldnorms ← file_in FieldNorms (drop (entry_at FieldNorms) meta) e
+  schema ← file_in Schema (drop (meta_entry_at Schema) meta) a
+  terms ← file_in Terms (drop (meta_entry_at Terms) meta) b
+  postings ← file_in Postings (drop (meta_entry_at Postings) meta) c
+  positions ← file_in Positions (drop (meta_entry_at Positions) meta) d
+  fieldnorms ← file_in FieldNorms (drop (meta_entry_at FieldNorms) meta) e
   Ok (record { num_docs = num_docs; schema = schema; terms = terms; postings = postings; positions = positions; fieldnorms = fieldnorms })
 
 -- the index of a `meta` file, if there is one, and of the files of a slot

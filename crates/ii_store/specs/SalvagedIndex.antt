@@ -9,7 +9,7 @@ use Rattle.ii_store.specs.declared.faults.IndexFault.TheVariants.{NoIndex}
 use Rattle.ii_store.specs.declared.salvaged_index.SalvagedFile.{SalvagedFile}
 use Rattle.ii_store.specs.declared.salvaged_index.SalvagedIndex.{SalvagedIndex}
 use Rattle.ii_store.specs.Directory.{Files}
-use Rattle.ii_store.specs.Index.{Index, ◌>>=◌, entry_at, file_in, num_docs_in, used_slot}
+use Rattle.ii_store.specs.Index.{Index, ◌>>=◌, meta_entry_at, file_in, num_docs_in, used_slot}
 
 -- the bytes of a file, and its fault
 pub record SalvagedFileState : Type 0 where
@@ -69,11 +69,11 @@ salvaged_at meta files = do
   num_docs ← num_docs_in meta
   Ok (record {
     num_docs = num_docs;
-    schema = salvaged_in Schema (drop (entry_at Schema) meta) (files Schema);
-    terms = salvaged_in Terms (drop (entry_at Terms) meta) (files Terms);
-    postings = salvaged_in Postings (drop (entry_at Postings) meta) (files Postings);
-    positions = salvaged_in Positions (drop (entry_at Positions) meta) (files Positions);
-    fieldnorms = salvaged_in FieldNorms (drop (entry_at FieldNorms) meta) (files FieldNorms);
+    schema = salvaged_in Schema (drop (meta_entry_at Schema) meta) (files Schema);
+    terms = salvaged_in Terms (drop (meta_entry_at Terms) meta) (files Terms);
+    postings = salvaged_in Postings (drop (meta_entry_at Postings) meta) (files Postings);
+    positions = salvaged_in Positions (drop (meta_entry_at Positions) meta) (files Positions);
+    fieldnorms = salvaged_in FieldNorms (drop (meta_entry_at FieldNorms) meta) (files FieldNorms);
   })
 
 -- the remains of the index of a `meta` file, if there is one

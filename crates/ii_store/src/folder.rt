@@ -24,8 +24,8 @@ impl<'a, R: Files + AllocGlobal> Folder<'a, R> {
         Folder { rt, path }
     }
 
-    /// Returns an index file in a folder that has neither `meta` nor `meta.new`. Such a file belongs to an
-    /// index whose `meta` is missing, or isn't ours. A stopped first save leaves `meta.new`
+    /// Returns an index file in a folder that has neither `meta` nor `meta.new`. It remains from an index
+    /// whose `meta` is missing, or belongs to another program. A stopped first save leaves `meta.new`
     /// (`begin_first_save`), so its files are not orphans.
     ///
     /// # Errors

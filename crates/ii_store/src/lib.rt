@@ -5,19 +5,19 @@
 pub mod directory;
 pub mod faults;
 pub mod folder;
-pub mod salvaged_index;
 pub mod lock;
 pub mod memory_directory;
 pub mod meta;
 pub mod name;
+pub mod salvaged_index;
 pub mod save;
 pub mod stored_index;
 
 pub use directory::Directory;
 pub use faults::{DirectoryFault, IndexFault, StoreFault};
 pub use folder::Folder;
-pub use salvaged_index::{SalvagedFile, SalvagedIndex, salvage};
 pub use lock::FolderLock;
 pub use memory_directory::MemoryDirectory;
 pub use name::{Kind, Name, Slot};
+pub use salvaged_index::{SalvagedFile, SalvagedIndex, salvage};
 pub use stored_index::{StoredIndex, load};

@@ -46,7 +46,7 @@ impl MemoryDirectory {
         }
     }
 
-    /// Stops the directory after `calls` further changes. Reads still succeed.
+    /// Allows `calls` further changes, and stops in the next one. Reads still succeed.
     pub fn stop_after(&mut self, calls: u64)
         ensures { self.new ≡ record self.old { calls_left = calls; is_stopped = false } }
     {

@@ -2,7 +2,7 @@
 ghost use Rattle.std.specs.Prelude.{◌≡◌, ◌≤◌, ◌<◌, ◌^◌, ◌++◌, bytes_eq, length, Err, IfOk, MatchOption, Ok, OnOk, Some};
 ghost use Rattle.std.specs.Int.{w64, to_le_bytes};
 ghost use Rattle.sha2.specs.Sha256.{sha256};
-ghost use Rattle.ii_store.specs.Index.{Index, entry, file_in, meta_bytes, meta_body, head, index_at, num_docs_in, slot_in, version_in, view, whole_num_docs_in};
+ghost use Rattle.ii_store.specs.Index.{Index, entry, file_in, meta_file, meta_body, head, index_at, num_docs_in, slot_in, version_in, view, whole_num_docs_in};
 
 use crate::faults::{DirectoryFault, IndexFault};
 use crate::name::{Kind, Slot};
@@ -18,16 +18,24 @@ const FORMAT: &[u8] = b"nequllpa";
 
 // The offsets in a `meta` file: slot, number of documents, the entry of each file, and its own checksum.
 const SLOT_AT: usize = 12;
+
 const NUM_DOCS_AT: usize = 13;
+
 pub(crate) const SCHEMA_AT: usize = 17;
+
 pub(crate) const TERMS_AT: usize = 57;
+
 pub(crate) const POSTINGS_AT: usize = 97;
+
 pub(crate) const POSITIONS_AT: usize = 137;
+
 pub(crate) const FIELDNORMS_AT: usize = 177;
+
 const CHECKSUM_AT: usize = 217;
 
 // The length of a `meta` file, and of an entry in it.
 const META_LEN: usize = 249;
+
 const ENTRY_LEN: usize = 40;
 
 // Returns whether `bytes` is the checksum of a file.
@@ -119,13 +127,13 @@ fn whole_num_docs(meta: &[u8]) -> Result<u32, IndexFault>
 }
 
 // Encodes the `meta` file of an index in a slot.
-#[tactic(auto, unfolding(crate::specs::Index::meta_bytes))]
+#[tactic(auto, unfolding(crate::specs::Index::meta_file))]
 pub(crate) fn meta_of(
     alloc: Global,
     slot: Slot,
     index: &StoredIndex,
 ) -> Result<Vec<u8>, DirectoryFault>
-    ensures bytes { IfOk result (λ v. v.items ≡ meta_bytes slot (view index.now)) }
+    ensures bytes { IfOk result (λ v. v.items ≡ meta_file slot (view index.now)) }
     ensures small { OnOk result (index.now.num_docs < 2 ^ 32) }
 {
     let mut meta = meta_body_of(alloc, slot, index)?;
@@ -172,6 +180,6 @@ fn push_entry(meta: &mut Vec<u8>, file: &[u8]) -> Result<(), AllocError>
 
 /// Law: `meta` and the files of an index are read back as that index, and `meta` names its slot.
 pub fn meta_is_read_back()
-    ensures slot { (slot : Slot) (i : Index) → slot_in (meta_bytes slot i) ≡ slot }
-    ensures index { (slot : Slot) (i : Index) → i.num_docs < 2 ^ 32 → index_at (meta_bytes slot i) (Some i.schema) (Some i.terms) (Some i.postings) (Some i.positions) (Some i.fieldnorms) ≡ Ok i }
+    ensures slot { (slot : Slot) (i : Index) → slot_in (meta_file slot i) ≡ slot }
+    ensures index { (slot : Slot) (i : Index) → i.num_docs < 2 ^ 32 → index_at (meta_file slot i) (Some i.schema) (Some i.terms) (Some i.postings) (Some i.positions) (Some i.fieldnorms) ≡ Ok i }
 {}

@@ -80,7 +80,11 @@ pub fn salvage<D: Directory>(alloc: Global, directory: &D) -> Result<SalvagedInd
 
 // Reads the remaining files of the index that a `meta` file describes.
 #[tactic(auto, unfolding(crate::specs::SalvagedIndex::salvaged_at))]
-fn salvaged_by<D: Directory>(alloc: Global, directory: &D, meta: &[u8]) -> Result<SalvagedIndex, StoreFault>
+fn salvaged_by<D: Directory>(
+    alloc: Global,
+    directory: &D,
+    meta: &[u8],
+) -> Result<SalvagedIndex, StoreFault>
     ensures { D.is_known directory.now → AnswersFromFiles salvaged_view result (salvaged_by (Some meta.now) (λ kind. D.seen directory.now (File (slot_in meta.now) kind))) }
 {
     let num_docs = checked_num_docs(meta)?;
@@ -89,7 +93,14 @@ fn salvaged_by<D: Directory>(alloc: Global, directory: &D, meta: &[u8]) -> Resul
     let terms = salvaged_file(alloc, directory, slot, Kind::Terms, meta, TERMS_AT)?;
     let postings = salvaged_file(alloc, directory, slot, Kind::Postings, meta, POSTINGS_AT)?;
     let positions = salvaged_file(alloc, directory, slot, Kind::Positions, meta, POSITIONS_AT)?;
-    let fieldnorms = salvaged_file(alloc, directory, slot, Kind::FieldNorms, meta, FIELDNORMS_AT)?;
+    let fieldnorms = salvaged_file(
+        alloc,
+        directory,
+        slot,
+        Kind::FieldNorms,
+        meta,
+        FIELDNORMS_AT,
+    )?;
     Ok(SalvagedIndex {
         num_docs,
         schema,

@@ -70,7 +70,14 @@ fn load_by<D: Directory>(
     let terms = load_file(alloc, directory, slot, Kind::Terms, meta, TERMS_AT)?;
     let postings = load_file(alloc, directory, slot, Kind::Postings, meta, POSTINGS_AT)?;
     let positions = load_file(alloc, directory, slot, Kind::Positions, meta, POSITIONS_AT)?;
-    let fieldnorms = load_file(alloc, directory, slot, Kind::FieldNorms, meta, FIELDNORMS_AT)?;
+    let fieldnorms = load_file(
+        alloc,
+        directory,
+        slot,
+        Kind::FieldNorms,
+        meta,
+        FIELDNORMS_AT,
+    )?;
     Ok(StoredIndex {
         num_docs,
         schema,

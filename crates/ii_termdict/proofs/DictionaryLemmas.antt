@@ -1,4 +1,4 @@
--- What is read of a dictionary.
+-- What is read from a dictionary.
 use Rattle.std.proofs.Common.{[], ◌≡◌, ℕ, zero, suc, ◌+◌, ◌-◌, ◌*◌, ◌<◌, ◌≤◌, ◌≢◌, Bool, true, false, List, length, Option, Some, None, Result, Ok, Err, eqb, nat_le, refl, sym, ap, ◌∙◌, arith}
 use Rattle.std.specs.Prelude.{IsSome, IsSomeAnd, IsOk, if◌then◌else◌, unwrap_or}
 use Rattle.std.specs.List.{list_all, range_with_len, zip}
@@ -10,7 +10,7 @@ use Rattle.ii_io.specs.Steps.{◌>>=◌, needs}
 use Rattle.ii_termstore.specs.declared.term_info.TermInfo.{TermInfo}
 use Rattle.ii_termstore.specs.TermStore.{term_store}
 use Rattle.ii_termdict.specs.Dictionary.{end_of, start_of, key_of, keys_of, ends_rise, keys_ascend, key_parts, keys_at, with_infos, with_keys, dictionary, store_after, opened_entries, AreOpened, TermEntry}
-use Rattle.ii_termstore.specs.ListLemmas.{all_more, all_at, not_all}
+use Rattle.ii_termstore.proofs.ListLemmas.{all_more, all_at, not_all}
 use Rattle.std.proofs.lemmas.Bool.{and_parts}
 
 -- an end below the one before it

@@ -5,3 +5,4 @@ pub mod WriterLemmas
 pub mod ReadDictionaryLemmas
 pub mod OrderLemmas
 pub mod FirstKey
+pub mod ReadBackLemmas

@@ -1,4 +1,4 @@
--- What is written of a dictionary is read back.
+-- A written dictionary reads back.
 use Rattle.std.proofs.Common.{◌≡◌, ℕ, zero, suc, ◌+◌, ◌-◌, ◌*◌, ◌^◌, ◌<◌, ◌≤◌, true, List, [], ◌∷◌, ◌++◌, length, take, drop, get_or, nat_le, Some, Ok, refl, sym, ap, ◌∙◌, arith, length-append}
 use Rattle.std.specs.Ordering.{nat_cmp, is_lt}
 use Rattle.std.specs.Cmp.Lexicographic.{slice_cmp}
@@ -18,7 +18,7 @@ use Rattle.ii_termstore.specs.Written.{written_store}
 use Rattle.ii_termstore.specs.ReadBack.{ReadsStoreBack}
 use Rattle.ii_termdict.specs.ReadBack.{AreAscending, ReadsDictionaryBack}
 use Rattle.ii_termdict.proofs.DictionaryLemmas.{start_of-suc, dictionary-is}
-use Rattle.ii_termstore.specs.ListLemmas.{append_assoc-five, after_front, flat_around, length-each, all_pass}
+use Rattle.ii_termstore.proofs.ListLemmas.{append_assoc-five, after_front, flat_around, length-each, all_pass}
 
 pub length-ends_from : (start : ℕ) (keys : List (List ℕ)) → length (ends_from start keys) ≡ length keys
 length-ends_from start [] = refl

@@ -15,7 +15,7 @@ use Rattle.std.proofs.lemmas.Option.{slice_get-get_or}
 use Rattle.ii_termstore.specs.declared.term_info.TermInfo.{TermInfo}
 use Rattle.ii_termstore.specs.TermStore.{term_store}
 use Rattle.ii_termdict.specs.Dictionary.{key_of, keys_of, keys_ascend, is_below, store_after, opened_entries, entry_keys, entry_infos, info_under, AreOpened}
-use Rattle.ii_termstore.specs.ListLemmas.{all_at}
+use Rattle.ii_termstore.proofs.ListLemmas.{all_at}
 use Rattle.ii_termdict.proofs.DictionaryLemmas.{length-keys_of}
 
 pub less_of : (o : Ordering) → is_lt o ≡ true → o ≡ Less
@@ -46,7 +46,7 @@ keys_in_order n ends body j i h below within =
 reversed : (x y : List ℕ) (o : Ordering) → slice_cmp nat_cmp x y ≡ o → slice_cmp nat_cmp y x ≡ ordering_reverse o
 reversed x y o e = let total = nat_list_cmp_total in total.antisymm y x ∙ ap ordering_reverse e
 
--- what a look at a key in the middle tells of those below it, and of those above
+-- what the comparison with a middle key says about the keys below and above it
 pub below_greater : (n : ℕ) (ends body key : List ℕ) (middle j : ℕ) → keys_ascend n ends body ≡ true → middle < n → slice_cmp nat_cmp key (key_of ends body middle) ≡ Greater → j < middle + 1
     → slice_cmp nat_cmp key (key_of ends body j) ≡ Greater
 below_greater n ends body key middle j h within e below =
@@ -78,7 +78,7 @@ none_equal n place ends body key below above i within same =
     let here : slice_cmp nat_cmp key (key_of ends body i) ≡ Equal = rw same itself in
     ⊎_elim (λ less. let g = below i less in cc) (λ more. let l = above i more within in cc) (cases_lt i place)
 
--- a look-up in keys and infos side by side
+-- a lookup in a list of pairs of keys and infos
 lookup_hit : (ks : List (List ℕ)) (vs : List TermInfo) (i : ℕ) (key : List ℕ) (x : TermInfo) → length ks ≡ length vs → i < length ks → get_or ks i [] ≡ key
     → ((j : ℕ) → j < i → get_or ks j [] ≡ key → ⊥) → slice_get vs i ≡ Some x → lookup (bytes_eq key) (zip ks vs) ≡ Some x
 lookup_hit [] vs i key x same within here first e = absurd (omega arith)

@@ -5,7 +5,7 @@ use Rattle.std.specs.List.{flat_map, slice_range, zip}
 use Rattle.std.proofs.Math.Seq.{take-append_seam}
 use Rattle.std.proofs.lemmas.List.{append-nil, drop_at}
 use Rattle.ii_termstore.specs.TermStore.{term_store}
-use Rattle.ii_termstore.specs.ListLemmas.{flat_around}
+use Rattle.ii_termstore.proofs.ListLemmas.{flat_around}
 use Rattle.ii_io.specs.declared.faults.Fault.{Fault}
 use Rattle.ii_io.specs.declared.faults.Fault.TheVariants.{OutOfMemory, Limit, SerializerClosed}
 use Rattle.ii_io.specs.declared.faults.LimitName.TheVariants.{Offset}
@@ -18,7 +18,7 @@ use Rattle.ii_termstore.specs.Written.{written_store}
 use Rattle.ii_termdict.specs.Written.{ends_from, written_dictionary}
 use Rattle.ii_termdict.specs.TermDictionaryWriter.{TermDictionaryWriterState, HasKeys, keys_between}
 use Rattle.ii_termdict.proofs.ReadDictionaryLemmas.{reads_dictionary, length-ends_from}
-use Rattle.ii_io.specs.CountingWriterLemmas.{writes_then, writes_refused_by}
+use Rattle.ii_io.proofs.WriteSteps.{writes_then, writes_refused_by}
 
 -- a number that was refused among others
 pub numbers_refused : (numbers : List ℕ) (i : ℕ) (initial writer new : CountingWriterState) (result : Result (Unit {0}) Fault) → i < length numbers → Wrote initial writer (flat_map (le_bytes 8) (take i numbers)) → true ≡ is_err result
@@ -108,7 +108,7 @@ pub key_added : (keys more : List (List ℕ)) (key : List ℕ) (infos : List Ter
 key_added keys more key infos now before (Ok u) e now_is before_is = rw (e, now_is, before_is) refl
 key_added keys more key infos now before (Err f) e now_is before_is = tt
 
--- a number of terms that passes 64 bits is told by no one
+-- the number of terms never exceeds 64 bits
 pub never_limit : (bytes ends : List ℕ) (keys : List (List ℕ)) (n : ℕ) → HasKeys bytes ends keys → length keys ≡ n + 1 → n + 1 ≡ 2 ^ 64 → ⊥
 never_limit bytes ends keys n h size most =
     let count = length-keys bytes ends keys h in

@@ -1,4 +1,4 @@
--- Keys in order, each with what is kept of its term.
+-- Sorted keys, each with its term info.
 use Rattle.std.specs.Prelude.{◌≡◌, ◌≤◌, ℕ, ◌+◌, ◌-◌, ◌*◌, Bool, true, ◌&&◌, List, [], IsSomeAnd, length, drop, map, nat_le, ◌==◌, if◌then◌else◌, Option, None, Some, Result, Ok, Err, unwrap_or, bytes_eq}
 use Rattle.std.specs.Ordering.{nat_cmp, is_lt}
 use Rattle.std.specs.Cmp.Lexicographic.{slice_cmp}
@@ -12,19 +12,19 @@ use Rattle.ii_io.specs.Numbers.{number_at}
 use Rattle.ii_termstore.specs.declared.term_info.TermInfo.{TermInfo}
 use Rattle.ii_termstore.specs.TermStore.{term_store}
 
--- a key and what is kept of its term
+-- a key and its term info
 abbrev pub TermEntry : Type 0
 TermEntry = List ℕ × TermInfo
 
--- whether a key lies below another by its bytes
+-- whether a key is less than another by its bytes
 abbrev pub is_below : List ℕ → List ℕ → Bool
 is_below k l = is_lt (slice_cmp nat_cmp k l)
 
--- how many bytes the end of a key takes
+-- the number of bytes of the end of a key
 abbrev pub end_size : ℕ
 end_size = 8
 
--- where key i ends and begins, by numbers of that size
+-- where key i ends
 unfoldable pub end_of : List ℕ → ℕ → ℕ
 end_of ends i = unwrap_or (option_map (λ found. found.0) (number_at end_size (drop (end_size * i) ends))) 0
 
@@ -36,11 +36,11 @@ start_of ends i = if i == 0 then 0 else end_of ends (i - 1)
 abbrev pub key_of : List ℕ → List ℕ → ℕ → List ℕ
 key_of ends body i = slice_range body (start_of ends i) (end_of ends i)
 
--- no end is below the one before it, and the last one lies within the body
+-- whether no end is less than the previous one, and the last one lies within the body
 abbrev pub ends_rise : ℕ → List ℕ → List ℕ → Bool
 ends_rise n ends body = list_all (λ i. nat_le (start_of ends i) (end_of ends i)) (range_with_len 0 n) && nat_le (start_of ends n) (length body)
 
--- each key is below the next
+-- whether each key is less than the next
 abbrev pub keys_ascend : ℕ → List ℕ → List ℕ → Bool
 keys_ascend n ends body = list_all (λ i. is_below (key_of ends body i) (key_of ends body (i + 1))) (range_with_len 0 (n - 1))
 
@@ -48,7 +48,7 @@ keys_ascend n ends body = list_all (λ i. is_below (key_of ends body i) (key_of 
 abbrev pub keys_of : ℕ → List ℕ → List ℕ → List (List ℕ)
 keys_of n ends body = map (key_of ends body) (range_with_len 0 n)
 
--- the number of keys, their ends and what stands after, and the body of keys and store
+-- the number of keys, the bytes from their ends on, and the body of keys and store
 unfoldable pub key_parts : List ℕ → Option (ℕ × List ℕ × List ℕ)
 key_parts bytes = do
   n ← number_at 8 bytes
@@ -68,16 +68,16 @@ abbrev pub with_infos : List (List ℕ) → Option (List TermInfo) → Result (L
 with_infos keys None = Err TermStore
 with_infos keys (Some infos) = if length infos == length keys then Ok (zip keys infos) else Err Dictionary
 
--- the keys and the store behind them, as entries
+-- the keys and the store after them, as entries
 abbrev pub with_keys : Option (List (List ℕ) × List ℕ) → Result (List TermEntry) Part
 with_keys None = Err Dictionary
 with_keys (Some found) = with_infos found.0 (term_store found.1)
 
--- the list that a dictionary's bytes hold, or the first part that fails
+-- the list that a dictionary's bytes hold, or the first corrupt part
 unfoldable pub dictionary : List ℕ → Result (List TermEntry) Part
 dictionary bytes = with_keys (keys_at bytes)
 
--- what is kept under a key
+-- the term info of a key
 abbrev pub info_under : List ℕ → List TermEntry → Option TermInfo
 info_under key entries = lookup (bytes_eq key) entries
 
@@ -85,7 +85,7 @@ info_under key entries = lookup (bytes_eq key) entries
 abbrev pub entry_keys : List TermEntry → List (List ℕ)
 entry_keys entries = map (λ (e : TermEntry). e.0) entries
 
--- the bytes of the store after the keys, and the entries of valid parts
+-- the bytes of the store after the keys
 abbrev pub store_after : ℕ → List ℕ → List ℕ → List ℕ
 store_after n ends body = drop (start_of ends n) body
 
@@ -93,7 +93,7 @@ store_after n ends body = drop (start_of ends n) body
 unfoldable pub opened_entries : ℕ → List ℕ → List ℕ → List TermEntry
 opened_entries n ends body = zip (keys_of n ends body) (unwrap_or (term_store (store_after n ends body)) [])
 
--- What the parts of an opened dictionary meet.
+-- What holds for the parts of an opened dictionary.
 pub record AreOpened (n : ℕ) (ends body : List ℕ) : Type 0 where
   pub there : end_size * n ≤ length ends
   pub rise : ends_rise n ends body ≡ true

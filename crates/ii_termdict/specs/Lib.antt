@@ -1,6 +1,5 @@
 pub mod Dictionary
 pub mod ReadBack
-pub mod ReadBackLemmas
 pub mod TermDictionaryBuilder
 pub mod TermDictionaryWriter
 pub mod Written

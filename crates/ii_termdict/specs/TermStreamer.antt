@@ -1,4 +1,4 @@
--- What goes over the terms of a dictionary: its entries, and how many of them were passed.
+-- An iterator over the terms of a dictionary: its entries, and how many of them were passed.
 use Rattle.std.specs.Prelude.{ℕ, List}
 use Rattle.ii_termdict.specs.Dictionary.{TermEntry}
 

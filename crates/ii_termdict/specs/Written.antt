@@ -5,7 +5,7 @@ use Rattle.ii_io.specs.Numbers.{le_bytes}
 use Rattle.ii_termstore.specs.declared.term_info.TermInfo.{TermInfo}
 use Rattle.ii_termstore.specs.Written.{written_store}
 
--- where keys end that stand one after the other from a place on
+-- where keys end that follow each other from a place on
 abbrev pub ends_from : ℕ → List (List ℕ) → List ℕ
 ends_from start [] = []
 ends_from start (k ∷ ks) = (start + length k) ∷ ends_from (start + length k) ks

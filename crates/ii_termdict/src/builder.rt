@@ -15,8 +15,8 @@ use std::alloc::Global;
 use std::io::Write;
 use std::marker::Model;
 
-/// Builds a dictionary in a writer of its own: keys in ascending order, each followed by what is kept
-/// of its term. See `TermDictionaryWriter`, which does the same in a writer that is lent.
+/// Builds a dictionary in a writer that it owns, as `TermDictionaryWriter` does in a borrowed one: keys in
+/// ascending order, each followed by its term info.
 #[derive(Drop)]
 pub struct TermDictionaryBuilder<W: Write> {
     writer: CountingWriter<W>,
@@ -32,7 +32,7 @@ impl<W: Write> Model for TermDictionaryBuilder<W> {
 }
 
 impl<W: Write> TermDictionaryBuilder<W> {
-    /// A builder that has no terms, and writes to `writer` when it is finished.
+    /// Creates a builder without terms, which writes to `writer` when it is finished.
     pub fn create(alloc: Global, writer: CountingWriter<W>) -> TermDictionaryBuilder<W>
         ensures { result ≡ record { writer = writer; keys = []; infos = []; closed = false } }
     {
@@ -42,10 +42,10 @@ impl<W: Write> TermDictionaryBuilder<W> {
         }
     }
 
-    /// Adds a key, which is above the key before it by its bytes; its value follows, and that of the
-    /// key before it is there. Once closed nothing is asked.
+    /// Adds a key, which must be greater than the previous key by its bytes. The previous key must have its
+    /// value. A closed builder has no preconditions.
     ///
-    /// `OutOfMemory` where the keys can't grow; `SerializerClosed` after an earlier refusal.
+    /// Returns `OutOfMemory` if the keys can't grow; `SerializerClosed` after an earlier error.
     pub fn insert_key(&mut self, key: &[u8]) -> Result<(), Fault>
         requires ascending { self.old.closed ≡ false → AreAscending (self.old.keys ++ key.now ∷ []) }
         requires whole { self.old.closed ≡ false → length self.old.keys ≡ length self.old.infos }
@@ -57,10 +57,10 @@ impl<W: Write> TermDictionaryBuilder<W> {
         self.terms.insert_key(key)
     }
 
-    /// Adds what is kept of the term whose key was added last. Its ranges begin where those of the
-    /// term before it end, and have lengths that fit `u32`. Once closed nothing is asked.
+    /// Adds the term info of the key that was added last. Its ranges must begin where those of the previous
+    /// term end, and their lengths must fit in `u32`. A closed builder has no preconditions.
     ///
-    /// `OutOfMemory` where the terms can't grow; `SerializerClosed` after an earlier refusal.
+    /// Returns `OutOfMemory` if the terms can't grow; `SerializerClosed` after an earlier error.
     pub fn insert_value(&mut self, term_info: &TermInfo) -> Result<(), Fault>
         requires lengths { self.old.closed ≡ false → HasLengths term_info.now }
         requires joined { self.old.closed ≡ false → AreJoined (self.old.infos ++ term_info.now ∷ []) }
@@ -73,12 +73,14 @@ impl<W: Write> TermDictionaryBuilder<W> {
         self.terms.insert_value(term_info)
     }
 
-    /// Writes the dictionary of all terms, after whose last key its value was added, and hands the
-    /// writer back. Opened again it holds these keys and terms.
+    /// Writes the dictionary of all terms, which opens as these keys and terms, and returns the writer. The
+    /// last key must have its value. Never allocates.
     ///
-    /// `Write` where the writer fails, `Limit(Offset)` where a count of the writer would pass
-    /// `u64::MAX`: a prefix of the dictionary is then written. `SerializerClosed` after an earlier
-    /// refusal, and nothing is written. It takes no memory.
+    /// # Errors
+    ///
+    /// * `Write` if the writer fails; a prefix of the dictionary is then written.
+    /// * `Limit(Offset)` if a count of the writer would exceed `u64::MAX`; a prefix is then written.
+    /// * `SerializerClosed` after an earlier error; nothing is then written.
     pub fn finish(self) -> (CountingWriter<W>, Result<(), Fault>)
         requires whole { self.closed ≡ false → length self.keys ≡ length self.infos }
         ensures written { WritesUnlessClosed self.closed self.writer result.0 (written_dictionary self.keys self.infos) result.1 }

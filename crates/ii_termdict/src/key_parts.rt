@@ -8,11 +8,11 @@ use ii_io::{BinarySerializable, FixedSize, Part};
 use ii_termstore::{TermInfo, TermInfoStoreView};
 use std::cmp::Ordering;
 
-// How many bytes the end of a key takes, which is a number of 64 bits.
+// The number of bytes of the end of a key, a 64-bit number.
 const END_SIZE: u64 = u64::SIZE_IN_BYTES as u64;
 
-/// The parts of a dictionary's bytes: the number of its terms, the ends of their keys and what stands
-/// after them, and the keys with the store after them.
+/// The parts of a dictionary's bytes: the number of terms, the bytes from the ends of the keys on, and the
+/// bytes from the keys on.
 #[derive(Clone, Copy)]
 pub(crate) struct KeyParts<'a> {
     pub num_terms: u64,
@@ -20,7 +20,7 @@ pub(crate) struct KeyParts<'a> {
     pub body: &'a [u8],
 }
 
-// The parts, where bytes hold them.
+// Splits bytes into the parts, or returns `None` if they don't hold them.
 #[tactic(auto, unfolding(crate::specs::Dictionary::key_parts))]
 fn parts_of(bytes: &[u8]) -> Option<KeyParts<'_>>
     ensures value { option_map (λ p. (p.num_terms, p.ends.now, p.body.now)) result ≡ key_parts bytes.now }
@@ -40,14 +40,14 @@ fn parts_of(bytes: &[u8]) -> Option<KeyParts<'_>>
     })
 }
 
-// How many bytes there are.
+// Returns the number of bytes.
 fn count_bytes(bytes: &[u8]) -> u64
     ensures { result ≡ length bytes.now }
 {
     bytes.len() as u64
 }
 
-// Where key `i` ends.
+// Reads where key `i` ends.
 #[tactic(auto, unfolding(crate::specs::Dictionary::end_of))]
 fn read_end(ends: &[u8], i: u64) -> u64
     requires { end_size * i ≤ length ends.now }
@@ -60,7 +60,7 @@ fn read_end(ends: &[u8], i: u64) -> u64
     }
 }
 
-// Where key `i` begins.
+// Reads where key `i` begins.
 fn read_start(ends: &[u8], i: u64) -> u64
     requires { end_size * i ≤ length ends.now }
     ensures { result ≡ start_of ends.now i }
@@ -68,7 +68,7 @@ fn read_start(ends: &[u8], i: u64) -> u64
     if i == 0 { 0 } else { read_end(ends, i - 1) }
 }
 
-// Whether no end is below the one before it, and the last one lies within the body.
+// Returns whether no end is less than the previous one, and the last one lies within the body.
 fn do_ends_rise(n: u64, ends: &[u8], body: &[u8]) -> bool
     requires { end_size * n ≤ length ends.now }
     ensures { result ≡ ends_rise n ends.now body.now }
@@ -81,7 +81,7 @@ fn do_ends_rise(n: u64, ends: &[u8], body: &[u8]) -> bool
     read_start(ends, n) <= body.len() as u64
 }
 
-// Key `i`.
+// Returns key `i`.
 pub(crate) fn read_key<'a>(n: u64, ends: &[u8], body: &'a [u8], i: u64) -> &'a [u8]
     requires there { end_size * n ≤ length ends.now }
     requires rise { ends_rise n ends.now body.now ≡ true }
@@ -95,7 +95,7 @@ pub(crate) fn read_key<'a>(n: u64, ends: &[u8], body: &'a [u8], i: u64) -> &'a [
     )
 }
 
-// The bytes from a place to before another.
+// Returns the bytes from `start` to before `end`.
 fn piece(body: &[u8], start: usize, end: usize) -> &[u8]
     requires forward { start ≤ end }
     requires within { end ≤ length body.now }
@@ -104,14 +104,14 @@ fn piece(body: &[u8], start: usize, end: usize) -> &[u8]
     &body[start..end]
 }
 
-/// Whether a key is below another by its bytes.
+/// Returns whether a key is less than another by its bytes.
 pub(crate) fn is_key_below(key: &[u8], other: &[u8]) -> bool
     ensures { result ≡ is_below key.now other.now }
 {
     key.cmp(other) == Ordering::Less
 }
 
-// Whether each key is below the next.
+// Returns whether each key is less than the next.
 fn do_keys_ascend(n: u64, ends: &[u8], body: &[u8]) -> bool
     requires there { end_size * n ≤ length ends.now }
     requires rise { ends_rise n ends.now body.now ≡ true }
@@ -125,7 +125,7 @@ fn do_keys_ascend(n: u64, ends: &[u8], body: &[u8]) -> bool
     true
 }
 
-// The store after the keys.
+// Returns the store after the keys.
 fn store_of<'a>(n: u64, ends: &[u8], body: &'a [u8]) -> &'a [u8]
     requires there { end_size * n ≤ length ends.now }
     requires rise { ends_rise n ends.now body.now ≡ true }
@@ -134,8 +134,8 @@ fn store_of<'a>(n: u64, ends: &[u8], body: &'a [u8]) -> &'a [u8]
     &body[read_start(ends, n) as usize..]
 }
 
-/// The first part that bytes fail to hold, if they are no dictionary. It takes no memory. Ends and
-/// keys are read twice, and the store as `TermInfoStoreView::open` does.
+/// Returns the first corrupt part, if bytes hold no dictionary. Reads ends and keys twice, and the store as
+/// `TermInfoStoreView::open` does. Never allocates.
 pub(crate) fn first_damaged_part(bytes: &[u8]) -> Option<Part>
     ensures { MatchOption result (IsOk (dictionary bytes.now)) (λ part. dictionary bytes.now ≡ Err part) }
 {
@@ -158,7 +158,7 @@ pub(crate) fn first_damaged_part(bytes: &[u8]) -> Option<Part>
     None
 }
 
-// The store after the keys of a dictionary.
+// Opens the store after the keys of a dictionary.
 fn view_of<'a>(parts: &KeyParts<'a>) -> TermInfoStoreView<'a>
     requires { AreOpened parts.now.num_terms parts.now.ends.now parts.now.body.now }
     ensures value { term_store (store_after parts.now.num_terms parts.now.ends.now parts.now.body.now) ≡ Some result }
@@ -167,7 +167,7 @@ fn view_of<'a>(parts: &KeyParts<'a>) -> TermInfoStoreView<'a>
     TermInfoStoreView::over(store_of(parts.num_terms, parts.ends, parts.body))
 }
 
-/// The parts of a dictionary.
+/// Returns the parts of a dictionary.
 pub(crate) fn opened(bytes: &[u8]) -> KeyParts<'_>
     requires { IsOk (dictionary bytes.now) }
     ensures valid { AreOpened result.num_terms result.ends.now result.body.now }
@@ -179,7 +179,7 @@ pub(crate) fn opened(bytes: &[u8]) -> KeyParts<'_>
     }
 }
 
-// The place of a key, if a term has it: a binary search.
+// Searches for the ordinal of a key by binary search.
 fn find(n: u64, ends: &[u8], body: &[u8], key: &[u8]) -> Option<u64>
     requires { AreOpened n ends.now body.now }
     ensures within { IfSome result (λ ord. ord < n) }
@@ -199,7 +199,7 @@ fn find(n: u64, ends: &[u8], body: &[u8], key: &[u8]) -> Option<u64>
     None
 }
 
-/// What is kept under a key of a dictionary.
+/// Returns the term info of a key of a dictionary.
 pub(crate) fn get(bytes: &[u8], key: &[u8]) -> Option<TermInfo>
     requires { IsOk (dictionary bytes.now) }
     ensures { IfOk (dictionary bytes.now) (λ entries. result ≡ info_under key.now entries) }
@@ -211,7 +211,7 @@ pub(crate) fn get(bytes: &[u8], key: &[u8]) -> Option<TermInfo>
     }
 }
 
-/// How many terms a dictionary has.
+/// Returns the number of terms of a dictionary.
 pub(crate) fn count_terms(bytes: &[u8]) -> u64
     requires { IsOk (dictionary bytes.now) }
     ensures { IfOk (dictionary bytes.now) (λ entries. result ≡ length entries) }
@@ -219,7 +219,7 @@ pub(crate) fn count_terms(bytes: &[u8]) -> u64
     opened(bytes).num_terms
 }
 
-/// The key at a place of a dictionary.
+/// Returns the key at an ordinal of a dictionary.
 pub(crate) fn key_at(bytes: &[u8], ord: u64) -> &[u8]
     requires { IsOkAnd (dictionary bytes.now) (λ entries. ord < length entries) }
     ensures { IfOk (dictionary bytes.now) (λ entries. slice_get (entry_keys entries) ord ≡ Some result.now) }
@@ -228,7 +228,7 @@ pub(crate) fn key_at(bytes: &[u8], ord: u64) -> &[u8]
     read_key(parts.num_terms, parts.ends, parts.body, ord)
 }
 
-/// What is kept of the term at a place of a dictionary.
+/// Returns the term info at an ordinal of a dictionary.
 pub(crate) fn value_at(bytes: &[u8], ord: u64) -> TermInfo
     requires { IsOkAnd (dictionary bytes.now) (λ entries. ord < length entries) }
     ensures { IfOk (dictionary bytes.now) (λ entries. slice_get (entry_infos entries) ord ≡ Some result) }

@@ -1,4 +1,4 @@
-//! Keys in order, each with what is kept of its term: written, opened whole, and looked up.
+//! Maps sorted keys to term infos: writing, opening with complete validation, and lookup.
 #![tactic(auto)]
 
 pub mod builder;

@@ -6,7 +6,7 @@ use crate::key_parts::{count_terms, key_at, value_at};
 use ii_termstore::TermInfo;
 use std::marker::Model;
 
-/// Goes over the terms of a dictionary in order. Clauses see all entries, and how many were passed.
+/// Iterates over the terms of a dictionary in order. The model is all entries, and how many were passed.
 #[derive(Drop)]
 pub struct TermStreamer<'a> {
     bytes: &'a [u8],
@@ -27,7 +27,7 @@ impl<'a> Model for TermStreamer<'a> {
 }
 
 impl<'a> TermStreamer<'a> {
-    // A streamer that passed nothing yet, over the bytes of a dictionary.
+    // Creates a streamer before the first term of a dictionary.
     pub(crate) fn new(bytes: &'a [u8]) -> TermStreamer<'a>
         requires { IsOk (dictionary bytes.now) }
         ensures passed { result.passed ≡ 0 }
@@ -36,7 +36,7 @@ impl<'a> TermStreamer<'a> {
         TermStreamer { bytes, passed: 0 }
     }
 
-    /// Goes on to the next term, and answers whether there is one; else nothing changes.
+    /// Moves to the next term and returns whether there is one; if not, nothing changes.
     pub fn advance(&mut self) -> bool
         ensures found { result ≡ nat_lt self.old.passed (length self.old.entries) }
         ensures passed { self.new ≡ record self.old { passed = if result then self.old.passed + 1 else self.old.passed } }
@@ -49,8 +49,8 @@ impl<'a> TermStreamer<'a> {
         true
     }
 
-    /// The key of the term that was passed last. It asks for an `advance` that answered true; after the
-    /// end it is the last key, since an `advance` that answers false changes nothing.
+    /// Returns the key of the term that was passed last. An earlier `advance` must have returned true. After
+    /// the end it is the last key.
     pub fn key(&self) -> &'a [u8]
         requires { 0 < self.now.passed }
         ensures { slice_get (entry_keys self.now.entries) (self.now.passed - 1) ≡ Some result.now }
@@ -58,7 +58,7 @@ impl<'a> TermStreamer<'a> {
         key_at(self.bytes, self.passed - 1)
     }
 
-    /// What is kept of the term that was passed last. It asks what `key` does.
+    /// Returns the term info of the term that was passed last. An earlier `advance` must have returned true.
     pub fn value(&self) -> TermInfo
         requires { 0 < self.now.passed }
         ensures { slice_get (entry_infos self.now.entries) (self.now.passed - 1) ≡ Some result }
@@ -66,7 +66,7 @@ impl<'a> TermStreamer<'a> {
         value_at(self.bytes, self.passed - 1)
     }
 
-    /// The next term, if there is one: its key and what is kept of it.
+    /// Returns the key and the term info of the next term, if there is one.
     pub fn next(&mut self) -> Option<(&'a [u8], TermInfo)>
         ensures key { option_map (λ term. term.0.now) result ≡ slice_get (entry_keys self.old.entries) self.old.passed }
         ensures value { option_map (λ term. term.1) result ≡ slice_get (entry_infos self.old.entries) self.old.passed }

@@ -11,13 +11,12 @@ use ii_io::Fault;
 use ii_termstore::{TermInfo, TermOrdinal};
 use std::marker::Model;
 
-/// Keys in order, each with what is kept of its term, over bytes that were checked whole. Clauses see
-/// the list of pairs.
+/// Maps sorted keys to term infos, over bytes that were validated completely. The model is the list of pairs.
 pub struct TermDictionary {
     bytes: Bytes,
 }
 
-// So that each drop is a call.
+// A drop has to be a call.
 impl Drop for TermDictionary {
     fn drop(self) {
         let TermDictionary { bytes: _ } = self;
@@ -37,20 +36,27 @@ impl Model for TermDictionary {
     ghost invariant = { λ d. IsOk (dictionary d.bytes) };
 }
 
-// How many bytes a dictionary of no terms takes: the numbers of its keys, of its metas' bytes and of its
+// The number of bytes of an empty dictionary: the number of keys, the length of the metas, and the number of
 // terms.
 const EMPTY_SIZE: usize = 24;
 
 static NO_TERMS: [u8; EMPTY_SIZE] = [0; EMPTY_SIZE];
 
 impl TermDictionary {
-    /// Opens a dictionary: the number of terms and for each the end of its key, 8 bytes each with the
-    /// lowest first, then the keys, then the term store.
+    /// Opens a dictionary. Never allocates.
     ///
-    /// `Damaged(Dictionary)` where bytes are missing, ends decrease or keys don't ascend strictly by their
-    /// bytes; else `Damaged(TermStore)` where the store is damaged; else `Damaged(Dictionary)` where it
-    /// has another number of terms. It takes no memory, and time by the number of terms that the bytes
-    /// tell and the bytes of their keys; metas of the store may name the same bits.
+    /// The bytes are the number of terms and the end of each key, 8 bytes each and little-endian, then the
+    /// keys, then the term store.
+    ///
+    /// The time depends on the number of terms in the header and on the bytes of their keys. Metas of the
+    /// store may refer to the same bits.
+    ///
+    /// # Errors
+    ///
+    /// * `Damaged(Dictionary)` if bytes are missing, ends decrease, or keys don't ascend strictly by their
+    ///   bytes.
+    /// * Else `Damaged(TermStore)` if the store is corrupt.
+    /// * Else `Damaged(Dictionary)` if the store has another number of terms.
     pub fn open(bytes: Bytes) -> Result<TermDictionary, Fault>
         ensures opened { IfOk result (λ terms. dictionary bytes ≡ Ok terms) }
         ensures damaged { IfErr result (λ e. (part : Part) × (e ≡ Fault.Damaged part) × (dictionary bytes ≡ Err part)) }
@@ -61,7 +67,7 @@ impl TermDictionary {
         }
     }
 
-    /// A dictionary of no terms.
+    /// Creates an empty dictionary.
     pub fn empty() -> TermDictionary
         ensures { result ≡ [] }
     {
@@ -70,21 +76,21 @@ impl TermDictionary {
         }
     }
 
-    /// What is kept under a key. It takes no memory.
+    /// Returns the term info of a key. Never allocates.
     pub fn get(&self, key: &[u8]) -> Option<TermInfo>
         ensures { result ≡ info_under key.now self.now }
     {
         get(self.bytes.as_slice(), key)
     }
 
-    /// How many terms there are.
+    /// Returns the number of terms.
     pub fn num_terms(&self) -> usize
         ensures { result ≡ length self.now }
     {
         count_terms(self.bytes.as_slice()) as usize
     }
 
-    /// The key at a place, which is below the number of terms.
+    /// Returns the key at an ordinal, which must be less than the number of terms.
     pub fn key(&self, ord: TermOrdinal) -> &[u8]
         requires { ord < length self.now }
         ensures { slice_get (entry_keys self.now) ord ≡ Some result.now }
@@ -92,8 +98,8 @@ impl TermDictionary {
         key_at(self.bytes.as_slice(), ord)
     }
 
-    /// Puts the key at a place into `bytes`, and answers whether there is one; else `bytes` is empty,
-    /// and so it is where memory is missing.
+    /// Copies the key at an ordinal into `bytes`, and returns whether there is one. If not, or if an
+    /// allocation fails, `bytes` is empty.
     pub fn ord_to_term(&self, ord: TermOrdinal, bytes: &mut Vec<u8>) -> Result<bool, Fault>
         ensures found { IfOk result (λ found. found ≡ nat_lt ord (length self.now)) }
         ensures key { IfOk result (λ found. bytes.new.items ≡ unwrap_or (slice_get (entry_keys self.now) ord) []) }
@@ -108,7 +114,7 @@ impl TermDictionary {
         Ok(true)
     }
 
-    /// The terms in order: each key is below all later ones by its bytes.
+    /// Iterates over the terms in ascending order of the bytes of their keys.
     #[tactic(auto, using(crate::proofs::OrderLemmas::keys_are_ascending))]
     pub fn stream(&self) -> TermStreamer<'_>
         ensures terms { result ≡ record { entries = self.now; passed = 0 } }

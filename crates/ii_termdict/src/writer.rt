@@ -17,12 +17,12 @@ use std::alloc::Global;
 use std::io::Write;
 use std::marker::Model;
 
-/// Gathers the terms of a dictionary, and writes them: keys in ascending order, each followed by what
-/// is kept of its term. Clauses see the keys, the terms, and whether an earlier call was refused.
+/// Gathers the terms of a dictionary, and writes them: keys in ascending order, each followed by its term
+/// info. The model is the keys, the terms, and whether an earlier call failed.
 ///
-/// It keeps the bytes of the keys, 8 bytes more for each, and of the terms what `TermInfoStoreWriter`
-/// does. It is closed by the first call that is refused, and answers `SerializerClosed` from then on;
-/// of a closed one nothing is asked.
+/// It keeps the bytes of the keys, 8 bytes more for each, and what `TermInfoStoreWriter` keeps of the terms.
+///
+/// The first error closes it: each further call returns `SerializerClosed`, and has no preconditions.
 pub struct TermDictionaryWriter {
     key_bytes: Vec<u8>,
     ends: Vec<u64>,
@@ -30,7 +30,7 @@ pub struct TermDictionaryWriter {
     is_closed: bool,
 }
 
-// So that each drop is a call.
+// A drop has to be a call.
 impl Drop for TermDictionaryWriter {
     fn drop(self) {
         let TermDictionaryWriter {
@@ -56,7 +56,7 @@ impl Model for TermDictionaryWriter {
 }
 
 impl TermDictionaryWriter {
-    /// A writer that has no terms.
+    /// Creates a writer without terms.
     pub fn new(alloc: Global) -> TermDictionaryWriter
         ensures { result ≡ record { keys = []; infos = []; closed = false } }
     {
@@ -68,10 +68,10 @@ impl TermDictionaryWriter {
         }
     }
 
-    /// Adds a key, which is above the key before it by its bytes; its value follows, and that of the
-    /// key before it is there.
+    /// Adds a key, which must be greater than the previous key by its bytes. The previous key must have its
+    /// value.
     ///
-    /// `OutOfMemory` where the keys can't grow; `SerializerClosed` after an earlier refusal.
+    /// Returns `OutOfMemory` if the keys can't grow; `SerializerClosed` after an earlier error.
     pub fn insert_key(&mut self, key: &[u8]) -> Result<(), Fault>
         requires ascending { self.old.closed ≡ false → AreAscending (self.old.keys ++ key.now ∷ []) }
         requires whole { self.old.closed ≡ false → length self.old.keys ≡ length self.old.infos }
@@ -88,10 +88,10 @@ impl TermDictionaryWriter {
         added
     }
 
-    /// Adds what is kept of the term whose key was added last. Its ranges begin where those of the
-    /// term before it end, and have lengths that fit `u32`.
+    /// Adds the term info of the key that was added last. Its ranges must begin where those of the previous
+    /// term end, and their lengths must fit in `u32`.
     ///
-    /// `OutOfMemory` where the terms can't grow; `SerializerClosed` after an earlier refusal.
+    /// Returns `OutOfMemory` if the terms can't grow; `SerializerClosed` after an earlier error.
     pub fn insert_value(&mut self, term_info: &TermInfo) -> Result<(), Fault>
         requires lengths { self.old.closed ≡ false → HasLengths term_info.now }
         requires joined { self.old.closed ≡ false → AreJoined (self.old.infos ++ term_info.now ∷ []) }
@@ -109,12 +109,14 @@ impl TermDictionaryWriter {
         added
     }
 
-    /// Writes the dictionary of all terms, after whose last key its value was added. Opened again it
-    /// holds these keys and terms.
+    /// Writes the dictionary of all terms, which opens as these keys and terms. The last key must have its
+    /// value. Never allocates.
     ///
-    /// `Write` where the writer fails, `Limit(Offset)` where a count of the writer would pass
-    /// `u64::MAX`: a prefix of the dictionary is then written. `SerializerClosed` after an earlier
-    /// refusal, and nothing is written. It takes no memory.
+    /// # Errors
+    ///
+    /// * `Write` if the writer fails; a prefix of the dictionary is then written.
+    /// * `Limit(Offset)` if a count of the writer would exceed `u64::MAX`; a prefix is then written.
+    /// * `SerializerClosed` after an earlier error; nothing is then written.
     pub fn finish<W: Write>(&mut self, writer: &mut CountingWriter<W>) -> Result<(), Fault>
         requires whole { self.old.closed ≡ false → length self.old.keys ≡ length self.old.infos }
         ensures written { WritesUnlessClosed self.old.closed writer.old writer.new (written_dictionary self.old.keys self.old.infos) result }
@@ -131,7 +133,7 @@ impl TermDictionaryWriter {
     }
 }
 
-// Adds a key after the others, and where it ends. Where memory is missing both stay as they were.
+// Appends a key and its end. After an allocation failure both lists are unchanged.
 fn add_key(key_bytes: &mut Vec<u8>, ends: &mut Vec<u64>, key: &[u8]) -> Result<(), Fault>
     ensures bytes { OnOk result (key_bytes.new.items ≡ key_bytes.old.items ++ key.now) }
     ensures ends { OnOk result (ends.new.items ≡ ends.old.items ++ length key_bytes.new.items ∷ []) }
@@ -171,7 +173,7 @@ fn put_dictionary<W: Write>(
     term_infos.serialize(writer)
 }
 
-// Writes all that stands before the store.
+// Writes everything before the store.
 fn put_keys<W: Write>(
     ends: &[u64],
     key_bytes: &[u8],
@@ -203,7 +205,7 @@ fn put_number<W: Write>(n: u64, writer: &mut CountingWriter<W>) -> Result<(), Fa
     n.serialize(writer)
 }
 
-// Writes numbers, 8 bytes each.
+// Writes numbers in 8 bytes each.
 fn put_numbers<W: Write>(numbers: &[u64], writer: &mut CountingWriter<W>) -> Result<(), Fault>
     ensures { Writes writer.old writer.new (flat_map (le_bytes 8) numbers.now) result }
 {

@@ -1,5 +1,5 @@
--- What is read of a block.
-use Rattle.ii_termstore.specs.ListLemmas.{not_all}
+-- What is read from a block.
+use Rattle.ii_termstore.proofs.ListLemmas.{not_all}
 use Rattle.std.specs.List.{list_all, range_with_len}
 use Rattle.std.proofs.Common.{◌≡◌, ◌≤◌, ◌∙◌, ℕ, zero, suc, ◌+◌, ◌-◌, ◌*◌, ◌^◌, ◌<◌, Bool, true, false, ◌&&◌, List, length, Option, Some, None, eqb, nat_le, nat_lt, refl, sym, arith, ⊎_elim}
 use Rattle.std.proofs.Math.Bool.{and_comm}
@@ -28,7 +28,7 @@ term_lies m terms size k lie some within wide =
     let least : 8 * m.offset + ((terms - 1) * term_bits m + m.postings_offset_nbits + m.positions_offset_nbits) ≤ 8 * size = leb-true (8 * m.offset + block_bits m terms) (8 * size) (rw (more, bits) at lie) in
     omega arith
 
--- as the code tells a range after a first place
+-- the range after a first offset, as the code tests it
 abbrev pub range_test : ℕ → ℕ → ℕ → Bool
 range_test f s e = nat_le s e && nat_lt (e - s) (2 ^ 32) && nat_lt (f + e) (2 ^ 64)
 
@@ -112,7 +112,7 @@ pub block-sound : (m : Meta) (terms : ℕ) (bits : List ℕ) → widths_fit m �
 unfolding is_block
 block-sound m terms bits w l h = rw (w, l, h) refl
 
--- what a look at one term tells
+-- what the test of one term says
 pub sound-some : (i j : TermInfo) → (if is_sound i then Some i else None) ≡ Some j → (is_sound i ≡ true) × (j ≡ i)
 sound-some i j h = some_cases i j (is_sound i) refl h
   where

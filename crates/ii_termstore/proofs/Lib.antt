@@ -7,3 +7,5 @@ pub mod PieceLemmas
 pub mod RowLemmas
 pub mod ReadStoreLemmas
 pub mod GatherLemmas
+pub mod ListLemmas
+pub mod ReadBackLemmas

@@ -6,7 +6,7 @@ use Rattle.std.proofs.Math.Seq.{take-append-add}
 use Rattle.std.proofs.lemmas.List.{take-append-le, map_more, take_more, flat_map_more, length-take-le, take_all}
 use Rattle.ii_codes.specs.Packed.{entries_in}
 use Rattle.ii_codes.specs.Bits.{low_bits, whole_bytes, bits_left, bits_bytes, WritesOneRow}
-use Rattle.ii_codes.specs.BitsLemmas.{length-low_bits, length-bits_left}
+use Rattle.ii_codes.proofs.BitsLemmas.{length-low_bits, length-bits_left}
 use Rattle.ii_termstore.specs.declared.term_info.TermInfo.{TermInfo}
 use Rattle.ii_termstore.specs.declared.term_info_store.block_meta.TermInfoBlockMeta.{TermInfoBlockMeta as Meta}
 use Rattle.ii_termstore.specs.TermInfos.{term_info_from}

@@ -1,5 +1,5 @@
--- A piece among pieces that stand one after the other.
-use Rattle.ii_termstore.specs.ListLemmas.{after_front}
+-- A piece among pieces that follow each other.
+use Rattle.ii_termstore.proofs.ListLemmas.{after_front}
 use Rattle.std.proofs.Common.{◌≡◌, ℕ, zero, suc, ◌+◌, ◌-◌, ◌*◌, ◌<◌, ◌≤◌, List, ◌++◌, length, drop, refl, sym, ap, ◌∙◌, arith, length-append}
 use Rattle.std.specs.List.{flat_map, range_with_len}
 use Rattle.std.proofs.Math.Nat.{zero-mul, suc-mul}

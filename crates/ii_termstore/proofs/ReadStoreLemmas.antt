@@ -1,4 +1,4 @@
--- What is written of a store is read back.
+-- A written store reads back.
 use Rattle.std.proofs.Common.{◌≡◌, ℕ, zero, suc, ◌+◌, ◌-◌, ◌*◌, ◌/◌, ◌%◌, ◌^◌, ◌<◌, ◌≤◌, true, false, ◌||◌, List, [], ◌∷◌, ◌++◌, length, drop, map, get_or, max, nat_le, eqb, Some, refl, sym, ap, ◌∙◌, arith, length-append, length-drop}
 use Rattle.std.specs.List.{range_with_len}
 use Rattle.std.proofs.lemmas.Bool.{le-leb, lt-ltb, eq-eqb, ne_eqb}
@@ -16,11 +16,11 @@ use Rattle.ii_termstore.specs.TermStore.{meta_bytes, term_bits, block_bits, bloc
 use Rattle.ii_termstore.specs.TermStoreLemmas.{length_meta_bytes, reads_meta_back}
 use Rattle.ii_termstore.specs.Written.{first_of, last_of, largest, postings_after, positions_after, postings_end, positions_end, meta_for, block_row, terms_of_block, bits_of_block, offset_of, meta_at_block, metas_bytes, blocks_bytes, written_store, info_in, FitsBlock}
 use Rattle.ii_termstore.specs.ReadBack.{AreJoined, AreStorable, ReadsStoreBack}
-use Rattle.ii_codes.specs.BitsLemmas.{length-bits_bytes}
+use Rattle.ii_codes.proofs.BitsLemmas.{length-bits_bytes}
 use Rattle.ii_termstore.proofs.PackLemmas.{length-block_row}
 use Rattle.ii_termstore.proofs.WriterLemmas.{first_is, terms_fit, ends_fit}
 use Rattle.ii_termstore.proofs.PieceLemmas.{piece_at, length-pieces, pieces_le}
-use Rattle.ii_termstore.specs.ListLemmas.{append_assoc-five, all_pass}
+use Rattle.ii_termstore.proofs.ListLemmas.{append_assoc-five, all_pass}
 use Rattle.ii_termstore.proofs.RowLemmas.{Follow, later_is}
 use Rattle.std.proofs.Math.Bool.{or-true}
 
@@ -77,7 +77,7 @@ sound i h =
       lt-ltb i.positions_range.end (2 ^ 64) range.positions,
     ) refl
 
--- no term begins before one that stands before it
+-- no term begins before an earlier one
 rises : (infos : List TermInfo) → AreStorable infos → AreJoined infos → (i m : ℕ) → i + m < length infos
     → ((info_in infos i).postings_range.start ≤ (info_in infos (i + m)).postings_range.start) × ((info_in infos i).positions_range.start ≤ (info_in infos (i + m)).positions_range.start)
 rises infos h j i zero within = let same : i + 0 ≡ i = omega arith in rw same (omega arith, omega arith)
@@ -178,7 +178,7 @@ record IsMetaOf (infos : List TermInfo) (b : ℕ) (m : Meta) : Type 0 where
   pub fits : FitsBlock m (others_of infos b)
   pub bits : bits_of_block infos b ≡ bits_bytes (block_row m (others_of infos b))
 
--- What stands of the largest numbers of a block.
+-- What holds for the largest numbers of a block.
 record AreLow (first : TermInfo) (others : List TermInfo) : Type 0 where
   pub doc_freq : largest (map (λ (i : TermInfo). i.doc_freq) others) < 2 ^ 32
   pub postings : max (largest (map (postings_after first) others)) (postings_end first others) < 2 ^ 56
@@ -229,7 +229,7 @@ meta_is widths infos b low =
       bits = refl;
     }
 
--- What stands of a store's metas and bits: those of block b, and what follows.
+-- The metas and bits of a store: those of block b, and what follows.
 abbrev metas_and : List TermInfo → List ℕ → List ℕ
 metas_and infos bits = metas_bytes infos (block_count (length infos)) ++ bits
 

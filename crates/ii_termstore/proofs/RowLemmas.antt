@@ -10,11 +10,11 @@ use Rattle.ii_termstore.specs.declared.term_info_store.block_meta.TermInfoBlockM
 use Rattle.ii_termstore.specs.TermInfos.{term_info_from}
 use Rattle.ii_termstore.specs.TermStore.{term_bits, postings_at, positions_start, doc_freq_at, later_info}
 use Rattle.ii_termstore.specs.Written.{term_row, block_row, info_in, last_of, postings_after, positions_after, postings_end, positions_end, FitsWidths, EndsFit, HaveLengths}
-use Rattle.ii_codes.specs.BitsLemmas.{length-low_bits}
+use Rattle.ii_codes.proofs.BitsLemmas.{length-low_bits}
 use Rattle.ii_termstore.proofs.PackLemmas.{length-rows, last_of-get_or}
-use Rattle.ii_termstore.specs.ListLemmas.{flat_around}
+use Rattle.ii_termstore.proofs.ListLemmas.{flat_around}
 
--- Two numbers stand at a place, one after the other, in the widths of a block.
+-- Two numbers are at a place, one after the other, in the widths of a block.
 pub record StandAt (m : Meta) (bits : List ℕ) (place p q : ℕ) : Type 0 where
   pub postings : bits_in 8 bits place m.postings_offset_nbits ≡ p
   pub positions : bits_in 8 bits (place + m.postings_offset_nbits) m.positions_offset_nbits ≡ q
@@ -138,7 +138,7 @@ next_stands law m others j rest h fits ends follow =
     })
     (cases_lt (suc j) (length others))
 
--- what is read of two numbers that stand at a place
+-- what is read of two numbers at a place
 at_place : (m : Meta) (bits seen : List ℕ) (k j p q : ℕ) → drop m.offset bits ≡ seen → k - 1 ≡ j → StandAt m seen (j * term_bits m) p q
     → (postings_at m bits k ≡ m.ref_term_info.postings_range.start + p) × (positions_start m bits k ≡ m.ref_term_info.positions_range.start + q)
 at_place m bits seen k j p q e b s = (

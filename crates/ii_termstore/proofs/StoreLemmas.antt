@@ -1,4 +1,4 @@
--- What is read of a store.
+-- What is read from a store.
 use Rattle.std.proofs.lemmas.Bool.{and_parts}
 use Rattle.std.proofs.Common.{◌≡◌, ℕ, ◌/◌, ◌%◌, ◌<◌, Bool, true, false, ◌&&◌, List, length, map, Option, Some, None, refl, sym, ap, ◌∙◌, arith}
 use Rattle.std.specs.Prelude.{IsSome, slice_get}
@@ -10,7 +10,7 @@ use Rattle.ii_termstore.specs.declared.term_info.TermInfo.{TermInfo}
 use Rattle.ii_termstore.specs.declared.term_info_store.block_meta.TermInfoBlockMeta.{TermInfoBlockMeta as Meta}
 use Rattle.ii_termstore.specs.TermInfos.{is_sound}
 use Rattle.ii_termstore.specs.TermStore.{block_info, block_count, block_terms, widths_fit, bits_lie, is_block, block_meta_at, has_block, are_blocks, term_info_at, store_parts, term_store}
-use Rattle.ii_termstore.specs.ListLemmas.{all_at, not_all}
+use Rattle.ii_termstore.proofs.ListLemmas.{all_at, not_all}
 
 -- What a valid block meets.
 pub block_parts : (m : Meta) (terms : ℕ) (bits : List ℕ) → is_block m terms bits ≡ true

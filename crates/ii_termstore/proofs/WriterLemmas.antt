@@ -6,7 +6,7 @@ use Rattle.ii_termstore.specs.declared.term_info.TermInfo.{TermInfo}
 use Rattle.ii_termstore.specs.declared.term_info_store.block_meta.TermInfoBlockMeta.{TermInfoBlockMeta as Meta}
 use Rattle.ii_termstore.specs.TermInfos.{term_info_from}
 use Rattle.ii_termstore.specs.Written.{info_in, first_of, largest, postings_after, positions_after, terms_of_block, FitsWidths, EndsFit, FitsBlock}
-use Rattle.ii_termstore.specs.ListLemmas.{range_more}
+use Rattle.ii_termstore.proofs.ListLemmas.{range_more}
 
 -- pieces one after the other
 pub flat_more : (f : ℕ → List ℕ) (b : ℕ) → flat_map f (range_with_len 0 (b + 1)) ≡ flat_map f (range_with_len 0 b) ++ f b

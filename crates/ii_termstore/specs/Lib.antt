@@ -1,6 +1,4 @@
-pub mod ListLemmas
 pub mod ReadBack
-pub mod ReadBackLemmas
 pub mod TermInfoLemmas
 pub mod TermInfoStoreWriter
 pub mod TermInfos

@@ -1,4 +1,4 @@
--- A writer of a store: the terms that it was given, and whether a call was refused.
+-- A writer of a store: the terms that it was given, and whether a call failed.
 use Rattle.std.specs.Prelude.{Bool, ℕ, ◌≡◌, ◌*◌, ◌/◌, ◌<◌, List, [], ◌∷◌, length, drop}
 use Rattle.ii_codes.specs.Bits.{bits_bytes}
 use Rattle.ii_termstore.specs.declared.term_info.TermInfo.{TermInfo}
@@ -12,7 +12,7 @@ pub record TermInfoStoreWriterState : Type 0 where
   pub infos : List TermInfo
   pub closed : Bool
 
--- The full blocks of the terms stand in bytes, their metas and their bits, and the terms after them are kept.
+-- The full blocks of the terms are kept as metas and bits, and the terms after them as they are.
 pub record AreGathered (infos : List TermInfo) (num_terms : ℕ) (block_metas block_bits : List ℕ) (open_block : List TermInfo) : Type 0 where
   pub count : num_terms ≡ length infos
   pub metas : block_metas ≡ metas_bytes infos (length infos / BLOCK_LEN)
@@ -25,7 +25,7 @@ pub record AreSound (infos : List TermInfo) : Type 0 where
   pub ranges : (k : ℕ) → k < length infos → IsInRange (info_in infos k)
   pub joined : AreJoined infos
 
--- the meta and the bits of a block that begins at an offset, nothing for no terms
+-- the meta and the bits of a block that begins at an offset, or nothing if it has no terms
 abbrev pub open_meta : ℕ → List TermInfo → List ℕ
 open_meta offset [] = []
 open_meta offset (first ∷ others) = meta_bytes (meta_for offset first others)

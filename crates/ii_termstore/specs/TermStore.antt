@@ -1,4 +1,4 @@
--- A list of term infos in blocks of BLOCK_LEN: the first of a block whole, the others in as few bits as the block needs.
+-- Term infos in blocks of BLOCK_LEN: the first one complete, the others in as few bits as the block needs.
 use Rattle.std.specs.Prelude.{ℕ, ◌+◌, ◌-◌, ◌*◌, ◌/◌, ◌%◌, Bool, false, ◌&&◌, ◌||◌, List, ◌∷◌, [], ◌++◌, map, drop, length, min, nat_le, ◌==◌, if◌then◌else◌, Option, Some, unwrap_or}
 use Rattle.std.specs.List.{list_all, range_with_len}
 use Rattle.std.specs.Option.{option_map}
@@ -11,15 +11,15 @@ use Rattle.ii_termstore.specs.declared.term_info_store.block_meta.TermInfoBlockM
 use Rattle.ii_termstore.specs.declared.term_info_store.block_meta.TheConstants.{MAX_DOC_FREQ_NBITS, MAX_OFFSET_NBITS}
 use Rattle.ii_termstore.specs.TermInfos.{term_info_from, info_bytes, info_at, is_sound}
 
--- how many bytes stand of a block beside its bits
+-- the number of bytes of a block's meta
 abbrev pub meta_size : ℕ
 meta_size = 39
 
--- those bytes: where the bits begin, the first term, and how many bits the numbers of the others take
+-- the bytes of a meta: where the bits begin, the first term, and the bit widths of the other terms' numbers
 unfoldable pub meta_bytes : Meta → List ℕ
 meta_bytes m = le_bytes 8 m.offset ++ info_bytes m.ref_term_info ++ m.doc_freq_nbits ∷ m.postings_offset_nbits ∷ m.positions_offset_nbits ∷ []
 
--- the meta in the bytes in front, and the bytes after it
+-- the meta at the front of bytes, and the bytes after it
 unfoldable pub meta_at : List ℕ → Option (Meta × List ℕ)
 meta_at bytes = do
   offset ← number_at 8 bytes
@@ -29,23 +29,23 @@ meta_at bytes = do
   positions ← number_at 1 postings.1
   Some (record { offset = offset.0; ref_term_info = first.0; doc_freq_nbits = doc_freq.0; postings_offset_nbits = postings.0; positions_offset_nbits = positions.0 }, positions.1)
 
--- the bits of a term after the first of its block, and of a block of so many terms
+-- the number of bits of a term after the first of its block
 abbrev pub term_bits : Meta → ℕ
 term_bits m = m.postings_offset_nbits + m.positions_offset_nbits + m.doc_freq_nbits
 
--- how many bits a block of so many terms takes
+-- the number of bits of a block of a number of terms
 abbrev pub block_bits : Meta → ℕ → ℕ
 block_bits m terms = (terms - 1) * term_bits m + m.postings_offset_nbits + m.positions_offset_nbits
 
--- Where the postings and the positions of term k of a block begin, k being at least 1, counted from the first term's. After the last term stands where they end.
+-- where the postings of term k >= 1 begin, relative to the first term's; after the last term, where they end
 abbrev pub postings_number : Meta → List ℕ → ℕ → ℕ
 postings_number m bits k = bits_in 8 (drop m.offset bits) ((k - 1) * term_bits m) m.postings_offset_nbits
 
--- the same of positions
+-- the same for positions
 abbrev pub positions_number : Meta → List ℕ → ℕ → ℕ
 positions_number m bits k = bits_in 8 (drop m.offset bits) ((k - 1) * term_bits m + m.postings_offset_nbits) m.positions_offset_nbits
 
--- the same counted from 0, and in how many documents the term is
+-- the same for postings, from 0
 abbrev pub postings_at : Meta → List ℕ → ℕ → ℕ
 postings_at m bits k = m.ref_term_info.postings_range.start + postings_number m bits k
 
@@ -53,7 +53,7 @@ postings_at m bits k = m.ref_term_info.postings_range.start + postings_number m 
 abbrev pub positions_start : Meta → List ℕ → ℕ → ℕ
 positions_start m bits k = m.ref_term_info.positions_range.start + positions_number m bits k
 
--- in how many documents term k is
+-- the document frequency of term k
 abbrev pub doc_freq_at : Meta → List ℕ → ℕ → ℕ
 doc_freq_at m bits k = bits_in 8 (drop m.offset bits) ((k - 1) * term_bits m + m.postings_offset_nbits + m.positions_offset_nbits) m.doc_freq_nbits
 
@@ -61,31 +61,31 @@ doc_freq_at m bits k = bits_in 8 (drop m.offset bits) ((k - 1) * term_bits m + m
 unfoldable pub later_info : Meta → List ℕ → ℕ → TermInfo
 later_info m bits k = term_info_from (doc_freq_at m bits k) (postings_at m bits k) (postings_at m bits (k + 1)) (positions_start m bits k) (positions_start m bits (k + 1))
 
--- term k of a block; the first one has its own lengths
+-- term k of a block; the first one has its own ranges
 abbrev pub block_info : Meta → List ℕ → ℕ → TermInfo
 block_info m bits k = if k == 0 then m.ref_term_info else later_info m bits k
 
--- how many blocks so many terms have, and how many terms a block has
+-- the number of blocks of a number of terms
 abbrev pub block_count : ℕ → ℕ
 block_count terms = (terms + (BLOCK_LEN - 1)) / BLOCK_LEN
 
--- how many terms block b has
+-- the number of terms of block b
 abbrev pub block_terms : ℕ → ℕ → ℕ
 block_terms terms b = min BLOCK_LEN (terms - BLOCK_LEN * b)
 
--- no width is too large for its number
+-- whether no width is too large for its number
 abbrev pub widths_fit : Meta → Bool
 widths_fit m = nat_le m.doc_freq_nbits MAX_DOC_FREQ_NBITS && nat_le m.postings_offset_nbits MAX_OFFSET_NBITS && nat_le m.positions_offset_nbits MAX_OFFSET_NBITS
 
--- the bits of a block of so many terms lie within so many bytes; one term needs none
+-- whether the bits of a block lie within a number of bytes; one term needs no bits
 abbrev pub bits_lie : Meta → ℕ → ℕ → Bool
 bits_lie m terms size = nat_le terms 1 || (block_bits m terms == 0) || nat_le (8 * m.offset + block_bits m terms) (8 * size)
 
--- a block of so many terms is valid
+-- whether a block of a number of terms is valid
 unfoldable pub is_block : Meta → ℕ → List ℕ → Bool
 is_block m terms bits = widths_fit m && bits_lie m terms (length bits) && list_all (λ k. is_sound (block_info m bits k)) (range_with_len 0 terms)
 
--- what stands at the place of block b
+-- the meta of block b
 unfoldable pub block_meta_at : List ℕ → ℕ → Option Meta
 block_meta_at metas b = option_map (λ found. found.0) (meta_at (drop (meta_size * b) metas))
 
@@ -93,11 +93,11 @@ block_meta_at metas b = option_map (λ found. found.0) (meta_at (drop (meta_size
 abbrev pub has_block : List ℕ → List ℕ → ℕ → ℕ → Bool
 has_block metas bits terms b = unwrap_or (option_map (λ m. is_block m (block_terms terms b) bits) (block_meta_at metas b)) false
 
--- term i of all, in its block
+-- term i of the store, in its block
 unfoldable pub term_info_at : List ℕ → List ℕ → ℕ → TermInfo
 term_info_at metas bits i = unwrap_or (option_map (λ m. block_info m bits (i % BLOCK_LEN)) (block_meta_at metas (i / BLOCK_LEN))) (term_info_from 0 0 0 0 0)
 
--- the number of terms, the metas and what stands after, and the bits
+-- the number of terms, the bytes from the metas on, and the bits
 unfoldable pub store_parts : List ℕ → Option (ℕ × List ℕ × List ℕ)
 store_parts bytes = do
   metas_len ← number_at 8 bytes

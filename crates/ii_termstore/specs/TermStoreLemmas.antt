@@ -8,7 +8,7 @@ use Rattle.ii_termstore.specs.TermInfos.{info_bytes, HasLengths, IsInRange}
 use Rattle.ii_termstore.specs.TermInfoLemmas.{reads_info_back, length_info_bytes}
 use Rattle.ii_termstore.specs.TermStore.{meta_size, meta_bytes, meta_at}
 
--- a byte in front
+-- a byte at the front
 pub number_at-byte : (b : ℕ) (rest : List ℕ) → number_at 1 (b ∷ rest) ≡ Some (b, rest)
 unfolding number_at
 number_at-byte b rest =

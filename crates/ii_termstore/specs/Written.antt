@@ -10,7 +10,7 @@ use Rattle.ii_termstore.specs.declared.term_info_store.block_meta.TermInfoBlockM
 use Rattle.ii_termstore.specs.TermInfos.{term_info_from, HasLengths}
 use Rattle.ii_termstore.specs.TermStore.{meta_size, meta_bytes, block_count}
 
--- At the front of a buffer stand so many bytes of a row of bits, and the packer holds the bits that are left.
+-- A buffer begins with the complete bytes of a row of bits, and the packer holds the remaining bits.
 pub record IsPacking (buffer : List ℕ) (count : ℕ) (pending row : List ℕ) : Type 0 where
   pub bytes : take count buffer ≡ whole_bytes row
   pub size : count ≡ length row / 8
@@ -26,28 +26,28 @@ abbrev pub last_of : TermInfo → List TermInfo → TermInfo
 last_of first [] = first
 last_of first (i ∷ is) = last_of i is
 
--- the largest of some numbers
+-- the largest number of a list
 abbrev pub largest : List ℕ → ℕ
 largest [] = 0
 largest (n ∷ ns) = max n (largest ns)
 
--- The numbers of a term, counted from the first of its block.
+-- where the postings of a term begin, relative to the first of its block
 abbrev pub postings_after : TermInfo → TermInfo → ℕ
 postings_after first i = i.postings_range.start - first.postings_range.start
 
--- how far the positions of a term begin behind those of the first
+-- where the positions of a term begin, relative to the first of its block
 abbrev pub positions_after : TermInfo → TermInfo → ℕ
 positions_after first i = i.positions_range.start - first.positions_range.start
 
--- where the last term of a block ends, counted likewise
+-- where the postings of a block end, relative to the first term's
 abbrev pub postings_end : TermInfo → List TermInfo → ℕ
 postings_end first others = (last_of first others).postings_range.end - first.postings_range.start
 
--- where the positions of a block end, counted from the first term's
+-- where the positions of a block end, relative to the first term's
 abbrev pub positions_end : TermInfo → List TermInfo → ℕ
 positions_end first others = (last_of first others).positions_range.end - first.positions_range.start
 
--- what stands beside the bits of a block: each width is that of the largest number
+-- the meta of a block: each width is that of the largest number
 unfoldable pub meta_for : ℕ → TermInfo → List TermInfo → Meta
 meta_for offset first others = record {
   offset = offset;
@@ -57,13 +57,13 @@ meta_for offset first others = record {
   positions_offset_nbits = num_bits (max (largest (map (positions_after first) others)) (positions_end first others));
 }
 
--- the bits of a term after the first, and of a block
+-- the bits of a term after the first
 abbrev pub term_row : Meta → TermInfo → List ℕ
 term_row m i =
     low_bits m.postings_offset_nbits (postings_after m.ref_term_info i) ++ low_bits m.positions_offset_nbits (positions_after m.ref_term_info i)
     ++ low_bits m.doc_freq_nbits i.doc_freq
 
--- the bits of a block, as numbers of chosen widths
+-- the bits of a block, as numbers of the chosen widths
 abbrev pub block_row : Meta → List TermInfo → List ℕ
 block_row m others =
     flat_map (term_row m) others ++ low_bits m.postings_offset_nbits (postings_end m.ref_term_info others)
@@ -73,7 +73,7 @@ block_row m others =
 abbrev pub terms_of_block : List TermInfo → ℕ → List TermInfo
 terms_of_block infos b = take BLOCK_LEN (drop (BLOCK_LEN * b) infos)
 
--- the bits of block b, and where they begin
+-- the bits of block b
 unfoldable pub bits_of_block : List TermInfo → ℕ → List ℕ
 bits_of_block infos b = bits_bytes (block_row (meta_for 0 (first_of (terms_of_block infos b)) (drop 1 (terms_of_block infos b))) (drop 1 (terms_of_block infos b)))
 

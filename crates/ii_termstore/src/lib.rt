@@ -1,4 +1,4 @@
-//! What is kept of terms: lists of it in blocks, written, opened whole and looked up.
+//! Stores term infos in blocks: writing, opening with complete validation, and lookup.
 #![tactic(auto)]
 
 pub mod term_info;
@@ -10,5 +10,5 @@ pub use term_info_store::{
     TermInfoBlockMeta, TermInfoStore, TermInfoStoreView, TermInfoStoreWriter,
 };
 
-/// The place of a term in the order of the keys, from 0.
+/// The ordinal of a term in the order of the keys, from 0.
 pub type TermOrdinal = u64;

@@ -7,19 +7,19 @@ use std::alloc::AllocError;
 use std::io::Write;
 use std::ops::Range;
 
-/// What is kept of a term.
+/// Describes a term: its document frequency, and where its postings and positions are.
 #[derive(Debug, PartialEq, Eq, Drop)]
 pub struct TermInfo {
-    /// In how many documents it is.
+    /// The number of documents that contain the term.
     pub doc_freq: u32,
-    /// The bytes of its postings.
+    /// The byte range of its postings.
     pub postings_range: Range<usize>,
-    /// The bytes of its positions.
+    /// The byte range of its positions.
     pub positions_range: Range<usize>,
 }
 
 impl TermInfo {
-    /// How many bytes its postings have.
+    /// Returns the number of bytes of its postings.
     pub fn posting_num_bytes(&self) -> u32
         requires forward { self.now.postings_range.start ≤ self.now.postings_range.end }
         requires short { self.now.postings_range.end - self.now.postings_range.start < 2 ^ 32 }
@@ -28,7 +28,7 @@ impl TermInfo {
         (self.postings_range.end - self.postings_range.start) as u32
     }
 
-    /// How many bytes its positions have.
+    /// Returns the number of bytes of its positions.
     pub fn positions_num_bytes(&self) -> u32
         requires forward { self.now.positions_range.start ≤ self.now.positions_range.end }
         requires short { self.now.positions_range.end - self.now.positions_range.start < 2 ^ 32 }
@@ -37,7 +37,7 @@ impl TermInfo {
         (self.positions_range.end - self.positions_range.start) as u32
     }
 
-    /// The same once more. It takes no memory.
+    /// Returns a copy. Never allocates.
     pub fn copied(&self) -> TermInfo
         ensures { result ≡ self.now }
     {
@@ -64,7 +64,7 @@ impl Default for TermInfo {
     }
 }
 
-/// It takes no memory.
+/// Never allocates.
 impl Clone for TermInfo {
     ghost use Rattle.std.specs.Prelude.{◌≡◌, ⊤};
 
@@ -77,8 +77,8 @@ impl Clone for TermInfo {
     }
 }
 
-/// 28 bytes, numbers with the lowest byte first: `doc_freq` in 4, the start of the postings in 8 and
-/// their length in 4, the start of the positions in 8 and their length in 4.
+/// Takes 28 bytes, numbers little-endian: `doc_freq` in 4, the start of the postings in 8 and their length in
+/// 4, the start of the positions in 8 and their length in 4.
 impl BinarySerializable for TermInfo {
     ghost use Rattle.ii_termstore.specs.TermInfos.{info_bytes, info_at, HasLengths, IsInRange};
     ghost use Rattle.ii_termstore.specs.TermInfoLemmas.{reads_info_back};
@@ -145,7 +145,7 @@ impl FixedSize for TermInfo {
 
 ghost use Rattle.ii_termstore.specs.TermInfos.{info_size, info_bytes, HasLengths, IsInRange};
 
-// The bytes of a term, in a buffer of their size.
+// Writes the bytes of a term to a buffer of their size.
 #[tactic(auto, unfolding(crate::specs::TermInfos::info_bytes))]
 pub(crate) fn put_info(buf: &mut [u8], info: &TermInfo)
     requires room { length buf.old ≡ info_size }
@@ -166,7 +166,7 @@ pub(crate) fn put_info(buf: &mut [u8], info: &TermInfo)
     put_u32(doc_freq, info.doc_freq);
 }
 
-// The bytes of a number, in a buffer of their size.
+// Writes the bytes of a number to a buffer of their size.
 fn put_u32(buf: &mut [u8], n: u32)
     requires { length buf.old ≡ 4 }
     ensures { buf.new ≡ le_bytes 4 n }

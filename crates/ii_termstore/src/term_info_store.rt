@@ -19,15 +19,15 @@ use std::marker::Model;
 pub use store_view::TermInfoStoreView;
 pub use store_writer::TermInfoStoreWriter;
 
-/// How many terms a block has; the last one may have fewer.
+/// The number of terms of a block; the last one may have fewer.
 pub const BLOCK_LEN: usize = 256;
 
-/// A list of term infos, over bytes that were checked whole. Clauses see the list.
+/// A list of term infos over bytes that were validated completely. The model is the list.
 pub struct TermInfoStore {
     bytes: Bytes,
 }
 
-// So that each drop is a call.
+// A drop has to be a call.
 impl Drop for TermInfoStore {
     fn drop(self) {
         let TermInfoStore { bytes: _ } = self;
@@ -47,11 +47,15 @@ impl Model for TermInfoStore {
 }
 
 impl TermInfoStore {
-    /// Opens a store: the length of the metas and the number of terms, 8 bytes each with the lowest
-    /// first, then for each block of 256 terms its `TermInfoBlockMeta`, then the blocks' bits.
+    /// Opens a store. Never allocates.
     ///
-    /// `Damaged(TermStore)` where metas or bits are missing, a width is above 56 (of `doc_freq` above 32), or
-    /// a range ends before it begins, has 2^32 bytes or more or passes `u64::MAX`. It takes no memory.
+    /// The bytes are the length of the metas and the number of terms, 8 bytes each and little-endian. A
+    /// `TermInfoBlockMeta` for each block of 256 terms follows, then the bits of the blocks.
+    ///
+    /// Returns `Damaged(TermStore)` if:
+    /// * metas or bits are missing;
+    /// * a width is above 56, or above 32 for `doc_freq`;
+    /// * a range ends before it begins, has 2^32 bytes or more, or ends above `u64::MAX`.
     pub fn open(bytes: Bytes) -> Result<TermInfoStore, Fault>
         ensures opened { IfOk result (λ store. term_store bytes ≡ Some store) }
         ensures damaged { IfErr result (λ e. term_store bytes ≡ None) }
@@ -63,7 +67,7 @@ impl TermInfoStore {
         Ok(TermInfoStore { bytes })
     }
 
-    /// The term at a place. It takes no memory.
+    /// Returns the term at an ordinal. Never allocates.
     pub fn get(&self, term_ord: TermOrdinal) -> TermInfo
         requires { term_ord < length self.now }
         ensures { slice_get self.now term_ord ≡ Some result }
@@ -71,14 +75,14 @@ impl TermInfoStore {
         TermInfoStoreView::over(self.bytes.as_slice()).get(term_ord)
     }
 
-    /// How many terms there are.
+    /// Returns the number of terms.
     pub fn num_terms(&self) -> usize
         ensures { result ≡ length self.now }
     {
         TermInfoStoreView::over(self.bytes.as_slice()).num_terms() as usize
     }
 
-    /// The same store over the same bytes, which are shared.
+    /// Clones the store. The bytes are shared.
     pub fn clone(&self) -> Result<TermInfoStore, Fault>
         ensures same { IfOk result (λ store. store ≡ self.now) }
         ensures only { OnlyMemory result }

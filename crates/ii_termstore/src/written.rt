@@ -3,7 +3,7 @@ ghost use Rattle.ii_termstore.specs.ReadBack.{ReadsStoreBack};
 use ii_codes::bitpacker::reads_from_its_place;
 use ii_codes::packed::holds_from_least_width;
 
-/// The law of stores: what is written of joined terms holds these terms, whatever follows.
+/// States that the written store of joined terms reads back as these terms, whatever follows.
 pub fn reads_store_back()
     ensures { ReadsStoreBack }
 {

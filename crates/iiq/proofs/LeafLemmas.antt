@@ -32,7 +32,7 @@ or_assoc : (a b c : Bool) → ((a || b) || c) ≡ (a || (b || c))
 or_assoc true b c = refl
 or_assoc false b c = refl
 
--- whether one of the segments holds byte 0
+-- whether a segment holds byte 0
 abbrev any_zero : List (List (ℕ × Bool)) → Bool
 any_zero parts = list_any has_zero (map kept_bytes parts)
 
@@ -48,7 +48,7 @@ split_by : (c : ℕ) (kept dot : Bool) (parts : List (List (ℕ × Bool))) (zero
 split_by c kept true parts zero e is = rw (no_zero 46 c (and_right (not kept) (c == 46) e) refl) is
 split_by c kept false parts zero e is = onto_zero c kept parts ∙ ap (λ b. (c == 0) || b) is
 
--- a path's text holds byte 0 where one of its segments does
+-- a path's text holds byte 0 exactly if a segment does
 split_zero : (kept : Bool) (text : List ℕ) → any_zero (slice_split (acts_as 46) (marked kept text)) ≡ has_zero text
 split_zero kept [] = refl
 split_zero kept (c ∷ cs) =
@@ -72,7 +72,7 @@ one_member key j = object (member key j no_members)
 abbrev pub term_at : ℕ → List ℕ → TermState
 term_at field value = record { field = field; value = value }
 
--- an object of one key, the whole path
+-- an object with the complete path as its only key
 object_by : (path bytes : List ℕ) (l : Option Leaf) (zero : Bool) → has_zero path ≡ zero → has_zero bytes ≡ zero → bytes ≡ joined_segments (segments_of path) → json_leaves false (one_member bytes (json_alone l)) ≡ leaf_under path l
 object_by path bytes None true e same is = rw same refl
 object_by path bytes None false e same is = rw same refl

@@ -10,7 +10,7 @@ use Rattle.iiq.specs.Commands.{Command, command_of, index_call, look_up}
 abbrev indexed : ℕ → List (List ℕ × Leaf) → Option Command
 indexed doc found = Some (index_call (record { doc = doc; field = 2; content = leaves found }))
 
--- a look-up of a key there
+-- a lookup of a key there
 abbrev looked_up : List ℕ → Option Command
 looked_up key = Some (look_up WithFreqsAndPositions (Some (record { field = 2; value = key })))
 

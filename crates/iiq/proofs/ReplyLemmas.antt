@@ -98,7 +98,7 @@ keeps_cases s c kept (Some t) e (taken, knows) = record { new = t; texts = Some 
 pub answers_kept : (s : Session) (c : Call) (kept : SessionKept) (taken : Bool) → Keeps s c kept taken → taken ≡ true → Answers s (Some (index_call c)) kept (Some [])
 answers_kept s c kept taken keeps e = keeps_cases s c kept (kept_with s c) refl (rw e at keeps)
 
--- a look-up
+-- a lookup
 pub answers_look_up : (s : Session) (q : Query) (kept : SessionKept) (command : Option Command) (text line : List ℕ) (t : Session) → command ≡ Some (query_look_up q) → Indexes s t → Knows kept t
     → text ≡ look_up_text t q.requested q.term → line ≡ text ++ 10 ∷ [] → Answers s command kept (Some line)
 answers_look_up s q kept command text line t e indexes knows is whole = record {

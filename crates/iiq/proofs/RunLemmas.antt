@@ -53,7 +53,7 @@ and_true : (a : Bool) → (a && true) ≡ a
 and_true true = refl
 and_true false = refl
 
--- what stands after whole lines is looked at by itself
+-- what follows complete lines is checked by itself
 no_error_ends : (texts : List (List ℕ)) (more : List ℕ) → has_no_error (with_ends texts ++ more) ≡ (has_no_error (with_ends texts) && has_no_error more)
 no_error_ends [] more = refl
 no_error_ends (t ∷ ts) more =

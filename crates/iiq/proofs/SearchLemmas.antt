@@ -1,4 +1,4 @@
--- What searches are answered with.
+-- The replies to searches.
 use Rattle.std.proofs.Common.{◌≡◌, ◌∙◌, ℕ, true, List, [], ◌∷◌, ◌++◌, append-nil, Option, None, Some, Result, Ok, Err, inl, inr, length, refl, sym, ap, String, Global}
 use Rattle.std.specs.Prelude.{IfOk, IsErr, is_none, string_bytes}
 use Rattle.ii_io.specs.declared.faults.Fault.{Fault}

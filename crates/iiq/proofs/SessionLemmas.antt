@@ -150,7 +150,7 @@ gives_index schema n kept found schema_is n_is holds many known fault =
     gives_cases n calls (Err e) (Some f) n_is why holds many known fault =
         ⊎_elim (λ same. inr (inl (why ∙ ap Some (sym (err_is (Err e) e f refl same))))) (λ memory. inl (err_is (Err e) e OutOfMemory refl memory)) known
 
--- what a look-up in an open index answers
+-- what a lookup in an open index returns
 pub looked_up : {E : Type 0} (kept : SessionKept) (t : Session) (index : OpenIndexState) (requested : IndexRecordOption) (term : Option TermState) (r : Result (String Global) E) → kept.index ≡ Some (Ok index) → Knows kept t
     → ((ts : List IndexToken) → IsOpen index ts → IfOk r (λ text. string_bytes text ≡ term_text requested term ts))
     → IfOk r (λ text. string_bytes text ≡ look_up_text t requested term)

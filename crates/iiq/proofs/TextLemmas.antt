@@ -12,7 +12,7 @@ use Rattle.iiq.specs.Words.{AreTexts, parts, parts_left}
 use Rattle.ii_query_parser.proofs.TermLemmas.{some_if}
 use Rattle.iiq.proofs.WordLemmas.{parts_at, parts_whole, utf8_behind}
 
--- what stands before a separator that is ASCII
+-- what is before an ASCII separator is UTF-8
 text_before : (c : ℕ) (text : List ℕ) (i : ℕ) → Some i ≡ position (λ b. eqb b c) text → c < 128 → IsUtf8 text → IsUtf8 (take i text)
 text_before c text i e ascii whole =
     let found = some_if (nat_lt (position_or_len (λ b. eqb b c) text) (length text)) (position_or_len (λ b. eqb b c) text) i (sym e) in

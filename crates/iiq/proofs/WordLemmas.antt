@@ -27,7 +27,7 @@ parts_at c text i e =
     let within = ltb-true (position_or_len (λ b. eqb b c) text) (length text) found.0 in
     rw (← found.1) (slice_split_first (λ b. eqb b c) text 0 within)
 
--- what stands behind a separator that is ASCII is text, where the whole is
+-- what follows an ASCII separator is UTF-8, if the complete text is
 pub utf8_behind : (c : ℕ) (text : List ℕ) (i : ℕ) → Some i ≡ position (λ b. eqb b c) text → c < 128 → IsUtf8 text → IsUtf8 (drop (i + 1) text)
 utf8_behind c text i e ascii whole =
     let found = some_if (nat_lt (position_or_len (λ b. eqb b c) text) (length text)) (position_or_len (λ b. eqb b c) text) i (sym e) in

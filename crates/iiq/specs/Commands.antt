@@ -18,7 +18,7 @@ use Rattle.ii_query_parser.specs.QueryTexts.{QueryFields, text_refusal}
 use Rattle.iiq.specs.Session.{fields}
 use Rattle.iiq.specs.Words.{line_words, number_below, numbers_below, signed_number, truth_of_word, bytes_of_word}
 
--- A look-up has the option that is asked for, and the term, if there is one; a search has its text.
+-- A lookup has the requested option, and the term, if there is one; a search has its text.
 pub data Command : Type 0 where
   show_ids : List ℕ → Command
   open_list : IndexRecordOption → IndexRecordOption → ℕ → List ℕ → Option (List ℕ) → Command
@@ -57,18 +57,18 @@ documents_of_words words = do
 abbrev pub ids_command : List (List ℕ) → Option Command
 ids_command words = option_map (λ docs. show_ids docs) (documents_of_words words)
 
--- what the next word writes, and the words after it
+-- the value of the next word, and the words after it
 abbrev pub next_by : {A : Type 0} → (List ℕ → Option A) → List (List ℕ) → Option (A × List (List ℕ))
 next_by read [] = None
 next_by read (word ∷ words) = read word >>= λ value. Some (value, words)
 
--- what the one word that is left writes
+-- the value of the only remaining word
 abbrev pub last_by : {A : Type 0} → (List ℕ → Option A) → List (List ℕ) → Option A
 last_by read [] = None
 last_by read (word ∷ []) = read word
 last_by read (word ∷ more ∷ words) = None
 
--- the bytes of positions, if they are given, as the last word
+-- the bytes of positions as the last word, if they are given
 abbrev pub positions_of_words : List (List ℕ) → Option (Option (List ℕ))
 positions_of_words [] = Some None
 positions_of_words (word ∷ []) = option_map (λ bytes. Some bytes) (bytes_of_word word)
@@ -84,7 +84,7 @@ open_command words = do
   positions ← positions_of_words bytes.1
   Some (open_list recorded.0 requested.0 doc_freq.0 bytes.0 positions)
 
--- the text is all that stands behind the document's space, if anything does
+-- what the words after `text` ask for: the text is all that follows the document's space, if anything does
 abbrev pub text_command : List (List ℕ) → Option Command
 text_command words = do
   doc ← next_by (number_below TERMINATED) words
@@ -97,11 +97,11 @@ num_command words = do
   number ← last_by (number_below (2 ^ 64)) doc.1
   Some (index_call (record { doc = doc.0; field = num_field; content = value (u64_bytes number) }))
 
--- a word that isn't empty, as it stands
+-- a word that isn't empty, as it is
 abbrev pub key_of_word : List ℕ → Option (List ℕ)
 key_of_word word = needs (nat_lt 0 (length word)) >>= λ _. Some word
 
--- the leaf that a word is by its kind: a text, a signed or an unsigned number, or a truth value
+-- the leaf of a kind and a word: a text, a signed or an unsigned number, or a boolean
 abbrev pub leaf_of_word : List ℕ → List ℕ → Option Leaf
 leaf_of_word kind word =
     if bytes_eq kind (codes "s") then option_map (λ letters. text_leaf letters) (key_of_word word)
@@ -110,28 +110,28 @@ leaf_of_word kind word =
     else if bytes_eq kind (codes "o") then option_map (λ truth. value_leaf types.Bool (number_of_bool truth)) (truth_of_word word)
     else None
 
--- a leaf, where there is one
+-- a leaf, as an option
 abbrev pub optional : Leaf → Option Leaf
 optional leaf = Some leaf
 
--- a null has no word, and is no leaf
+-- a null has no word, and no leaf
 abbrev pub null_of_words : List (List ℕ) → Option (Option Leaf)
 null_of_words [] = Some None
 null_of_words (word ∷ words) = None
 
--- the leaf that a kind and a word are, or none for a null
+-- the leaf of a kind and a word, or none for a null
 abbrev pub leaf_of_words : List (List ℕ) → Option (Option Leaf)
 leaf_of_words [] = None
 leaf_of_words (kind ∷ words) =
     if bytes_eq kind (codes "n") then null_of_words words
     else option_map optional (last_by (leaf_of_word kind) words)
 
--- the leaves of a JSON value that has a leaf at a path: none for a null, nor where the path holds byte 0
+-- the leaves of a JSON value with a leaf at a path: none for a null, or for a path with byte 0
 abbrev pub leaf_under : List ℕ → Option Leaf → List (List ℕ × Leaf)
 leaf_under path None = []
 leaf_under path (Some leaf) = if has_zero path then [] else (joined_segments (segments_of path), leaf) ∷ []
 
--- the leaves that a path, a kind and a word write
+-- the leaves of a path, a kind and a word
 abbrev pub path_leaves : List (List ℕ) → Option (List (List ℕ × Leaf))
 path_leaves words = do
   path ← next_by key_of_word words
@@ -158,13 +158,13 @@ num_query words = do
   number ← last_by (number_below (2 ^ 64)) words
   Some (look_up Basic (Some (record { field = num_field; value = u64_bytes number })))
 
--- the key of a leaf below its path; no line writes one that is unsupported
+-- the key of a leaf after its path; no line writes an unsupported leaf
 abbrev pub leaf_key : Leaf → List ℕ
 leaf_key (text_leaf letters) = text_key letters
 leaf_key (value_leaf t n) = typed_key t n
 leaf_key (unsupported kind) = []
 
--- the term of the first of leaves, if there is one
+-- the term of the first leaf, if there is one
 abbrev pub leaf_term : List (List ℕ × Leaf) → Option TermState
 leaf_term [] = None
 leaf_term (l ∷ ls) = Some (record { field = leaf_field; value = json_key l.0 (leaf_key l.1) })
@@ -176,15 +176,15 @@ leaf_query words = do
   found ← path_leaves option.1
   Some (look_up option.0 (leaf_term found))
 
--- what texts of queries are read by: words by the analyzer, and those without a name in the field of texts
+-- how query texts are read: words by the analyzer, and words without a field name in the field of texts
 abbrev pub asked : QueryFields
 asked = record { texts = record { analyze = ascii_words; entries = fields }; defaults = text_field ∷ [] }
 
--- what a text behind `? query` asks for, if it is a query
+-- what a text after `? query` asks for, if it is a query
 abbrev pub text_search : List ℕ → Option Command
 text_search bytes = needs (is_none (text_refusal asked bytes)) >>= λ _. Some (search_for bytes)
 
--- a look-up, by the word behind the question mark
+-- a lookup, by the word after the question mark
 abbrev pub look_up_command : List (List ℕ) → Option Command
 look_up_command [] = None
 look_up_command (word ∷ words) =
@@ -193,12 +193,12 @@ look_up_command (word ∷ words) =
     else if bytes_eq word (codes "leaf") then leaf_query words
     else None
 
--- what a question mark asks for: the text of a query is all that stands behind its word's space
+-- what a question mark asks for: the text of a query is all that follows its word's space
 abbrev pub query_command : List (List ℕ) → Option Command
 query_command [] = None
 query_command (word ∷ words) = if bytes_eq word (codes "query") then text_search (join_with_byte 32 words) else look_up_command (word ∷ words)
 
--- a line of words, by its first one
+-- a line of words, by its first word
 abbrev pub words_command : List (List ℕ) → Option Command
 words_command [] = None
 words_command (word ∷ words) =

@@ -1,4 +1,4 @@
--- The program's records, as what they stand for.
+-- The program's records, and their models.
 use Rattle.std.specs.Prelude.{◌≡◌, ℕ, ◌<◌, ◌≤◌, false, true, Bool, List, [], ◌∷◌, length, map, ◌++◌, codes, decimal, is_none, Option, None, Some, MatchOption, Result, Ok, Err, unwrap_or}
 use Rattle.std.specs.Option.{option_map}
 use Rattle.ii_io.specs.Faults.{number_of}
@@ -39,7 +39,7 @@ call_command call = index_call (call_of fields call)
 abbrev pub query_look_up : Query → Command
 query_look_up q = look_up q.requested q.term
 
--- the leaf that a value is: none for a null
+-- the leaf of a value, or none for a null
 abbrev pub leaf_or_none : LeafValue → Option Leaf
 leaf_or_none Null = None
 leaf_or_none (Text letters) = Some (text_leaf letters.now)
@@ -47,7 +47,7 @@ leaf_or_none (Signed number) = Some (value_leaf types.I64 (flipped number))
 leaf_or_none (Unsigned number) = Some (u64_leaf number)
 leaf_or_none (Truth truth) = Some (value_leaf types.Bool (number_of_bool truth))
 
--- a value by itself: null, or a leaf
+-- a value without a path: null, or a leaf
 abbrev pub json_alone : Option Leaf → Json
 json_alone None = null
 json_alone (Some l) = leaf l
@@ -60,35 +60,35 @@ key_of_leaf value = unwrap_or (option_map leaf_key (leaf_or_none value)) []
 abbrev pub leaves_of : PathValue → List (List ℕ × Leaf)
 leaves_of at = leaf_under at.path.now (leaf_or_none at.value)
 
--- A call is for a field of the schema, and for a document.
+-- A call has a field of the schema, and a document below `TERMINATED`.
 pub record IsCall (call : IndexCall) : Type 0 where
   pub below : doc_of call < TERMINATED
   pub takes : Takes fields (field_of call) (type_of call)
 
--- Calls were gathered: they may be indexed in this order, and have so many documents.
+-- Calls were gathered: they may be indexed in this order, and have `num_docs` documents.
 pub record GathersCalls (kept : List IndexCall) (num_docs : ℕ) (calls : List Call) : Type 0 where
   pub calls_are : map (call_of fields) kept ≡ calls
   pub num_docs_is : num_docs ≡ num_docs_of calls
   pub most : num_docs ≤ TERMINATED
   pub may : MayAllBeIndexed fields num_docs kept
 
--- An open index has these tokens, and norms of so many documents.
+-- An open index has these tokens, and norms of some number of documents.
 pub record IsOpen (index : OpenIndexState) (ts : List IndexToken) : Type 0 where
   pub many : length index.readers ≡ length fields
   pub num_docs : ℕ
   pub holds : IndexHolds fields num_docs index ts
 
--- What is known where no index was asked for, or it is open, or was refused.
+-- The session if no index was requested, or it is open, or was refused.
 abbrev pub KnowsIndex : List IndexCall → ℕ → Option (Result OpenIndexState Fault) → Session → Type 0
 KnowsIndex kept num_docs None s = (calls : List Call) × (s ≡ gathering calls) × GathersCalls kept num_docs calls
 KnowsIndex kept num_docs (Some (Ok index)) s = (ts : List IndexToken) × (s ≡ opened ts) × IsOpen index ts
 KnowsIndex kept num_docs (Some (Err fault)) s = s ≡ refused fault
 
--- The program's session is this one.
+-- This session is the model of the program's session.
 abbrev pub Knows : SessionKept → Session → Type 0
 Knows kept s = KnowsIndex kept.calls.items kept.num_docs kept.index s
 
--- The program's record is that of some session.
+-- The program's session has a model.
 abbrev pub IsSession : SessionKept → Type 0
 IsSession kept = (s : Session) × Knows kept s
 
@@ -101,17 +101,17 @@ abbrev pub GivesIndex : List Call → Result OpenIndexState Fault → Type 0
 GivesIndex calls (Ok index) = (ts : List IndexToken) × IsIndexed calls (opened ts) × IsOpen index ts
 GivesIndex calls (Err fault) = IsIndexed calls (refused fault)
 
--- what a line that opens a list is answered with
+-- the reply to a line that opens a list
 abbrev pub open_texts : Opening → List (List ℕ)
 open_texts o = opened_text (downgrade o.record_option o.requested_option) (term_list o.record_option o.requested_option o.doc_freq o.postings o.positions) ∷ []
 
--- A command is answered by this text, whatever session it meets.
+-- A command has this reply in any session.
 pub record AnswersAlone (command : Option Command) (reply : Option (List ℕ)) : Type 0 where
   pub texts : Option (List (List ℕ))
   pub answers : (s : Session) → AnswersMaybe s command s texts
   pub reply_is : reply ≡ option_map with_ends texts
 
--- A command is answered by this text, and leaves the program's session so.
+-- A command has this reply, and changes the program's session so.
 pub record Answers (old : Session) (command : Option Command) (now : SessionKept) (reply : Option (List ℕ)) : Type 0 where
   pub new : Session
   pub texts : Option (List (List ℕ))
@@ -119,7 +119,7 @@ pub record Answers (old : Session) (command : Option Command) (now : SessionKept
   pub answers : AnswersMaybe old command new texts
   pub reply_is : reply ≡ option_map with_ends texts
 
--- So it is for a line.
+-- A line has this reply, and changes the program's session so.
 pub record IsReply (old : Session) (line : List ℕ) (now : SessionKept) (text : List ℕ) : Type 0 where
   pub new : Session
   pub texts : List (List ℕ)
@@ -127,7 +127,8 @@ pub record IsReply (old : Session) (line : List ℕ) (now : SessionKept) (text :
   pub answers : AnswersLine old line new texts
   pub text_is : text ≡ with_ends texts
 
--- What a query finds once there is an index: exactly the documents that match it; where it was refused, the fault is told.
+-- A query finds exactly the documents that match it, once there is an index; if indexing failed, it
+-- replies the fault.
 abbrev pub FindsDocs : Session → QueryOf → List ℕ → Type 0
 FindsDocs (gathering calls) query reply = reply ≡ []
 FindsDocs (opened ts) query reply = (es : List Entry) × AreMatches query ts es × (reply ≡ found_text es)

@@ -23,11 +23,11 @@ use Rattle.iiq.specs.Words.{lines_of, nothing, written_hex}
 use Rattle.iiq.specs.Commands.{Command, asked, show_ids, open_list, index_call, look_up, search_for, command_of}
 use Rattle.iiq.specs.Session.{Session, gathering, opened, refused, Indexes, fields, kept_with}
 
--- positions, parted by commas
+-- positions, separated by commas
 abbrev pub positions_text : List ℕ → List ℕ
 positions_text positions = join_with_byte 44 (map decimal positions)
 
--- a document, its count after a colon where an option asks for counts, and its positions after another where it asks for these
+-- a document, with its term frequency and its positions after colons, if the option has them
 abbrev pub item : IndexRecordOption → Entry → List ℕ
 item Basic e = decimal e.doc
 item WithFreqs e = decimal e.doc ++ 58 ∷ decimal e.term_freq
@@ -38,7 +38,7 @@ abbrev pub item_at : IndexRecordOption → List Entry → List ℕ
 item_at option [] = []
 item_at option (e ∷ es) = item option e
 
--- the items of a list, parted by a space, or a dash for none
+-- the items of a list, separated by spaces, or a dash if there are none
 abbrev pub list_text : IndexRecordOption → List Entry → List ℕ
 list_text option [] = nothing
 list_text option (e ∷ es) = join_with_byte 32 (map (item option) (e ∷ es))
@@ -51,51 +51,51 @@ part_name Frequencies = codes "frequencies"
 part_name Positions = codes "positions"
 part_name _ = []
 
--- a list that was opened, or the part that is damaged
+-- a list that was opened, or the damaged part
 abbrev pub opened_text : IndexRecordOption → Result (List Entry) Part → List ℕ
 opened_text option (Ok entries) = list_text option entries
 opened_text option (Err part) = codes "damaged " ++ part_name part
 
--- the postings of a key in a field, as far as they are asked for and recorded
+-- the postings of a key in a field, as far as they are requested and recorded
 abbrev pub key_text : IndexRecordOption → ℕ → List ℕ → List IndexToken → List ℕ
 key_text requested field key ts =
     let option = option_of fields field in
     if occurs field key ts then list_text (downgrade option requested) (key_postings option field key requested ts) else codes "none"
 
--- so it is for a term; there are none of no term
+-- the postings of a term, or `none` without a term
 abbrev pub term_text : IndexRecordOption → Option TermState → List IndexToken → List ℕ
 term_text requested None ts = codes "none"
 term_text requested (Some term) ts = key_text requested term.field term.value ts
 
--- what a look-up is answered with, once there is an index
+-- the reply to a lookup, once there is an index
 abbrev pub look_up_text : Session → IndexRecordOption → Option TermState → List ℕ
 look_up_text (gathering calls) requested term = []
 look_up_text (opened ts) requested term = term_text requested term ts
 look_up_text (refused fault) requested term = codes "error " ++ decimal (number_of fault)
 
--- the documents that were found, or that there are none
+-- the documents that were found, or `none`
 abbrev pub found_text : List Entry → List ℕ
 found_text [] = codes "none"
 found_text (e ∷ es) = list_text Basic (e ∷ es)
 
--- A search is answered by exactly the documents that match its text, in ascending order.
+-- The reply to a search is exactly the documents that match its text, in ascending order.
 pub record FindsMatches (text : List ℕ) (ts : List IndexToken) (reply : List ℕ) : Type 0 where
   pub docs : List Entry
   pub ascending : IsAscending docs
   pub exact : (doc : ℕ) → has_doc docs doc ≡ text_matches asked text ts doc
   pub reply_is : reply ≡ found_text docs
 
--- So it is once there is an index; where it was refused, the fault is told.
+-- `FindsMatches` holds once there is an index; if indexing failed, the reply is the fault.
 abbrev pub FindsText : Session → List ℕ → List ℕ → Type 0
 FindsText (gathering calls) text reply = reply ≡ []
 FindsText (opened ts) text reply = FindsMatches text ts reply
 FindsText (refused fault) text reply = reply ≡ codes "error " ++ decimal (number_of fault)
 
--- what documents are answered with: their bytes, and the list of them
+-- the reply to documents: their bytes, and the list of them
 abbrev pub ids_texts : List ℕ → List (List ℕ)
 ids_texts docs = written_hex (written_documents docs) ∷ list_text Basic (map document docs) ∷ []
 
--- A command is answered by these texts, or by none where it is refused, and leaves this session.
+-- A command has these replies, or none if it is refused, and leaves this session.
 abbrev pub AnswersCommand : Session → Command → Session → Option (List (List ℕ)) → Type 0
 AnswersCommand old (show_ids docs) new texts = (new ≡ old) × (texts ≡ Some (ids_texts docs))
 AnswersCommand old (open_list recorded requested doc_freq bytes positions) new texts =
@@ -104,7 +104,7 @@ AnswersCommand old (index_call c) new texts = MatchOption (kept_with old c) ((ne
 AnswersCommand old (look_up requested term) new texts = Indexes old new × (texts ≡ Some (look_up_text new requested term ∷ []))
 AnswersCommand old (search_for text) new texts = Indexes old new × (reply : List ℕ) × FindsText new text reply × (texts ≡ Some (reply ∷ []))
 
--- So it is for a line, if it is well formed.
+-- The command of a line has these replies, if the line is well formed.
 abbrev pub AnswersMaybe : Session → Option Command → Session → Option (List (List ℕ)) → Type 0
 AnswersMaybe old None new texts = (new ≡ old) × (texts ≡ None)
 AnswersMaybe old (Some command) new texts = AnswersCommand old command new texts
@@ -113,21 +113,21 @@ AnswersMaybe old (Some command) new texts = AnswersCommand old command new texts
 abbrev pub line_command : List ℕ → Option Command
 line_command line = if is_utf8 line then command_of line else None
 
--- a line that is refused
+-- the reply to a line that is refused
 abbrev pub error_line : List (List ℕ)
 error_line = codes "error line" ∷ []
 
--- A line is answered by these texts, an empty one by none, and leaves this session.
+-- A line has these replies, an empty one none, and leaves this session.
 abbrev pub AnswersLine : Session → List ℕ → Session → List (List ℕ) → Type 0
 AnswersLine old [] new texts = (new ≡ old) × (texts ≡ [])
 AnswersLine old (c ∷ cs) new texts =
     (found : Option (List (List ℕ))) × AnswersMaybe old (line_command (c ∷ cs)) new found × (texts ≡ unwrap_or found error_line)
 
--- each text with its line's end
+-- each text with a line end
 abbrev pub with_ends : List (List ℕ) → List ℕ
 with_ends texts = flat_map (λ text. text ++ 10 ∷ []) texts
 
--- One of the lines is answered, and then the others.
+-- A line is answered, and then the other lines.
 pub record PrintsLine (P : Session → List ℕ → Type 0) (old : Session) (line out : List ℕ) : Type 0 where
   pub new : Session
   pub texts : List (List ℕ)
@@ -136,29 +136,29 @@ pub record PrintsLine (P : Session → List ℕ → Type 0) (old : Session) (lin
   pub out_is : out ≡ with_ends texts ++ rest
   pub others : P new rest
 
--- What is written for these lines. A line for which memory is refused prints `error 1` and ends the run.
+-- What is written for these lines. If an allocation fails for a line, it prints `error 1` and ends the run.
 abbrev pub Prints : Session → List (List ℕ) → List ℕ → Type 0
 Prints old [] out = out ≡ []
 Prints old (line ∷ lines) out = PrintsLine (λ new rest. Prints new lines rest) old line out ⊎ (out ≡ codes "error 1\n")
 
--- no line of the text begins with `error`
+-- whether no line of the text begins with `error`
 abbrev pub has_no_error : List ℕ → Bool
 has_no_error text = list_all (λ line. not (starts_with nat_eq line (codes "error"))) (lines_of text)
 
--- The output grows by what is written for the input.
+-- What is written for the input is appended to the output.
 pub record PrintsAll (old new : Option (List ℕ)) (input : List ℕ) (fine : Bool) : Type 0 where
   pub out : List ℕ
   pub appends : Appends old new out
   pub prints : Prints (gathering []) (lines_of input) out
   pub fine_is : fine ≡ has_no_error out
 
--- The output grows by a beginning of what is written for the input.
+-- A prefix of what is written for the input is appended to the output.
 pub record PrintsBeginning (old new : Option (List ℕ)) (input : List ℕ) : Type 0 where
   pub out : List ℕ
   pub rest : List ℕ
   pub appends : Appends old new out
   pub prints : Prints (gathering []) (lines_of input) (out ++ rest)
 
--- The output grows by a beginning of these bytes.
+-- A prefix of these bytes is appended to the output.
 abbrev pub PutsBeginning : Option (List ℕ) → Option (List ℕ) → List ℕ → Type 0
 PutsBeginning old new bytes = (out : List ℕ) × (rest : List ℕ) × Appends old new out × (bytes ≡ out ++ rest)

@@ -20,39 +20,39 @@ fields =
     ∷ record { name = codes "leaf"; value_type = Json; option = WithFreqsAndPositions; is_indexed = true; has_fieldnorms = false; expands_dots = false }
     ∷ []
 
--- Calls are gathered until the first look-up; from then on there is the index of their tokens, or the fault that refused it.
+-- Calls are gathered until the first lookup; from then on there is the index of their tokens, or its fault.
 pub data Session : Type 0 where
   gathering : List Call → Session
   opened : List IndexToken → Session
   refused : Fault → Session
 
--- how many documents calls in order have: one more than the last one's
+-- the number of documents of calls in order: one more than the last document
 abbrev pub num_docs_of : List Call → ℕ
 num_docs_of calls = fold (λ (n : ℕ) (c : Call). c.doc + 1) 0 calls
 
--- what is kept after one more call: none while an index is there, nor one whose document lies below the last one's
+-- what is kept after one more call: nothing if there is an index, or if the call's document is below the last
 abbrev pub kept_with : Session → Call → Option Session
 kept_with (gathering calls) c = if nat_le (num_docs_of calls) (c.doc + 1) then Some (gathering (calls ++ c ∷ [])) else None
 kept_with (opened ts) c = None
 kept_with (refused fault) c = None
 
--- why calls are refused, memory aside
+-- why calls are refused, apart from allocation failures
 abbrev pub refusal_of : List Call → Option Fault
 refusal_of calls = calls_fault ascii_words (option_of fields) [] calls
 
--- Why the index of calls can't be had.
+-- Why there is no index of calls.
 abbrev pub IsIndexRefusal : List Call → Fault → Type 0
 IsIndexRefusal calls fault =
     (fault ≡ OutOfMemory) ⊎ (refusal_of calls ≡ Some fault)
     ⊎ ((refusal_of calls ≡ None) × IsRamFault fields (num_docs_of calls) (tokens_of ascii_words calls) fault)
 
--- The index of these calls is there, or the fault that refused it.
+-- There is an index of these calls, or its fault.
 abbrev pub IsIndexed : List Call → Session → Type 0
 IsIndexed calls (gathering more) = ⊥
 IsIndexed calls (opened ts) = (refusal_of calls ≡ None) × (ts ≡ tokens_of ascii_words calls)
 IsIndexed calls (refused fault) = IsIndexRefusal calls fault
 
--- A session goes on to one whose calls are indexed.
+-- A session changes to one whose calls are indexed.
 abbrev pub Indexes : Session → Session → Type 0
 Indexes (gathering calls) new = IsIndexed calls new
 Indexes (opened ts) new = new ≡ opened ts

@@ -16,7 +16,7 @@ use ii_docset::TERMINATED;
 use ii_indexing::IndexCall;
 use std::alloc::{AllocError, Global};
 
-/// What a line that opens a list names.
+/// The arguments of a line that opens a list.
 #[derive(Drop)]
 pub struct Opening {
     pub record_option: IndexRecordOption,
@@ -26,14 +26,14 @@ pub struct Opening {
     pub positions: Option<Bytes>,
 }
 
-/// What a line looks up: a term, if there is one, and what is asked for of its postings.
+/// The arguments of a lookup: the requested option, and the term, if there is one.
 #[derive(Drop)]
 pub struct Query {
     pub requested: IndexRecordOption,
     pub term: Option<Term>,
 }
 
-/// The documents that words write: ascending strictly, below `TERMINATED`.
+/// Parses documents: strictly ascending, below `TERMINATED`.
 pub fn documents(alloc: Global, words: &mut Parts<'_>) -> Result<Option<Vec<u32>>, AllocError>
     ensures { IfOk result (λ docs. option_map (λ v. v.items) docs ≡ documents_of_words words.old) }
 {
@@ -52,7 +52,7 @@ pub fn documents(alloc: Global, words: &mut Parts<'_>) -> Result<Option<Vec<u32>
     Ok(Some(docs))
 }
 
-/// What the words after `open` name, if they are well formed.
+/// Parses the words after `open`, if they are well formed.
 pub fn list_to_open(alloc: Global, words: &mut Parts<'_>) -> Result<Option<Opening>, AllocError>
     ensures { IfOk result (λ opening. option_map opening_command opening ≡ open_command words.old) }
 {
@@ -112,7 +112,7 @@ fn next_bytes(alloc: Global, words: &mut Parts<'_>) -> Result<Option<Bytes>, All
     shared_bytes(alloc, word)
 }
 
-// The bytes of the last word, if there is a word.
+// Parses the bytes of the last word, if there is a word.
 fn last_bytes(alloc: Global, words: &mut Parts<'_>) -> Result<Option<Option<Bytes>>, AllocError>
     ensures { IfOk result (λ found. found ≡ positions_of_words words.old) }
 {
@@ -137,7 +137,7 @@ fn shared_bytes(alloc: Global, word: &[u8]) -> Result<Option<Bytes>, AllocError>
     }
 }
 
-/// The text that stands behind the word `text` and a document, if the document is one.
+/// Parses the document and the text after `text`, if the document is valid.
 pub fn text_call(alloc: Global, rest: Option<&[u8]>) -> Result<Option<IndexCall>, AllocError>
     requires { IfSome rest (λ text. IsUtf8 text.now) }
     ensures call { IfOk result (λ call. option_map call_command call ≡ text_command (parts_left 32 (option_copied rest.entry))) }
@@ -154,7 +154,7 @@ pub fn text_call(alloc: Global, rest: Option<&[u8]>) -> Result<Option<IndexCall>
     Ok(Some(IndexCall::Text(doc, Field::from_field_id(0), text)))
 }
 
-/// A text, or none at all.
+/// Copies a text. A missing text gives an empty one.
 pub fn text_of(alloc: Global, text: Option<&[u8]>) -> Result<String, AllocError>
     requires { IfSome text (λ t. IsUtf8 t.now) }
     ensures { IfOk result (λ string. string_bytes string ≡ join_with_byte 32 (parts_left 32 (option_copied text.entry))) }
@@ -168,7 +168,7 @@ pub fn text_of(alloc: Global, text: Option<&[u8]>) -> Result<String, AllocError>
     }
 }
 
-/// The document and the number that the words after `num` name.
+/// Parses the document and the number after `num`.
 pub fn num_call(words: &mut Parts<'_>) -> Option<IndexCall>
     ensures call { option_map call_command result ≡ num_command words.old }
     ensures lawful { IfSome result IsCall }
@@ -182,7 +182,7 @@ pub fn num_call(words: &mut Parts<'_>) -> Option<IndexCall>
     Some(IndexCall::U64(doc, Field::from_field_id(1), number))
 }
 
-/// The document and the JSON value that the words after `leaf` name.
+/// Parses the document and the JSON value after `leaf`.
 pub fn leaf_call(alloc: Global, words: &mut Parts<'_>) -> Result<Option<IndexCall>, AllocError>
     requires { AreTexts words.old }
     ensures call { IfOk result (λ call. option_map call_command call ≡ leaf_command words.old) }
@@ -198,7 +198,7 @@ pub fn leaf_call(alloc: Global, words: &mut Parts<'_>) -> Result<Option<IndexCal
     Ok(Some(IndexCall::Json(doc, Field::from_field_id(2), value)))
 }
 
-/// What the words after the question mark look up.
+/// Parses the words of a lookup after the question mark.
 pub fn term_to_look_up(alloc: Global, words: &mut Parts<'_>) -> Result<Option<Query>, AllocError>
     requires { AreTexts words.old }
     ensures query { IfOk result (λ query. option_map query_look_up query ≡ look_up_command words.old) }
@@ -219,7 +219,7 @@ pub fn term_to_look_up(alloc: Global, words: &mut Parts<'_>) -> Result<Option<Qu
     Ok(None)
 }
 
-// An option, and a text as it stands.
+// Parses an option, and a text as it is.
 fn text_query(alloc: Global, words: &mut Parts<'_>) -> Result<Option<Query>, AllocError>
     ensures query { IfOk result (λ query. option_map query_look_up query ≡ text_query words.old) }
     ensures field { IfOk result (λ query. IfSome query (λ q. IfSome q.term (λ t. t.field < length fields))) }
@@ -241,7 +241,7 @@ fn text_query(alloc: Global, words: &mut Parts<'_>) -> Result<Option<Query>, All
     Ok(Some(Query { requested, term }))
 }
 
-// A number.
+// Parses a number.
 fn num_query(alloc: Global, words: &mut Parts<'_>) -> Result<Option<Query>, AllocError>
     ensures query { IfOk result (λ query. option_map query_look_up query ≡ num_query words.old) }
     ensures field { IfOk result (λ query. IfSome query (λ q. IfSome q.term (λ t. t.field < length fields))) }
@@ -258,7 +258,7 @@ fn num_query(alloc: Global, words: &mut Parts<'_>) -> Result<Option<Query>, Allo
     Ok(Some(Query { requested, term }))
 }
 
-// An option, and a value at a path of the JSON field.
+// Parses an option, and a value at a path of the JSON field.
 fn leaf_query(alloc: Global, words: &mut Parts<'_>) -> Result<Option<Query>, AllocError>
     requires { AreTexts words.old }
     ensures query { IfOk result (λ query. option_map query_look_up query ≡ leaf_query words.old) }
@@ -274,7 +274,7 @@ fn leaf_query(alloc: Global, words: &mut Parts<'_>) -> Result<Option<Query>, All
     Ok(Some(Query { requested, term }))
 }
 
-// The next word, if it isn't empty.
+// Returns the next word, if it isn't empty.
 pub fn next_word<'a>(words: &mut Parts<'a>) -> Option<&'a [u8]>
     ensures word { MatchOption result (next_by key_of_word words.old ≡ None)
         (λ word. next_by key_of_word words.old ≡ Some (word.now, words.new)) }
@@ -288,7 +288,7 @@ pub fn next_word<'a>(words: &mut Parts<'a>) -> Option<&'a [u8]>
     Some(word)
 }
 
-// The one word that is left.
+// Returns the only remaining word.
 pub fn last_word<'a>(words: &mut Parts<'a>) -> Option<&'a [u8]>
     ensures { option_copied result ≡ last_by (λ word. Some word) words.old }
 {

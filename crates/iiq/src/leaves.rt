@@ -14,7 +14,7 @@ use crate::words::{number, signed_number, truth_of};
 use ii_base::{Fault, Field, JsonPathWriter, JsonValue, Term, split_json_path};
 use std::alloc::{AllocError, Global};
 
-/// A JSON value with nothing in it, as a line writes it.
+/// A JSON value without members or elements, as a line writes it.
 #[derive(Drop)]
 pub enum LeafValue<'a> {
     Null,
@@ -24,14 +24,14 @@ pub enum LeafValue<'a> {
     Truth(bool),
 }
 
-/// A path, as a line writes it, and the value that stands there.
+/// A path, as a line writes it, and its value.
 #[derive(Drop)]
 pub struct PathValue<'a> {
     pub path: &'a str,
     pub value: LeafValue<'a>,
 }
 
-/// The path and the value that words write.
+/// Parses a path and a value.
 pub fn path_value<'a>(words: &mut Parts<'a>) -> Option<PathValue<'a>>
     requires { AreTexts words.old }
     ensures { option_map leaves_of result ≡ path_leaves words.old }
@@ -48,7 +48,7 @@ pub fn path_value<'a>(words: &mut Parts<'a>) -> Option<PathValue<'a>>
     }
 }
 
-// The value that a kind and a word write. A null has no word.
+// Parses a value of a kind and a word. A null has no word.
 fn value_of<'a>(words: &mut Parts<'a>) -> Option<LeafValue<'a>>
     requires { AreTexts words.old }
     ensures { option_map leaf_or_none result ≡ leaf_of_words words.old }
@@ -65,7 +65,7 @@ fn value_of<'a>(words: &mut Parts<'a>) -> Option<LeafValue<'a>>
     leaf_value(kind, word)
 }
 
-// A null, where no word is left.
+// Returns a null, if no word remains.
 fn null_of<'a>(words: &mut Parts<'_>) -> Option<LeafValue<'a>>
     ensures { option_map leaf_or_none result ≡ null_of_words words.old }
 {
@@ -75,7 +75,7 @@ fn null_of<'a>(words: &mut Parts<'_>) -> Option<LeafValue<'a>>
     }
 }
 
-// The value that a word is by its kind.
+// Parses a word as a value of its kind.
 fn leaf_value<'a>(kind: &[u8], word: &'a [u8]) -> Option<LeafValue<'a>>
     requires { IsUtf8 word.now }
     ensures { option_map leaf_or_none result ≡ option_map optional (leaf_of_word kind.now word.now) }
@@ -104,7 +104,7 @@ fn leaf_value<'a>(kind: &[u8], word: &'a [u8]) -> Option<LeafValue<'a>>
     None
 }
 
-// A text that isn't empty.
+// Parses a text that isn't empty.
 fn text_value<'a>(word: &'a [u8]) -> Option<LeafValue<'a>>
     requires { IsUtf8 word.now }
     ensures { option_map leaf_or_none result ≡ option_map optional (leaf_of_word (codes "s") word.now) }
@@ -119,8 +119,9 @@ fn text_value<'a>(word: &'a [u8]) -> Option<LeafValue<'a>>
 }
 
 impl<'a> PathValue<'a> {
-    /// A JSON value with this one at the path: an object of one key, the whole path, since byte 1 in a
-    /// key stands in a path as it does between two keys. So a path of many segments is no deep value.
+    /// Returns a JSON value with this value at the path: an object with the complete path as its only
+    /// key. Byte 1 in a key means the same in a path as it does between two keys. So a path of many
+    /// segments isn't a deep value.
     pub fn json_value(self, alloc: Global) -> Result<JsonValue, AllocError>
         ensures { IfOk result (λ value. json_leaves false (json_of value) ≡ leaves_of self.entry) }
     {
@@ -131,7 +132,8 @@ impl<'a> PathValue<'a> {
         Ok(JsonValue::Object(members))
     }
 
-    /// The term of the value at the path: none of a null, nor where the path holds byte 0.
+    /// Returns the term of the value at the path. A null has no term, and neither has a path with
+    /// byte 0.
     pub fn term(&self, alloc: Global) -> Result<Option<Term>, AllocError>
         ensures { IfOk result (λ term. term ≡ leaf_term (leaves_of self.now)) }
     {
@@ -153,7 +155,7 @@ impl<'a> PathValue<'a> {
 }
 
 impl<'a> LeafValue<'a> {
-    // The JSON value by itself.
+    // Returns the JSON value without a path.
     fn json_value(self, alloc: Global) -> Result<JsonValue, AllocError>
         ensures { IfOk result (λ value. json_of value ≡ json_alone (leaf_or_none self.entry)) }
     {
@@ -175,7 +177,7 @@ impl<'a> LeafValue<'a> {
         }
     }
 
-    // Adds the value to the term of its path.
+    // Appends the value to the term of its path.
     fn append_to(&self, term: &mut Term) -> Result<(), Fault>
         ensures ok { OnOk result (term.new ≡ record term.old { value = term.old.value ++ key_of_leaf self.now }) }
         ensures only { OnlyMemory result }
@@ -190,7 +192,7 @@ impl<'a> LeafValue<'a> {
     }
 }
 
-// Adds an unsigned number, as a signed one where it fits.
+// Appends an unsigned number, as a signed one if it fits.
 fn append_unsigned(term: &mut Term, number: u64) -> Result<(), Fault>
     ensures ok { OnOk result (term.new ≡ record term.old { value = term.old.value ++ leaf_key (u64_leaf number) }) }
     ensures only { OnlyMemory result }
@@ -201,7 +203,7 @@ fn append_unsigned(term: &mut Term, number: u64) -> Result<(), Fault>
     term.append_type_and_fast_value(number)
 }
 
-// The bytes of a path: its segments, with byte 1 between them.
+// Returns the bytes of a path: its segments, separated by byte 1.
 fn joined_path(alloc: Global, path: &str) -> Result<String, AllocError>
     ensures { IfOk result (λ joined. string_bytes joined ≡ joined_segments (segments_of path.now)) }
 {

@@ -1,5 +1,5 @@
-//! A program that indexes texts, numbers and JSON values and looks terms up, and that writes, opens and walks lists
-//! of documents, by lines of commands.
+//! Runs lines of commands: indexes texts, numbers and JSON values, looks up terms, and writes, opens
+//! and walks lists of documents.
 #![tactic(auto)]
 
 mod commands;

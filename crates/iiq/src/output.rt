@@ -13,7 +13,7 @@ use ii_layout::PostingsSerializer;
 use ii_reader::SegmentPostings;
 use std::alloc::{AllocError, Global};
 
-/// The bytes that the postings of these documents are written as.
+/// Writes the postings of these documents, and returns their bytes.
 pub fn written(alloc: Global, docs: &[u32]) -> Result<Vec<u8>, AllocError>
     requires { IsTrue (are_documents docs.now) }
     ensures { IfOk result (λ bytes. bytes.items ≡ written_documents docs.now) }
@@ -35,7 +35,7 @@ pub fn written(alloc: Global, docs: &[u32]) -> Result<Vec<u8>, AllocError>
     Ok(output.finish())
 }
 
-/// The lower case hexadecimal digits of `bytes`, or a dash for none.
+/// Returns the lower case hexadecimal digits of `bytes`, or a dash if there are none.
 pub fn hex_text(alloc: Global, bytes: &[u8]) -> Result<String, AllocError>
     ensures { IfOk result (λ text. string_bytes text ≡ written_hex bytes.now) }
 {
@@ -45,8 +45,8 @@ pub fn hex_text(alloc: Global, bytes: &[u8]) -> Result<String, AllocError>
     hex::encode(alloc, bytes)
 }
 
-/// Adds the documents that a cursor has left to a text, with their counts and positions where the
-/// option asks for these, parted by spaces, or a dash for none.
+/// Appends the remaining documents of a cursor to a text, separated by spaces, or a dash if there are
+/// none. Term frequencies and positions are included if the option asks for them.
 pub fn push_list(
     alloc: Global,
     text: &mut String,
@@ -70,7 +70,7 @@ pub fn push_list(
     Ok(())
 }
 
-/// Adds the documents that a cursor has left to a text, parted by spaces, or `none`.
+/// Appends the remaining documents of a cursor to a text, separated by spaces, or `none`.
 pub fn push_found<D: DocSet>(text: &mut String, cursor: &mut D) -> Result<(), AllocError>
     ensures { OnOk result (string_bytes text.new ≡ string_bytes text.old ++ found_text (D.rest cursor.old)) }
 {
@@ -87,8 +87,8 @@ pub fn push_found<D: DocSet>(text: &mut String, cursor: &mut D) -> Result<(), Al
     Ok(())
 }
 
-// Adds the current document of a cursor to a text, with its count and its positions where the option
-// asks for these, which are then left in `positions`.
+// Appends the current document of a cursor to a text, with its term frequency and positions if the
+// option asks for them. These positions are then left in `positions`.
 fn push_item(
     text: &mut String,
     cursor: &mut SegmentPostings,
@@ -115,7 +115,7 @@ fn push_item(
     push_numbers(text, positions)
 }
 
-// Adds numbers to a text, parted by commas.
+// Appends numbers to a text, separated by commas.
 fn push_numbers(text: &mut String, numbers: &[u32]) -> Result<(), AllocError>
     ensures { OnOk result (string_bytes text.new ≡ string_bytes text.old ++ positions_text numbers.now) }
 {
@@ -129,7 +129,7 @@ fn push_numbers(text: &mut String, numbers: &[u32]) -> Result<(), AllocError>
     Ok(())
 }
 
-/// The name of a part of a term's bytes.
+/// Returns the name of a part of a term's bytes.
 pub fn name_of(part: Part) -> &'static str
     ensures { result.now ≡ part_name part }
 {

@@ -5,7 +5,7 @@ ghost use Rattle.iiq.specs.Words.{AreTexts, parts, parts_left};
 
 use std::marker::Model;
 
-/// The parts of a text between separators, one after the other.
+/// The parts of a text between separators, in order.
 #[derive(Drop)]
 pub struct Parts<'a> {
     separator: u8,
@@ -23,7 +23,8 @@ impl<'a> Model for Parts<'a> {
 }
 
 impl<'a> Parts<'a> {
-    /// The parts of `text`: an empty one where two separators meet, or one stands at an end.
+    /// Splits `text` into parts. A part is empty between two adjacent separators, and at an end that
+    /// has a separator.
     pub fn of(text: &'a [u8], separator: u8) -> Parts<'a>
         ensures { result ≡ parts separator text.now }
     {
@@ -33,7 +34,7 @@ impl<'a> Parts<'a> {
         }
     }
 
-    /// The parts of a text that is left, if one is.
+    /// Splits the remaining text, if there is any.
     pub fn left(rest: Option<&'a [u8]>, separator: u8) -> Parts<'a>
         ensures parts { result ≡ parts_left separator (option_copied rest.entry) }
         ensures texts { separator < 128 → IfSome rest.entry (λ text. IsUtf8 text.now) → AreTexts result }
@@ -41,7 +42,7 @@ impl<'a> Parts<'a> {
         Parts { separator, rest }
     }
 
-    /// The next part, if one is left.
+    /// Returns the next part, if one remains.
     pub fn next(&mut self) -> Option<&'a [u8]>
         ensures part { MatchOption result (self.old ≡ []) (λ part. self.old ≡ part.now ∷ self.new) }
         ensures end { IfNone result (self.new ≡ []) }
@@ -55,7 +56,7 @@ impl<'a> Parts<'a> {
     }
 }
 
-/// The text before the first separator, and the text after it, if there is one.
+/// Returns the text before the first separator, and the text after it, if there is a separator.
 pub fn cut(text: &[u8], separator: u8) -> (&[u8], Option<&[u8]>)
     ensures parts { parts separator text.now ≡ result.0.now ∷ parts_left separator (option_copied result.1) }
     ensures utf8 { separator < 128 → IsUtf8 text.now → IfSome result.1 (λ rest. IsUtf8 rest.now) }

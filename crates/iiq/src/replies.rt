@@ -23,8 +23,8 @@ use ii_layout::written::reads_documents_back;
 use ii_reader::SegmentPostings;
 use std::alloc::{AllocError, Global};
 
-/// What a line is answered with: nothing for an empty line, `error line` for one that is not well
-/// formed or whose index call isn't kept.
+/// Returns the reply to a line: nothing for an empty line, and `error line` for a malformed line or
+/// an index call that isn't kept.
 pub fn reply(alloc: Global, session: &mut Session, line: &[u8]) -> Result<String, AllocError>
     requires { IsSession session.old }
     ensures { (s : SessionState) → Knows session.old s → IfOk result (λ text. IsReply s line.now session.new (string_bytes text)) }
@@ -76,7 +76,7 @@ fn command_reply(
     Ok(None)
 }
 
-// A call is kept in silence.
+// Keeps a call, without output.
 fn call_reply(
     alloc: Global,
     session: &mut Session,
@@ -113,7 +113,7 @@ fn query_reply(
     Ok(Some(text))
 }
 
-// What stands behind the question mark: the text of a query, or the words of a look-up.
+// Replies to what follows the question mark: the text of a query, or the words of a lookup.
 fn question_reply(
     alloc: Global,
     session: &mut Session,
@@ -134,7 +134,7 @@ fn question_reply(
     query_reply(alloc, session, &mut words)
 }
 
-// The documents that match a text.
+// Returns the documents that match a text.
 fn search_reply(
     alloc: Global,
     session: &mut Session,
@@ -162,7 +162,7 @@ fn ids_reply(alloc: Global, words: &mut Parts<'_>) -> Result<Option<String>, All
     Ok(Some(ids_text(alloc, &docs)?))
 }
 
-// The bytes of a list of documents, and the list read back from them.
+// Returns the bytes of a list of documents, and the list read back from them.
 fn ids_text(alloc: Global, docs: &[u32]) -> Result<String, AllocError>
     requires { IsTrue (are_documents docs.now) }
     ensures { IfOk result (λ text. string_bytes text ≡ with_ends (ids_texts docs.now)) }
@@ -176,7 +176,7 @@ fn ids_text(alloc: Global, docs: &[u32]) -> Result<String, AllocError>
     Ok(text)
 }
 
-// A cursor over the list that was written.
+// Opens a cursor over the list that was written.
 fn reopened(docs: &[u32], postings: Bytes) -> SegmentPostings
     requires ascending { IsTrue (are_documents docs.now) }
     requires written { postings ≡ written_documents docs.now }
@@ -199,7 +199,7 @@ fn open_reply(alloc: Global, words: &mut Parts<'_>) -> Result<Option<String>, Al
     Ok(Some(open_text(alloc, opening)?))
 }
 
-// The list that bytes give, or the part of them that is damaged.
+// Returns the list that bytes give, or their damaged part.
 fn open_text(alloc: Global, opening: Opening) -> Result<String, AllocError>
     ensures { IfOk result (λ text. string_bytes text ≡ with_ends (open_texts opening)) }
 {

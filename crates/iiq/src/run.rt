@@ -17,9 +17,9 @@ pub enum RunFault {
     Output,
 }
 
-/// Answers each line that the reader gives, in order, and says whether no line that begins with
-/// `error` was written. Where memory for a line is refused its answer is `error 1`, and the last.
-/// The writer is flushed at the end. `Input` is answered before anything is written.
+/// Replies to each line of the reader, in order, and flushes the writer at the end. Returns whether
+/// no line that begins with `error` was written. If an allocation fails for a line, its reply is
+/// `error 1`, which is the last. `Input` is returned before anything is written.
 pub fn run<R: Read, W: Write>(
     alloc: Global,
     reader: &mut R,
@@ -39,14 +39,14 @@ pub fn run<R: Read, W: Write>(
     }
 }
 
-// Why not all bytes of a reader were taken.
+// Why a reader wasn't read to its end.
 #[derive(Clone, Copy)]
 enum ReadFault {
     Input,
     Memory,
 }
 
-// Adds all bytes that the reader gives to the text.
+// Appends all bytes of the reader to the text.
 fn read_all<R: Read>(reader: &mut R, text: &mut Vec<u8>) -> Result<(), ReadFault>
     ensures { OnOk result (IfSome (R.remaining reader.old) (λ input. text.new.items ≡ text.old.items ++ input)) }
 {
@@ -65,7 +65,7 @@ fn read_all<R: Read>(reader: &mut R, text: &mut Vec<u8>) -> Result<(), ReadFault
     Err(ReadFault::Memory)
 }
 
-// Answers the lines of a text.
+// Replies to the lines of a text.
 fn answer_lines<W: Write>(alloc: Global, text: &[u8], writer: &mut W) -> Result<bool, RunFault>
     ensures ok { IfOk result (λ fine. PrintsAll (W.contents writer.old) (W.contents writer.new) text.now fine) }
     ensures err { OnErr result (PrintsBeginning (W.contents writer.old) (W.contents writer.new) text.now) }
@@ -84,7 +84,7 @@ fn answer_lines<W: Write>(alloc: Global, text: &[u8], writer: &mut W) -> Result<
     finish(writer, fine)
 }
 
-// Writes the last line of a run that found no memory.
+// Writes the last line of a run after an allocation failure.
 fn end_run<W: Write>(writer: &mut W) -> Result<bool, RunFault>
     ensures ok { IfOk result (λ fine. (fine ≡ false) × Appends (W.contents writer.old) (W.contents writer.new) (codes "error 1\n")) }
     ensures err { OnErr result (PutsBeginning (W.contents writer.old) (W.contents writer.new) (codes "error 1\n")) }
@@ -94,7 +94,7 @@ fn end_run<W: Write>(writer: &mut W) -> Result<bool, RunFault>
     finish(writer, false)
 }
 
-// Flushes the writer, and answers what the run found.
+// Flushes the writer, and returns `fine`.
 fn finish<W: Write>(writer: &mut W, fine: bool) -> Result<bool, RunFault>
     ensures same { IfOk result (λ answer. answer ≡ fine) }
     ensures keeps { Keeps (W.contents writer.old) (W.contents writer.new) }
@@ -106,7 +106,7 @@ fn finish<W: Write>(writer: &mut W, fine: bool) -> Result<bool, RunFault>
     }
 }
 
-// Writes all of the bytes, or a beginning of them where the writer fails.
+// Writes all bytes, or a prefix of them if the writer fails.
 fn put<W: Write>(writer: &mut W, bytes: &[u8]) -> Result<(), RunFault>
     ensures ok { OnOk result (Appends (W.contents writer.old) (W.contents writer.new) bytes.now) }
     ensures err { OnErr result (PutsBeginning (W.contents writer.old) (W.contents writer.new) bytes.now) }
@@ -125,7 +125,7 @@ fn put<W: Write>(writer: &mut W, bytes: &[u8]) -> Result<(), RunFault>
     Ok(())
 }
 
-// Whether no line of the text begins with `error`.
+// Returns whether no line of the text begins with `error`.
 fn has_no_error(text: &[u8]) -> bool
     ensures { result ≡ has_no_error_in text.now }
 {

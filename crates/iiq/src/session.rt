@@ -20,8 +20,8 @@ use nequllpa::{QueryParserError, index_in_ram, parse_query, search};
 use std::alloc::{AllocError, Global};
 use std::mem;
 
-/// What a run keeps from line to line: index calls with the number of their documents, and from the
-/// first look-up on their index, or the fault that refused it.
+/// The state that a run keeps from line to line: index calls with their number of documents, and from
+/// the first lookup on their index, or its fault.
 #[derive(Drop)]
 pub struct Session {
     pub calls: Vec<IndexCall>,
@@ -30,7 +30,7 @@ pub struct Session {
 }
 
 impl Session {
-    /// A session without calls.
+    /// Creates a session without calls.
     pub fn new(alloc: Global) -> Session
         ensures { Knows result (gathering []) }
     {
@@ -41,8 +41,8 @@ impl Session {
         }
     }
 
-    /// Keeps a call, and says whether it did: not once an index was asked for, nor where the call's
-    /// document lies below that of the last one.
+    /// Keeps a call, and returns whether it did. A call isn't kept after an index was requested, or
+    /// if its document is below the last one.
     pub fn keep(&mut self, call: IndexCall) -> Result<bool, AllocError>
         requires session { IsSession self.old }
         requires call { IsCall call }
@@ -60,8 +60,8 @@ impl Session {
         Ok(true)
     }
 
-    /// Looks a term up: its list, as far as it is asked for and recorded, or `none` where it didn't
-    /// occur; `error` and the fault's number where the index of the calls was refused.
+    /// Looks up a term: returns its list, as far as it is requested and recorded, or `none` if it
+    /// didn't occur. If indexing failed, returns `error` and the fault's number.
     pub fn look_up(&mut self, alloc: Global, query: &Query) -> Result<String, AllocError>
         requires session { IsSession self.old }
         requires field { IfSome query.now.term (λ t. t.field < length fields) }
@@ -76,8 +76,8 @@ impl Session {
         }
     }
 
-    /// Searches: the documents that match a query, or `none`; `error` and the fault's number where the index
-    /// of the calls was refused.
+    /// Searches: returns the documents that match a query, or `none`. If indexing failed, returns
+    /// `error` and the fault's number.
     pub fn search(&mut self, alloc: Global, query: &nequllpa::Query) -> Result<String, AllocError>
         requires session { IsSession self.old }
         requires fields { has_fields (length fields) query.now ≡ true }
@@ -93,7 +93,7 @@ impl Session {
         }
     }
 
-    // Indexes the calls, if that wasn't done.
+    // Indexes the calls, unless that was done.
     fn open(&mut self, alloc: Global)
         requires { IsSession self.old }
         ensures { (s : SessionState) → Knows self.old s → (t : SessionState) × Indexes s t × Knows self.new t }
@@ -106,7 +106,7 @@ impl Session {
     }
 }
 
-// The index of calls, in memory.
+// Indexes calls in memory.
 fn index_of(alloc: Global, calls: Vec<IndexCall>, num_docs: DocId) -> Result<OpenIndex, Fault>
     requires docs { num_docs ≤ TERMINATED }
     requires many { num_docs ≡ num_docs_of (map (call_of fields) calls.items) }
@@ -117,7 +117,7 @@ fn index_of(alloc: Global, calls: Vec<IndexCall>, num_docs: DocId) -> Result<Ope
     index_in_ram(alloc, schema, num_docs, calls, &AsciiTokenizer)
 }
 
-// A field of texts with positions, one of numbers, and one of JSON values, whose texts have positions.
+// Creates the schema: texts with positions, numbers, and JSON values whose texts have positions.
 fn schema(alloc: Global) -> Result<Schema, Fault>
     ensures ok { IfOk result (λ schema. schema ≡ fields) }
     ensures only { OnlyMemory result }
@@ -133,7 +133,7 @@ fn schema(alloc: Global) -> Result<Schema, Fault>
     Ok(Schema::new(entries))
 }
 
-// What a query finds in an index: nothing where there is no term.
+// Returns what a lookup finds in an index, or `none` if it has no term.
 fn query_text(alloc: Global, index: &OpenIndex, query: &Query) -> Result<String, AllocError>
     requires many { length index.now.readers ≡ length fields }
     requires field { IfSome query.now.term (λ t. t.field < length fields) }
@@ -146,7 +146,7 @@ fn query_text(alloc: Global, index: &OpenIndex, query: &Query) -> Result<String,
     }
 }
 
-// The list of a term in an index, or `none`.
+// Returns the list of a term in an index, or `none`.
 fn list_text(
     alloc: Global,
     index: &OpenIndex,
@@ -171,7 +171,7 @@ fn list_text(
     }
 }
 
-// The documents of an index that match a query, or `none`.
+// Returns the documents of an index that match a query, or `none`.
 fn found_text(
     alloc: Global,
     index: &OpenIndex,
@@ -193,7 +193,7 @@ fn found_text(
     }
 }
 
-/// The query of a text, if it is one.
+/// Parses a text as a query, if it is one.
 pub fn query_of_text(alloc: Global, text: &str) -> Result<Option<nequllpa::Query>, AllocError>
     ensures { IfOk result (IsQuery text.now) }
 {
@@ -207,7 +207,7 @@ pub fn query_of_text(alloc: Global, text: &str) -> Result<Option<nequllpa::Query
     }
 }
 
-// No query, but where memory was missing.
+// Returns no query, or an error if an allocation failed.
 fn no_query(error: QueryParserError) -> Result<Option<nequllpa::Query>, AllocError>
     ensures none { IfOk result (λ query. is_none query ≡ true) }
     ensures ok { (fault : Fault) → error ≡ QueryParserError.Fault fault → IsErr result }
@@ -218,7 +218,7 @@ fn no_query(error: QueryParserError) -> Result<Option<nequllpa::Query>, AllocErr
     }
 }
 
-// The number of a fault.
+// Returns `error` and the number of a fault.
 fn error_text(alloc: Global, fault: Fault) -> Result<String, AllocError>
     ensures { IfOk result (λ text. string_bytes text ≡ codes "error " ++ decimal (number_of fault)) }
 {

@@ -6,10 +6,10 @@ ghost use Rattle.iiq.specs.Commands.{option_of_word};
 use ii_base::IndexRecordOption;
 use std::alloc::{AllocError, Global};
 
-// The sign that `parse` takes in front of digits, and a line doesn't.
+// The sign that `parse` accepts before digits, but a line doesn't.
 const PLUS: u8 = b'+';
 
-/// The number of 64 bits that decimal digits write.
+/// Parses decimal digits as a 64-bit number.
 pub fn number(word: &[u8]) -> Option<u64>
     ensures { result ≡ number_below (2 ^ 64) word.now }
 {
@@ -25,7 +25,7 @@ pub fn number(word: &[u8]) -> Option<u64>
     text.parse().ok()
 }
 
-/// The number below `limit` that decimal digits write.
+/// Parses decimal digits as a number below `limit`.
 pub fn number_up_to(word: &[u8], limit: u64) -> Option<u32>
     requires { limit ≤ 2 ^ 32 }
     ensures value { result ≡ number_below limit word.now }
@@ -41,7 +41,7 @@ pub fn number_up_to(word: &[u8], limit: u64) -> Option<u32>
     }
 }
 
-/// The signed number of 64 bits that decimal digits write, behind a minus or not.
+/// Parses decimal digits as a signed 64-bit number, with or without a minus.
 pub fn signed_number(word: &[u8]) -> Option<i64>
     ensures { result ≡ signed_number word.now }
 {
@@ -57,7 +57,7 @@ pub fn signed_number(word: &[u8]) -> Option<i64>
     text.parse().ok()
 }
 
-/// The truth value that a word spells.
+/// Parses a boolean.
 pub fn truth_of(word: &[u8]) -> Option<bool>
     ensures { result ≡ truth_of_word word.now }
 {
@@ -70,7 +70,7 @@ pub fn truth_of(word: &[u8]) -> Option<bool>
     }
 }
 
-/// The option that a letter stands for.
+/// Returns the option of a letter.
 pub fn option_of(word: &[u8]) -> Option<IndexRecordOption>
     ensures { result ≡ option_of_word word.now }
 {
@@ -85,7 +85,7 @@ pub fn option_of(word: &[u8]) -> Option<IndexRecordOption>
     }
 }
 
-/// The bytes that hexadecimal digits write, or a dash for none.
+/// Parses hexadecimal digits as bytes. A dash means no bytes.
 pub fn bytes_of(alloc: Global, word: &[u8]) -> Result<Option<Vec<u8>>, AllocError>
     ensures { IfOk result (λ bytes. option_map (λ v. v.items) bytes ≡ bytes_of_word word.now) }
 {

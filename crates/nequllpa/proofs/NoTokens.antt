@@ -1,4 +1,4 @@
--- Where there are no tokens, no limit is passed.
+-- Without tokens, no limit is exceeded.
 use Rattle.std.proofs.Common.{inl, inr, ◌≡◌, ℕ, suc, ◌+◌, ◌*◌, ◌≤◌, ◌<◌, ◌^◌, Bool, true, false, List, [], ◌∷◌, length, map, nat_lt, refl, ap, subst, arith, length-append}
 use Rattle.std.specs.Prelude.{filter}
 use Rattle.std.specs.List.{enumerate_from}
@@ -53,7 +53,7 @@ none_with_terms (f ∷ fs) =
 no_bodies : (part : FieldBodies → List ℕ) (es : List SchemaEntry) → file_bodies part es [] ≡ []
 no_bodies part es = ap (map (λ (field : ℕ). record { field = field; bytes = part (token_bodies es [] field) })) (none_with_terms (fields_of es))
 
--- an empty file has room for so many bytes
+-- an empty file has room for `size` bytes
 room : (size : ℕ) → size < 2 ^ 64 → IsFull empty_file size → ⊥
 room size low (inl past) = absurd (omega (arith, low, past))
 room size low (inr most) = absurd (omega (arith, most))

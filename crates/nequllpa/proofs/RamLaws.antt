@@ -19,7 +19,7 @@ pub appended : (bytes : List ℕ) (o : Option (List ℕ)) → Appends (Some []) 
 appended bytes None h = absurd h
 appended bytes (Some ys) h = ap (λ (xs : List ℕ). Some xs) h
 
--- the four files as they stand in memory
+-- the four files in memory
 pub in_ram : {W : Type 0} (entries : List SchemaEntry) (n : ℕ) (old new : IndexWriters W) (ts : List IndexToken) → old ≡ empty_files → (w : WroteIndex entries n old new ts)
     → (new.terms.contents ≡ Some w.terms.terms) × (new.postings.contents ≡ Some w.terms.postings) × (new.positions.contents ≡ Some w.terms.positions) × (new.fieldnorms.contents ≡ Some w.norms.fieldnorms)
 in_ram {W} entries n old new ts empty w = (

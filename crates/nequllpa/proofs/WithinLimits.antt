@@ -1,4 +1,4 @@
--- Where the tokens pass no limit, memory alone may be missing.
+-- If the tokens exceed no limit, only an allocation can fail.
 use Rattle.std.proofs.Common.{inl, inr, ◌≡◌, ℕ, zero, suc, ◌+◌, ◌≤◌, ◌<◌, ◌^◌, List, [], ◌∷◌, length, Result, Ok, Err, arith}
 use Rattle.std.specs.Prelude.{◌⊎◌, IfErr}
 use Rattle.std.specs.List.{AllByRecursion, range_with_len}

@@ -1,10 +1,10 @@
-//! Nequllpa, an inverted index: from index calls to files, and from files to cursors over the postings
-//! of a term. Each item stands here once; the crates below say how it is kept.
+//! Nequllpa, an inverted index: from index calls to files, and from files to cursors over the
+//! postings of a term. Each item is exported here once; the crates below say how it is kept.
 #![tactic(auto)]
 
 pub mod ram;
 
-// what a field has, and what is indexed of it
+// fields, and the values that are indexed
 pub use ii_base::{
     DateTime, Field, FieldEntry, IndexRecordOption, JsonValue, Schema, SchemaFields, Term,
     ValueType,
@@ -24,7 +24,7 @@ pub use ii_reader::{
     DamagedTerm, InvertedIndexFieldSpace, InvertedIndexReader, OpenIndex, open_index,
 };
 
-// how postings are walked
+// cursors over documents and postings
 pub use ii_base::AliveBitSet;
 pub use ii_docset::{
     COLLECT_BLOCK_BUFFER_LEN, CursorAnswer, CursorCall, DocId, DocSet, Lent, Postings,
@@ -44,5 +44,5 @@ pub use ii_search::{QueryCursor, TermOrPhrase, count, search, top_by_count};
 // the norms of documents
 pub use ii_fieldnorm::{FieldNormReader, FieldNormReaders, fieldnorm_to_id, id_to_fieldnorm};
 
-// why a call is refused
+// errors
 pub use ii_base::{Fault, LayoutFault, LeafKind, LimitName, Part};

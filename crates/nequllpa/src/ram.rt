@@ -1,4 +1,4 @@
-//! An index in memory: index calls go in, and readers of its fields come out.
+//! An index in memory: indexes calls, and returns readers of the fields.
 ghost use Rattle.std.specs.Prelude.{◌≡◌, ◌≤◌, ◌⊎◌, [], ℕ, List, length, map, None, Err, IfErr, IfOk, IfSome, OnOk, Some};
 ghost use Rattle.std.specs.List.{All};
 ghost use Rattle.ii_base.specs.declared.doc_id.TheConstants.{TERMINATED};
@@ -19,15 +19,16 @@ use ii_indexing::{IndexCall, IndexWriters, write_index};
 use ii_reader::{OpenIndex, open_index};
 use std::alloc::Global;
 
-/// Indexes calls, writes the files of the index that they give to memory, and opens them: the readers of
-/// the fields hold exactly the tokens of the calls, and the norms how many of them each document has of
-/// each field that keeps norms. No call has a document below that of the one before,
-/// each one's is below `num_docs`, at most `TERMINATED`, and each one's field is indexed and has values
-/// of its type. What was just written is known to open, so a look-up by a term doesn't look at a list
-/// whole.
+/// Indexes calls in memory, and opens the index. The readers hold exactly the tokens of the calls.
+/// The norms give each document's number of tokens in each field that keeps norms.
 ///
-/// The first fault of the calls (`Indexer::index`) is answered, else a limit of what is written
-/// (`Indexer::finish`), or `OutOfMemory`; never `Write`, since what can't be written to memory wants memory.
+/// Document ids must not decrease, and must be less than `num_docs`, which is at most `TERMINATED`.
+/// Each call's field must be indexed and have values of the call's type. The index is trusted, as it
+/// was just written: lookups open posting lists without validation.
+///
+/// Returns the first fault of the calls (`Indexer::index`), a limit of the written files
+/// (`Indexer::finish`), or `OutOfMemory`. Never returns `Write`: a failed write to memory is an
+/// allocation failure.
 pub fn index_in_ram<A: TextAnalyzer>(
     alloc: Global,
     schema: Schema,
@@ -55,7 +56,7 @@ pub fn index_in_ram<A: TextAnalyzer>(
     }
 }
 
-// An index each of whose terms is known to open, as those do that were just written.
+// Marks an index as trusted, each of whose terms opens.
 fn trusted(index: OpenIndex) -> OpenIndex
     requires { All AllOpen index.readers }
     ensures { result ≡ index }
@@ -65,7 +66,7 @@ fn trusted(index: OpenIndex) -> OpenIndex
     index
 }
 
-// The readers of the fields of a schema, and their norms.
+// Opens the readers of the fields of a schema, and their norms.
 fn open_files(
     alloc: Global,
     files: IndexWriters<Vec<u8>>,

@@ -1,4 +1,4 @@
-//! How the files of a folder are looked through for damage.
+//! The command `check`.
 use crate::commands::{NO, ended, refuse_path, tell_no_index};
 use ii_base::Schema;
 use ii_store::{Folder, IndexFault, Kind, SalvagedFile, SalvagedIndex, StoreFault, salvage};
@@ -6,7 +6,7 @@ use nequllpa_folder::{Checked, check, schema_of};
 use std::io::{self, BufWriter, Write};
 use std::process::ExitCode;
 
-/// Tells whether the files of a folder are an index, each as it was saved, and all that is in them fits.
+/// Checks that each file of a folder is as it was saved, and that their contents agree.
 pub fn answer_check(rt: &HostRuntime, path: &str) -> anyhow::Result<ExitCode> {
     let left = match salvage(rt.alloc(), &Folder::new(rt, path)) {
         Ok(left) => left,
@@ -23,8 +23,8 @@ pub fn answer_check(rt: &HostRuntime, path: &str) -> anyhow::Result<ExitCode> {
     }
 }
 
-// A line for each file that isn't as it was saved. Answers the schema that is left and how many files these are,
-// or the status where no schema is left.
+// Prints a line for each changed file. Returns the salvaged schema and the number of changed files, or the
+// status if there is no schema.
 fn look_at(
     rt: &HostRuntime,
     path: &str,
@@ -37,7 +37,7 @@ fn look_at(
     }
 }
 
-// The schema that is left of an index, or the status where there is none.
+// Reads the salvaged schema, or returns the status if there is none.
 fn schema_left(
     rt: &HostRuntime,
     path: &str,
@@ -59,7 +59,7 @@ fn schema_left(
     }
 }
 
-// A line for each file that isn't as it was saved; how many they are.
+// Prints a line for each file that isn't as it was saved. Returns their number.
 fn print_changed(rt: &HostRuntime, path: &str, left: &SalvagedIndex) -> anyhow::Result<u64> {
     let mut changed = 0u64;
     for number in 0..Kind::COUNT {
@@ -72,7 +72,7 @@ fn print_changed(rt: &HostRuntime, path: &str, left: &SalvagedIndex) -> anyhow::
     Ok(changed)
 }
 
-// A file that isn't as it was saved, and the bytes that it has.
+// Prints a file that isn't as it was saved, and its byte range.
 fn print_fault(
     rt: &HostRuntime,
     path: &str,
@@ -86,7 +86,7 @@ fn print_fault(
     Ok(())
 }
 
-// Looks into every list of the files.
+// Checks every list of the files.
 fn check_lists(
     rt: &HostRuntime,
     path: &str,
@@ -107,7 +107,7 @@ fn check_lists(
     }
 }
 
-// What was looked at.
+// Prints what was checked.
 fn print_checked(
     rt: &HostRuntime,
     num_docs: u32,

@@ -1,4 +1,4 @@
-//! What the commands other than `index`, `search` and `check` answer, and what all of them share.
+//! The commands other than `index`, `search` and `check`, and what all commands share.
 ghost use Rattle.std.specs.Prelude.{◌<◌, IfOk, length};
 
 use clap::ArgMatches;
@@ -12,11 +12,11 @@ use std::fmt::Display;
 use std::io::{self, BufWriter, ErrorKind, Write};
 use std::process::ExitCode;
 
-/// What the program is called in its messages.
+/// The program's name in its messages.
 pub const PROGRAM: &str = "nequllpa";
-/// The status where the answer is "no", or something is damaged.
+/// The status if the answer is "no", or something is damaged.
 pub const NO: u8 = 1;
-/// The status where the words of the command are wrong, or the system refused.
+/// The status if the arguments are wrong, or the system reports an error.
 pub const REFUSED: u8 = 2;
 
 /// Prints the terms of a field.
@@ -123,7 +123,7 @@ fn print_fields(rt: &HostRuntime, path: &str, opened: &Opened) -> anyhow::Result
     ended(rt, path, written.map(|()| true))
 }
 
-/// Prints how many documents an index has, how long its files are, and what its lists take.
+/// Prints the number of documents, the size of each file, and the space that the lists take.
 pub fn answer_stats(rt: &HostRuntime, path: &str) -> anyhow::Result<ExitCode> {
     let stored = match loaded_at(rt, path)? {
         Ok(stored) => stored,
@@ -136,7 +136,7 @@ pub fn answer_stats(rt: &HostRuntime, path: &str) -> anyhow::Result<ExitCode> {
     }
 }
 
-// Prints what the lists of an open index take.
+// Prints the space that the lists of an open index take.
 fn print_stats(rt: &HostRuntime, path: &str, opened: &Opened) -> anyhow::Result<ExitCode> {
     let mut out = BufWriter::new(rt.alloc(), io::writer(rt))?;
     let written = write_stats(&mut out, opened);
@@ -144,7 +144,7 @@ fn print_stats(rt: &HostRuntime, path: &str, opened: &Opened) -> anyhow::Result<
     ended(rt, path, written.map(|()| true))
 }
 
-// Prints the number of documents and the bytes of each file.
+// Prints the number of documents and the size of each file.
 fn print_files(rt: &HostRuntime, index: &StoredIndex) -> anyhow::Result<()> {
     println!(rt; "{:>12} documents", index.num_docs)?;
     for number in 0..Kind::COUNT {
@@ -154,7 +154,7 @@ fn print_files(rt: &HostRuntime, index: &StoredIndex) -> anyhow::Result<()> {
     Ok(())
 }
 
-// The index of a folder as its bytes, or the status where there is none.
+// Loads the index of a folder, or returns the status if there is none.
 fn loaded_at(rt: &HostRuntime, path: &str) -> anyhow::Result<Result<StoredIndex, u8>> {
     match load(rt.alloc(), &Folder::new(rt, path)) {
         Ok(stored) => Ok(Ok(stored)),
@@ -163,7 +163,7 @@ fn loaded_at(rt: &HostRuntime, path: &str) -> anyhow::Result<Result<StoredIndex,
     }
 }
 
-/// Prints why a folder has no index, and on standard error what to do, and returns the status.
+/// Prints why a folder has no index, and on standard error what to do. Returns the status.
 pub fn tell_no_index(rt: &HostRuntime, path: &str, fault: IndexFault) -> anyhow::Result<u8> {
     if fault == IndexFault::NoIndex {
         return tell_none(rt, path);
@@ -180,7 +180,7 @@ pub fn tell_no_index(rt: &HostRuntime, path: &str, fault: IndexFault) -> anyhow:
     Ok(NO)
 }
 
-// The same of a folder without `meta`: it has files of an index, or none.
+// Does the same for a folder without `meta`, which has files of an index or none.
 fn tell_none(rt: &HostRuntime, path: &str) -> anyhow::Result<u8> {
     match Folder::new(rt, path).orphan() {
         Ok(Some(name)) => {
@@ -202,7 +202,7 @@ fn tell_none(rt: &HostRuntime, path: &str) -> anyhow::Result<u8> {
     }
 }
 
-// The index of these bytes, or the status where they aren't one.
+// Opens an index from its bytes, or returns the status if they are none.
 fn opened_of(
     rt: &HostRuntime,
     path: &str,
@@ -221,7 +221,7 @@ fn opened_of(
     }
 }
 
-/// Opens the index of a folder, or returns the status where there is none.
+/// Opens the index of a folder, or returns the status if there is none.
 pub fn opened_at(rt: &HostRuntime, path: &str) -> anyhow::Result<Result<Opened, u8>> {
     match loaded_at(rt, path)? {
         Ok(stored) => opened_of(rt, path, stored),
@@ -229,7 +229,7 @@ pub fn opened_at(rt: &HostRuntime, path: &str) -> anyhow::Result<Result<Opened, 
     }
 }
 
-// The field that is given.
+// Returns the field given on the command line.
 fn field_given(
     rt: &HostRuntime,
     opened: &Opened,
@@ -243,7 +243,7 @@ fn field_given(
     }
 }
 
-/// Returns the field of a name, or the status where there is none.
+/// Returns the field with a name, or the status if there is none.
 pub fn field_named(
     rt: &HostRuntime,
     opened: &Opened,
@@ -260,7 +260,7 @@ pub fn field_named(
     }
 }
 
-// The term of a field that a text asks for.
+// Returns the term of a field for a text.
 fn term_given(
     rt: &HostRuntime,
     opened: &Opened,
@@ -283,7 +283,7 @@ fn term_given(
     }
 }
 
-/// Returns the number after an option, if it is given, or the status where it is no number.
+/// Returns the number given for an option, if there is one, or the status if it is no number.
 pub fn number_given(
     rt: &HostRuntime,
     given: &ArgMatches<'_>,
@@ -304,7 +304,7 @@ pub fn number_given(
     }
 }
 
-/// Returns the status of an answer, which is "yes", "no", or none because of a fault.
+/// Returns the status for an answer: "yes", "no", or a fault, which it prints.
 pub fn ended(
     rt: &HostRuntime,
     path: &str,
@@ -326,13 +326,13 @@ pub fn ended(
     }
 }
 
-/// Prints on standard error why there is no answer, and returns the status.
+/// Prints an error on standard error and returns the status.
 pub fn refuse<F: Display + Drop>(rt: &HostRuntime, fault: F) -> anyhow::Result<u8> {
     eprintln!(rt; "{PROGRAM}: {fault}")?;
     Ok(REFUSED)
 }
 
-/// The same of a file, a folder or a query.
+/// Does the same for an error of a file, a folder or a query.
 pub fn refuse_path<F: Display + Drop>(
     rt: &HostRuntime,
     path: &str,
@@ -342,7 +342,7 @@ pub fn refuse_path<F: Display + Drop>(
     Ok(REFUSED)
 }
 
-/// The same of a file that can't be opened or read.
+/// Does the same for a file that can't be opened or read.
 pub fn refuse_file(rt: &HostRuntime, path: &str, kind: ErrorKind) -> anyhow::Result<u8> {
     if kind == ErrorKind::NotFound {
         eprintln!(rt; "{PROGRAM}: no such file: {path}")?;

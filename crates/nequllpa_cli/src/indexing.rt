@@ -1,4 +1,4 @@
-//! How an index is made of files of JSON lines.
+//! The command `index`.
 use crate::commands::{NO, PROGRAM, REFUSED, refuse, refuse_file, refuse_path};
 use clap::ArgMatches;
 use ii_base::{AsciiTokenizer, Field, Schema, ValueType};
@@ -13,22 +13,22 @@ use std::io::{BufRead, BufReader, Input};
 use std::process::ExitCode;
 use std::time::Instant;
 
-// Progress is printed each time this many bytes of input were read.
+// The number of input bytes between two lines of progress.
 const STEP: u64 = 16 << 20;
 
-// How many bytes of memory indexing takes for each byte of input, about: its lines, and then the index.
+// About how many bytes of memory indexing takes per byte of input, for its lines and then the index.
 const MEMORY_MULTIPLE: u32 = 5;
 
-// The file name that stands for standard input.
+// The file name for standard input.
 const STANDARD_INPUT: &str = "-";
 
-// How deep arrays and objects may be nested in a line: the limit of the parser.
+// The limit of the parser for nested arrays and objects in a line.
 const MOST_NESTING: u32 = 127;
 
-// What an editor may write at the beginning of a file in UTF-8.
+// The bytes that an editor may write at the start of a UTF-8 file.
 const BYTE_ORDER_MARK: &[u8] = &[0xef, 0xbb, 0xbf];
 
-// What is done while input is read.
+// The state while input is read.
 #[derive(Drop)]
 struct Intake {
     documents: Documents,
@@ -39,7 +39,7 @@ struct Intake {
     begun: Instant,
 }
 
-/// Indexes JSON lines, and saves the index.
+/// Indexes JSON lines and saves the index.
 pub fn answer_index(
     rt: &HostRuntime,
     path: &str,
@@ -67,7 +67,7 @@ pub fn answer_index(
     save_index(rt, target, intake, text)
 }
 
-// The folder that an index is saved in, with its lock if it exists.
+// The folder in which an index is saved, with its lock if it exists.
 #[derive(Drop)]
 struct Target<'a> {
     path: &'a str,
@@ -75,7 +75,7 @@ struct Target<'a> {
     lock: Option<FolderLock>,
 }
 
-// The folder of a path, locked before any input is read if it exists, or the status where it can't be taken.
+// Locks the folder, if it exists, before any input is read. Returns the status if it can't be used.
 fn target_of<'a>(
     rt: &HostRuntime,
     path: &'a str,
@@ -94,8 +94,8 @@ fn target_of<'a>(
 }
 
 impl<'a> Target<'a> {
-    // Takes the lock of the folder, unless it has it, or gives the status where another program holds it, or
-    // where files would be lost.
+    // Takes the lock of the folder, unless it is held already. Returns the status if another program holds
+    // it, or if files would be lost.
     fn locked(self, rt: &HostRuntime) -> anyhow::Result<Result<Target<'a>, u8>> {
         if self.lock.is_some() {
             return Ok(Ok(self));
@@ -122,7 +122,7 @@ impl<'a> Target<'a> {
     }
 }
 
-// Gives the status where a folder without `meta` has a file with a name of an index.
+// Returns the status if a folder without `meta` has a file with a name of an index.
 fn refuse_orphan(rt: &HostRuntime, path: &str) -> anyhow::Result<Result<(), u8>> {
     match Folder::new(rt, path).orphan() {
         Ok(None) => Ok(Ok(())),
@@ -137,7 +137,7 @@ fn refuse_orphan(rt: &HostRuntime, path: &str) -> anyhow::Result<Result<(), u8>>
     }
 }
 
-// Nothing is read yet; prints how much memory indexing takes.
+// Prints how much memory indexing takes, and returns the initial state.
 fn begun(rt: &HostRuntime, given: &ArgMatches<'_>, schema: Schema) -> anyhow::Result<Intake> {
     let begun = Instant::now(rt)?;
     eprintln!(rt;
@@ -153,7 +153,7 @@ fn begun(rt: &HostRuntime, given: &ArgMatches<'_>, schema: Schema) -> anyhow::Re
     })
 }
 
-// The schema of a text.
+// Reads the schema from a text.
 fn schema_of(rt: &HostRuntime, path: &str, text: &[u8]) -> anyhow::Result<Result<Schema, u8>> {
     let Ok(text) = std::str::from_utf8(text) else {
         return Ok(Err(refuse_path(rt, path, "not UTF-8")?));
@@ -164,7 +164,7 @@ fn schema_of(rt: &HostRuntime, path: &str, text: &[u8]) -> anyhow::Result<Result
     }
 }
 
-// Prints why a text is no schema, with the name of the field that is wrong if it has one.
+// Prints why a text is no schema, with the name of the wrong field if it has one.
 fn refuse_schema(
     rt: &HostRuntime,
     path: &str,
@@ -185,7 +185,7 @@ fn refuse_schema(
     }
 }
 
-// Takes the lines of all inputs.
+// Reads the lines of all inputs.
 fn take_inputs(
     rt: &HostRuntime,
     given: &ArgMatches<'_>,
@@ -202,7 +202,7 @@ fn take_inputs(
     Ok(Ok(()))
 }
 
-// Takes the lines of a file, or of standard input under its name.
+// Reads the lines of a file, or of standard input for `-`.
 fn take_file(rt: &HostRuntime, file: &str, intake: &mut Intake) -> anyhow::Result<Result<(), u8>> {
     if file == STANDARD_INPUT {
         return take_standard_input(rt, intake);
@@ -220,7 +220,7 @@ fn take_standard_input(rt: &HostRuntime, intake: &mut Intake) -> anyhow::Result<
     take_lines(rt, STANDARD_INPUT, &mut reader, intake)
 }
 
-// Takes the lines of an input.
+// Reads the lines of an input.
 fn take_lines<R: BufRead>(
     rt: &HostRuntime,
     name: &str,
@@ -245,7 +245,7 @@ fn take_lines<R: BufRead>(
 }
 
 impl Intake {
-    // Takes a line.
+    // Adds a line.
     fn take_line(
         &mut self,
         rt: &HostRuntime,
@@ -269,7 +269,7 @@ impl Intake {
         }
     }
 
-    // Prints why a line is no document, and continues if it may be left out.
+    // Prints why a line is no document, and continues if bad lines are skipped.
     fn refuse_line(
         &mut self,
         rt: &HostRuntime,
@@ -295,7 +295,7 @@ impl Intake {
         Ok(Err(NO))
     }
 
-    // Prints that a value isn't one of its field, and what was expected of a number.
+    // Prints that a value doesn't fit its field, and for a number the expected range.
     fn tell_value(
         &self,
         rt: &HostRuntime,
@@ -345,7 +345,7 @@ impl Intake {
     }
 }
 
-// Prints why a line isn't read as JSON, and where.
+// Prints why a line can't be read as JSON, and where.
 fn tell_not_json(
     rt: &HostRuntime,
     name: &str,
@@ -367,7 +367,7 @@ fn tell_not_json(
     Ok(())
 }
 
-// How deep arrays and objects are nested in a line at most. Brackets in texts don't count.
+// Returns how deep arrays and objects are nested in a line. Brackets in strings don't count.
 fn nesting(line: &[u8]) -> u32 {
     let mut depth = 0u32;
     let mut most = 0u32;
@@ -392,7 +392,7 @@ fn nesting(line: &[u8]) -> u32 {
     most
 }
 
-// Prints how many words are not indexed because they are too long, if any are.
+// Prints how many words are too long to be indexed, if there are any.
 fn tell_long_words(rt: &HostRuntime, count: u64) -> anyhow::Result<()> {
     if count > 0 {
         eprintln!(rt;
@@ -402,7 +402,7 @@ fn tell_long_words(rt: &HostRuntime, count: u64) -> anyhow::Result<()> {
     Ok(())
 }
 
-// Makes the index of the documents and saves it.
+// Builds the index of the documents and saves it.
 fn save_index(
     rt: &HostRuntime,
     target: Target<'_>,
@@ -429,7 +429,7 @@ fn save_index(
     Ok(ExitCode::SUCCESS)
 }
 
-// Saves an index in a folder, which is made if it doesn't exist, or gives the status.
+// Saves an index in a folder, which is created if it doesn't exist. Returns the status if that fails.
 fn save_at(
     rt: &HostRuntime,
     target: Target<'_>,
@@ -455,7 +455,7 @@ fn save_at(
     Ok(Err(status))
 }
 
-// Prints how many documents were indexed, and how many lines were left out.
+// Prints how many documents were indexed and how many lines were skipped.
 fn tell_indexed(rt: &HostRuntime, num_docs: u32, bad_lines: u64) -> anyhow::Result<()> {
     if bad_lines > 0 {
         println!(rt; "{num_docs} documents indexed, {bad_lines} lines left out")?;
@@ -465,7 +465,7 @@ fn tell_indexed(rt: &HostRuntime, num_docs: u32, bad_lines: u64) -> anyhow::Resu
     Ok(())
 }
 
-// Saves an index, and removes the files of the one before.
+// Saves an index and removes the files of the previous one.
 fn put(rt: &HostRuntime, path: &str, stored: &StoredIndex) -> Result<(), DirectoryFault> {
     let mut folder = Folder::new(rt, path);
     folder.begin_first_save()?;

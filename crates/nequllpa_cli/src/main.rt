@@ -1,4 +1,4 @@
-//! A program over an index of JSON lines in a folder: it makes one, searches it and inspects it.
+//! A program that indexes JSON lines into a folder, searches the index and inspects it.
 #![tactic(auto)]
 
 mod checking;
@@ -22,14 +22,14 @@ fn main(rt: HostRuntime) -> ExitCode {
     match answer(&rt) {
         Ok(status) => status,
         Err(error) => {
-            // Where standard error fails too, the status alone is left.
+            // If standard error fails too, only the status is left.
             let _ = eprintln!(&rt; "{PROGRAM}: {error}");
             ExitCode::from(REFUSED)
         }
     }
 }
 
-// Answers the words that the program is given.
+// Runs the program with its arguments.
 fn answer(rt: &HostRuntime) -> anyhow::Result<ExitCode> {
     let args = match std::env::args(rt) {
         Ok(args) => args,
@@ -47,7 +47,7 @@ fn answer(rt: &HostRuntime) -> anyhow::Result<ExitCode> {
     answer_words(rt, words.as_slice())
 }
 
-// Answers the words of a command line, of which the first one is the program's name.
+// Runs a command line, which starts with the program's name.
 fn answer_words(rt: &HostRuntime, words: &[String]) -> anyhow::Result<ExitCode> {
     match usage::command(rt.alloc())?.try_get_matches_from(words) {
         Ok(matches) => answer_command(rt, &matches),
@@ -58,7 +58,7 @@ fn answer_words(rt: &HostRuntime, words: &[String]) -> anyhow::Result<ExitCode> 
     }
 }
 
-// Answers a command.
+// Runs a command.
 fn answer_command(rt: &HostRuntime, matches: &ArgMatches<'_>) -> anyhow::Result<ExitCode> {
     let Some((name, given)) = matches.subcommand() else {
         return Ok(ExitCode::from(REFUSED));

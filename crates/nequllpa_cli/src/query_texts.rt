@@ -1,10 +1,10 @@
-//! What is said of a query's text beside its answer: an unknown field, and fields left out of a phrase.
+//! Messages about a query text: why it is refused, and which fields a phrase is not searched in.
 use crate::commands::{PROGRAM, REFUSED, refuse_path};
 use ii_base::{AsciiTokenizer, Field, TextAnalyzer, TokenStream};
 use ii_query_parser::{QueryParserError, UserInputAst, parse, unknown_field_name};
 use nequllpa_folder::Opened;
 
-/// Prints why a text is no query, with the name of the field that it concerns, and gives the status.
+/// Prints why a text is no query, with the name of the field concerned. Returns the status.
 pub(crate) fn refuse_query(
     rt: &HostRuntime,
     opened: &Opened,
@@ -25,7 +25,7 @@ pub(crate) fn refuse_query(
     }
 }
 
-// The same of a text that names no field of the schema.
+// Does the same for a text with an unknown field name.
 fn refuse_name(
     rt: &HostRuntime,
     opened: &Opened,
@@ -48,7 +48,8 @@ fn refuse_name(
     Ok(status)
 }
 
-/// Prints which default fields keep no positions, if the text has a phrase that is looked up in the others alone.
+/// Prints which default fields keep no positions, if the text has a phrase that is searched only in the
+/// others.
 pub(crate) fn tell_left_out(
     rt: &HostRuntime,
     opened: &Opened,

@@ -1,4 +1,4 @@
-//! How a query is answered.
+//! The command `search`.
 ghost use Rattle.std.specs.Prelude.{◌≡◌, true, length};
 ghost use Rattle.ii_query_parser.specs.Queries.{has_fields};
 
@@ -27,7 +27,7 @@ pub fn answer_search(
     }
 }
 
-// Prints the documents of an open index that match a query, at most `limit`.
+// Prints the matching documents of an open index, at most `limit`.
 fn search(
     rt: &HostRuntime,
     path: &str,
@@ -64,7 +64,7 @@ fn search(
     print_found(rt, path, opened, &query, how)
 }
 
-// Prints how many documents match a query.
+// Prints the number of matching documents.
 fn print_count(
     rt: &HostRuntime,
     path: &str,
@@ -80,7 +80,7 @@ fn print_count(
     ended(rt, path, written)
 }
 
-// Prints the documents that match a query.
+// Prints the matching documents.
 fn print_found(
     rt: &HostRuntime,
     path: &str,
@@ -96,7 +96,8 @@ fn print_found(
     ended(rt, path, written)
 }
 
-// The field whose values are printed in place of numbers, if they are, or the status if it has no such values.
+// Returns the field whose values are printed instead of document numbers, if requested, or the status if the
+// index has no such values.
 fn ids_given(
     rt: &HostRuntime,
     opened: &Opened,
@@ -112,7 +113,7 @@ fn ids_given(
     }
 }
 
-// The query of a text.
+// Parses the query.
 fn query_given(
     rt: &HostRuntime,
     opened: &Opened,
@@ -134,8 +135,7 @@ fn query_given(
     }
 }
 
-// The fields in which a word without the name of a field is looked up: those that are given, or all
-// indexed fields of texts.
+// Returns the fields for words without a field name: those given, or all indexed text fields.
 fn default_fields(
     rt: &HostRuntime,
     opened: &Opened,

@@ -1,27 +1,27 @@
-//! The commands and what `--help` says of them.
+//! The commands and their `--help`.
 use clap::{Arg, ArgAction, Command};
 use std::alloc::{AllocError, Global};
 
-// How a word of a command is given.
+// How an argument is given.
 #[derive(Clone, Copy)]
 enum Given {
-    // It is given at its place.
+    // a positional argument
     Word,
-    // The same; it may begin with `-` and a digit.
+    // the same, which may start with `-` and a digit
     WordOrNumber,
-    // All words that are left.
+    // all remaining arguments
     Words,
-    // An option without a value.
+    // an option without a value
     Flag,
-    // An option with a value of this name.
+    // an option with a value of this name
     Value(&'static str),
-    // The same; it has to be given.
+    // the same, required
     NeededValue(&'static str),
-    // The same as `Value`, given once or more.
+    // the same as `Value`, given once or more
     Values(&'static str),
 }
 
-// A word of a command.
+// An argument of a command.
 struct Word {
     name: &'static str,
     given: Given,
@@ -32,7 +32,7 @@ struct Word {
 struct Usage {
     name: &'static str,
     about: &'static str,
-    // what it is given after its folder
+    // the arguments after the folder
     words: &'static [Word],
 }
 
@@ -169,7 +169,7 @@ static USAGES: [Usage; 7] = [
     },
 ];
 
-/// The command line of the program.
+/// Builds the command line of the program.
 pub fn command<'a>(alloc: Global) -> Result<Command<'a>, AllocError> {
     let mut command = Command::new(alloc, "nequllpa")
         .about(
@@ -183,7 +183,7 @@ pub fn command<'a>(alloc: Global) -> Result<Command<'a>, AllocError> {
     Ok(command)
 }
 
-// A command with one more below it, if that could be made.
+// Adds a subcommand, if it could be built.
 fn with_subcommand<'a>(
     command: Command<'a>,
     below: Result<Command<'a>, AllocError>,
@@ -197,7 +197,7 @@ fn with_subcommand<'a>(
     }
 }
 
-// A command that is given a folder and its words.
+// Builds a command with its folder and arguments.
 fn subcommand<'a>(alloc: Global, usage: &Usage) -> Result<Command<'a>, AllocError> {
     let mut command = Command::new(alloc, usage.name)
         .about(usage.about)

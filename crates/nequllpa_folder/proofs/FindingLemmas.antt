@@ -1,4 +1,4 @@
--- Finding documents, and where terms stand in them.
+-- Documents found by a search, and the positions of terms in them.
 use Rattle.std.proofs.Common.{◌≡◌, ◌≢◌, ◌∙◌, ◌==◌, ◌<◌, ◌≤◌, ◌+◌, ◌-◌, ℕ, zero, suc, Bool, true, false, cond, List, [], ◌∷◌, ◌++◌, add-one, append-nil, append_assoc, get_or, map, take, drop, length, nat_le, Option, None, Some, refl, sym, ap, arith}
 use Rattle.std.specs.List.{find}
 use Rattle.std.specs.Option.{option_map}

@@ -1,4 +1,4 @@
--- The terms that a query wants, and where each stands.
+-- The terms that a query wants, and their positions.
 use Rattle.std.proofs.Common.{◌≡◌, ◌∙◌, ◌<◌, ◌≤◌, ◌+◌, ℕ, zero, suc, Bool, Bor, true, ◌&&◌, List, [], ◌∷◌, ◌++◌, add-one, append-nil, arith, get_or, map, take, drop, length, nat_lt, Option, Result, Ok, Err, inl, inr, refl, sym, ap}
 use Rattle.std.specs.List.{list_all}
 use Rattle.std.proofs.Math.Seq.{drop-cons}
@@ -30,7 +30,7 @@ pub refused_then : {A B : Type 0} (found : Result A Part) (after : A → Result 
 refused_then found after fault (inl memory) = inl memory
 refused_then found after fault (inr (part, why, err)) = inr (part, why, rw err refl)
 
--- want of memory is a refusal of anything
+-- an allocation failure is a refusal of anything
 pub refused_memory : {A : Type 0} (found : Result A Part) (fault : Fault) → fault ≡ OutOfMemory → IsRefusal found fault
 refused_memory found fault memory = inl memory
 

@@ -1,4 +1,4 @@
--- Which faults are for want of memory.
+-- Faults that are allocation failures.
 use Rattle.std.specs.Prelude.{◌≡◌}
 use Rattle.ii_io.specs.declared.faults.Fault.TheVariants.{OutOfMemory}
 use Rattle.ii_schema_text.specs.declared.faults.SchemaFault.TheVariants as schema
@@ -7,12 +7,12 @@ use Rattle.nequllpa_folder.specs.declared.faults.AnswerFault.TheVariants.{Index,
 use Rattle.nequllpa_folder.specs.declared.faults.OpenFault.{OpenFault}
 use Rattle.nequllpa_folder.specs.declared.faults.OpenFault.TheVariants.{Files, Schema, SchemaBytes}
 
--- a command had no memory for its answer
+-- an allocation failed while a command made its answer
 abbrev pub LacksMemoryToAnswer : AnswerFault → Type 0
 LacksMemoryToAnswer (Index fault) = fault ≡ OutOfMemory
 LacksMemoryToAnswer (Output kind) = ⊥
 
--- there was no memory to open an index
+-- an allocation failed while an index was opened
 abbrev pub LacksMemoryToOpen : OpenFault → Type 0
 LacksMemoryToOpen SchemaBytes = ⊥
 LacksMemoryToOpen (Schema fault) = fault ≡ schema.OutOfMemory

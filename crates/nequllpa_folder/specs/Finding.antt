@@ -1,4 +1,4 @@
--- What a search finds: documents, and where in them the terms of the query stand.
+-- What a search finds: documents, and the positions of the query's terms in them.
 use Rattle.std.specs.Prelude.{ℕ, List, [], ◌∷◌, ◌++◌, map, take, Option, Result, Ok}
 use Rattle.std.specs.Option.{option_map}
 use Rattle.ii_io.specs.Parts.{◌>>=◌}
@@ -15,7 +15,7 @@ use Rattle.nequllpa_folder.specs.Positions.{positions_in_doc}
 use Rattle.nequllpa_folder.specs.declared.finding.FoundPlaces.{FoundPlaces}
 use Rattle.nequllpa_folder.specs.declared.finding.TermPositions.{TermPositions}
 
--- The terms that a query wants, in its order. Those that it excludes are not among them.
+-- The terms that a query wants, in its order, without those that it excludes.
 abbrev mutual
   pub tree_terms : QueryTree → List TermState
   tree_terms nothing = []
@@ -34,34 +34,34 @@ abbrev mutual
 abbrev pub wanted_terms : Query → List TermState
 wanted_terms query = tree_terms (tree_of query)
 
--- where a term stands in each of some documents, or the first part of its list that fails
+-- the positions of a term in each of some documents, or the first corrupt part of its list
 abbrev pub term_places : OpenIndexState → List ℕ → TermState → Result (List (Option (List ℕ))) Part
 term_places index docs term = do
   es ← docs_of_term WithFreqsAndPositions index term
   Ok (map (positions_in_doc es) docs)
 
--- the first documents that a query gives, so many at most, or the first part that fails
+-- the first `limit` documents that match a query, or the first corrupt part
 abbrev pub first_docs : OpenIndexState → Query → ℕ → Result (List ℕ) Part
 first_docs index query limit = do
   es ← found_in index query
   Ok (docs_of (take limit es))
 
--- documents, and for each term where it stands in each of them
+-- documents, and for each term its positions in each of them
 pub record FoundState : Type 0 where
   pub docs : List ℕ
   pub places : List (List (Option (List ℕ)))
 
--- what a search finds, or the first part that fails
+-- what a search finds, or the first corrupt part
 abbrev pub found_places : OpenIndexState → Query → ℕ → Result FoundState Part
 found_places index query limit = do
   docs ← first_docs index query limit
   places ← all_or_first (map (term_places index docs) (wanted_terms query))
   Ok (record { docs = docs; places = places })
 
--- the places of a term in memory
+-- the model of a term's positions
 abbrev pub places_view : TermPositions → List (Option (List ℕ))
 places_view p = map (option_map (λ v. v.items)) p.positions.items
 
--- what was found in memory
+-- the model of a search's result
 abbrev pub found_view : FoundPlaces → FoundState
 found_view f = record { docs = f.docs.items; places = map places_view f.places.items }

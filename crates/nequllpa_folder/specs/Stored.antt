@@ -1,4 +1,4 @@
--- The bytes of an index: the tokens that they hold, and why they can't be opened.
+-- Tokens that the bytes of an index hold, and why they don't open.
 use Rattle.std.specs.Prelude.{◌≡◌, ℕ, List, Result, Ok}
 use Rattle.std.specs.Str.{IsUtf8}
 use Rattle.ii_io.specs.declared.faults.Part.{Part}
@@ -19,17 +19,17 @@ pub record HoldsTokens (entries : List SchemaEntry) (i : Index) (ts : List Index
   pub tokens : HoldTokens (option_of entries) i.terms i.postings i.positions ts
   pub norms : HoldNorms entries i.num_docs i.fieldnorms ts
 
--- The readers that the files of an index give by a schema, or the first part of them that fails.
+-- The readers over the files of an index with a schema, or the first corrupt part.
 abbrev pub readers_of : Index → List SchemaEntry → Result OpenIndexState Part
 readers_of i entries = index_of_files i.terms i.postings i.positions i.fieldnorms entries
 
--- Why bytes say no schema: they aren't UTF-8, or what their text says is none.
+-- Why bytes are no schema: they aren't UTF-8, or their text is no schema.
 abbrev pub IsSchemaRefusal : List ℕ → OpenFault → Type 0
 IsSchemaRefusal bytes SchemaBytes = IsUtf8 bytes → ⊥
 IsSchemaRefusal bytes (Schema fault) = TellsOfText (told_of_text fault) (text_schema bytes)
 IsSchemaRefusal bytes (Files fault) = ⊥
 
--- Why an index can't be opened: its bytes say no schema, or by that schema its files give no readers.
+-- Why an index doesn't open: its schema doesn't read, or its files don't open with it.
 abbrev pub IsOpenRefusal : Index → OpenFault → Type 0
 IsOpenRefusal i SchemaBytes = IsSchemaRefusal i.schema SchemaBytes
 IsOpenRefusal i (Schema fault) = IsSchemaRefusal i.schema (Schema fault)

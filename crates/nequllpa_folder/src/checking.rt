@@ -1,4 +1,4 @@
-//! Looking through all files of an index for damage, and printing what is found.
+//! Checks all files of an index and writes the damages found.
 ghost use Rattle.std.specs.Prelude.{◌≡◌, ℕ, IfOk, List, length, map};
 ghost use Rattle.ii_base.specs.Words.{Word};
 ghost use Rattle.ii_definitions.specs.Fields.{option_of};
@@ -7,7 +7,7 @@ ghost use Rattle.ii_definitions.specs.IndexCalls.{MayAllBeIndexed, call_of};
 ghost use Rattle.ii_definitions.specs.Norms.{HoldNorms};
 ghost use Rattle.ii_definitions.specs.Tokens.{tokens_of};
 ghost use Rattle.ii_definitions.specs.declared.index_call.IndexCall.{IndexCall};
-ghost use Rattle.ii_damage.specs.Damages.{damages_of, files_of};
+ghost use Rattle.ii_damage.specs.Damages.{damages_of, index_files};
 ghost use Rattle.ii_damage.specs.Totals.{HasTotals, opened_readers};
 ghost use Rattle.ii_store.specs.Index.{view};
 
@@ -19,7 +19,7 @@ use ii_store::StoredIndex;
 use std::alloc::Global;
 use std::io::Write;
 
-/// How much of an index was walked, and how many damages were found.
+/// How much of an index was walked, and the number of damages.
 #[derive(Clone, Copy, Debug, PartialEq, Eq)]
 pub struct Checked {
     pub terms: u64,
@@ -28,16 +28,16 @@ pub struct Checked {
     pub damages: u64,
 }
 
-/// Finds the damages of an index over a schema (`find_damages`), and writes a line for each: its file, field
-/// and term, what is wrong, and the bytes of the file. What index calls wrote has none.
+/// Finds the damages of an index over a schema (`find_damages`) and writes a line for each: the file, field
+/// and term, what is wrong, and the bytes of the file. An index that was written from index calls has none.
 pub fn check<W: Write>(
     alloc: Global,
     out: &mut W,
     schema: &Schema,
     stored: StoredIndex,
 ) -> Result<Checked, AnswerFault>
-    ensures damages { IfOk result (λ checked. checked.damages ≡ length (damages_of schema.now (files_of (view stored)))) }
-    ensures totals { IfOk result (λ checked. HasTotals (opened_readers schema.now (files_of (view stored))) (record { terms = checked.terms; postings = checked.postings; positions = checked.positions })) }
+    ensures damages { IfOk result (λ checked. checked.damages ≡ length (damages_of schema.now (index_files (view stored)))) }
+    ensures totals { IfOk result (λ checked. HasTotals (opened_readers schema.now (index_files (view stored))) (record { terms = checked.terms; postings = checked.postings; positions = checked.positions })) }
     ensures written { (words : List ℕ → List Word) (calls : List IndexCall) → MayAllBeIndexed schema.now stored.num_docs calls
         → HoldTokens (option_of schema.now) stored.terms.items stored.postings.items stored.positions.items (tokens_of words (map (call_of schema.now) calls))
         → HoldNorms schema.now stored.num_docs stored.fieldnorms.items (tokens_of words (map (call_of schema.now) calls)) → IfOk result (λ checked. checked.damages ≡ 0) }
@@ -82,7 +82,7 @@ fn write_damages<W: Write>(
     Ok(())
 }
 
-// Writes the file of a damage, its field and its term.
+// Writes the file, field and term of a damage.
 fn write_place<W: Write>(
     alloc: Global,
     out: &mut W,
@@ -103,7 +103,7 @@ fn write_place<W: Write>(
     }
 }
 
-// The entry of a field, if the schema has it.
+// Returns the entry of a field, if the schema has it.
 fn entry_of(schema: &Schema, field: Field) -> Option<&FieldEntry> {
     if (field.field_id() as usize) < schema.num_fields() {
         return Some(schema.get_field_entry(field));

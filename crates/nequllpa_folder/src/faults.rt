@@ -11,30 +11,30 @@ use thiserror::Error;
 /// Why a command has no answer.
 #[derive(Clone, Copy, Debug, PartialEq, Eq, Error)]
 pub enum AnswerFault {
-    /// The index refused: its bytes are damaged, a limit was passed, or there was no memory.
+    /// An error of the index: its bytes are corrupt, a limit was exceeded, or an allocation failed.
     #[error("{0}")]
     Index(Fault),
-    /// The output failed.
+    /// Writing the output failed.
     #[error("the output failed: {0:?}")]
     Output(io::ErrorKind),
 }
 
-/// Why the bytes of an index, which are those that were saved, aren't one that can be opened.
+/// Why the bytes of an index can't be opened, although they are those that were saved.
 #[derive(Debug, Drop, Error)]
 pub enum OpenFault {
     /// The schema isn't UTF-8.
     #[error("the schema is not UTF-8")]
     SchemaBytes,
-    /// The schema isn't one.
+    /// The text is no schema.
     #[error("the schema: {0}")]
     Schema(SchemaFault),
-    /// The files aren't those of an index.
+    /// The files don't open.
     #[error("{0}")]
     Files(Fault),
 }
 
 impl AnswerFault {
-    /// Whether no memory was found.
+    /// Returns whether an allocation failed.
     pub fn is_memory(&self) -> bool
         ensures { IsTrue result ↔ LacksMemoryToAnswer self.now }
     {
@@ -46,7 +46,7 @@ impl AnswerFault {
 }
 
 impl OpenFault {
-    /// Whether no memory was found.
+    /// Returns whether an allocation failed.
     pub fn is_memory(&self) -> bool
         ensures { IsTrue result ↔ LacksMemoryToOpen self.now }
     {
@@ -58,7 +58,7 @@ impl OpenFault {
     }
 }
 
-// A text isn't hexadecimal, or no memory was found.
+// Returns `OutOfMemory` if an allocation failed, and accepts any other error.
 pub(crate) fn not_hex(error: FromHexError) -> Result<(), Fault> {
     match error {
         FromHexError::OutOfMemory => Err(Fault::OutOfMemory),

@@ -1,4 +1,4 @@
-//! Which documents match a query, and where in them its terms stand.
+//! Finds the documents that match a query, and the positions of its terms in them.
 ghost use Rattle.std.specs.Prelude.{◌≡◌, ◌<◌, ◌++◌, IfErr, IfOk, Ok, OnOk, flat_map, length, map, nat_lt, take, true};
 ghost use Rattle.std.specs.List.{list_all};
 ghost use Rattle.std.specs.Option.{option_map};
@@ -19,28 +19,30 @@ use ii_reader::{OpenIndex, SegmentPostings};
 use ii_search::{PhraseTerm, Query, search};
 use std::alloc::Global;
 
-/// Where a term stands in documents.
+/// The positions of a term in some documents.
 #[derive(Drop)]
 pub struct TermPositions {
-    /// Of each document the positions, in ascending order, as far as the field keeps any; nothing where
-    /// the document hasn't the term.
+    /// The positions in each document, ascending, if the field keeps any; `None` if the document doesn't have
+    /// the term.
     pub positions: Vec<Option<Vec<u32>>>,
 }
 
-/// Documents that were found.
+/// Documents found by a search.
 #[derive(Drop)]
 pub struct FoundPlaces {
-    /// The documents, ascending.
+    /// The documents, in ascending order.
     pub docs: Vec<DocId>,
-    /// Of each term that the query wants (`wanted_terms`) where it stands in these documents.
+    /// The positions of each term that the query wants (`wanted_terms`) in these documents.
     pub places: Vec<TermPositions>,
 }
 
-/// The documents that match a query, so many at most, and for each term that the query wants where it
-/// stands in them. The fields of the query's terms are those of the index (`Query::has_fields` tells).
+/// Returns at most `limit` documents that match a query, and in them the positions of each term that the
+/// query wants. The terms of the query must belong to fields of the index (`Query::has_fields`).
 ///
-/// `Damaged` by the first part of a list that `InvertedIndexReader::read_postings` refuses, of the terms in
-/// the order of the query; `OutOfMemory` where there is no room for what is found.
+/// # Errors
+///
+/// `Damaged` with the first corrupt part that `InvertedIndexReader::read_postings` returns for a term, in the
+/// order of the query; `OutOfMemory`.
 #[tactic(auto, using(crate::proofs::QueryLemmas::found_all, crate::proofs::QueryLemmas::found_refused, crate::proofs::QueryLemmas::refused_memory, crate::proofs::QueryLemmas::refused_then, crate::proofs::QueryLemmas::ascend_slice))]
 pub fn find_places(
     alloc: Global,
@@ -62,8 +64,8 @@ pub fn find_places(
     }
 }
 
-/// The documents that match a query, ascending, so many at most. See `find_places` for what is asked and
-/// for the faults.
+/// Returns at most `limit` documents that match a query, in ascending order. Requirements and errors are
+/// those of `find_places`.
 #[tactic(auto, using(crate::proofs::QueryLemmas::docs_found, crate::proofs::QueryLemmas::docs_found_ascend, crate::proofs::QueryLemmas::docs_refused, crate::proofs::QueryLemmas::refused_memory))]
 pub fn first_docs(
     alloc: Global,
@@ -88,7 +90,7 @@ pub fn first_docs(
     }
 }
 
-// The documents that a cursor has left, so many at most.
+// Returns at most `limit` of the remaining documents of a cursor.
 #[tactic(auto, using(crate::proofs::FindingLemmas::taking_first, crate::proofs::FindingLemmas::taking_next, crate::proofs::FindingLemmas::taking_ended, crate::proofs::FindingLemmas::taking_all))]
 fn take_docs<C: DocSet>(alloc: Global, cursor: &mut C, limit: u32) -> Result<Vec<DocId>, Fault>
     ensures taken { IfOk result (λ docs. docs.items ≡ docs_of (take limit (C.rest cursor.old))) }
@@ -106,8 +108,8 @@ fn take_docs<C: DocSet>(alloc: Global, cursor: &mut C, limit: u32) -> Result<Vec
     Ok(docs)
 }
 
-/// The terms that a query wants, in its order: those of its words and phrases, none behind a "not".
-/// `OutOfMemory` alone is a fault.
+/// Returns the terms that a query wants, in its order: those of its words and phrases, except excluded ones.
+/// Fails only with `OutOfMemory`.
 pub fn wanted_terms<'q>(alloc: Global, query: &'q Query) -> Result<Vec<&'q Term>, Fault>
     ensures wanted { IfOk result (λ terms. map (λ t. t.now) terms.items ≡ wanted_terms query.now) }
     ensures only { OnlyMemory result }
@@ -117,7 +119,7 @@ pub fn wanted_terms<'q>(alloc: Global, query: &'q Query) -> Result<Vec<&'q Term>
     Ok(terms)
 }
 
-// Adds the terms that a query wants.
+// Appends the terms that a query wants.
 #[cycle(push_terms)]
 #[tactic(auto, using(crate::proofs::WantedLemmas::wanted_of_nothing, crate::proofs::WantedLemmas::wanted_of_all, crate::proofs::WantedLemmas::wanted_of_term, crate::proofs::WantedLemmas::wanted_of_phrase, crate::proofs::WantedLemmas::wanted_of_and, crate::proofs::WantedLemmas::wanted_of_or, crate::proofs::WantedLemmas::wanted_of_and_not))]
 fn push_terms<'q>(query: &'q Query, terms: &mut Vec<&'q Term>) -> Result<(), Fault>
@@ -138,7 +140,7 @@ fn push_terms<'q>(query: &'q Query, terms: &mut Vec<&'q Term>) -> Result<(), Fau
     }
 }
 
-// Adds the terms that some queries want.
+// Appends the terms that some queries want.
 #[cycle(push_terms)]
 fn push_all_terms<'q>(queries: &'q Vec<Query>, terms: &mut Vec<&'q Term>) -> Result<(), Fault>
     ensures wanted { OnOk result (map (λ t. t.now) terms.new.items ≡ map (λ t. t.now) terms.old.items ++ flat_map wanted_terms queries.now.items) }
@@ -150,7 +152,7 @@ fn push_all_terms<'q>(queries: &'q Vec<Query>, terms: &mut Vec<&'q Term>) -> Res
     Ok(())
 }
 
-// Adds the terms of a phrase after the first one.
+// Appends the terms of a phrase after the first one.
 fn push_others<'q>(others: &'q [PhraseTerm], terms: &mut Vec<&'q Term>) -> Result<(), Fault>
     ensures wanted { OnOk result (map (λ t. t.now) terms.new.items ≡ map (λ t. t.now) terms.old.items ++ map (λ o. o.term) others.now) }
     ensures only { OnlyMemory result }
@@ -161,7 +163,7 @@ fn push_others<'q>(others: &'q [PhraseTerm], terms: &mut Vec<&'q Term>) -> Resul
     Ok(())
 }
 
-// Where each term that a query wants stands in documents.
+// Returns the positions of each wanted term in some documents.
 #[tactic(auto, using(crate::proofs::QueryLemmas::wanted_slice, crate::proofs::QueryLemmas::wanted_found, crate::proofs::QueryLemmas::wanted_refused, crate::proofs::QueryLemmas::refused_memory))]
 fn places_of_query(
     alloc: Global,
@@ -184,7 +186,7 @@ fn places_of_query(
     }
 }
 
-// Where each of some terms stands in documents.
+// Returns the positions of each of some terms in some documents.
 #[tactic(auto, using(crate::proofs::QueryLemmas::terms_first, crate::proofs::QueryLemmas::terms_field, crate::proofs::QueryLemmas::terms_next, crate::proofs::QueryLemmas::terms_refused, crate::proofs::QueryLemmas::terms_all, crate::proofs::QueryLemmas::refused_memory))]
 fn places_of_terms(
     alloc: Global,
@@ -208,7 +210,7 @@ fn places_of_terms(
     Ok(places)
 }
 
-// Where a term stands in documents.
+// Returns the positions of a term in some documents.
 #[tactic(auto, using(crate::proofs::QueryLemmas::term_found, crate::proofs::QueryLemmas::term_refused, crate::proofs::QueryLemmas::refused_memory))]
 fn places_of_term(
     alloc: Global,
@@ -233,7 +235,7 @@ fn places_of_term(
     }
 }
 
-// A cursor over the list of a term with its positions; over no documents where the field hasn't the term.
+// Opens a cursor over the postings of a term with positions; it is empty if the field doesn't have the term.
 fn positions_cursor(index: &OpenIndex, term: &Term) -> Result<SegmentPostings, Fault>
     requires { term.now.field < length index.now.readers }
     ensures listed { IfOk result (λ cursor. docs_of_term WithFreqsAndPositions index.now term.now ≡ Ok cursor.rest) }
@@ -247,7 +249,7 @@ fn positions_cursor(index: &OpenIndex, term: &Term) -> Result<SegmentPostings, F
     }
 }
 
-// The positions that a cursor has left of each of some documents.
+// Returns the positions in each of some documents among the remaining ones of a cursor.
 #[tactic(auto, using(crate::proofs::FindingLemmas::placing_first, crate::proofs::FindingLemmas::placing_low, crate::proofs::FindingLemmas::placing_next, crate::proofs::FindingLemmas::placing_all))]
 fn places_in<C: Postings>(
     alloc: Global,
@@ -266,7 +268,7 @@ fn places_in<C: Postings>(
     Ok(places)
 }
 
-// The positions that a cursor has of a document, to which it goes.
+// Seeks a document and returns its positions, if the cursor has it.
 #[tactic(auto, using(crate::proofs::FindingLemmas::place_found, crate::proofs::FindingLemmas::place_missed))]
 fn positions_at<C: Postings>(
     alloc: Global,
@@ -278,7 +280,7 @@ fn positions_at<C: Postings>(
     ensures rest { C.rest cursor.new ≡ from_doc doc (C.rest cursor.old) }
     ensures only { OnlyMemory result }
 {
-    // that documents ascend, for the proof
+    // tells the prover that the documents ascend
     let _first = cursor.doc();
     match cursor.seek_danger(doc) {
         SeekDangerResult::Found => {

@@ -1,4 +1,4 @@
-//! The values of a field named `id` of documents.
+//! Reads the values of the field `id`.
 ghost use Rattle.std.specs.Prelude.{◌≡◌, ◌<◌, IfOk, Ok, length};
 
 use crate::faults::AnswerFault;
@@ -12,28 +12,28 @@ use ii_termdict::TermInfo;
 use std::alloc::Global;
 use thiserror::Error;
 
-// The name of the field whose values are ids.
+// The field whose values are ids.
 const ID_FIELD: &str = "id";
 
-/// Why documents can't be printed by the values of a field `id`.
+/// Why documents can't be printed by the values of the field `id`.
 #[derive(Clone, Copy, Debug, PartialEq, Eq, Error)]
 pub enum NoIds {
-    /// The schema has no indexed field of that name.
+    /// The schema has no indexed field `id`.
     #[error("--ids: the schema has no indexed field id")]
     NoField,
-    /// The field has JSON values.
+    /// The field is a JSON field.
     #[error("--ids: the field id has JSON values, and a document may have several terms")]
     JsonValues,
-    /// The field has texts, and no norms that count their words.
+    /// The field is a text field without norms, which would count the words.
     #[error("--ids: the field id has texts without fieldnorms, so their number of words is not known")]
     NoNorms,
-    /// The field has a text of several words, of which no single one is the id.
+    /// A document has a text of several words, none of which is the id.
     #[error("--ids: document {0} has an id of several words, which are indexed one by one; index ids as u64 or as one word")]
     SeveralWords(DocId),
 }
 
-/// Returns the field `id`, or why documents can't be printed by its values: an index keeps the words of a
-/// text and not the text, so each document may have one word at most.
+/// Returns the field `id`, or why documents can't be printed by its values. An index stores the words of a
+/// text and not the text, so each document may have at most one word.
 ///
 /// # Errors
 ///
@@ -59,7 +59,7 @@ pub fn id_field(opened: &Opened) -> Result<Result<Field, NoIds>, Fault>
     }
 }
 
-// The first document with several words in a field of texts.
+// Returns the first document with several words in a text field.
 fn first_of_several(opened: &Opened, field: Field) -> Result<Result<Option<DocId>, NoIds>, Fault> {
     match opened.index().get_fieldnorms_reader(field)? {
         Some(norms) => {
@@ -71,7 +71,7 @@ fn first_of_several(opened: &Opened, field: Field) -> Result<Result<Option<DocId
     }
 }
 
-// The first document whose norm is above that of one token.
+// Returns the first document whose norm is above that of one token.
 fn first_above_one(norms: &FieldNormReader) -> Option<DocId> {
     for doc in 0..norms.num_docs() {
         if norms.fieldnorm_id(doc) > 1 {
@@ -84,19 +84,19 @@ fn first_above_one(norms: &FieldNormReader) -> Option<DocId> {
 /// The ids of some documents.
 #[derive(Drop)]
 pub struct Ids {
-    // of each document its id, or an empty text
+    // the id of each document, or an empty text
     texts: Vec<String>,
 }
 
 impl Ids {
-    /// Returns the ids where no document has one.
+    /// Returns empty ids.
     pub fn none(alloc: Global) -> Ids {
         Ids {
             texts: Vec::new(alloc),
         }
     }
 
-    /// Returns the id of the document at a place, if it has one.
+    /// Returns the id of the document at an index, if it has one.
     pub fn at(&self, place: usize) -> Option<&str> {
         match self.texts.get(place) {
             Some(text) => {
@@ -110,8 +110,8 @@ impl Ids {
     }
 }
 
-/// Returns the ids of documents, which ascend: of each the first term, in the order of the keys, that the
-/// field has of it. Terms are opened until each document has its id.
+/// Returns the ids of ascending documents: for each the first of its terms in the field, in the order of the
+/// keys. Opens terms until each document has its id.
 pub fn ids_of(
     alloc: Global,
     opened: &Opened,
@@ -128,7 +128,7 @@ pub fn ids_of(
     Ok(ids)
 }
 
-// Fills in the terms of a field for the documents that have them.
+// Sets the ids of the documents from the terms of a field.
 fn fill_ids(
     alloc: Global,
     opened: &Opened,
@@ -157,7 +157,7 @@ fn fill_ids(
     Ok(())
 }
 
-// Fills in a term for the documents that have it, and returns how many had no id before.
+// Sets a term as id of the documents that have it. Returns how many had no id before.
 fn put_term(
     reader: &InvertedIndexReader,
     info: &TermInfo,
@@ -172,8 +172,7 @@ fn put_term(
 }
 
 impl Ids {
-    // Fills in a text for those of some documents that a cursor has and that have none yet, and returns how
-    // many these are.
+    // Sets a text as id of the documents that a cursor has and that have no id yet. Returns their number.
     fn put<C: DocSet>(
         &mut self,
         cursor: &mut C,
@@ -198,7 +197,7 @@ impl Ids {
     }
 }
 
-// Goes to the first document that isn't below another.
+// Seeks the first document that is not below `doc`.
 fn go_to<C: DocSet>(cursor: &mut C, doc: DocId) {
     if doc < TERMINATED {
         cursor.seek_danger(doc);

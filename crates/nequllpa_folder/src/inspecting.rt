@@ -1,4 +1,4 @@
-//! What an index holds, as text.
+//! Writes the contents of an index as text.
 ghost use Rattle.std.specs.Prelude.{◌≡◌, ◌<◌, length, true};
 ghost use Rattle.ii_docset.specs.Cursor.{IsCurrent};
 ghost use Rattle.ii_query_parser.specs.Queries.{has_fields};
@@ -13,16 +13,16 @@ use ii_search::{Query, count};
 use std::alloc::Global;
 use std::io::Write;
 
-/// How the number of the documents that match is written.
+/// How the number of matching documents is written.
 #[derive(Clone, Copy, Debug, PartialEq, Eq)]
 pub enum CountFormat {
-    /// As the number alone.
+    /// As a plain number.
     Number,
     /// As a JSON object with `count`.
     Json,
 }
 
-/// Writes how many documents match a query, and returns whether any does.
+/// Writes how many documents match a query. Returns whether any does.
 pub fn write_count<W: Write>(
     alloc: Global,
     out: &mut W,
@@ -40,16 +40,17 @@ pub fn write_count<W: Write>(
     Ok(many > 0)
 }
 
-/// Which terms of a field are written.
+/// The terms of a field to write.
 #[derive(Clone, Copy, Debug)]
 pub struct TermChoice<'a> {
-    /// How the text of a term begins.
+    /// The start of a term's text.
     pub prefix: &'a str,
-    /// So many of them, those in the most documents, or all in the order of their keys.
+    /// How many terms to write, those in the most documents first; all terms in the order of their keys if
+    /// `None`.
     pub top: Option<usize>,
 }
 
-/// Writes the terms of a field, each on a line behind the number of its documents and a space.
+/// Writes the terms of a field, one per line: the number of documents, a space and the term.
 pub fn write_terms<W: Write>(
     alloc: Global,
     out: &mut W,
@@ -92,7 +93,7 @@ fn write_all_terms<W: Write>(
     Ok(())
 }
 
-// Writes the terms of a field that are in the most documents, of as many the one with the least key.
+// Writes the terms that are in the most documents; equal ones in the order of their keys.
 fn write_top<W: Write>(
     alloc: Global,
     out: &mut W,
@@ -110,7 +111,7 @@ fn write_top<W: Write>(
     written
 }
 
-// Writes the first terms of these.
+// Writes the first `top` of these terms.
 fn write_ranks<W: Write>(
     alloc: Global,
     out: &mut W,
@@ -135,7 +136,7 @@ fn write_ranks<W: Write>(
     Ok(())
 }
 
-// Each term whose text begins so: how many documents below 2^32 it isn't in, and its place.
+// Returns for each term with the prefix `u32::MAX` minus its number of documents, and its ordinal.
 fn chosen(
     alloc: Global,
     opened: &Opened,
@@ -162,8 +163,8 @@ fn chosen(
     Ok(ranks)
 }
 
-/// Writes the documents of a term, each on a line: the document, how often the term occurs where the field
-/// records that, and where it occurs if that is asked for and recorded. Answers whether there is such a term.
+/// Writes the documents of a term, one per line: the document, its term frequency if recorded, and the
+/// positions if requested and recorded. Returns whether the term exists.
 pub fn write_postings<W: Write>(
     alloc: Global,
     out: &mut W,
@@ -184,7 +185,7 @@ pub fn write_postings<W: Write>(
     }
 }
 
-// Writes the documents that a cursor has left.
+// Writes the remaining documents of a cursor.
 fn write_all_postings<W: Write>(
     alloc: Global,
     out: &mut W,
@@ -202,7 +203,7 @@ fn write_all_postings<W: Write>(
     Ok(())
 }
 
-// What is read of a term.
+// Returns what to read of a term.
 fn requested(recorded: IndexRecordOption, with_positions: bool) -> IndexRecordOption {
     if with_positions {
         return recorded;
@@ -238,8 +239,8 @@ fn write_posting<W: Write>(
     Ok(())
 }
 
-/// Writes a line for each field: its number, name and type, what it records, how many terms and tokens it
-/// has; and below a JSON field a line for each path and type.
+/// Writes a line for each field: its number, name and type, what it records, and its numbers of terms and
+/// tokens. Below a JSON field it writes a line for each path and type.
 pub fn write_fields<W: Write>(
     alloc: Global,
     out: &mut W,
@@ -269,7 +270,7 @@ pub fn write_fields<W: Write>(
     Ok(())
 }
 
-// What a field records.
+// Writes what a field records.
 fn write_settings<W: Write>(out: &mut W, entry: &FieldEntry) -> Result<(), AnswerFault> {
     if !entry.is_indexed() {
         write!(out, " not indexed")?;
@@ -290,7 +291,7 @@ fn write_settings<W: Write>(out: &mut W, entry: &FieldEntry) -> Result<(), Answe
     Ok(())
 }
 
-// The name of what is recorded in a schema's text.
+// Returns the name of an option in the text of a schema.
 fn option_name(option: IndexRecordOption) -> &'static str {
     match option {
         IndexRecordOption::Basic => "basic",
@@ -311,7 +312,7 @@ fn write_paths<W: Write>(
     written
 }
 
-// Writes a line for each of these.
+// Writes a line for each of these paths and types.
 fn write_spaces<W: Write>(
     alloc: Global,
     out: &mut W,
@@ -333,7 +334,7 @@ fn write_spaces<W: Write>(
     Ok(())
 }
 
-/// The name of a type in a schema's text.
+/// Returns the name of a type in the text of a schema.
 pub fn type_name(value_type: ValueType) -> &'static str {
     match value_type {
         ValueType::Str => "text",

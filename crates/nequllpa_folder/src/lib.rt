@@ -1,5 +1,5 @@
-//! An index of JSON lines, as it is kept in a folder: how it is opened, searched and looked into.
-//! What is answered is written as text, a line for each item.
+//! Opens, searches and inspects an index of JSON lines that is stored in a folder. Answers are written as
+//! text, one line for each item.
 #![tactic(auto)]
 
 pub mod checking;

@@ -1,4 +1,4 @@
-//! How the documents that a search finds are written, with where the terms of the query stand in them.
+//! Writes the documents that a search finds, with the positions of the query's terms.
 ghost use Rattle.std.specs.Prelude.{◌≡◌, ◌<◌, length, true};
 ghost use Rattle.ii_query_parser.specs.Queries.{has_fields};
 
@@ -14,26 +14,26 @@ use serde_json::Value;
 use std::alloc::Global;
 use std::io::Write;
 
-/// How the documents that are found are written, each on a line.
+/// How found documents are written, one per line.
 #[derive(Clone, Copy, Debug)]
 pub struct Listing {
-    /// How many documents are written at most.
+    /// The maximum number of documents.
     pub limit: u32,
-    /// Whether they are JSON objects, else words.
+    /// Whether lines are JSON objects or words.
     pub as_json: bool,
     /// Whether the positions of the terms that the query wants are written.
     pub with_positions: bool,
-    /// The field whose value is written in place of a document's number.
+    /// The field whose value is written instead of a document's number.
     pub ids: Option<Field>,
 }
 
-/// Writes the documents that match a query, each on a line, and returns whether any document matches, also
-/// if none is written because the limit is 0.
+/// Writes the documents that match a query, one per line. Returns whether any document matches, even if the
+/// limit is 0.
 ///
-/// In words a line has the number of the document, or in its place its id, `-` if it has none. Then, after a
-/// tab each, the terms that occur in it: field, colon, term and the positions. In JSON it is an object with
-/// `doc`, with `id` (a text, or null) if ids are asked for, and with `terms`, each with `field`, `term` and
-/// `positions`.
+/// A line of words has the document's number, or instead its id, `-` if it has none. The terms that occur in
+/// the document follow, each after a tab: field, colon, term and positions. A JSON line is an object with
+/// `doc`; with `id` (a string or null) if ids are requested; and with `terms` if positions are, each with
+/// `field`, `term` and `positions`.
 pub fn write_listing<W: Write>(
     alloc: Global,
     out: &mut W,
@@ -56,7 +56,7 @@ pub fn write_listing<W: Write>(
     }
 }
 
-// The documents that match, with where the terms stand in them if that is written.
+// Returns the matching documents, with the positions of the terms if they are written.
 fn found_of(
     alloc: Global,
     opened: &Opened,
@@ -77,7 +77,7 @@ fn found_of(
     }
 }
 
-// Writes the documents that were found.
+// Writes the found documents.
 fn write_found<W: Write>(
     alloc: Global,
     out: &mut W,
@@ -100,7 +100,7 @@ fn write_found<W: Write>(
     written
 }
 
-// The ids of documents, if they are asked for.
+// Returns the ids of documents, if requested.
 fn ids_in(
     alloc: Global,
     opened: &Opened,
@@ -149,7 +149,7 @@ struct TermText {
     term: String,
 }
 
-// The terms that a query wants, as texts.
+// Returns the terms that a query wants, as text.
 fn texts_of(alloc: Global, opened: &Opened, query: &Query) -> Result<Vec<TermText>, AnswerFault> {
     let mut texts = Vec::new(alloc);
     for term in wanted_terms(alloc, query)? {
@@ -158,7 +158,7 @@ fn texts_of(alloc: Global, opened: &Opened, query: &Query) -> Result<Vec<TermTex
     Ok(texts)
 }
 
-// A term as text.
+// Returns a term as text.
 fn text_of(alloc: Global, opened: &Opened, term: &Term) -> Result<TermText, AnswerFault> {
     let mut text = TermText {
         field: String::new(alloc),
@@ -177,17 +177,17 @@ fn text_of(alloc: Global, opened: &Opened, term: &Term) -> Result<TermText, Answ
     Ok(text)
 }
 
-// A document that was found.
+// A found document.
 #[derive(Clone, Copy)]
 struct Row<'a> {
     doc: DocId,
     id: Option<&'a str>,
-    // its place among those that were found
+    // its index among the found documents
     place: usize,
 }
 
 impl Row<'_> {
-    // Writes it as words.
+    // Writes it as a line of words.
     fn write_words<W: Write>(
         &self,
         out: &mut W,
@@ -297,7 +297,7 @@ fn write_term_json<W: Write>(
     Ok(())
 }
 
-// Writes what stands in such an object in front of the positions.
+// Writes the start of such an object, up to the positions.
 fn write_names<W: Write>(alloc: Global, out: &mut W, text: &TermText) -> Result<(), AnswerFault> {
     let field = quoted(alloc, text.field.as_str())?;
     let name = match quoted(alloc, text.term.as_str()) {
@@ -313,7 +313,7 @@ fn write_names<W: Write>(alloc: Global, out: &mut W, text: &TermText) -> Result<
     Ok(written?)
 }
 
-// The positions of a term in the document at a place, if it has the term.
+// Returns the positions of a term in the document at an index, if it has the term.
 fn positions_at(term: &TermPositions, place: usize) -> Option<&[u32]> {
     match term.positions.get(place) {
         Some(Some(positions)) => Some(positions.as_slice()),
@@ -321,7 +321,7 @@ fn positions_at(term: &TermPositions, place: usize) -> Option<&[u32]> {
     }
 }
 
-// A text as JSON writes it.
+// Returns a text as a JSON string.
 fn quoted(alloc: Global, text: &str) -> Result<String, AnswerFault> {
     let mut owned = String::new(alloc);
     owned.push_str(text)?;

@@ -1,4 +1,4 @@
-//! An index that is open.
+//! An open index.
 ghost use Rattle.std.specs.Prelude.{◌≡◌, ◌<◌, ℕ, IfErr, IfOk, IfSome, List, Ok, Some, length, slice_get};
 ghost use Rattle.ii_base.specs.Schema.{SchemaEntry};
 ghost use Rattle.ii_definitions.specs.Fields.{option_of};
@@ -21,7 +21,7 @@ use ii_schema_text::read_schema;
 use ii_store::StoredIndex;
 use std::alloc::Global;
 
-/// An index that is open: its schema, and a reader for each field.
+/// An open index: its schema, and a reader for each field.
 pub struct Opened {
     schema: Schema,
     index: OpenIndex,
@@ -29,7 +29,7 @@ pub struct Opened {
     ghost many: { length index.readers ≡ length schema },
 }
 
-// So that each drop is a call.
+// Makes each drop a call.
 impl Drop for Opened {
     fn drop(self) {
         let Opened {
@@ -41,11 +41,13 @@ impl Drop for Opened {
 }
 
 impl Opened {
-    /// Opens an index of these bytes, by the schema that stands in them. Where they hold tokens of the
-    /// fields of that schema, so do the readers.
+    /// Opens an index from its bytes, with the schema that they contain. If they hold tokens of the schema's
+    /// fields, the readers hold the same tokens.
     ///
-    /// `SchemaBytes` where the bytes of the schema aren't UTF-8, `Schema` where they say none, and else
-    /// `Files`: `Damaged` by the first part of the files that fails, or `OutOfMemory`.
+    /// # Errors
+    ///
+    /// `SchemaBytes` if the schema isn't UTF-8, `Schema` if it is no schema. Otherwise `Files`, with
+    /// `Damaged` for the first corrupt part or with `OutOfMemory`.
     pub fn open(alloc: Global, stored: StoredIndex) -> Result<Opened, OpenFault>
         ensures docs { IfOk result (λ o. o.num_docs ≡ stored.num_docs) }
         ensures schema { IfOk result (λ o. text_schema stored.schema.items ≡ Ok o.schema) }
@@ -85,21 +87,21 @@ impl Opened {
         }
     }
 
-    /// How many documents there are.
+    /// Returns the number of documents.
     pub fn num_docs(&self) -> u32
         ensures { result ≡ self.now.num_docs }
     {
         self.num_docs
     }
 
-    /// The schema.
+    /// Returns the schema.
     pub fn schema(&self) -> &Schema
         ensures { result.now ≡ self.now.schema }
     {
         &self.schema
     }
 
-    /// The readers.
+    /// Returns the readers.
     pub fn index(&self) -> &OpenIndex
         ensures same { result.now ≡ self.now.index }
         ensures many { length result.now.readers ≡ length self.now.schema }
@@ -107,7 +109,7 @@ impl Opened {
         &self.index
     }
 
-    /// The entry of a field.
+    /// Returns the entry of a field.
     pub fn entry(&self, field: Field) -> &FieldEntry
         requires { field < length self.now.schema }
         ensures { slice_get self.now.schema field ≡ Some result.now }
@@ -115,7 +117,7 @@ impl Opened {
         self.schema.get_field_entry(field)
     }
 
-    /// The reader of a field.
+    /// Returns the reader of a field.
     pub fn reader(&self, field: Field) -> &InvertedIndexReader
         requires { field < length self.now.schema }
         ensures { slice_get self.now.index.readers field ≡ Some result.now }
@@ -123,7 +125,7 @@ impl Opened {
         self.index.reader(field)
     }
 
-    /// The field of a name, if there is one.
+    /// Returns the field with a name, if there is one.
     pub fn field_named(&self, name: &str) -> Option<Field>
         ensures named { result ≡ field_named self.now.schema name.now }
         ensures inside { IfSome result (λ field. field < length self.now.schema) }
@@ -132,8 +134,8 @@ impl Opened {
     }
 }
 
-/// The schema that the bytes of an index say, or why they say none: `SchemaBytes` where they aren't
-/// UTF-8, else `Schema`.
+/// Reads the schema of an index. Returns `SchemaBytes` if the bytes aren't UTF-8, and `Schema` if the text is
+/// no schema.
 pub fn schema_of(alloc: Global, bytes: &[u8]) -> Result<Schema, OpenFault>
     ensures says { IfOk result (λ schema. text_schema bytes.now ≡ Ok schema) }
     ensures taken { (entries : List SchemaEntry) → text_schema bytes.now ≡ Ok entries → IfOk result (λ schema. schema ≡ entries) }
@@ -156,7 +158,7 @@ struct Files {
     fieldnorms: Vec<u8>,
 }
 
-// So that each drop is a call.
+// Makes each drop a call.
 impl Drop for Files {
     fn drop(self) {
         let Files {

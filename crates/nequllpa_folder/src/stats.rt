@@ -1,4 +1,4 @@
-//! How many bytes an index takes, and for what.
+//! Reports how many bytes the parts of an index take.
 ghost use Rattle.std.specs.Prelude.{◌<◌, length};
 
 use crate::faults::AnswerFault;
@@ -7,10 +7,10 @@ use crate::opened::Opened;
 use ii_base::Field;
 use std::io::Write;
 
-// How many sizes of lists are told apart, each from a power of two on.
+// The number of size classes of lists, one for each power of two.
 const SIZES: usize = 32;
 
-/// What the lists of a field take.
+/// The space that the lists of a field take.
 #[derive(Clone, Copy)]
 struct Taken {
     keys: u64,
@@ -20,8 +20,8 @@ struct Taken {
     lists: [u64; SIZES],
 }
 
-/// Writes for each field how many bytes its keys, postings and positions take, how many bits that are for
-/// each document of a list, and how many lists there are of which length.
+/// Writes for each field the bytes of its keys, postings and positions, the bits of postings per document,
+/// and how many lists there are of each size class.
 pub fn write_stats<W: Write>(out: &mut W, opened: &Opened) -> Result<(), AnswerFault> {
     for id in 0..opened.schema().num_fields() {
         let field = Field::from_field_id(id as u32);
@@ -39,7 +39,7 @@ pub fn write_stats<W: Write>(out: &mut W, opened: &Opened) -> Result<(), AnswerF
     Ok(())
 }
 
-// What the lists of a field take.
+// Returns the space that the lists of a field take.
 fn taken_by(opened: &Opened, field: Field) -> Taken
     requires { field < length opened.now.schema }
 {
@@ -71,7 +71,7 @@ fn taken_by(opened: &Opened, field: Field) -> Taken
     taken
 }
 
-// The place of a length among the sizes: its logarithm.
+// Returns the size class of a list: the logarithm of its length.
 fn size_of_list(doc_freq: u32) -> usize {
     match doc_freq.checked_ilog2() {
         Some(size) => size as usize,
@@ -79,7 +79,7 @@ fn size_of_list(doc_freq: u32) -> usize {
     }
 }
 
-// Writes what the lists of a field take.
+// Writes the space that the lists of a field take.
 fn write_taken<W: Write>(out: &mut W, terms: u64, taken: &Taken) -> Result<(), AnswerFault> {
     writeln!(out, "{:>12} terms", terms)?;
     writeln!(out, "{:>12} bytes of keys", taken.keys)?;
@@ -98,14 +98,14 @@ fn write_taken<W: Write>(out: &mut W, terms: u64, taken: &Taken) -> Result<(), A
     write_sizes(out, &taken.lists)
 }
 
-// A hundred times the bits for each of so many, below 2^64.
+// Returns the bits per document, times 100.
 fn per_posting(bytes: u64, documents: u64) -> u128
     requires { 0 < documents }
 {
     bytes as u128 * 800 / documents as u128
 }
 
-// Writes how many lists there are of which length, with a bar by their number.
+// Writes how many lists there are of each size class, with a bar for the number.
 fn write_sizes<W: Write>(out: &mut W, lists: &[u64; SIZES]) -> Result<(), AnswerFault> {
     let most = most_of(lists);
     for (size, count) in lists.iter().enumerate() {
@@ -119,7 +119,7 @@ fn write_sizes<W: Write>(out: &mut W, lists: &[u64; SIZES]) -> Result<(), Answer
     Ok(())
 }
 
-// The greatest number.
+// Returns the largest number, at least 1.
 fn most_of(lists: &[u64; SIZES]) -> u64 {
     let mut most = 1;
     for count in lists {
@@ -130,7 +130,7 @@ fn most_of(lists: &[u64; SIZES]) -> u64 {
     most
 }
 
-// Writes a bar of 40 marks at most.
+// Writes a bar of at most 40 marks.
 fn write_bar<W: Write>(out: &mut W, count: u64, most: u64) -> Result<(), AnswerFault> {
     if most == 0 {
         return Ok(());

@@ -1,4 +1,4 @@
--- Documents one after the other.
+-- Documents in order.
 use Rattle.std.proofs.Common.{◌≡◌, ◌+◌, ◌-◌, ◌<◌, ◌≤◌, ◌++◌, ℕ, true, List, [], ◌∷◌, Ok, arith, get_or, length, map, refl, subst, sym, append-nil, append_assoc, nat_lt}
 use Rattle.std.proofs.lemmas.List.Sorted.{IsNonDecreasingBy-push}
 use Rattle.std.proofs.lemmas.List.Elements.{All-from_recursion}
@@ -22,11 +22,11 @@ each_more es n [] [] each of = tt
 each_more es n [] (c ∷ cs) each of = (record { below = omega (arith, of.0.doc_is); takes = of.0.takes }, each_more es n [] cs tt of.1)
 each_more es n (c ∷ cs) new each of = (each.0, each_more es n cs new each.1 of)
 
--- the last of calls is of one of the documents
+-- the document of the last call is below `n`
 last_below : (es : List SchemaEntry) (n : ℕ) (calls : List IndexCall) → AllByRecursion (MayBeIndexed es n) calls → (d : IndexCall) → 0 < length calls → doc_of (get_or calls (length calls - 1) d) < n
 last_below es n calls each d some = (All-from_recursion (MayBeIndexed es n) calls each (length calls - 1) d (omega (arith, some))).below
 
--- calls of the last document stand behind the others
+-- calls of the last document follow the others
 ordered_more : (es : List SchemaEntry) (n : ℕ) (old new : List IndexCall) → AllByRecursion (MayBeIndexed es (n + 1)) old → IsNonDecreasingBy doc_of old → AllByRecursion (IsOf es n) new → IsNonDecreasingBy doc_of (old ++ new)
 ordered_more es n old [] each ordered of = subst (IsNonDecreasingBy doc_of) (sym (append-nil old)) ordered
 ordered_more es n old (c ∷ cs) each ordered of =

@@ -10,7 +10,7 @@ use Rattle.ii_indexing.specs.IndexFiles.{WroteIndex}
 use Rattle.ii_indexing.specs.declared.index_writers.IndexWriters.{IndexWriters}
 use Rattle.ii_indexing.specs.RamFiles.{empty_files}
 
--- what was appended to nothing is all that stands there
+-- what was appended to an empty file is all of it
 appended : (bytes items : List ℕ) (old now : Option (List ℕ)) → old ≡ Some [] → Some items ≡ now → Appends old now bytes → bytes ≡ items
 appended bytes items old None empty is h = absurd (cc)
 appended bytes items old (Some xs) empty is h = inside (sym (whole xs (subst (λ (o : Option (List ℕ)). Appends o (Some xs) bytes) empty h)) ∙ sym is)

@@ -1,4 +1,4 @@
-//! Documents that are to be indexed.
+//! Documents to be indexed.
 ghost use Rattle.std.specs.Prelude.{◌≡◌, ◌⊎◌, [], Err, IfErr, IfOk, IfSome, None, OnErr, OnOk};
 ghost use Rattle.ii_definitions.specs.Fields.{option_of};
 ghost use Rattle.ii_definitions.specs.Tokens.{tokens_of};
@@ -16,16 +16,16 @@ use std::alloc::Global;
 use std::io::Write;
 use std::marker::Model;
 
-/// Documents that are to be indexed, as the index calls of their lines.
+/// Documents to be indexed, as the index calls of their lines.
 ///
-/// Clauses see the schema, how many documents there are, and the calls.
+/// Its model is the schema, the number of documents, and the calls.
 pub struct Documents {
     schema: Schema,
     num_docs: DocId,
     calls: Vec<IndexCall>,
 }
 
-// So that each drop is a call.
+// Makes each drop a call.
 impl Drop for Documents {
     fn drop(self) {
         let Documents {
@@ -54,7 +54,7 @@ impl Model for Documents {
 }
 
 impl Documents {
-    /// No documents, with fields of a schema.
+    /// Creates an empty list of documents, with the fields of a schema.
     pub fn new(alloc: Global, schema: Schema) -> Documents
         ensures { result ≡ record { schema = schema; num_docs = 0; calls = [] } }
     {
@@ -65,15 +65,15 @@ impl Documents {
         }
     }
 
-    /// The schema.
+    /// Returns the schema.
     pub fn schema(&self) -> &Schema
         ensures { result.now ≡ self.now.schema }
     {
         &self.schema
     }
 
-    /// Returns how many documents there are, at most `TERMINATED`. Their calls are those of index calls that may
-    /// be made one after the other.
+    /// Returns the number of documents, at most `TERMINATED`. The documents' calls may be indexed in
+    /// order.
     pub fn num_docs(&self) -> DocId
         ensures number { result ≡ self.now.num_docs }
         ensures calls { WereCalls self.now.schema self.now.num_docs self.now.calls }
@@ -81,10 +81,10 @@ impl Documents {
         self.num_docs
     }
 
-    /// Adds the document that a line of JSON says (`line_calls`).
+    /// Adds the document of a line of JSON (`line_calls`).
     ///
-    /// A refused line leaves the documents as they are: `TooManyDocuments` where there are `TERMINATED` of
-    /// them, else the fault of the line. `OutOfMemory` where there is no room.
+    /// Returns `TooManyDocuments` if there are `TERMINATED` documents, else the fault of the line, or
+    /// `OutOfMemory` if an allocation fails. The documents are then unchanged.
     pub fn push_line(&mut self, alloc: Global, line: &str) -> Result<(), LineFault>
         ensures ok { OnOk result (AddsLine self.old self.new line.now) }
         ensures err { OnErr result (self.new ≡ self.old) }
@@ -104,8 +104,9 @@ impl Documents {
         count_long_words(analyzer, self.calls.as_slice())
     }
 
-    /// Writes the files of an index of the documents, whose texts an analyzer cuts, and hands the writers
-    /// back: as they were where the first fault of the calls is answered. See `write_index` for the faults.
+    /// Writes the files of an index of the documents, with texts split by `analyzer`, and returns the
+    /// writers. If the calls have a fault, the writers are unchanged. See `write_index` for the
+    /// faults.
     pub fn write<A: TextAnalyzer, W: Write>(
         self,
         alloc: Global,

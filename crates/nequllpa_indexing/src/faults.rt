@@ -8,16 +8,16 @@ use thiserror::Error;
 /// Why a line of an input is refused.
 #[derive(Debug, Drop, Error)]
 pub enum InputFault {
-    /// It isn't UTF-8.
+    /// The line isn't UTF-8.
     #[error("not UTF-8")]
     NotUtf8,
-    /// It is no document.
+    /// The line isn't a document.
     #[error("{0}")]
     Line(LineFault),
 }
 
 impl InputFault {
-    /// Whether no memory was found.
+    /// Returns whether an allocation failed.
     pub fn is_memory(&self) -> bool
         ensures { IsTrue result ↔ (self.now ≡ Line OutOfMemory) }
     {

@@ -1,4 +1,4 @@
-//! How the index of lines of JSON is made, as it is kept in a folder.
+//! Builds the index of lines of JSON, as a folder keeps it.
 #![tactic(auto)]
 
 pub mod documents;

@@ -3,8 +3,8 @@ use ii_base::{JsonValue, TextAnalyzer, TokenStream};
 use ii_indexing::IndexCall;
 use ii_postings_writer::postings_writer::MAX_TOKEN_LEN;
 
-/// Returns how many words of the texts of index calls have more than `MAX_TOKEN_LEN` bytes, so that they are
-/// not indexed; at most `u64::MAX`.
+/// Returns how many words in the texts of index calls have more than `MAX_TOKEN_LEN` bytes and so
+/// aren't indexed, at most `u64::MAX`.
 pub fn count_long_words<A: TextAnalyzer>(analyzer: &A, calls: &[IndexCall]) -> u64 {
     let mut count = 0u64;
     for call in calls {
@@ -18,7 +18,7 @@ pub fn count_long_words<A: TextAnalyzer>(analyzer: &A, calls: &[IndexCall]) -> u
     count
 }
 
-// How many words of a text are too long. Most texts are too short to have any.
+// Counts the words of a text that are too long. Most texts are too short to have any.
 fn long_words_of<A: TextAnalyzer>(analyzer: &A, text: &str) -> u64 {
     if text.len() <= MAX_TOKEN_LEN {
         return 0;
@@ -36,7 +36,7 @@ fn long_words_of<A: TextAnalyzer>(analyzer: &A, text: &str) -> u64 {
     count
 }
 
-// How many words of the texts in a JSON value are too long.
+// Counts the words that are too long in the texts of a JSON value.
 #[cycle(long_words_in)]
 fn long_words_in<A: TextAnalyzer>(analyzer: &A, value: &JsonValue) -> u64 {
     match value {

@@ -1,4 +1,4 @@
-//! How the index of lines is made.
+//! Builds the index of lines.
 ghost use Rattle.std.specs.Prelude.{◌≡◌, ◌⊎◌, [], Err, IfErr, IfOk, IfSome, None, Some};
 ghost use Rattle.std.specs.Str.{IsUtf8};
 ghost use Rattle.ii_base.specs.AsciiWords.{ascii_words};
@@ -18,11 +18,11 @@ use ii_indexing::IndexWriters;
 use ii_store::StoredIndex;
 use std::alloc::Global;
 
-/// Adds the document of a line, given as bytes with or without the end of the line. A line of white space
-/// alone says none. Answers whether there was a document.
+/// Adds the document of a line, given as bytes with or without the line end. Returns whether there
+/// was a document: a line of only white space has none.
 ///
-/// `NotUtf8` where the bytes aren't UTF-8, else the fault of the line (`Documents::push_line`); the
-/// documents are then as they were.
+/// Returns `NotUtf8` if the bytes aren't UTF-8, else the fault of the line (`Documents::push_line`).
+/// The documents are then unchanged.
 pub fn add_line(alloc: Global, documents: &mut Documents, line: &[u8]) -> Result<bool, InputFault>
     ensures added { IsUtf8 line.now → AddsInput documents.old documents.new line.now result }
     ensures kept { ¬ IsUtf8 line.now → (result ≡ Err InputFault.NotUtf8) × (documents.new ≡ documents.old) }
@@ -40,10 +40,10 @@ pub fn add_line(alloc: Global, documents: &mut Documents, line: &[u8]) -> Result
     }
 }
 
-/// The index of documents, whose texts are cut by `AsciiTokenizer`, with a schema's text: its files hold
-/// exactly the tokens of the documents' calls, and their norms.
+/// Builds the index of documents, with texts split by `AsciiTokenizer`, and with the text of a
+/// schema. Its files hold exactly the tokens of the documents' calls, and their norms.
 ///
-/// The first fault of the calls is answered, else a limit of what is written (`write_index`), or
+/// Returns the first fault of the calls, a limit of the written files (`write_index`), or
 /// `OutOfMemory`.
 pub fn store(alloc: Global, documents: Documents, schema: Vec<u8>) -> Result<StoredIndex, Fault>
     ensures says { IfOk result (λ s. (s.num_docs ≡ documents.num_docs) × (s.schema.items ≡ schema.items)) }
@@ -63,7 +63,7 @@ pub fn store(alloc: Global, documents: Documents, schema: Vec<u8>) -> Result<Sto
     }
 }
 
-// An index of these files.
+// Creates an index of these files.
 fn stored(num_docs: u32, schema: Vec<u8>, files: IndexWriters<Vec<u8>>) -> StoredIndex
     ensures docs { result.num_docs ≡ num_docs }
     ensures schema { result.schema.items ≡ schema.items }

@@ -1,4 +1,4 @@
--- Calls that were checked one after the other.
+-- Calls checked one after the other.
 use Rattle.std.proofs.Common.{ℕ, ◌-◌, ◌<◌, ◌≤◌, List, [], ◌∷◌, ◌++◌, length, get_or, arith, ap}
 use Rattle.std.specs.List.{AllByRecursion}
 use Rattle.std.proofs.lemmas.List.{get_or_push, length_push}
@@ -7,7 +7,7 @@ use Rattle.ii_base.specs.Schema.{SchemaEntry}
 use Rattle.ii_definitions.specs.IndexCalls.{MayAllBeIndexed, MayBeIndexed, doc_of}
 use Rattle.ii_definitions.specs.declared.index_call.IndexCall.{IndexCall}
 
--- Calls may be made one after the other, and the last document is at most this one.
+-- calls that may be made one after the other, whose last document is at most `last`
 pub record AreChecked (entries : List SchemaEntry) (num_docs last : ℕ) (calls : List IndexCall) : Type 0 where
   pub all : MayAllBeIndexed entries num_docs calls
   pub below : (d : IndexCall) → 0 < length calls → doc_of (get_or calls (length calls - 1) d) ≤ last

@@ -1,4 +1,4 @@
-// Limits of the texts of a document, and an indexer that refuses a call.
+// Limits of the texts of a document, and an indexer after a failed call.
 ghost use Rattle.std.specs.Prelude.{◌≡◌, ◌<◌, ◌≤◌, true, false, IfOk, OnErr, OnOk};
 ghost use Rattle.ii_base.specs.declared.schema.value_type.ValueType.TheVariants as types;
 ghost use Rattle.ii_definitions.specs.IndexCalls.{Takes};
@@ -14,10 +14,9 @@ use std::test::Fail;
 
 const LIMIT_POSITION: Fault = Fault::Limit(LimitName::Position);
 
-// How many tokens the texts of a document have before, and where they end; the tokens of one more; and
-// the same after it, or how it is refused.
+// Tokens and end position of a document so far, a further list of tokens, and the same after it or the error.
 static LIMITS: [(u32, u32, &[Place], Result<(u32, u32), Fault>); 8] = [
-    // limits come in their order
+    // the order in which limits are checked
     (
         u32::MAX,
         0,
@@ -25,18 +24,18 @@ static LIMITS: [(u32, u32, &[Place], Result<(u32, u32), Fault>); 8] = [
         Err(Fault::Limit(LimitName::Tokens)),
     ),
     (u32::MAX, 0, &[(4294967296, 1, 1)], Err(LIMIT_POSITION)),
-    // gaps have a limit
+    // the limit of a gap
     (0, u32::MAX, &[], Err(LIMIT_POSITION)),
     (0, u32::MAX - 1, &[], Ok((0, u32::MAX))),
-    // and after tokens
+    // the same after tokens
     (0, 0, &[(4294967294, 1, 1)], Err(LIMIT_POSITION)),
     (0, 0, &[(4294967293, 1, 1)], Ok((1, u32::MAX))),
-    // long tokens are left out
+    // long tokens are skipped
     (0, 0, &[(usize::MAX, 1, 65531)], Ok((0, 1))),
     (0, 0, &[(0, 1, 65530)], Ok((1, 2))),
 ];
 
-// What indexing a list comes to.
+// Returns the result of indexing a list of tokens.
 fn index_text(
     alloc: Global,
     num_tokens: u32,
@@ -71,7 +70,7 @@ fn texts_of_a_document_have_limits(rt: HostRuntime) -> Result<(), Fail> {
     Ok(())
 }
 
-// An indexer of 9 documents with a field of texts.
+// Builds an indexer for 9 documents with one text field.
 fn indexer(alloc: Global) -> Result<Indexer, Fault>
     ensures ready { IfOk result (λ i. (i.failed ≡ false) × (i.last_doc ≡ 0) × (i.num_docs ≡ 9)) }
     ensures takes { IfOk result (λ i. Takes i.schema 0 types.Str) }
@@ -94,7 +93,7 @@ fn put(indexer: &mut Indexer, doc: u32, tokens: TokenList) -> Result<(), Fault>
     indexer.index(IndexCall::Tokens(doc, field, tokens), &AsciiTokenizer)
 }
 
-// What an indexer that has taken nothing answers to tokens of a document, and then to others.
+// Returns the results of a new indexer for two lists of tokens.
 fn answers_of(
     indexer: &mut Indexer,
     first: TokenList,
@@ -109,8 +108,8 @@ fn answers_of(
     }
 }
 
-// The same of tokens and then one at 0, what it answers when it is finished, and how long the file of
-// postings is.
+// Returns these results for some tokens and one at position 0, the result of finishing, and the length of the
+// file of postings.
 fn run(alloc: Global, places: &[Place]) -> Result<([Result<(), Fault>; 3], u64), Fault> {
     let (first, second) = (tokens_at(alloc, places)?, tokens_at(alloc, &[(0, 1, 1)])?);
     let mut indexer = indexer(alloc)?;
@@ -121,13 +120,12 @@ fn run(alloc: Global, places: &[Place]) -> Result<([Result<(), Fault>; 3], u64),
     Ok(([one, other, finished], len))
 }
 
-// The postings and counts of a document with two and one with one, behind the number of tokens, and the
-// place of the field.
+// The length of the number of tokens, the postings of documents with counts 2 and 1, and the table.
 const LEN: u64 = 36;
 
 static RUNS: [(&[Place], [Result<(), Fault>; 3], u64); 3] = [
     (&[(5, 1, 1), (5, 1, 1)], [Ok(()), Ok(()), Ok(())], LEN),
-    // positions may not fall
+    // positions must not decrease
     (
         &[(5, 1, 1), (4, 1, 1)],
         [
@@ -137,7 +135,7 @@ static RUNS: [(&[Place], [Result<(), Fault>; 3], u64); 3] = [
         ],
         0,
     ),
-    // a token of no length at the last position
+    // a token of length 0 at the last position
     (
         &[(4294967295, 0, 1)],
         [

@@ -1,4 +1,4 @@
-// Files whose terms are all checked once, and then looked up.
+// Files whose terms are all validated once, and then looked up.
 ghost use Rattle.std.specs.Prelude.{◌≡◌, length, IfOk};
 
 use crate::memory_index::{Call, Key, Kind, Said, files_of, schema_of, told};
@@ -18,7 +18,7 @@ static TEXTS: [Call; 4] = [
     (2, 1, Said::Text("c c d")),
 ];
 
-// Opens files in which a byte of the postings is another.
+// Opens files after a byte of the postings was replaced.
 fn opened(
     alloc: Global,
     files: IndexWriters<Vec<u8>>,
@@ -50,7 +50,7 @@ fn opened(
 
 static WORDS: [Key; 4] = [(0, b"a"), (0, b"b"), (0, b"c"), (1, b"c")];
 
-// What a check of an index tells, and what is found where it finds no damage.
+// Returns the result of a check, and the postings if it finds no damage.
 fn told_after_check(
     alloc: Global,
     num_fields: usize,
@@ -65,7 +65,7 @@ fn told_after_check(
     Ok((damage, told(alloc, num_fields, index, &WORDS)?))
 }
 
-// The same of the files of the texts, with another byte.
+// Returns the same for the files of the texts with a byte replaced.
 fn told_of_files(
     alloc: Global,
     place: usize,
@@ -82,11 +82,11 @@ fn told_of_files(
     told
 }
 
-// A place in the postings, its byte, and the damage that it is: a field, a term, and a part of its list.
+// An offset in the postings, the new byte, and the damage: a field, a term, and a part of its list.
 static DAMAGED: [(usize, u8, u32, u64, Part); 2] = [
-    // of the second field, the count of `d`, which doesn't end
+    // field 1: the count of `d` doesn't end
     (27, 0x01, 1, 1, Part::Frequencies),
-    // of the first field, the documents of `b`, the first of which stands twice
+    // field 0: the first document of `b` is repeated
     (13, 0x80, 0, 1, Part::Documents),
 ];
 

@@ -1,4 +1,4 @@
-// Each call of each writer of an index fails once.
+// Lets each call of each writer of an index fail once.
 use crate::memory_index::{Call, Kind, Leaf, Said, ready_of};
 use ii_base::{AsciiTokenizer, CountingWriter, FailingWriter, Fault};
 use ii_indexing::{IndexWriters, write_index};
@@ -13,7 +13,7 @@ static CALLS: [Call; 3] = [
     (1, 2, Said::Object(&[("t", Leaf::Text("c d"))])),
 ];
 
-// The writer at a place, which fails at a call if it is this one.
+// Returns the writer at a place; it fails at a call if `failing` names this place.
 fn failing_writer(alloc: Global, place: u32, failing: (u32, u64)) -> CountingWriter<FailingWriter> {
     let (failing_place, failing_call) = failing;
     let call = if place == failing_place {
@@ -24,7 +24,7 @@ fn failing_writer(alloc: Global, place: u32, failing: (u32, u64)) -> CountingWri
     CountingWriter::wrap(FailingWriter::new(alloc, call))
 }
 
-// Writes the index to writers of which the one at a place fails at a call.
+// Writes the index to writers of which one fails at a call.
 fn run(
     alloc: Global,
     failing: (u32, u64),
@@ -39,7 +39,7 @@ fn run(
     Ok(write_index(alloc, schema, 2, calls, &AsciiTokenizer, writers))
 }
 
-// Whether a writer has as many failed calls, and wrote the beginning of what another wrote.
+// Returns whether a writer has this many failed calls and wrote a prefix of the right bytes.
 fn is_left(
     writer: CountingWriter<FailingWriter>,
     failed_calls: u64,
@@ -55,7 +55,7 @@ fn is_left(
     all
 }
 
-// Whether the writers were handed back, and the one at a place alone has a failed call.
+// Returns whether only the writer at `place` has a failed call, and each wrote a prefix.
 fn are_handed_back(
     writers: IndexWriters<FailingWriter>,
     place: u32,
@@ -80,7 +80,7 @@ fn are_handed_back(
     all
 }
 
-// What a run answers whose writer at a place fails at a call, and whether it left the writers right.
+// Returns the result when the writer at a place fails at a call, and whether the writers are as expected.
 fn end_of_run(alloc: Global, place: u32, call: u64) -> Result<(Result<(), Fault>, bool), Fault> {
     let (writers, answer) = run(alloc, (place, call))?;
     let (right, _) = run(alloc, (4, 0))?;
@@ -88,8 +88,7 @@ fn end_of_run(alloc: Global, place: u32, call: u64) -> Result<(Result<(), Fault>
     Ok((answer, are_handed_back(writers, failing, right)))
 }
 
-// How many calls of the writer at a place are told when they fail, up to the first run that meets
-// none; 0 if another isn't.
+// Returns how many calls of the writer at a place report their failure, or 0 if one doesn't.
 fn told_calls(alloc: Global, place: u32) -> Result<u64, Fault> {
     for call in 1..100 {
         match end_of_run(alloc, place, call)? {
@@ -103,7 +102,7 @@ fn told_calls(alloc: Global, place: u32) -> Result<u64, Fault> {
 
 #[test]
 fn a_failing_writer_is_told(rt: HostRuntime) -> Result<(), Fail> {
-    // of terms, postings, positions, norms: at least a write and a flush
+    // terms, postings, positions, norms: at least a write and a flush
     for place in 0..4 {
         assert!(rt; told_calls(rt.alloc(), place)? >= 2, "writer {place}");
     }

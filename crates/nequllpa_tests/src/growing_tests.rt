@@ -1,4 +1,4 @@
-// Texts of many words: where they stand, their norms, and the bounds of their blocks.
+// Texts of many words: their positions, norms and block bounds.
 ghost use Rattle.std.specs.Prelude.{◌≡◌, length};
 
 use crate::memory_index::{Call, FULL, Key, Kind, Said, calls_of, indexed, repeated, told};
@@ -10,10 +10,10 @@ use ii_reader::OpenIndex;
 use std::alloc::Global;
 use std::test::Fail;
 
-// Fields with norms and without.
+// A field with norms and one without.
 static FIELDS: [Kind; 2] = [Kind::Text(true), Kind::Text(false)];
 
-// Adds so many `e` and an `a` in a document of a field.
+// Adds a text of `count` times `e` and an `a`.
 fn push_many(
     alloc: Global,
     calls: &mut Vec<IndexCall>,
@@ -25,7 +25,7 @@ fn push_many(
     Ok(calls.push(IndexCall::Text(doc, Field::from_field_id(field), text))?)
 }
 
-// This one has no text, and is the last.
+// The last document, which has no text.
 const LAST: DocId = 1000;
 
 const DOCS: u32 = 1001;
@@ -36,7 +36,7 @@ static FIRST: [Call; 3] = [
     (1, 0, Said::Text("b a")),
 ];
 
-// These texts, and in each later document as many `e` as its number, and an `a`.
+// Returns these texts, and for each later document as many `e` as its number and an `a`.
 fn growing_calls(alloc: Global) -> Result<Vec<IndexCall>, Fault> {
     let mut calls = calls_of(alloc, &FIRST)?;
     for doc in 2..LAST {
@@ -47,7 +47,7 @@ fn growing_calls(alloc: Global) -> Result<Vec<IndexCall>, Fault> {
 
 static WORDS: [Key; 3] = [(0, b"a"), (0, b"e"), (0, b"abcdef")];
 
-// Adds the `e` of a document.
+// Appends the expected postings of `e` in a document.
 fn push_wanted(text: &mut String, doc: DocId) -> Result<(), Fault> {
     write!(text, "{doc}:{doc}:")?;
     for position in 0..doc {
@@ -56,7 +56,7 @@ fn push_wanted(text: &mut String, doc: DocId) -> Result<(), Fault> {
     Ok(text.push(' ')?)
 }
 
-// Where these words stand.
+// Returns the expected postings of these words.
 fn wanted(alloc: Global) -> Result<String, Fault> {
     let mut text = String::from_str(alloc, "0:6:0,2,4,6,7,13, 1:1:1, ")?;
     for doc in 2..LAST {
@@ -70,7 +70,7 @@ fn wanted(alloc: Global) -> Result<String, Fault> {
     Ok(text)
 }
 
-// How many words a document has.
+// Returns how many words a document has.
 fn length_of(doc: DocId) -> u32 {
     match doc {
         0 => 13,
@@ -80,7 +80,7 @@ fn length_of(doc: DocId) -> u32 {
     }
 }
 
-// Whether each norm is that of so many words.
+// Returns whether each norm is that of the document's number of words.
 fn are_growing(norms: &FieldNormReader) -> bool {
     if norms.num_docs() != DOCS {
         return false;
@@ -93,7 +93,7 @@ fn are_growing(norms: &FieldNormReader) -> bool {
     (norms.fieldnorm(0), norms.fieldnorm(LAST)) == (13, 0)
 }
 
-// Whether the first field has such norms, and the other one none.
+// Returns whether field 0 has these norms and field 1 has none.
 fn have_norms(index: &OpenIndex) -> Result<bool, Fault> {
     if index
         .get_fieldnorms_reader(Field::from_field_id(1))?
@@ -111,7 +111,7 @@ fn have_norms(index: &OpenIndex) -> Result<bool, Fault> {
     }
 }
 
-// What is told of the words, and whether the norms are right.
+// Returns the postings of the words, and whether the norms are right.
 fn told_of_growing(alloc: Global) -> Result<(String, bool), Fault> {
     let calls = growing_calls(alloc)?;
     let (num_fields, index) = indexed(alloc, &FIELDS, DOCS, calls)?;
@@ -131,7 +131,7 @@ fn growing_texts_are_found_and_have_their_norms(rt: HostRuntime) -> Result<(), F
 
 const FALLING: u32 = 130;
 
-// In each document of either field as many `e` as there are documents after it, and an `a`.
+// Gives each document of both fields as many `e` as there are later documents, and an `a`.
 fn falling_calls(alloc: Global) -> Result<Vec<IndexCall>, Fault> {
     let mut calls = Vec::new(alloc);
     for doc in 0..FALLING {
@@ -143,7 +143,7 @@ fn falling_calls(alloc: Global) -> Result<Vec<IndexCall>, Fault> {
 
 static BOUNDED: [Key; 4] = [(0, b"a"), (0, b"e"), (1, b"a"), (1, b"e")];
 
-// What bounds the first block of a word.
+// Returns the bounds of the first block of a word.
 fn bounds_of(
     alloc: Global,
     num_fields: usize,
@@ -170,7 +170,7 @@ fn bounds_of(
     }
 }
 
-// What bounds those of the words.
+// Returns these bounds for all words.
 fn all_bounds(
     alloc: Global,
     num_fields: usize,
@@ -185,7 +185,7 @@ fn all_bounds(
     Ok(bounds)
 }
 
-// The same in the index of the falling texts.
+// Returns the bounds in the index of these texts.
 fn falling_bounds(alloc: Global) -> Result<Vec<Option<(u8, u8)>>, Fault> {
     let calls = falling_calls(alloc)?;
     let (num_fields, index) = indexed(alloc, &FIELDS, FALLING, calls)?;
@@ -194,7 +194,7 @@ fn falling_bounds(alloc: Global) -> Result<Vec<Option<(u8, u8)>>, Fault> {
     bounds
 }
 
-// Those of `a` and `e` where the field has norms, and where it has none.
+// The bounds of `a` and `e` in the field with norms, then in the field without.
 static BOUNDS: [Option<(u8, u8)>; 4] = [Some((3, 1)), Some((3, 129)), Some((0, 0)), Some((0, 0))];
 
 #[test]

@@ -1,4 +1,4 @@
-// Calls of tables: what is found of them, what files they give, and how they are refused.
+// Tables of calls: the postings found, the files written, and the errors.
 use crate::memory_index::{Call, Key, Kind, Leaf, Said, calls_of, files_of, indexed, told};
 use ii_base::{Fault, LeafKind, LimitName};
 use ii_docset::DocId;
@@ -6,7 +6,7 @@ use ii_indexing::IndexWriters;
 use std::alloc::Global;
 use std::test::Fail;
 
-// Fields, documents, calls, keys, and what is told of them.
+// Fields, number of documents, calls, keys, and the postings found.
 static FOUND: [(&[Kind], DocId, &[Call], &[Key], &str); 11] = [
     // no calls
     (
@@ -16,7 +16,7 @@ static FOUND: [(&[Kind], DocId, &[Call], &[Key], &str); 11] = [
         &[(0, b"a")],
         "; 0 tokens of 0 terms",
     ),
-    // fields count their positions apart
+    // positions are counted per field
     (
         &[Kind::Text(true), Kind::Text(false)],
         1,
@@ -28,7 +28,7 @@ static FOUND: [(&[Kind], DocId, &[Call], &[Key], &str); 11] = [
         &[(0, b"a"), (1, b"b"), (1, b"a")],
         "0:2:0,2, ; 0:1:0, ; ; 2 tokens of 1 terms",
     ),
-    // positions begin anew in each document
+    // positions restart in each document
     (
         &[Kind::Text(false)],
         2,
@@ -39,7 +39,7 @@ static FOUND: [(&[Kind], DocId, &[Call], &[Key], &str); 11] = [
         &[(0, b"a")],
         "0:1:5, 1:1:0, ; 2 tokens of 1 terms",
     ),
-    // positions that aren't kept may fall
+    // positions that aren't recorded may decrease
     (
         &[Kind::Counted],
         1,
@@ -55,7 +55,7 @@ static FOUND: [(&[Kind], DocId, &[Call], &[Key], &str); 11] = [
         &[(0, b"a")],
         "0:2:5,5, ; 2 tokens of 1 terms",
     ),
-    // long tokens are left out wherever they stand
+    // long tokens are skipped wherever they occur
     (
         &[Kind::Text(false)],
         1,
@@ -84,7 +84,7 @@ static FOUND: [(&[Kind], DocId, &[Call], &[Key], &str); 11] = [
         ],
         "0:1: ; ; 0:1: ; 0:1: ; 0:1: ; 0:1: ; 1 tokens of 1 terms",
     ),
-    // JSON fields count the positions of a path apart
+    // JSON fields count positions per path
     (
         &[Kind::Json(false), Kind::Json(false)],
         1,
@@ -96,7 +96,7 @@ static FOUND: [(&[Kind], DocId, &[Call], &[Key], &str); 11] = [
         &[(0, b"a\0sx"), (1, b"a\0sx")],
         "0:2:0,2, ; 0:1:0, ; 2 tokens of 1 terms",
     ),
-    // a date, an earlier one, a great number, and a number under a key with byte 0
+    // a date, an earlier one, a large number, and a number under a key with byte 0
     (
         &[Kind::Json(false)],
         1,
@@ -120,7 +120,7 @@ static FOUND: [(&[Kind], DocId, &[Call], &[Key], &str); 11] = [
         ],
         "0:1: ; 0:1: ; 0:1: ; 3 tokens of 3 terms",
     ),
-    // dots are expanded where the field says so
+    // dots are expanded if the field says so
     (
         &[Kind::Json(false)],
         1,
@@ -137,7 +137,7 @@ static FOUND: [(&[Kind], DocId, &[Call], &[Key], &str); 11] = [
     ),
 ];
 
-// What is told of keys in the index of calls.
+// Returns the postings of keys in the index of some calls.
 fn told_of(
     alloc: Global,
     kinds: &[Kind],
@@ -167,8 +167,8 @@ const NONE: &[u8] = &[0, 0, 0, 0];
 // One token, and document 0.
 const FIVE: &[u8] = &[1, 0, 0, 0, 0, 0, 0, 0, 0x80];
 
-// A field, documents, calls, and of the files of terms, postings, positions and norms the lengths and
-// how they begin: a row of no positions is one byte.
+// A field, number of documents, calls, and the length and prefix of each file: terms, postings, positions,
+// norms. A list without positions is one byte.
 static FILES: [(&[Kind], DocId, &[Call], &[(usize, &[u8])]); 3] = [
     (
         &[Kind::Text(false)],
@@ -190,13 +190,13 @@ static FILES: [(&[Kind], DocId, &[Call], &[(usize, &[u8])]); 3] = [
     ),
 ];
 
-// Whether bytes are so many and begin so.
+// Returns whether bytes have this length and prefix.
 fn is_as(bytes: &[u8], wanted: (usize, &'static [u8])) -> bool {
     let (len, start) = wanted;
     bytes.len() == len && bytes.starts_with(start)
 }
 
-// Whether each file is.
+// Returns whether this holds for each file.
 fn are_as(files: IndexWriters<Vec<u8>>, wanted: &[(usize, &'static [u8])]) -> bool {
     let [of_terms, of_postings, of_positions, of_norms] = wanted else {
         drop(files);
@@ -228,9 +228,9 @@ fn files_have_their_bytes(rt: HostRuntime) -> Result<(), Fail> {
     Ok(())
 }
 
-// A field, calls of two documents, and how they are refused.
+// A field, calls of two documents, and the result.
 static ENDS: [(&[Kind], &[Call], Result<(), Fault>); 7] = [
-    // a float where it is reached, and under a key with byte 0
+    // a float that is reached, and one under a key with byte 0
     (
         &[Kind::Json(false)],
         &[(
@@ -267,7 +267,7 @@ static ENDS: [(&[Kind], &[Call], Result<(), Fault>); 7] = [
         &[(0, 0, Said::Arrays(5_000))],
         Err(Fault::UnsupportedLeaf(LeafKind::Deep)),
     ),
-    // a token of no length at the last position, after a text
+    // a token of length 0 at the last position, after a text
     (
         &[Kind::Text(true)],
         &[
@@ -276,7 +276,7 @@ static ENDS: [(&[Kind], &[Call], Result<(), Fault>); 7] = [
         ],
         Err(Fault::Limit(LimitName::Position)),
     ),
-    // a position that falls
+    // a decreasing position
     (
         &[Kind::Text(true)],
         &[(0, 0, Said::Tokens(&[(5, 1, 1), (4, 1, 1)]))],
@@ -284,7 +284,7 @@ static ENDS: [(&[Kind], &[Call], Result<(), Fault>); 7] = [
     ),
 ];
 
-// Whether nothing was written.
+// Returns whether nothing was written.
 fn are_untouched(files: IndexWriters<Vec<u8>>) -> bool {
     let mut all = files.terms.written_bytes() == 0;
     all &= files.postings.written_bytes() == 0;

@@ -1,4 +1,4 @@
-//! Tests of whole indexes, from index calls to look-ups, by the public calls.
+//! Tests complete indexes, from index calls to lookups, through the public calls.
 #![tactic(auto)]
 
 #[cfg(test)]

@@ -1,4 +1,4 @@
-// Indexes in memory, of calls that stand in tables, and what is told of them.
+// In-memory indexes built from tables of calls, and their postings as text.
 ghost use Rattle.std.specs.Prelude.{◌≡◌, ◌<◌, ◌≤◌, true, length, IfOk};
 ghost use Rattle.ii_base.specs.declared.doc_id.TheConstants.{TERMINATED};
 ghost use Rattle.ii_definitions.specs.IndexCalls.{MayAllBeIndexed, MayBeIndexed, type_of};
@@ -13,18 +13,18 @@ use ii_reader::{OpenIndex, SegmentPostings};
 use nequllpa::index_in_ram;
 use std::alloc::Global;
 
-/// With counts and positions.
+/// Records counts and positions.
 pub const FULL: IndexRecordOption = IndexRecordOption::WithFreqsAndPositions;
 
-/// What a field takes.
+/// Kinds of fields.
 pub enum Kind {
-    /// Texts with positions, with norms or without.
+    /// Text with positions; the flag says whether it has norms.
     Text(bool),
-    /// Texts with counts alone.
+    /// Text with counts only.
     Counted,
-    /// JSON values with positions, where dots of keys are expanded or not.
+    /// JSON with positions; the flag says whether dots in keys are expanded.
     Json(bool),
-    /// Values without norms.
+    /// Numbers without norms.
     U64,
     I64,
     Bool,
@@ -32,7 +32,7 @@ pub enum Kind {
     Ip,
 }
 
-/// What stands under a key of a JSON value.
+/// A leaf of a JSON object.
 pub enum Leaf {
     Text(&'static str),
     Number(u64),
@@ -40,10 +40,10 @@ pub enum Leaf {
     Float(u64),
 }
 
-/// A token: its position, how many it covers, and of how many letters `a` it is.
+/// A token: its position, its position length, and its number of letters `a`.
 pub type Place = (usize, usize, usize);
 
-/// What a call has.
+/// The value of a call.
 pub enum Said {
     Text(&'static str),
     Tokens(&'static [Place]),
@@ -54,17 +54,17 @@ pub enum Said {
     Ip(u128),
     /// A JSON object of leaves.
     Object(&'static [(&'static str, Leaf)]),
-    /// Null in so many arrays, one in the other.
+    /// Null inside this many nested arrays.
     Arrays(usize),
 }
 
-/// A document, a field, and what is said there.
+/// A document, a field, and a value.
 pub type Call = (DocId, u32, Said);
 
-/// A key of a field.
+/// A field and a key.
 pub type Key = (u32, &'static [u8]);
 
-// A field.
+// Builds a field.
 fn entry_of(alloc: Global, kind: &Kind) -> Result<FieldEntry, Fault> {
     let name = String::from_str(alloc, "field")?;
     Ok(match kind {
@@ -79,7 +79,7 @@ fn entry_of(alloc: Global, kind: &Kind) -> Result<FieldEntry, Fault> {
     })
 }
 
-/// A schema of fields, each named `field`: a hundred at most, or `IndexerFailed`.
+/// Builds a schema of fields, each named `field`. Returns `IndexerFailed` above 100 fields.
 pub fn schema_of(alloc: Global, kinds: &[Kind]) -> Result<Schema, Fault> {
     let mut entries = Vec::new(alloc);
     for kind in kinds {
@@ -91,7 +91,7 @@ pub fn schema_of(alloc: Global, kinds: &[Kind]) -> Result<Schema, Fault> {
     Ok(Schema::new(entries))
 }
 
-/// A text so many times, and an `a` behind it.
+/// Repeats a text and appends an `a`.
 pub fn repeated(alloc: Global, text: &str, times: usize) -> Result<String, Fault> {
     let mut repeated = String::new(alloc);
     for _ in 0..times {
@@ -101,7 +101,7 @@ pub fn repeated(alloc: Global, text: &str, times: usize) -> Result<String, Fault
     Ok(repeated)
 }
 
-// A token.
+// Builds a token.
 fn token_at(alloc: Global, place: &Place) -> Result<Token, Fault> {
     let (position, position_length, len) = *place;
     Ok(Token {
@@ -113,7 +113,7 @@ fn token_at(alloc: Global, place: &Place) -> Result<Token, Fault> {
     })
 }
 
-/// A list of tokens.
+/// Builds a list of tokens.
 pub fn tokens_at(alloc: Global, places: &[Place]) -> Result<TokenList, Fault> {
     let mut tokens = Vec::new(alloc);
     for place in places {
@@ -122,7 +122,7 @@ pub fn tokens_at(alloc: Global, places: &[Place]) -> Result<TokenList, Fault> {
     Ok(TokenList::new(tokens))
 }
 
-// A leaf under a key.
+// Builds a member with a leaf.
 fn member_of(alloc: Global, key: &str, leaf: &Leaf) -> Result<(String, JsonValue), Fault> {
     let key = String::from_str(alloc, key)?;
     let value = match leaf {
@@ -134,7 +134,7 @@ fn member_of(alloc: Global, key: &str, leaf: &Leaf) -> Result<(String, JsonValue
     Ok((key, value))
 }
 
-// An object of leaves.
+// Builds an object of leaves.
 fn object_of(alloc: Global, leaves: &[(&'static str, Leaf)]) -> Result<JsonValue, Fault> {
     let mut members = Vec::new(alloc);
     for (key, leaf) in leaves {
@@ -143,7 +143,7 @@ fn object_of(alloc: Global, leaves: &[(&'static str, Leaf)]) -> Result<JsonValue
     Ok(JsonValue::Object(members))
 }
 
-// Null in so many arrays.
+// Builds null inside this many nested arrays.
 fn arrays_of(alloc: Global, number: usize) -> Result<JsonValue, Fault> {
     let mut value = JsonValue::Null;
     for _ in 0..number {
@@ -154,7 +154,7 @@ fn arrays_of(alloc: Global, number: usize) -> Result<JsonValue, Fault> {
     Ok(value)
 }
 
-// A call.
+// Builds a call.
 fn call_of(alloc: Global, call: &Call) -> Result<IndexCall, Fault> {
     let (doc, field, said) = call;
     let (doc, field) = (*doc, Field::from_field_id(*field));
@@ -171,7 +171,7 @@ fn call_of(alloc: Global, call: &Call) -> Result<IndexCall, Fault> {
     })
 }
 
-/// The calls of a table.
+/// Builds the calls of a table.
 pub fn calls_of(alloc: Global, table: &[Call]) -> Result<Vec<IndexCall>, Fault> {
     let mut calls = Vec::new(alloc);
     for call in table {
@@ -195,7 +195,7 @@ fn type_in(call: &IndexCall) -> ValueType
     }
 }
 
-// Whether a call may be made.
+// Returns whether a call may be made.
 fn may_be_indexed(schema: &Schema, num_docs: DocId, call: &IndexCall) -> bool
     ensures { result ≡ true → MayBeIndexed schema.now num_docs call.now }
 {
@@ -213,7 +213,7 @@ fn may_be_indexed(schema: &Schema, num_docs: DocId, call: &IndexCall) -> bool
     entry.value_type() == type_in(call)
 }
 
-// These calls, where they may be made one after the other; `IndexerFailed` else.
+// Returns these calls if they may be made in this order, `IndexerFailed` otherwise.
 fn checked(
     alloc: Global,
     schema: &Schema,
@@ -238,7 +238,7 @@ fn checked(
     Ok(checked)
 }
 
-/// A schema, and calls that were checked.
+/// Builds a schema and checks the calls.
 pub fn ready(
     alloc: Global,
     kinds: &[Kind],
@@ -256,7 +256,7 @@ pub fn ready(
     Ok((schema, calls))
 }
 
-/// The same of the calls of a table.
+/// Does the same for the calls of a table.
 pub fn ready_of(
     alloc: Global,
     kinds: &[Kind],
@@ -270,7 +270,7 @@ pub fn ready_of(
     ready(alloc, kinds, num_docs, calls)
 }
 
-/// The files of the index of a table's calls, and how writing them ended.
+/// Indexes the calls of a table. Returns the files and the result of writing.
 pub fn files_of(
     alloc: Global,
     kinds: &[Kind],
@@ -282,7 +282,7 @@ pub fn files_of(
     Ok(write_index(alloc, schema, num_docs, calls, &AsciiTokenizer, files))
 }
 
-/// The index of calls in memory, and how many fields it has.
+/// Indexes calls in memory. Returns the number of fields and the index.
 pub fn indexed(
     alloc: Global,
     kinds: &[Kind],
@@ -297,7 +297,7 @@ pub fn indexed(
     Ok((num_fields, index))
 }
 
-/// A cursor over the postings under a key, if its field has it.
+/// Opens a cursor over the postings of a key, if its field has it.
 pub fn cursor_of(
     alloc: Global,
     num_fields: usize,
@@ -317,7 +317,7 @@ pub fn cursor_of(
     cursor
 }
 
-// Adds the document of a cursor with its count and positions, and a space.
+// Appends the current document of a cursor with its count and positions, and a space.
 fn push_doc(alloc: Global, text: &mut String, cursor: &mut SegmentPostings) -> Result<(), Fault> {
     let doc = cursor.doc();
     if doc >= TERMINATED {
@@ -333,7 +333,7 @@ fn push_doc(alloc: Global, text: &mut String, cursor: &mut SegmentPostings) -> R
     Ok(text.push(' ')?)
 }
 
-// Adds each document of a cursor.
+// Appends each document of a cursor.
 fn push_walked(
     alloc: Global,
     text: &mut String,
@@ -346,7 +346,7 @@ fn push_walked(
     Ok(())
 }
 
-// Adds the postings under a key, `DOC:COUNT:POS,POS, ` for each document, and a semicolon.
+// Appends the postings of a key, `DOC:COUNT:POS,POS, ` for each document, and a semicolon.
 fn push_key(
     alloc: Global,
     text: &mut String,
@@ -364,7 +364,7 @@ fn push_key(
     Ok(text.push_str("; ")?)
 }
 
-// Adds how many tokens and terms the first field has.
+// Appends the number of tokens and terms of the first field.
 fn push_counts(text: &mut String, num_fields: usize, index: &OpenIndex) -> Result<(), Fault>
     requires { num_fields ≡ length index.now.readers }
 {
@@ -376,7 +376,7 @@ fn push_counts(text: &mut String, num_fields: usize, index: &OpenIndex) -> Resul
     Ok(write!(text, "{tokens} tokens of {terms} terms")?)
 }
 
-/// The postings under keys, and how many tokens and terms the first field has.
+/// Lists the postings of keys, and the number of tokens and terms of the first field.
 pub fn told(
     alloc: Global,
     num_fields: usize,

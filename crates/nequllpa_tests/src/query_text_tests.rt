@@ -1,11 +1,11 @@
-// Texts of queries as trees, and why a text is none.
+// Query texts, the trees they parse to, and parse errors.
 use crate::memory_index::{Kind, schema_of};
 use ii_base::{AsciiTokenizer, Fault, Field};
 use nequllpa::{ParseError, parse, parse_query};
 use std::alloc::{AllocError, Global};
 use std::test::Fail;
 
-// The tree of a text as text again, or why it has none, and where.
+// Returns the tree of a text as text, or the error with its place.
 fn read(alloc: Global, text: &str) -> Result<String, Fault> {
     match parse(alloc, text) {
         Ok(ast) => Ok(ast.spell(alloc)?),
@@ -57,7 +57,7 @@ fn texts_are_trees(rt: HostRuntime) -> Result<(), Fail> {
 
 static FIELDS: [Kind; 1] = [Kind::Text(false)];
 
-// Why a text is no query over a field of texts.
+// Returns why a text is no query over a text field.
 fn refusal(alloc: Global, text: &str) -> Result<String, Fault> {
     let schema = schema_of(alloc, &FIELDS)?;
     let fields = [Field::from_field_id(0)];

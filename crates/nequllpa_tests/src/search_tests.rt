@@ -1,4 +1,4 @@
-// Queries over an index of two fields, and the documents that have a word most often.
+// Queries over an index of two fields, and the documents in which a word is most frequent.
 ghost use Rattle.std.specs.Prelude.{◌≡◌, length, true};
 ghost use Rattle.ii_query_parser.specs.Queries.{has_fields};
 
@@ -26,7 +26,7 @@ static TEXTS: [Call; 7] = [
     (4, 1, Said::Text("x")),
 ];
 
-// The documents of a cursor, each with a comma behind it.
+// Lists the documents of a cursor, each followed by a comma.
 fn documents<D: DocSet>(alloc: Global, cursor: &mut D) -> Result<String, Fault> {
     let mut text = String::new(alloc);
     for _ in 0..8 {
@@ -40,7 +40,7 @@ fn documents<D: DocSet>(alloc: Global, cursor: &mut D) -> Result<String, Fault> 
     Ok(text)
 }
 
-// The documents that a query gives in an index, and how many they are.
+// Lists the documents that match a query, and their number.
 fn found_in(alloc: Global, index: &OpenIndex, query: &Query) -> Result<String, Fault>
     requires { has_fields (length index.now.readers) query.now ≡ true }
 {
@@ -53,7 +53,7 @@ fn found_in(alloc: Global, index: &OpenIndex, query: &Query) -> Result<String, F
     Ok(text)
 }
 
-// What a cursor over nothing has.
+// Lists the documents of an empty cursor.
 fn nothing(alloc: Global) -> Result<String, Fault> {
     let mut cursor: QueryCursor<TermOrPhrase<SegmentPostings>> = QueryCursor::nothing();
     let listed = documents(alloc, &mut cursor);
@@ -61,7 +61,7 @@ fn nothing(alloc: Global) -> Result<String, Fault> {
     listed
 }
 
-// The documents that a query gives in the index of the texts, and nothing where it lacks a field.
+// Lists the matches in the index of the texts; none if a field is missing.
 fn found(alloc: Global, query: &Query) -> Result<String, Fault> {
     let (schema, calls) = ready_of(alloc, &FIELDS, 6, &TEXTS)?;
     if !query.has_fields(&schema) {
@@ -78,17 +78,17 @@ fn found(alloc: Global, query: &Query) -> Result<String, Fault> {
 // A field and a word of it, or `*` for all documents.
 type Asked = (u32, &'static str);
 
-// How queries are put together.
+// How queries are combined.
 enum Put {
-    // One and all others.
+    // the first and all others
     All(&'static [Asked]),
-    // One, and one of the others.
+    // the first and any of the others
     And(&'static [Asked]),
-    // One, or one of the others.
+    // the first or any of the others
     Or(&'static [Asked]),
-    // One, and none of the others.
+    // the first without any of the others
     Without(&'static [Asked]),
-    // A phrase of one and another one, which stands so far behind.
+    // the first, and the other word this many positions after it
     Phrase(u32, Asked),
 }
 
@@ -111,7 +111,7 @@ fn words(alloc: Global, listed: &[Asked]) -> Result<Vec<Query>, Fault> {
     Ok(queries)
 }
 
-// One of some words.
+// Builds a query for any of some words.
 fn any(alloc: Global, listed: &[Asked]) -> Result<Query, Fault> {
     Ok(Query::or_any(words(alloc, listed)?))
 }
@@ -123,7 +123,7 @@ fn phrase(alloc: Global, first: &Asked, distance: u32, other: &Asked) -> Result<
     Ok(Query::Phrase(start, others))
 }
 
-// The query of a word and others.
+// Combines the query of a word with others.
 fn query_of(alloc: Global, first: &Asked, others: &Put) -> Result<Query, Fault> {
     if let Put::Phrase(distance, other) = others {
         return phrase(alloc, first, *distance, other);
@@ -146,19 +146,19 @@ static QUERIES: [(Asked, Put, &str); 28] = [
     ((0, "x"), Put::All(&[]), "0 in all"),
     ((1, "x"), Put::All(&[]), "0,4,2 in all"),
     ((0, "a"), Put::And(&[(2, "a")]), ""),
-    // both
+    // both words
     ((0, "a"), Put::And(&[(0, "b")]), "0,4,2 in all"),
     ((0, "c"), Put::And(&[(0, "a")]), "0,1,2 in all"),
     ((0, "a"), Put::And(&[(0, "z")]), "0 in all"),
     ((0, "b"), Put::And(&[(0, "b")]), "0,2,4,3 in all"),
     ((0, "c"), Put::And(&[(0, "a"), (0, "b")]), "0,1,2 in all"),
     ((0, "a"), Put::All(&[(0, "b"), (0, "c")]), "0,1 in all"),
-    // one of them
+    // either word
     ((0, "a"), Put::Or(&[(0, "b")]), "0,1,2,4,4 in all"),
     ((0, "z"), Put::Or(&[(0, "c")]), "0,1,2 in all"),
     ((0, "a"), Put::Or(&[(0, "a")]), "0,1,4,3 in all"),
     ((0, "c"), Put::Or(&[(0, "z"), (0, "b")]), "0,1,2,4,4 in all"),
-    // the first one without the others
+    // the first word without the others
     ((0, "a"), Put::Without(&[(0, "b")]), "1,1 in all"),
     ((0, "b"), Put::Without(&[(0, "a")]), "2,1 in all"),
     ((0, "a"), Put::Without(&[(0, "z")]), "0,1,4,3 in all"),
@@ -197,7 +197,7 @@ fn all_documents_are_found(rt: HostRuntime) -> Result<(), Fail> {
     Ok(())
 }
 
-// A word in four documents, once to three times in each.
+// A word in four documents, one to three times in each.
 static OFTEN: [Call; 5] = [
     (0, 0, Said::Text("a b a")),
     (1, 0, Said::Text("a")),
@@ -206,7 +206,7 @@ static OFTEN: [Call; 5] = [
     (5, 0, Said::Text("b")),
 ];
 
-// The documents of a cursor with the greatest counts, each with its count.
+// Lists the documents of a cursor with the largest counts, each with its count.
 fn top_of(alloc: Global, cursor: &mut SegmentPostings, n: usize) -> Result<String, Fault> {
     let top = top_by_count(alloc, cursor, n)?;
     let mut text = String::new(alloc);
@@ -214,7 +214,7 @@ fn top_of(alloc: Global, cursor: &mut SegmentPostings, n: usize) -> Result<Strin
     Ok(text)
 }
 
-// Adds documents, each with its count.
+// Appends documents with their counts.
 fn push_counts(text: &mut String, counts: &[(DocId, u32)]) -> Result<(), Fault> {
     for row in counts {
         let (doc, count) = *row;
@@ -223,7 +223,7 @@ fn push_counts(text: &mut String, counts: &[(DocId, u32)]) -> Result<(), Fault> 
     Ok(())
 }
 
-// The documents in which the word occurs most often.
+// Lists the documents in which the word occurs most often.
 fn most_often(alloc: Global, n: usize) -> Result<String, Fault> {
     let calls = calls_of(alloc, &OFTEN)?;
     let (num_fields, index) = indexed(alloc, &FIELDS, 6, calls)?;
@@ -244,7 +244,7 @@ fn the_most_frequent_are_found(rt: HostRuntime) -> Result<(), Fail> {
     let rows = [
         (0, ""),
         (1, "2:3 "),
-        // of equal counts the smaller document comes first
+        // equal counts are ordered by document
         (2, "2:3 0:2 "),
         (9, "2:3 0:2 4:2 1:1 "),
     ];

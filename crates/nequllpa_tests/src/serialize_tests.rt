@@ -1,4 +1,4 @@
-// The writers of the fields of a schema, and what they give where there are no terms.
+// The writers of the fields of a schema, and their output without terms.
 ghost use Rattle.std.specs.Prelude.{◌≡◌, [], IfOk, length};
 
 use bytes::Bytes;
@@ -11,17 +11,17 @@ use ii_indexing::{
 use std::alloc::Global;
 use std::test::Fail;
 
-// A composite file of no fields.
+// A composite file without fields.
 static NO_FIELDS: [u8; 4] = [0, 0, 0, 0];
 
-// Norms of no field.
+// Opens norms of no field.
 fn no_norms(alloc: Global) -> Result<FieldNormReaders, Fault>
     ensures { IfOk result (λ norms. norms ≡ []) }
 {
     FieldNormReaders::open(alloc, Bytes::from_static(&NO_FIELDS))
 }
 
-// A field of texts, and one of numbers.
+// Builds a schema of a text field and a number field.
 fn text_and_number(alloc: Global) -> Result<Schema, Fault>
     ensures { IfOk result (λ schema. length schema ≡ 2) }
 {
@@ -37,7 +37,7 @@ fn writer(alloc: Global) -> CountingWriter<Vec<u8>> {
     CountingWriter::wrap(Vec::new(alloc))
 }
 
-// The bytes of the file of terms where there are no terms.
+// Returns the bytes of the file of terms when there are no terms.
 fn written(alloc: Global, schema: &Schema, copy: Schema) -> Result<Vec<u8>, Fault>
     requires { copy ≡ schema.now }
 {
@@ -82,7 +82,7 @@ fn no_terms_are_serialized(rt: HostRuntime) -> Result<(), Fail> {
     Ok(())
 }
 
-// How many tokens the two writers of these fields have once a position of a term was added to the second.
+// Returns the number of tokens of both fields' writers after a position was added to the second.
 fn tokens_of_writers(alloc: Global) -> Result<(u64, u64), Fault> {
     let (text, number) = (Field::from_field_id(0), Field::from_field_id(1));
     let mut term = IndexingTerm::with_capacity(alloc, 8)?;

@@ -3,7 +3,7 @@ use ii_indexing::{IndexingPosition, IndexingTerm, IndexingTermRef};
 use std::alloc::Global;
 use std::test::Fail;
 
-// What is done to a term.
+// A call of a term.
 enum Step {
     Field(u32),
     Text(&'static [u8]),
@@ -16,12 +16,12 @@ enum Step {
     Date(i64),
 }
 
-// One step after the other, with the bytes of the term then.
+// Consecutive steps, with the bytes of the term after each.
 static STEPS: [(Step, &[u8]); 12] = [
     (Step::Field(1), b"\0\0\0\x01"),
     (Step::Text(b"test"), b"\0\0\0\x01test"),
     (Step::More(b"ing"), b"\0\0\0\x01testing"),
-    // more is left than it has
+    // longer than the value
     (Step::Left(9), b"\0\0\0\x01testing"),
     (Step::Left(2), b"\0\0\0\x01te"),
     (Step::Field(258), b"\0\0\x01\x02"),
@@ -45,12 +45,12 @@ static STEPS: [(Step, &[u8]); 12] = [
     ),
 ];
 
-// Appends bytes; whether they are answered.
+// Appends bytes. Returns whether they are returned.
 fn append(term: &mut IndexingTerm, bytes: &[u8]) -> Result<bool, Fault> {
     Ok(term.append_bytes(bytes)? == bytes)
 }
 
-// Does a step; whether what it answers is right.
+// Does a step. Returns whether its answer is right.
 fn done(term: &mut IndexingTerm, step: &Step) -> Result<bool, Fault> {
     match step {
         Step::Field(field) => term.clear_with_field(Field::from_field_id(*field)),
@@ -66,12 +66,12 @@ fn done(term: &mut IndexingTerm, step: &Step) -> Result<bool, Fault> {
     Ok(true)
 }
 
-// Whether a term has such bytes, of which four are its field's.
+// Returns whether a term has these bytes, the first four of them the field.
 fn has_bytes(term: &IndexingTerm, bytes: &[u8]) -> bool {
     term.serialized_term() == bytes && term.len_bytes() == bytes.len().saturating_sub(4)
 }
 
-// How many steps come out right.
+// Returns how many steps give the expected bytes.
 fn right_steps(alloc: Global) -> Result<usize, Fault> {
     let mut term = IndexingTerm::with_capacity(alloc, 8)?;
     let mut right = 0usize;
@@ -90,8 +90,8 @@ fn terms_have_bytes(rt: HostRuntime) -> Result<(), Fail> {
     Ok(())
 }
 
-// Of a new term whether it is empty, and the field that it is given; whether a copy stays when it is
-// shortened.
+// Returns whether a new term is empty, the field it is given, and whether a copy stays the same when the term
+// is truncated.
 fn copied(alloc: Global) -> Result<(bool, u32, bool), Fault> {
     let mut term = IndexingTerm::with_capacity(alloc, 0)?;
     let is_empty = term.is_empty();
@@ -106,7 +106,7 @@ fn copied(alloc: Global) -> Result<(bool, u32, bool), Fault> {
 // Field 7 and `test`.
 static WRAPPED: [u8; 8] = [0, 0, 0, 7, 0x74, 0x65, 0x73, 0x74];
 
-// The field of a term that is read from bytes, and how many they are.
+// Returns the field and the length of a term read from bytes.
 fn wrapped() -> (u32, usize) {
     let wrapped = IndexingTermRef::wrap(&WRAPPED);
     (wrapped.field().field_id(), wrapped.serialized_term().len())

@@ -8,7 +8,7 @@ use super::value_type::ValueType;
 use std::alloc::AllocError;
 use std::marker::Model;
 
-/// What a schema says of a field.
+/// The entry of a field in a schema.
 #[derive(Drop)]
 pub struct FieldEntry {
     name: String,
@@ -54,7 +54,7 @@ impl Clone for FieldEntry {
 }
 
 impl FieldEntry {
-    /// A field of texts, which keeps of a term what `option` says, and norms if `norms` says so.
+    /// Creates a text field. `option` is what it keeps of a term, and `norms` whether it has field norms.
     pub fn text(name: String, option: IndexRecordOption, norms: bool) -> FieldEntry
         ensures { result ≡ record {
           name = string_bytes name;
@@ -75,8 +75,8 @@ impl FieldEntry {
         }
     }
 
-    /// A field of values that are no texts: `U64`, `I64`, `Bool`, `Bytes` or `IpAddr`. Of a term it
-    /// keeps that it occurs.
+    /// Creates a field of other values: `U64`, `I64`, `Bool`, `Bytes` or `IpAddr`. Of a term it keeps only
+    /// the documents.
     pub fn value(name: String, value_type: ValueType, norms: bool) -> FieldEntry
         requires { is_plain value_type ≡ true }
         ensures { result ≡ record {
@@ -94,7 +94,8 @@ impl FieldEntry {
         entry
     }
 
-    /// A field of JSON values, with no norms. With dots expanded, a dot in a key parts it into two.
+    /// Creates a field of JSON values, without field norms. If `expand_dots`, a dot in a key splits it in
+    /// two.
     pub fn json(name: String, option: IndexRecordOption, expand_dots: bool) -> FieldEntry
         ensures { result ≡ record {
           name = string_bytes name;
@@ -115,7 +116,7 @@ impl FieldEntry {
         }
     }
 
-    /// A field that isn't indexed.
+    /// Creates a field that isn't indexed.
     pub fn unindexed(name: String, value_type: ValueType) -> FieldEntry
         ensures { result ≡ record {
           name = string_bytes name;
@@ -136,42 +137,42 @@ impl FieldEntry {
         }
     }
 
-    /// The field's name.
+    /// Returns the name of the field.
     pub fn name(&self) -> &str
         ensures { result.now ≡ self.now.name }
     {
         self.name.as_str()
     }
 
-    /// The type of its values.
+    /// Returns the type of its values.
     pub fn value_type(&self) -> ValueType
         ensures { result ≡ self.now.value_type }
     {
         self.value_type
     }
 
-    /// What is kept of a term, `Basic` where the field has no texts or isn't indexed.
+    /// Returns what is kept of a term; `Basic` if the field has no texts or isn't indexed.
     pub fn index_record_option(&self) -> IndexRecordOption
         ensures { result ≡ self.now.option }
     {
         self.option
     }
 
-    /// Whether it is indexed.
+    /// Returns whether it is indexed.
     pub fn is_indexed(&self) -> bool
         ensures { result ≡ self.now.is_indexed }
     {
         self.is_indexed
     }
 
-    /// Whether it has norms.
+    /// Returns whether it has field norms.
     pub fn has_fieldnorms(&self) -> bool
         ensures { result ≡ self.now.has_fieldnorms }
     {
         self.has_fieldnorms
     }
 
-    /// Whether dots in the keys of its JSON values are expanded.
+    /// Returns whether dots in the keys of its JSON values are expanded.
     pub fn expands_dots(&self) -> bool
         ensures { result ≡ self.now.expands_dots }
     {

@@ -1,19 +1,19 @@
 ghost use Rattle.std.specs.Prelude.{◌≡◌};
 ghost use Rattle.ii_base.specs.Options.{has_freq, has_positions, downgrade};
 
-/// What the index keeps of a term in a document, in ascending order.
+/// What the index keeps of a term in a document. Each option includes those before it.
 #[derive(Clone, Copy, Debug, PartialEq, Eq)]
 pub enum IndexRecordOption {
-    /// That the term occurs.
+    /// The documents.
     Basic,
-    /// How often it occurs, too.
+    /// The term frequencies, too.
     WithFreqs,
-    /// At which positions it occurs, too.
+    /// The positions, too.
     WithFreqsAndPositions,
 }
 
 impl IndexRecordOption {
-    /// Whether counts are kept.
+    /// Returns whether term frequencies are kept.
     pub fn has_freq(self) -> bool
         ensures { result ≡ has_freq self }
     {
@@ -23,7 +23,7 @@ impl IndexRecordOption {
         }
     }
 
-    /// Whether positions are kept.
+    /// Returns whether positions are kept.
     pub fn has_positions(self) -> bool
         ensures { result ≡ has_positions self }
     {
@@ -33,7 +33,7 @@ impl IndexRecordOption {
         }
     }
 
-    /// The lesser of the two.
+    /// Returns the lesser of the two options.
     pub fn downgrade(self, other: IndexRecordOption) -> IndexRecordOption
         ensures { result ≡ downgrade self other }
     {

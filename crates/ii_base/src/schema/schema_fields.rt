@@ -5,7 +5,7 @@ use super::field_entry::FieldEntry;
 use ii_io::Field;
 use std::marker::Model;
 
-/// The fields of a schema with their entries, in order.
+/// Iterates over the fields of a schema with their entries, in order.
 #[derive(Drop)]
 pub struct SchemaFields<'a> {
     entries: &'a [FieldEntry],
@@ -25,7 +25,7 @@ impl<'a> Model for SchemaFields<'a> {
 }
 
 impl<'a> SchemaFields<'a> {
-    // The fields of these entries, numbered from 0.
+    // Creates the iterator over the fields of these entries, numbered from 0.
     pub(crate) fn new(entries: &'a [FieldEntry]) -> SchemaFields<'a>
         requires { length entries.now < 2 ^ 32 }
         ensures { result ≡ enumerate_from 0 entries.entry.now }

@@ -12,7 +12,7 @@ use ii_io::{Fault, Field};
 use std::alloc::Global;
 use std::marker::Model;
 
-/// A term: a field, and the bytes of a value in it, by which the term is looked up.
+/// A term: a field, and the bytes of a value in it, which are the key for lookups.
 #[derive(Drop)]
 pub struct Term {
     field: Field,
@@ -28,8 +28,8 @@ impl Model for Term {
 }
 
 impl Term {
-    /// The term of an unsigned number: 8 bytes, the highest first. `OutOfMemory` where there is no
-    /// room for them.
+    /// Creates the term of an unsigned number: 8 bytes, big-endian. Returns `OutOfMemory` if allocation
+    /// fails.
     pub fn from_field_u64(alloc: Global, field: Field, val: u64) -> Result<Term, Fault>
         ensures ok { IfOk result (λ term. term ≡ record { field = field; value = u64_bytes val }) }
         ensures only { OnlyMemory result }
@@ -37,8 +37,8 @@ impl Term {
         Term::from_field_bytes(alloc, field, &val.to_be_bytes())
     }
 
-    /// The term of a signed number: 8 bytes of the number plus 2^63, the highest first. `OutOfMemory`
-    /// where there is no room for them.
+    /// Creates the term of a signed number: the number plus 2^63 in 8 bytes, big-endian. Returns
+    /// `OutOfMemory` if allocation fails.
     pub fn from_field_i64(alloc: Global, field: Field, val: i64) -> Result<Term, Fault>
         ensures ok { IfOk result (λ term. term ≡ record { field = field; value = u64_bytes (flipped val) }) }
         ensures only { OnlyMemory result }
@@ -46,8 +46,8 @@ impl Term {
         Term::from_field_u64(alloc, field, val.to_u64())
     }
 
-    /// The term of a truth value: 8 bytes of 0 or 1, the highest first. `OutOfMemory` where there is
-    /// no room for them.
+    /// Creates the term of a boolean: 0 or 1 in 8 bytes, big-endian. Returns `OutOfMemory` if allocation
+    /// fails.
     pub fn from_field_bool(alloc: Global, field: Field, val: bool) -> Result<Term, Fault>
         ensures ok { IfOk result (λ term. term ≡ record { field = field; value = u64_bytes (number_of_bool val) }) }
         ensures only { OnlyMemory result }
@@ -55,7 +55,7 @@ impl Term {
         Term::from_field_u64(alloc, field, val.to_u64())
     }
 
-    /// The term of a text: its bytes. `OutOfMemory` where there is no room for them.
+    /// Creates the term of a text: its bytes. Returns `OutOfMemory` if allocation fails.
     pub fn from_field_text(alloc: Global, field: Field, text: &str) -> Result<Term, Fault>
         ensures ok { IfOk result (λ term. term ≡ record { field = field; value = text.now }) }
         ensures only { OnlyMemory result }
@@ -63,7 +63,7 @@ impl Term {
         Term::from_field_bytes(alloc, field, text.as_bytes())
     }
 
-    /// The term of bytes: these bytes. `OutOfMemory` where there is no room for them.
+    /// Creates the term of these bytes. Returns `OutOfMemory` if allocation fails.
     pub fn from_field_bytes(alloc: Global, field: Field, bytes: &[u8]) -> Result<Term, Fault>
         ensures ok { IfOk result (λ term. term ≡ record { field = field; value = bytes.now }) }
         ensures only { OnlyMemory result }
@@ -72,10 +72,12 @@ impl Term {
         Ok(Term { field, value })
     }
 
-    /// The term of a path into the JSON values of a field, which goes on with a value: the path's
-    /// segments with byte 1 before each but the first, and byte 0. In the text of the path, which holds
-    /// no byte 0, a dot parts two segments, and a backslash keeps the character behind it as it is; with
-    /// dots expanded, a dot that is kept becomes byte 1. `OutOfMemory` where there is no room for them.
+    /// Creates the term of a path into the JSON values of a field, to which a value is appended. Its bytes
+    /// are the segments, separated by byte 1, and byte 0.
+    ///
+    /// In `path`, which must not hold byte 0, a dot separates segments and a backslash escapes the next
+    /// character. If `expand_dots`, an escaped dot becomes byte 1. Returns `OutOfMemory` if allocation
+    /// fails.
     pub fn from_field_json_path(
         alloc: Global,
         field: Field,
@@ -94,8 +96,8 @@ impl Term {
         Ok(Term { field, value })
     }
 
-    /// Adds a value in a JSON field: the letter of its type, and the 8 bytes of the number that stands
-    /// for it, the highest first. `OutOfMemory` where there is no room for them: the term then stays.
+    /// Appends a value in a JSON field: the letter of its type, and its number in 8 bytes, big-endian.
+    /// Returns `OutOfMemory`, and leaves the term as it is, if allocation fails.
     pub fn append_type_and_fast_value<T: FastValue>(&mut self, val: T) -> Result<(), Fault>
         ensures ok { OnOk result (self.new ≡ record self.old { value = self.old.value ++ code_of T.type_of_values ∷ u64_bytes (T.number val) }) }
         ensures err { OnErr result (self.new ≡ self.old) }
@@ -104,8 +106,8 @@ impl Term {
         self.append_type_and_bytes(T::to_type(), &val.to_u64().to_be_bytes())
     }
 
-    /// Adds a text in a JSON field: the letter `s` and its bytes. `OutOfMemory` where there is no room
-    /// for them: the term then stays.
+    /// Appends a text in a JSON field: the letter `s` and its bytes. Returns `OutOfMemory`, and leaves the
+    /// term as it is, if allocation fails.
     pub fn append_type_and_str(&mut self, val: &str) -> Result<(), Fault>
         ensures ok { OnOk result (self.new ≡ record self.old { value = self.old.value ++ 0x73 ∷ val.now }) }
         ensures err { OnErr result (self.new ≡ self.old) }
@@ -114,7 +116,7 @@ impl Term {
         self.append_type_and_bytes(ValueType::Str, val.as_bytes())
     }
 
-    // Adds the letter of a type, and bytes.
+    // Appends the letter of a type, and bytes.
     fn append_type_and_bytes(&mut self, value_type: ValueType, bytes: &[u8]) -> Result<(), Fault>
         ensures ok { OnOk result (self.new ≡ record self.old { value = self.old.value ++ code_of value_type ∷ bytes.now }) }
         ensures err { OnErr result (self.new ≡ self.old) }
@@ -129,14 +131,14 @@ impl Term {
         Ok(())
     }
 
-    /// The field.
+    /// Returns the field.
     pub fn field(&self) -> Field
         ensures { result ≡ self.now.field }
     {
         self.field
     }
 
-    /// The bytes of the value: the key under which a field's dictionary has the term.
+    /// Returns the bytes of the value, which are the key of the term in the dictionary of its field.
     pub fn serialized_value_bytes(&self) -> &[u8]
         ensures { result.now ≡ self.now.value }
     {

@@ -11,7 +11,7 @@ pub enum ValueType {
     U64,
     /// A signed number of 64 bits, `i`.
     I64,
-    /// A truth value, `o`.
+    /// A boolean, `o`.
     Bool,
     /// A date in nanoseconds, `d`.
     Date,
@@ -24,7 +24,7 @@ pub enum ValueType {
 }
 
 impl ValueType {
-    /// The letter of the type.
+    /// Returns the letter of the type.
     pub fn to_code(self) -> u8
         ensures { result ≡ code_of self }
     {
@@ -40,7 +40,7 @@ impl ValueType {
         }
     }
 
-    /// The type of this letter, if one has it.
+    /// Returns the type with this letter, if there is one.
     pub fn from_code(code: u8) -> Option<ValueType>
         ensures { MatchOption result ((t : ValueType) → code_of t ≢ code) (λ t. code_of t ≡ code) }
     {

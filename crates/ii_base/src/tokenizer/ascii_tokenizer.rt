@@ -6,12 +6,12 @@ use super::text_analyzer::TextAnalyzer;
 use super::token_places::TokenPlaces;
 use super::token_view::TokenView;
 
-/// Cuts a text into the maximal runs of ASCII letters, ASCII digits and characters past ASCII, which
-/// it doesn't change. They stand at positions 0, 1, 2 and so on, and take one position each.
+/// Splits a text into maximal runs of ASCII letters, ASCII digits and non-ASCII characters, unchanged.
+/// Their positions are 0, 1, 2 and so on, one each.
 #[derive(Clone, Copy, Debug, Default, PartialEq, Eq)]
 pub struct AsciiTokenizer;
 
-/// Where a run of a text stands, and how many runs were passed with it.
+/// The offsets of the current run, and the number of runs so far.
 #[derive(Drop)]
 pub struct AsciiPlaces {
     start: usize,
@@ -73,7 +73,7 @@ fn is_word_byte(byte: u8) -> bool
     matches!(byte, b'0'..=b'9' | b'A'..=b'Z' | b'a'..=b'z' | 128..)
 }
 
-// Whether a run begins at a place.
+// Returns whether a run starts at an offset.
 fn begins_run(bytes: &[u8], start: usize) -> bool
     requires { start < length bytes.now }
     ensures { result ≡ begins_run bytes.now start }
@@ -87,7 +87,7 @@ fn begins_run(bytes: &[u8], start: usize) -> bool
     !is_word_byte(bytes[start - 1])
 }
 
-// How long the run is that begins these bytes.
+// Returns the length of the run at the start of these bytes.
 fn run_len(bytes: &[u8]) -> usize
     ensures { result ≡ length (take_while is_word_byte bytes.now) }
 {

@@ -11,20 +11,20 @@ use super::token_view::TokenView;
 use ii_io::Fault;
 use std::alloc::Global;
 
-/// Cuts texts into tokens. Its meaning is a function from the bytes of a text to its tokens.
+/// Splits texts into tokens. Its model is a function from the bytes of a text to its tokens.
 pub trait TextAnalyzer {
     ghost use Rattle.std.specs.Prelude.{ℕ, List};
 
-    /// Where the tokens of a text stand.
+    /// The offsets of the tokens of a text.
     type Places: TokenPlaces;
 
     ghost words: { Self → List ℕ → List Word };
 
-    /// Where the tokens of a text stand, all of them still to come.
+    /// Returns the offsets of the tokens of a text, before its first token.
     fn places(&self, text: &str) -> Self::Places
         ensures { Self.Places.to_come result text.now ≡ words self.now text.now };
 
-    /// The tokens of a text, all of them still to come, each lent from it.
+    /// Returns the stream of the tokens of a text, borrowed from it.
     fn token_stream<'t>(&self, text: &'t str) -> TextTokens<'t, Self::Places>
         ensures { ⟦<TextTokens<'t, Self::Places> as TokenStream>⟧.to_come result ≡ words self.now text.now }
     {
@@ -32,7 +32,7 @@ pub trait TextAnalyzer {
         TextTokens::new(text, places)
     }
 
-    /// The tokens of a text, all of them still to come. `OutOfMemory` where there is no room for them.
+    /// Returns the list of the tokens of a text. Returns `OutOfMemory` if allocation fails.
     fn token_list(&self, alloc: Global, text: &str) -> Result<TokenList, Fault>
         ensures ok { IfOk result (λ tokens. tokens ≡ record { current = None; to_come = words self.now text.now }) }
         ensures only { OnlyMemory result }
@@ -43,7 +43,7 @@ pub trait TextAnalyzer {
     }
 }
 
-// The tokens that are still to come of a stream.
+// Collects the remaining tokens of a stream.
 fn gather<S: TokenStream>(alloc: Global, stream: &mut S) -> Result<Vec<Token>, Fault>
     ensures ok { IfOk result (λ tokens. words_of tokens.items ≡ S.to_come stream.old) }
     ensures only { OnlyMemory result }
@@ -55,7 +55,7 @@ fn gather<S: TokenStream>(alloc: Global, stream: &mut S) -> Result<Vec<Token>, F
     Ok(tokens)
 }
 
-// A token with letters of its own.
+// Returns a token that owns its text.
 fn owned(alloc: Global, token: TokenView<'_>) -> Result<Token, Fault>
     ensures ok { IfOk result (λ t. word_of t ≡ seen_word token.entry) }
     ensures only { OnlyMemory result }

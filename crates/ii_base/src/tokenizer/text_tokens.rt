@@ -5,7 +5,7 @@ use super::token_places::TokenPlaces;
 use super::token_stream::TokenStream;
 use super::token_view::TokenView;
 
-/// The tokens of a text, each lent from it.
+/// The tokens of a text, borrowed from it.
 #[derive(Drop)]
 pub struct TextTokens<'t, P: TokenPlaces> {
     text: &'t str,
@@ -13,7 +13,7 @@ pub struct TextTokens<'t, P: TokenPlaces> {
 }
 
 impl<'t, P: TokenPlaces> TextTokens<'t, P> {
-    /// The tokens of a text that are still to come where `places` stands.
+    /// Creates the stream of the tokens that `places` hasn't passed.
     pub fn new(text: &'t str, places: P) -> TextTokens<'t, P>
         ensures { ⟦<TextTokens<'t, P> as TokenStream>⟧.to_come result ≡ P.to_come places text.now }
     {

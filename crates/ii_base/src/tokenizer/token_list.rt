@@ -6,7 +6,7 @@ use super::token_stream::TokenStream;
 use super::token_view::TokenView;
 use std::marker::Model;
 
-/// Tokens in a list, gone over one by one.
+/// Iterates over a list of tokens.
 #[derive(Drop)]
 pub struct TokenList {
     tokens: Vec<Token>,
@@ -28,7 +28,7 @@ impl Model for TokenList {
 }
 
 impl TokenList {
-    /// A list of these tokens, all of them still to come.
+    /// Creates an iterator before the first of these tokens.
     pub fn new(tokens: Vec<Token>) -> TokenList
         ensures { result ≡ record { current = None; to_come = words_of tokens.items } }
     {

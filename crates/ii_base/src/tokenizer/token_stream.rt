@@ -6,27 +6,27 @@ ghost use Rattle.ii_base.specs.Words.{Word, seen_word};
 
 use super::token_view::TokenView;
 
-/// Goes over the tokens of a text. Its meaning is the list of tokens still to come.
+/// Iterates over the tokens of a text. Its model is the list of the remaining tokens.
 pub trait TokenStream: Drop {
     ghost use Rattle.std.specs.Prelude.{List, Option};
 
     ghost to_come: { Self → List Word };
 
-    // The token that was reached last.
+    // The current token.
     ghost current: { Self → Option Word };
 
-    /// Goes on to the next token, and answers whether there is one.
+    /// Advances to the next token, and returns whether there is one.
     fn advance(&mut self) -> bool
         ensures found { result ≡ nat_lt 0 (length (to_come self.old)) }
         ensures current { result ≡ true → current self.new ≡ slice_get (to_come self.old) 0 }
         ensures rest { to_come self.new ≡ drop 1 (to_come self.old) };
 
-    /// The current token. It asks for an `advance` that answered true.
+    /// Returns the current token. The last `advance` must have returned true.
     fn token(&self) -> TokenView<'_>
         requires { IsSome (current self.now) }
         ensures { current self.now ≡ Some (seen_word result) };
 
-    /// Goes on to the next token, and answers it, if there is one.
+    /// Advances to the next token, and returns it, if there is one.
     fn next(&mut self) -> Option<TokenView<'_>>
         ensures* rest { sem 𝓛 (follows_so Self.row Self.row self.entry.ghost_name none (λ _ _. ⊤) (λ after. to_come after ≡ drop 1 (to_come self.old))) }
         ensures found { option_map seen_word result ≡ slice_get (to_come self.old) 0 }

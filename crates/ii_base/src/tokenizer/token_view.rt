@@ -1,13 +1,13 @@
-/// A token of a text, whose letters are lent.
+/// A token of a text, with borrowed text.
 #[derive(Clone, Copy)]
 pub struct TokenView<'t> {
-    /// The place of its first byte in the text.
+    /// The offset of its first byte in the text.
     pub offset_from: usize,
-    /// The place after its last byte in the text.
+    /// The offset after its last byte in the text.
     pub offset_to: usize,
-    /// Its position in the text: which of the tokens it is, where each takes one position.
+    /// Its position in the text: the index of the token, if each takes one position.
     pub position: usize,
-    /// What it says, which need not be the bytes at its place.
+    /// The token's text, which may differ from the bytes at its offsets.
     pub text: &'t str,
     /// How many positions it covers.
     pub position_length: usize,

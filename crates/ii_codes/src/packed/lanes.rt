@@ -7,8 +7,7 @@ ghost use Rattle.ii_codes.specs.Sums.{fit_u32};
 
 use std::simd::prelude::*;
 
-/// Eight numbers of 16 bits: each begins at the byte in which the entry of `W` bits with its place
-/// does, from byte `at` on.
+/// Loads eight 16-bit numbers, each from the byte in which its entry of `W` bits starts, from byte `at` on.
 #[inline(always)]
 fn halves<const W: usize>(bytes: &[u8], at: usize) -> u16x8
     requires narrow { W ≤ 9 }
@@ -36,7 +35,7 @@ fn halves<const W: usize>(bytes: &[u8], at: usize) -> u16x8
     u16x8::from_le_bytes(u8x16::from_slice(&bytes[at..at + 16]).swizzle_dyn_within::<16>(places))
 }
 
-/// Eight entries of `W` bits from byte `at` on.
+/// Loads eight entries of `W` bits from byte `at` on.
 #[inline(always)]
 fn eight<const W: usize>(bytes: &[u8], at: usize) -> u16x8
     requires some { 1 ≤ W }
@@ -57,7 +56,7 @@ fn eight<const W: usize>(bytes: &[u8], at: usize) -> u16x8
     (halves::<W>(bytes, at) * factors) >> u16x8::splat((16 - W) as u16)
 }
 
-/// The sums of eight small numbers and those before them, with `gap` for each.
+/// Returns the prefix sums of eight small numbers, with `gap` added to each number.
 #[inline(always)]
 fn running(entries: u16x8, gap: u16) -> u16x8
     requires many { length entries ≡ 8 }
@@ -72,7 +71,7 @@ fn running(entries: u16x8, gap: u16) -> u16x8
     all + u16x8::from_array([1, 2, 3, 4, 5, 6, 7, 8]) * u16x8::splat(gap)
 }
 
-/// Puts eight values at a place.
+/// Writes eight values at an index.
 #[inline(always)]
 fn put_eight(output: &mut [u32], place: usize, values: u32x8)
     requires room { place + 8 ≤ length output.old }
@@ -82,7 +81,7 @@ fn put_eight(output: &mut [u32], place: usize, values: u32x8)
     values.copy_to_slice(&mut output[place..]);
 }
 
-/// Unpacks entries as `sorted_width` does, of at most 9 bits each, eight at a time.
+/// Unpacks values as `sorted_width` does, eight at a time, from entries of at most 9 bits.
 #[inline(never)]
 pub(crate) fn sorted_narrow<const W: usize>(
     bytes: &[u8],
@@ -97,7 +96,7 @@ pub(crate) fn sorted_narrow<const W: usize>(
     requires gap { gap ≤ 1 }
     requires least { least < 2 ^ 32 + gap }
 
-    // Whether all values fit, and the values then.
+    // Whether all values fit, and the values in that case.
     ensures fits { result ≡ fit_u32 (values_from gap least (unpacked W bytes.now)) }
     ensures values { OnTrue result (output.new ≡ values_from gap least (unpacked W bytes.now)) }
 {
@@ -111,8 +110,8 @@ pub(crate) fn sorted_narrow<const W: usize>(
     u64::from(output[127]) >= least
 }
 
-/// Four numbers of 32 bits: each begins at the byte in which the entry of `W` bits with its place
-/// does, of which the first begins at bit `first` of byte `at`.
+/// Loads four 32-bit numbers, each from the byte in which its entry of `W` bits starts. The first entry
+/// starts at bit `first` of byte `at`.
 #[inline(always)]
 fn words<const W: usize>(bytes: &[u8], at: usize, first: usize) -> u32x4
     requires narrow { W ≤ 25 }
@@ -141,7 +140,7 @@ fn words<const W: usize>(bytes: &[u8], at: usize, first: usize) -> u32x4
     u32x4::from_le_bytes(u8x16::from_slice(&bytes[at..at + 16]).swizzle_dyn_within::<16>(places))
 }
 
-/// Four entries of `W` bits, of which the first begins at bit `first` of byte `at`.
+/// Loads four entries of `W` bits, the first of which starts at bit `first` of byte `at`.
 #[inline(always)]
 fn four<const W: usize>(bytes: &[u8], at: usize, first: usize) -> u32x4
     requires some { 1 ≤ W }
@@ -159,7 +158,7 @@ fn four<const W: usize>(bytes: &[u8], at: usize, first: usize) -> u32x4
     (words::<W>(bytes, at, first) * factors) >> u32x4::splat((32 - W) as u32)
 }
 
-/// The sums of four numbers and those before them, with `gap` for each.
+/// Returns the prefix sums of four numbers, with `gap` added to each number.
 #[inline(always)]
 fn running_four(entries: u32x4, gap: u32) -> u32x4
     requires many { length entries ≡ 4 }
@@ -173,7 +172,7 @@ fn running_four(entries: u32x4, gap: u32) -> u32x4
     all + u32x4::from_array([1, 2, 3, 4]) * u32x4::splat(gap)
 }
 
-/// Puts four values at a place.
+/// Writes four values at an index.
 #[inline(always)]
 fn put_four(output: &mut [u32], place: usize, values: u32x4)
     requires room { place + 4 ≤ length output.old }
@@ -183,8 +182,8 @@ fn put_four(output: &mut [u32], place: usize, values: u32x4)
     values.copy_to_slice(&mut output[place..]);
 }
 
-/// Puts four values of a sorted block at a place, where the one before them stands in each lane of
-/// `before`, and answers the last of them in each lane.
+/// Writes four values of a sorted block at an index. Each lane of `before` is the value before them.
+/// Returns the last of them in each lane.
 #[inline(always)]
 fn put_sorted_four<const W: usize>(
     bytes: &[u8],
@@ -203,7 +202,7 @@ fn put_sorted_four<const W: usize>(
     requires before { before ≡ replicate 4 (slice_index before 0) }
     requires room { place + 4 ≤ length output.old }
 
-    // Four values more, and the last of them.
+    // Four more values, and the last of them.
     ensures written { take (place + 4) output.new ≡ take place output.old ++ map (λ (s : ℕ). (slice_index before 0 + s) % 2 ^ 32) (values_from gap gap (bits_in 8 bytes.now (at * 8 + (first + 0 * W)) W ∷ bits_in 8 bytes.now (at * 8 + (first + 1 * W)) W ∷ bits_in 8 bytes.now (at * 8 + (first + 2 * W)) W ∷ bits_in 8 bytes.now (at * 8 + (first + 3 * W)) W ∷ [])) }
     ensures last { result ≡ replicate 4 (slice_index (map (λ (s : ℕ). (slice_index before 0 + s) % 2 ^ 32) (values_from gap gap (bits_in 8 bytes.now (at * 8 + (first + 0 * W)) W ∷ bits_in 8 bytes.now (at * 8 + (first + 1 * W)) W ∷ bits_in 8 bytes.now (at * 8 + (first + 2 * W)) W ∷ bits_in 8 bytes.now (at * 8 + (first + 3 * W)) W ∷ []))) 3) }
 {
@@ -213,7 +212,7 @@ fn put_sorted_four<const W: usize>(
     values.swizzle([3, 3, 3, 3])
 }
 
-/// Unpacks entries as `sorted_width` does, of at most 25 bits each, four at a time.
+/// Unpacks values as `sorted_width` does, four at a time, from entries of at most 25 bits.
 #[inline(never)]
 pub(crate) fn sorted_wide<const W: usize>(
     bytes: &[u8],
@@ -228,7 +227,7 @@ pub(crate) fn sorted_wide<const W: usize>(
     requires gap { gap ≤ 1 }
     requires least { least < 2 ^ 32 + gap }
 
-    // Whether all values fit, and the values then.
+    // Whether all values fit, and the values in that case.
     ensures fits { result ≡ fit_u32 (values_from gap least (unpacked W bytes.now)) }
     ensures values { OnTrue result (output.new ≡ values_from gap least (unpacked W bytes.now)) }
 {
@@ -243,7 +242,7 @@ pub(crate) fn sorted_wide<const W: usize>(
     u64::from(output[127]) >= least
 }
 
-/// Unpacks entries as `unpack_width` does, of at most 9 bits each, eight at a time.
+/// Unpacks entries of at most 9 bits as `unpack_width` does, eight at a time.
 #[inline(never)]
 pub(crate) fn unpack_narrow<const W: usize>(bytes: &[u8], more: u32, output: &mut [u32])
     requires some { 1 ≤ W }
@@ -260,7 +259,7 @@ pub(crate) fn unpack_narrow<const W: usize>(bytes: &[u8], more: u32, output: &mu
     }
 }
 
-/// Unpacks entries as `unpack_width` does, of at most 25 bits each, four at a time.
+/// Unpacks entries of at most 25 bits as `unpack_width` does, four at a time.
 #[inline(never)]
 pub(crate) fn unpack_wide<const W: usize>(bytes: &[u8], more: u32, output: &mut [u32])
     requires some { 1 ≤ W }
@@ -279,7 +278,7 @@ pub(crate) fn unpack_wide<const W: usize>(bytes: &[u8], more: u32, output: &mut 
     }
 }
 
-/// The sum of entries of at most 9 bits each, eight at a time.
+/// Sums entries of at most 9 bits, eight at a time.
 #[inline(never)]
 pub(crate) fn sum_narrow<const W: usize>(bytes: &[u8]) -> u64
     requires some { 1 ≤ W }
@@ -295,7 +294,7 @@ pub(crate) fn sum_narrow<const W: usize>(bytes: &[u8]) -> u64
     u64::from(sums.strict_reduce_sum())
 }
 
-/// The sum of entries of at most 25 bits each, four at a time.
+/// Sums entries of at most 25 bits, four at a time.
 #[inline(never)]
 pub(crate) fn sum_wide<const W: usize>(bytes: &[u8]) -> u64
     requires some { 1 ≤ W }

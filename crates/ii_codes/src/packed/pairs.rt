@@ -4,7 +4,7 @@ ghost use Rattle.ii_codes.specs.Packed.{bits_in, packed};
 
 use std::simd::prelude::*;
 
-/// Four entries from a place on.
+/// Returns four entries from an index on.
 #[inline(always)]
 fn four_at(entries: &[u32], place: usize) -> u32x4
     requires { place + 4 ≤ length entries.now }
@@ -13,8 +13,8 @@ fn four_at(entries: &[u32], place: usize) -> u32x4
     u32x4::from_slice(&entries[place..place + 4])
 }
 
-/// Each two neighbours of eight numbers of `width` bits as one number, whose low bits are those of the
-/// first.
+/// Combines each two neighbors of eight `width`-bit numbers into one number, with the first in its low
+/// bits.
 #[inline(always)]
 fn pairs(low: u32x4, high: u32x4, width: u32) -> u32x4
     requires narrow { width ≤ 16 }
@@ -29,7 +29,7 @@ fn pairs(low: u32x4, high: u32x4, width: u32) -> u32x4
     even + odd * u32x4::splat(1 << width)
 }
 
-/// Sixteen entries of `W` bits from a place on, four in a number.
+/// Returns sixteen entries of `W` bits from an index on, combined by four.
 #[inline(always)]
 fn quads<const W: usize>(entries: &[u32], first: usize) -> u32x4
     requires many { length entries.now ≡ 128 }
@@ -48,7 +48,7 @@ fn quads<const W: usize>(entries: &[u32], first: usize) -> u32x4
     pairs(low, high, 2 * width)
 }
 
-/// Writes a word of 64 bits at byte `end`, the lowest byte first.
+/// Writes a 64-bit word at byte `end`, little-endian.
 #[inline(always)]
 fn put_long(output: &mut [u8], end: usize, word: u64)
     requires { end + 8 ≤ length output.old }
@@ -58,7 +58,7 @@ fn put_long(output: &mut [u8], end: usize, word: u64)
     room[..8].copy_from_slice(&word.to_le_bytes());
 }
 
-/// Writes eight bytes at byte `end`: two numbers of `4 * W` bits, the first one lowest.
+/// Writes two numbers of `4 * W` bits in eight bytes at byte `end`, the first one lowest.
 #[inline(always)]
 fn put_quads<const W: usize>(output: &mut [u8], end: usize, low: u32, high: u32)
     requires narrow { W ≤ 8 }
@@ -69,8 +69,8 @@ fn put_quads<const W: usize>(output: &mut [u8], end: usize, low: u32, high: u32)
     put_long(output, end, u64::from(low) + (u64::from(high) << (4 * W)));
 }
 
-/// Packs entries that fit in `W` bits, at most 8, sixteen at a time; up to eight bytes more than the
-/// block's are written.
+/// Packs entries that fit in `W` bits, at most 8, sixteen at a time. Writes up to eight bytes past the end
+/// of the block.
 #[inline(never)]
 pub(crate) fn pack_narrow<const W: usize>(entries: &[u32], output: &mut [u8])
     requires many { length entries.now ≡ 128 }

@@ -5,7 +5,7 @@ use ii_docset::{DocId, DocSet, SeekDangerResult, TERMINATED};
 use ii_query::{Exclude, Intersection, PhraseMatch, PhrasePart, Union};
 use std::alloc::Global;
 
-// The next four documents of a cursor, the current one first.
+// Returns four documents of a cursor, starting at the current one.
 fn next_four<D: DocSet>(cursor: &mut D) -> [DocId; 4] {
     let first = cursor.doc();
     let second = cursor.advance();
@@ -27,7 +27,7 @@ fn cursors_are_combined(rt: HostRuntime) {
     assert!(rt; of_three == [3, 10, TERMINATED, TERMINATED]);
 }
 
-// What a cursor answers of two documents, and where it stands then.
+// Calls `seek_danger` for two documents. Returns the answers and the current document.
 fn asked<D: DocSet>(cursor: &mut D, docs: [DocId; 2]) -> ([SeekDangerResult; 2], DocId) {
     let mut answers = [SeekDangerResult::Found; 2];
     for k in 0..2 {
@@ -58,7 +58,7 @@ fn cursors_are_asked(rt: HostRuntime) {
     assert!(rt; asked(&mut without, [1, 1]).0 == [ten; 2]);
 }
 
-// Documents 0, 2 and 10 again, and where another term stands there.
+// Documents 0, 2 and 10 with the positions of another term.
 static OTHER_PLACES: [Place; 3] = [
     Place {
         doc: 0,
@@ -78,7 +78,7 @@ fn other() -> ListPostings {
     ListPostings::new(&OTHER_PLACES)
 }
 
-// The documents of a term behind which another one stands so many positions further on.
+// Returns the documents where `other` occurs `distance` positions after `first`.
 fn phrase(
     alloc: Global,
     first: ListPostings,

@@ -7,14 +7,14 @@ use ii_base::Fault;
 use ii_docset::{DocId, DocSet, Postings, TERMINATED, copy_positions};
 use std::marker::Model;
 
-// A document, and where a term occurs there.
+// A document and the positions of a term in it.
 #[derive(Clone, Copy)]
 pub struct Place {
     pub doc: DocId,
     pub positions: &'static [u32],
 }
 
-// A cursor over places.
+// A cursor over a list of places.
 #[derive(Drop)]
 pub struct ListPostings {
     left: &'static [Place],
@@ -92,7 +92,7 @@ impl Postings for ListPostings {
     }
 }
 
-// Writes positions plus an offset after what stands in the output, or nothing.
+// Appends each position plus an offset, or nothing if that fails.
 fn append(positions: &[u32], offset: u32, output: &mut Vec<u32>) -> Result<(), Fault>
     requires { All (λ p. p + offset < 2 ^ 32) positions.now }
     ensures ok { OnOk result (output.new.items ≡ output.old.items ++ map (λ p. p + offset) positions.now) }
@@ -110,7 +110,7 @@ fn append(positions: &[u32], offset: u32, output: &mut Vec<u32>) -> Result<(), F
 }
 
 impl ListPostings {
-    // A cursor before the first of these places.
+    // Opens a cursor at the first place.
     pub fn new(left: &'static [Place]) -> ListPostings
         requires { let entry : Place → Entry = λ p. record { doc = p.doc; term_freq = length p.positions.now; positions = p.positions.now } in IsSound (map entry left.now) }
         ensures { let entry : Place → Entry = λ p. record { doc = p.doc; term_freq = length p.positions.now; positions = p.positions.now } in result ≡ map entry left.entry.now }

@@ -4,7 +4,7 @@ use std::alloc::Global;
 use std::io::Write;
 use std::marker::Model;
 
-// A writer of terms that are given by their lengths, so that their ranges join.
+// A writer of terms given by their lengths, so that their ranges are contiguous.
 #[derive(Drop)]
 pub struct JoinedTerms {
     store: TermInfoStoreWriter,
@@ -32,7 +32,7 @@ impl JoinedTerms {
         }
     }
 
-    // Adds a term with so many bytes of postings and of positions.
+    // Appends a term with these numbers of bytes of postings and positions.
     pub fn write(&mut self, doc_freq: u32, postings: u32, positions: u32) -> Result<(), Fault> {
         let info = TermInfo {
             doc_freq,

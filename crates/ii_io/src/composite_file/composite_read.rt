@@ -14,16 +14,15 @@ use std::alloc::Global;
 use std::collections::BTreeSet;
 use std::marker::Model;
 
-/// A file that holds a body for each of some fields. Clauses see the bodies, in the order written.
+/// A file with one body for each of several fields. Its model is the list of bodies, in the order written.
 ///
-/// The bodies stay in the buffer that the file was opened from, and are shared with those who read
-/// them.
+/// The bodies stay in the buffer that the file was opened from, and are shared with their readers.
 pub struct CompositeFile {
     bytes: Bytes,
     places: Vec<Place>,
 }
 
-// So that each drop is a call.
+// Makes each drop a call.
 impl Drop for CompositeFile {
     fn drop(self) {
         let CompositeFile {
@@ -46,11 +45,11 @@ impl Model for CompositeFile {
 }
 
 impl CompositeFile {
-    /// Opens a file: the bodies, then for each its `Place`, then their number in 4 bytes.
+    /// Opens a file: the bodies, then a `Place` for each, then their number in 4 bytes. It copies no body.
+    /// Memory is allocated for the table alone, once its size is known to fit.
     ///
-    /// `Damaged(Composite)` where the table doesn't fit, an end lies before its start or past the
-    /// bodies, or a field has two places. It copies no body; memory is taken for the table alone, once
-    /// it is known to fit.
+    /// Returns `Damaged(Composite)` if the table doesn't fit, a place is out of range, or a field has two
+    /// places.
     pub fn open(alloc: Global, bytes: Bytes) -> Result<CompositeFile, Fault>
         ensures opened { IfOk result (λ file. composite bytes ≡ Some file) }
         ensures damaged { IsErrOf result (Fault.Damaged Part.Composite) → composite bytes ≡ None }
@@ -61,7 +60,7 @@ impl CompositeFile {
         Ok(CompositeFile { bytes, places })
     }
 
-    /// How many bytes the body of a field has, if the file has one.
+    /// Returns the length of a field's body in bytes, if the file has one.
     pub fn body_len(&self, field: Field) -> Option<usize>
         ensures { result ≡ option_map length (body_of field self.now) }
     {
@@ -71,8 +70,8 @@ impl CompositeFile {
         Some((place.end - place.start) as usize)
     }
 
-    /// The body of a field, if the file has one, as a part of the buffer. It takes no copy, and fails
-    /// for want of memory only where the buffer can't be shared once more.
+    /// Returns the body of a field, if the file has one, as a part of the buffer, without a copy. Returns
+    /// `OutOfMemory` only if the buffer can't be shared once more.
     pub fn open_read(&self, field: Field) -> Result<Option<Bytes>, Fault>
         ensures body { IfOk result (λ body. body ≡ body_of field self.now) }
         ensures only { OnlyMemory result }
@@ -84,8 +83,8 @@ impl CompositeFile {
         Ok(Some(body))
     }
 
-    /// The same bodies, over the same buffer. It fails where the buffer can't be shared once more, or
-    /// the table finds no memory.
+    /// Clones the file over the same buffer. Returns `OutOfMemory` if the buffer can't be shared once more,
+    /// or the table can't be allocated.
     pub fn clone(&self) -> Result<CompositeFile, Fault>
         ensures same { IfOk result (λ copy. copy ≡ self.now) }
         ensures only { OnlyMemory result }
@@ -96,7 +95,7 @@ impl CompositeFile {
     }
 }
 
-// The first place of a field.
+// Returns the first place of a field.
 fn place_of_field(places: &[Place], field: Field) -> Option<Place>
     ensures { result ≡ find (λ (p : Place). p.field == field) places.now }
 {
@@ -108,7 +107,7 @@ fn place_of_field(places: &[Place], field: Field) -> Option<Place>
     None
 }
 
-// The places of the table at the end of a file.
+// Reads the places from the table at the end of a file.
 fn read_table(alloc: Global, bytes: &[u8]) -> Result<Vec<Place>, Fault>
     ensures read { IfOk result (λ places. table_of bytes.now ≡ Some places.items) }
     ensures damaged { IsErrOf result (Fault.Damaged Part.Composite) → table_of bytes.now ≡ None }
@@ -127,7 +126,7 @@ fn read_table(alloc: Global, bytes: &[u8]) -> Result<Vec<Place>, Fault>
     read_places(alloc, size as u64, count, &bytes[size..])
 }
 
-// So many places from the front of a table, all within the bodies and of distinct fields.
+// Reads `count` places from the start of a table: all within the bodies, and of distinct fields.
 fn read_places(alloc: Global, size: u64, count: u32, table: &[u8]) -> Result<Vec<Place>, Fault>
     ensures read { IfOk result (λ places. valid_places size count table.now ≡ Some places.items) }
     ensures damaged { IsErrOf result (Fault.Damaged Part.Composite) → valid_places size count table.now ≡ None }

@@ -16,9 +16,9 @@ use std::alloc::Global;
 use std::io::Write;
 use std::marker::Model;
 
-/// Writes a composite file: the bodies of fields, one after the other, and a table after them.
+/// Writes a composite file: the bodies of fields in sequence, then a table.
 ///
-/// It is closed by the first call that is refused, and answers `SerializerClosed` from then on.
+/// The first call that fails closes the writer; later calls return `SerializerClosed`.
 #[derive(Drop)]
 pub struct CompositeWrite<W: Write> {
     writer: CountingWriter<W>,
@@ -43,7 +43,7 @@ impl<W: Write> Model for CompositeWrite<W> {
 }
 
 impl<W: Write> CompositeWrite<W> {
-    /// A composite writer over `writer`, whose places are counted from where that stands now.
+    /// Creates a composite writer over `writer`. Places are counted from its current position.
     pub fn wrap(alloc: Global, writer: CountingWriter<W>) -> CompositeWrite<W>
         ensures { result ≡ record { writer = writer; base = writer.written_bytes; starts = []; closed = false } }
     {
@@ -56,11 +56,10 @@ impl<W: Write> CompositeWrite<W> {
         }
     }
 
-    /// The writer for the body of a field, which no earlier body has. The body ends where the next
-    /// begins, or where this writer is closed.
+    /// Returns the writer for the body of a field that has no body yet. The body ends where the next
+    /// starts, or at `close`. There are at most `u32::MAX` bodies.
     ///
-    /// There are at most `u32::MAX` bodies, whose number has 32 bits. `OutOfMemory` where the table
-    /// can't grow; `SerializerClosed` after an earlier refusal.
+    /// Returns `OutOfMemory` if the table can't grow, and `SerializerClosed` after an earlier error.
     pub fn for_field(&mut self, field: Field) -> Result<&mut CountingWriter<W>, Fault>
         requires unwritten { self.old.closed ≡ false → has_start field self.old.starts ≡ false }
         requires few { self.old.closed ≡ false → length self.old.starts < 2 ^ 32 - 1 }
@@ -73,7 +72,7 @@ impl<W: Write> CompositeWrite<W> {
         Ok(&mut self.writer)
     }
 
-    /// The writer for more of the body that was opened last.
+    /// Returns the writer for more bytes of the body that was opened last.
     pub fn writer(&mut self) -> &mut CountingWriter<W>
         requires { self.old.closed ≡ false → 0 < length self.old.starts }
         ensures* lends { sem 𝓛 (LendsWriter W.row W.Write self.entry result) }
@@ -82,7 +81,7 @@ impl<W: Write> CompositeWrite<W> {
         &mut self.writer
     }
 
-    // Notes that the body of a field begins.
+    // Records that the body of a field starts.
     fn begin_body(&mut self, field: Field) -> Result<(), Fault>
         requires unwritten { self.old.closed ≡ false → has_start field self.old.starts ≡ false }
         requires few { self.old.closed ≡ false → length self.old.starts < 2 ^ 32 - 1 }
@@ -101,7 +100,7 @@ impl<W: Write> CompositeWrite<W> {
         Ok(pushed?)
     }
 
-    /// The writer as it stands, with no table written.
+    /// Returns the writer in its current state, without a table.
     pub fn into_writer(self) -> CountingWriter<W>
         ensures { result ≡ self.writer }
     {
@@ -114,12 +113,14 @@ impl<W: Write> CompositeWrite<W> {
         unclosed
     }
 
-    /// Writes the places of the bodies and their number, flushes, and hands the writer back. The
-    /// bodies are then read back from what was written.
+    /// Writes the table and flushes, and returns the writer. After success the file is read back as the
+    /// bodies.
     ///
-    /// `Write` where the writer fails, and a prefix of the table is then written; `Limit(Offset)`
-    /// where a count of the writer would pass `u64::MAX`; `SerializerClosed` after an earlier refusal,
-    /// and nothing is written.
+    /// # Errors
+    ///
+    /// `Write` if the writer fails; a prefix of the table may have been written. `Limit(Offset)` if a count
+    /// of the writer would exceed `u64::MAX`. `SerializerClosed` after an earlier error; nothing is
+    /// written.
     pub fn close(self) -> (CountingWriter<W>, Result<(), Fault>)
         ensures written { WritesUnlessClosed self.closed self.writer result.0 (table_bytes (places_of self)) result.1 }
         ensures bodies { (initial : CountingWriterState) (bodies : List Body) → HasBodies initial self bodies
@@ -142,7 +143,7 @@ impl<W: Write> CompositeWrite<W> {
     }
 }
 
-// Writes the places of bodies that end at `end`, and their number, and flushes.
+// Writes the places of bodies, the last of which ends at `end`, and their number, and flushes.
 fn write_table<W: Write>(
     writer: &mut CountingWriter<W>,
     starts: &[BodyStart],
@@ -163,7 +164,7 @@ fn write_table<W: Write>(
     write_places_and_number(writer, starts, end)
 }
 
-// The places, their number, and a flush.
+// Writes the places and their number, and flushes.
 fn write_places_and_number<W: Write>(
     writer: &mut CountingWriter<W>,
     starts: &[BodyStart],
@@ -183,7 +184,7 @@ fn write_places_and_number<W: Write>(
     writer.flush()
 }
 
-// The places alone.
+// Writes the places alone.
 fn write_places<W: Write>(
     writer: &mut CountingWriter<W>,
     starts: &[BodyStart],
@@ -200,7 +201,7 @@ fn write_places<W: Write>(
     Ok(())
 }
 
-// The place of the i-th body, which ends where the next begins, the last one at `end`.
+// Returns the place of the i-th body. It ends where the next starts, or at `end` for the last one.
 fn place_of(starts: &[BodyStart], i: usize, end: u64) -> Place
     requires { i < length starts.now }
     ensures { slice_get (places_until starts.now end) i ≡ Some result }

@@ -9,8 +9,8 @@ use crate::serialize::{BinarySerializable, FixedSize};
 use byteorder::{ByteOrder, LittleEndian};
 use std::io::Write;
 
-/// Where the body of a field lies: from `start` to before `end`, counted from the first body. It has
-/// 20 bytes: the field's number in 4, the start in 8, the end in 8, the lowest byte first.
+/// The range of a field's body, from `start` inclusive to `end` exclusive, counted from the first body.
+/// Encoded in 20 bytes, little-endian: field (4), start (8), end (8).
 #[derive(Clone, Copy, Debug, PartialEq, Eq)]
 pub struct Place {
     pub field: Field,
@@ -19,7 +19,7 @@ pub struct Place {
 }
 
 impl Place {
-    /// Whether the body ends within so many bytes, and not before its start.
+    /// Returns whether the range is valid and ends within `size` bytes.
     pub fn lies_within(&self, size: u64) -> bool
         ensures { result ≡ lies_within size self.now }
     {
@@ -77,7 +77,7 @@ impl FixedSize for Place {
     ghost has_size = { length_place_bytes };
 }
 
-// The bytes of a place, in a buffer of their size.
+// Encodes a place into a buffer of 20 bytes.
 #[tactic(auto, unfolding(crate::specs::Composite::place_bytes))]
 fn put_place(buf: &mut [u8], field: u32, start: u64, end: u64)
     requires { length buf.old ≡ 20 }
@@ -90,7 +90,7 @@ fn put_place(buf: &mut [u8], field: u32, start: u64, end: u64)
     put_u64(end_bytes, end);
 }
 
-// The bytes of a number, in a buffer of their size.
+// Encodes a number into a buffer of its size.
 fn put_u32(buf: &mut [u8], n: u32)
     requires { length buf.old ≡ 4 }
     ensures { buf.new ≡ le_bytes 4 n }
@@ -105,7 +105,7 @@ fn put_u64(buf: &mut [u8], n: u64)
     LittleEndian::write_u64(buf, n);
 }
 
-/// Where the body of a field begins, counted from the first body.
+/// The start of a field's body, counted from the first body.
 #[derive(Clone, Copy, Debug, PartialEq, Eq)]
 pub struct BodyStart {
     pub field: Field,

@@ -13,17 +13,17 @@ use ii_codes::{BlockDecoder, COMPRESSION_BLOCK_SIZE, VIntDecoder, compressed_blo
 use ii_io::{Fault, LayoutFault, Part, vint};
 use std::marker::Model;
 
-/// The greatest width of a block.
+/// The greatest bit width of a block.
 const MAX_NUM_BITS: u8 = 32;
 
-/// How many bytes a block takes for each bit of its width.
+/// Bytes of a block per bit of its width.
 const BYTES_PER_BIT: usize = COMPRESSION_BLOCK_SIZE / 8;
 
-/// Of how many blocks the place is kept.
+/// Number of blocks whose place is kept.
 const NUM_ANCHORS: usize = 64;
 
-/// The blocks of the deltas of a term's positions, of which one is decoded. The deltas after the full
-/// blocks are one block too. Clauses see all deltas, which block it is, and how many were decoded.
+/// Holds the blocks of the deltas of a term's positions, one of them decoded. The deltas after the full
+/// blocks count as one block. The model is all deltas, the decoded block, and the number of decodes.
 #[derive(Drop)]
 pub(crate) struct PositionBlocks {
     bytes: Bytes,
@@ -49,7 +49,7 @@ impl Model for PositionBlocks {
 }
 
 impl PositionBlocks {
-    /// The blocks that `bytes` holds. The deltas after the full blocks are decoded.
+    /// Opens the blocks that `bytes` holds, and decodes the deltas after the full blocks.
     pub(crate) fn open(bytes: Bytes) -> Result<PositionBlocks, LayoutFault>
         ensures ok { IfOk result (λ blocks. position_deltas bytes ≡ Some blocks.deltas) }
         ensures block { IfOk result (λ blocks. blocks.block ≡ length blocks.deltas / 128) }
@@ -86,7 +86,7 @@ impl PositionBlocks {
         })
     }
 
-    /// How many deltas there are.
+    /// Returns the number of deltas.
     pub(crate) fn len(&self) -> u128
         ensures { result ≡ length self.now.deltas }
     {
@@ -94,7 +94,7 @@ impl PositionBlocks {
         num_blocks as u128 * COMPRESSION_BLOCK_SIZE as u128 + self.rest_len as u128
     }
 
-    /// Whether the sum of all deltas has 32 bits. Each block is decoded, and none of it is kept.
+    /// Returns whether the sum of all deltas fits in 32 bits. Decodes each block, and keeps none of them.
     pub(crate) fn has_small_sum(&self) -> bool
         ensures { result ≡ nat_lt (sum self.now.deltas) (2 ^ 32) }
     {
@@ -119,7 +119,7 @@ impl PositionBlocks {
         sum + sum_of(block_decoder.output_array()) <= u64::from(u32::MAX)
     }
 
-    /// Decodes a block that has deltas, if it isn't the one that is decoded.
+    /// Decodes a block that has deltas, unless it is the decoded one.
     pub(crate) fn load(&mut self, block: usize)
         requires inside { 128 * block < length self.old.deltas }
         ensures deltas { self.new.deltas ≡ self.old.deltas }
@@ -141,14 +141,14 @@ impl PositionBlocks {
         self.place = place;
     }
 
-    /// The deltas of the block that is decoded.
+    /// Returns the deltas of the decoded block.
     pub(crate) fn held(&self) -> &[u32]
         ensures held { result.now ≡ block_of self.now.deltas self.now.block }
     {
         self.block_decoder.output_array()
     }
 
-    /// The same blocks, of which the last was decoded.
+    /// Opens the same blocks again, with the last one decoded.
     pub(crate) fn anew(self) -> PositionBlocks
         ensures deltas { result.deltas ≡ self.deltas }
         ensures block { result.block ≡ length result.deltas / 128 }
@@ -158,7 +158,7 @@ impl PositionBlocks {
         reopened(bytes)
     }
 
-    /// The same blocks over the same bytes, which are shared.
+    /// Clones the blocks. The bytes are shared.
     pub(crate) fn clone(&self) -> Result<PositionBlocks, Fault>
         ensures same { IfOk result (λ blocks. blocks ≡ self.now) }
         ensures only { OnlyMemory result }
@@ -179,7 +179,7 @@ impl PositionBlocks {
     }
 }
 
-// Blocks over bytes that hold deltas.
+// Opens blocks over bytes that hold deltas.
 fn reopened(bytes: Bytes) -> PositionBlocks
     requires { IsSome (position_deltas bytes) }
     ensures deltas { position_deltas bytes ≡ Some result.deltas }
@@ -192,8 +192,8 @@ fn reopened(bytes: Bytes) -> PositionBlocks
     }
 }
 
-// Where the widths begin and where they end: as many as the number at the front says, if so many
-// bytes follow it.
+// Returns where the widths begin and end. The number at the front says how many there are; `None` if it is
+// missing or fewer bytes follow.
 fn split(bytes: &[u8]) -> Option<(usize, usize)>
     ensures list { MatchOption result (position_list bytes.now ≡ None) (λ p. position_list bytes.now ≡ Some (list_at bytes.now p.0 p.1)) }
     ensures order { IfSome result (λ p. p.0 ≤ p.1) }
@@ -208,8 +208,8 @@ fn split(bytes: &[u8]) -> Option<(usize, usize)>
     Some((widths, widths + num_blocks as usize))
 }
 
-// Where the full blocks end, if each width is at most 32 and the bytes have all blocks. Keeps the
-// place of each block that so many strides lead to.
+// Returns where the full blocks end, if each width is at most 32 and the bytes hold all blocks. Stores the
+// place of every `stride`th block in `anchors`.
 fn find_blocks(widths: &[u8], body: &[u8], stride: usize, anchors: &mut [usize]) -> Option<usize>
     requires stride { stride ≡ length widths.now / 64 + 1 }
     requires many { length anchors.old ≡ 64 }
@@ -234,8 +234,8 @@ fn find_blocks(widths: &[u8], body: &[u8], stride: usize, anchors: &mut [usize])
     end_of(&widths[first..], body.len(), place)
 }
 
-// Where blocks of these widths end that begin at a place of a body, if each width is at most 32 and
-// the body has them all. None ends the loop, so that several are looked at at a time.
+// Returns where blocks of these widths end if the first begins at `place`, each width is at most 32 and all
+// blocks fit in `len` bytes. The loop never exits early, so that several widths are processed at once.
 fn end_of(widths: &[u8], len: usize, place: usize) -> Option<usize>
     requires few { length widths.now ≤ 2 ^ 58 }
     requires within { place ≤ len }
@@ -254,8 +254,7 @@ fn end_of(widths: &[u8], len: usize, place: usize) -> Option<usize>
     Some(place + BYTES_PER_BIT * bits)
 }
 
-// Decodes the deltas after the full blocks, to the end of the bytes. Answers whether they are fewer
-// than a block has.
+// Decodes the deltas after the full blocks, to the end of the bytes. Returns whether they are fewer than 128.
 fn read_rest(bytes: &[u8], block_decoder: &mut BlockDecoder) -> bool
     ensures rest { MatchBool result (Some (take block_decoder.new.output_len block_decoder.new.output) ≡ rest_at bytes.now) (rest_at bytes.now ≡ None) }
     ensures few { IsTrue result → length (take block_decoder.new.output_len block_decoder.new.output) < 128 }
@@ -267,8 +266,8 @@ fn read_rest(bytes: &[u8], block_decoder: &mut BlockDecoder) -> bool
     }
 }
 
-// The block before another one, or that one, whose place is known, and that place: the anchor, or
-// the block that is held where that is nearer.
+// Returns the nearest block at or before `block` whose place is known, and its place. This is an anchor or
+// the held block.
 fn nearest(
     anchors: &[usize],
     stride: usize,
@@ -292,7 +291,7 @@ fn nearest(
     (held, held_place)
 }
 
-// The place of a block, from that of one before it on.
+// Returns the place of a block, given the place `from` of an earlier block `near`.
 fn walk(widths: &[u8], near: usize, from: usize, block: usize) -> usize
     requires within { block ≤ length widths.now }
     requires order { near ≤ block }
@@ -307,7 +306,7 @@ fn walk(widths: &[u8], near: usize, from: usize, block: usize) -> usize
     place
 }
 
-// Decodes the block that lies at a place, or the deltas after the full blocks.
+// Decodes the block at a place, or the deltas after the full blocks.
 fn decode(widths: &[u8], body: &[u8], block: usize, place: usize, block_decoder: &mut BlockDecoder)
     requires valid { IsSome (deltas_at_block (record { widths = widths.now; body = body.now }) block) }
     requires within { block ≤ length widths.now }

@@ -11,16 +11,16 @@ use ii_codes::COMPRESSION_BLOCK_SIZE;
 use ii_io::{Fault, LayoutFault, Part};
 use std::marker::Model;
 
-/// Reads any part of the deltas of a term's positions, which are those of all its documents one
-/// after the other. Clauses see these deltas, and how many blocks were decoded.
+/// Reads any range of the deltas of a term's positions, all documents one after the other. The model is these
+/// deltas and the number of decodes.
 ///
-/// It keeps the bytes, where 64 blocks begin, and the block that was decoded last: a part that lies
-/// in that block is read without decoding.
+/// It keeps the bytes, the places of up to 64 blocks, and the block that was decoded last. Reading within
+/// that block decodes nothing.
 pub struct PositionReader {
     blocks: PositionBlocks,
 }
 
-// So that each drop is a call.
+// A drop has to be a call.
 impl Drop for PositionReader {
     fn drop(self) {
         let PositionReader { blocks: _ } = self;
@@ -36,11 +36,16 @@ impl Model for PositionReader {
 }
 
 impl PositionReader {
-    /// A reader of the deltas that `bytes` holds: the number of full blocks as a vint of up to 10
-    /// bytes, the width of each in one byte, from 0 to 32, the blocks, each of 16 bytes for each bit
-    /// of its width, and fewer than 128 further deltas, each a vint of up to 5 bytes, to the end of
-    /// the bytes. `Damaged(Positions)` where they hold no such list. Each width is looked at; of the
-    /// blocks only the last deltas are decoded, and kept. It takes no memory.
+    /// Opens the deltas that `bytes` holds, and decodes the deltas after the full blocks. Validates each
+    /// width, but decodes no other block.
+    ///
+    /// The bytes are:
+    /// * the number of full blocks, a vint of up to 10 bytes;
+    /// * the width of each, one byte from 0 to 32;
+    /// * the blocks, each with 16 bytes per bit of its width;
+    /// * fewer than 128 further deltas, each a vint of up to 5 bytes, to the end of the bytes.
+    ///
+    /// Returns `Damaged(Positions)` if `bytes` holds no such list. Never allocates.
     pub fn open(bytes: Bytes) -> Result<PositionReader, LayoutFault>
         ensures ok { IfOk result (λ reader. position_deltas bytes ≡ Some reader.deltas) }
         ensures block { IfOk result (λ reader. reader.block ≡ length reader.deltas / 128) }
@@ -55,31 +60,30 @@ impl PositionReader {
         Ok(PositionReader { blocks })
     }
 
-    /// How many deltas there are.
+    /// Returns the number of deltas.
     pub fn len(&self) -> u128
         ensures { result ≡ length self.now.deltas }
     {
         self.blocks.len()
     }
 
-    /// Whether the sum of all deltas has 32 bits. So has each position then, however they are shared
-    /// out among documents. Each block is decoded once, and the reader stays as it is.
+    /// Returns whether the sum of all deltas fits in 32 bits. If so, each position does, however the deltas
+    /// are divided among documents. Decodes each block once, and doesn't change the reader.
     pub fn has_small_sum(&self) -> bool
         ensures { result ≡ nat_lt (sum self.now.deltas) (2 ^ 32) }
     {
         self.blocks.has_small_sum()
     }
 
-    /// Reads as many deltas as `output` has room for, from `offset` on; all of them are there. Only
-    /// blocks in which they lie are decoded, and not the one that is kept; the last of them is kept
-    /// then.
+    /// Fills `output` with the deltas from `offset` on, all of which must exist. Decodes only the blocks that
+    /// hold them, except the block that is kept, and then keeps the last of these blocks.
     pub fn read(&mut self, offset: u64, output: &mut [u32])
         requires inside { offset + length output.old ≤ length self.old.deltas }
         ensures read { output.new ≡ take (length output.old) (drop offset self.old.deltas) }
         ensures deltas { self.new.deltas ≡ self.old.deltas }
         ensures decodes { self.new.decodes ≤ self.old.decodes + length output.old / 128 + 2 }
         ensures kept { self.old.decodes ≤ self.new.decodes }
-        // the block that it keeps
+        // The block that the reader keeps.
         ensures held { LieInBlock self.old.block offset (length output.old) → self.new.decodes ≡ self.old.decodes }
         ensures block { self.new.block ≡ block_kept self.old.block offset (length output.old) }
     {
@@ -94,7 +98,7 @@ impl PositionReader {
         }
     }
 
-    /// A reader of the same deltas, which has decoded at most one block. It takes no memory.
+    /// Opens a reader of the same deltas that has decoded at most one block. Never allocates.
     pub fn anew(self) -> PositionReader
         ensures deltas { result.deltas ≡ self.deltas }
         ensures block { result.block ≡ length result.deltas / 128 }
@@ -106,8 +110,8 @@ impl PositionReader {
         }
     }
 
-    /// A reader over the same bytes, which are shared. It keeps the same block, and has decoded as
-    /// many. `OutOfMemory` where a growth was refused.
+    /// Clones the reader with its block and its number of decodes. The bytes are shared. Returns
+    /// `OutOfMemory` if an allocation fails.
     pub fn clone(&self) -> Result<PositionReader, Fault>
         ensures same { IfOk result (λ reader. reader ≡ self.now) }
         ensures only { OnlyMemory result }

@@ -13,7 +13,7 @@ use std::alloc::Global;
 use std::io::Write;
 use std::marker::Model;
 
-/// At most 128 deltas.
+/// Holds at most 128 deltas.
 #[derive(Drop)]
 struct DeltaBlock {
     deltas: [u32; COMPRESSION_BLOCK_SIZE],
@@ -53,7 +53,7 @@ impl DeltaBlock {
         self.len == COMPRESSION_BLOCK_SIZE
     }
 
-    // Adds as many of the first deltas as there is room for, and answers how many.
+    // Adds as many of the first deltas as fit, and returns how many.
     fn fill(&mut self, deltas: &[u32]) -> usize
         ensures count { result ≡ min (length deltas.now) (128 - length self.old) }
         ensures filled { self.new ≡ self.old ++ take result deltas.now }
@@ -70,7 +70,7 @@ impl DeltaBlock {
     }
 }
 
-/// The full blocks of the open term, packed.
+/// Holds the packed full blocks of the open term.
 #[derive(Drop)]
 struct PackedDeltas {
     block_encoder: BlockEncoder,
@@ -100,7 +100,7 @@ impl PackedDeltas {
         }
     }
 
-    // Packs a full block after the others. Where memory is refused no block is left.
+    // Packs a full block after the others. An allocation failure drops all blocks.
     fn push(&mut self, block: &[u32]) -> Result<(), Fault>
         requires { length block.now ≡ 128 }
         ensures ok { OnOk result (self.new ≡ self.old ++ block.now) }
@@ -123,7 +123,7 @@ impl PackedDeltas {
         }
     }
 
-    // Writes how many blocks there are, their widths, the blocks, and fewer deltas than a block has.
+    // Writes the number of blocks, their widths, the blocks, and fewer than 128 further deltas.
     fn write_with<W: Write>(
         &mut self,
         rest: &[u32],
@@ -174,7 +174,7 @@ fn pack(
     Ok(())
 }
 
-// Writes a number, so many widths, and the blocks.
+// Writes the number of blocks, their widths, and the blocks.
 fn put_blocks<W: Write>(
     num_blocks: u64,
     bit_widths: &[u8],
@@ -190,7 +190,7 @@ fn put_blocks<W: Write>(
     positions_write.write_all(blocks)
 }
 
-// Writes a number and so many widths.
+// Writes the number of blocks and their widths.
 fn put_widths<W: Write>(
     num_blocks: u64,
     bit_widths: &[u8],
@@ -207,7 +207,7 @@ fn put_widths<W: Write>(
     positions_write.write_all(bit_widths)
 }
 
-// Adds deltas, and packs each block that they fill. Where that is refused no delta is left.
+// Adds deltas, and packs each block that they fill. An allocation failure drops all deltas.
 fn add_deltas(
     packed: &mut PackedDeltas,
     block: &mut DeltaBlock,
@@ -227,7 +227,7 @@ fn add_deltas(
     Ok(())
 }
 
-// Packs a block once it is full. Where that is refused no delta is left.
+// Packs the block if it is full. An allocation failure drops all deltas.
 fn pack_if_full(packed: &mut PackedDeltas, block: &mut DeltaBlock) -> Result<(), Fault>
     ensures few { length block.new < 128 }
     ensures ok { OnOk result (packed.new ++ block.new ≡ packed.old ++ block.old) }
@@ -242,17 +242,17 @@ fn pack_if_full(packed: &mut PackedDeltas, block: &mut DeltaBlock) -> Result<(),
     pushed
 }
 
-/// Writes the positions of one term after the other, to a writer that is lent. Clauses see the
-/// deltas of the open term, and whether an earlier call was refused.
+/// Writes the positions of one term after the other to a borrowed writer. The model is the deltas of the open
+/// term, and whether an earlier call failed.
 ///
-/// After a refused call it is closed: each further call answers `SerializerClosed`.
+/// After an error it is closed: each further call returns `SerializerClosed`.
 pub struct PositionWriter {
     packed: PackedDeltas,
     block: DeltaBlock,
     is_closed: bool,
 }
 
-// So that each drop is a call.
+// A drop has to be a call.
 impl Drop for PositionWriter {
     fn drop(self) {
         let PositionWriter {
@@ -275,7 +275,7 @@ impl Model for PositionWriter {
 }
 
 impl PositionWriter {
-    /// A writer of positions, whose open term has no deltas.
+    /// Creates a writer whose open term has no deltas.
     pub fn new(alloc: Global) -> PositionWriter
         ensures { result ≡ record { deltas = []; closed = false } }
     {
@@ -286,11 +286,13 @@ impl PositionWriter {
         }
     }
 
-    /// Adds deltas to the open term: how far each position of a document lies above the one before
-    /// it, the first one above 0.
+    /// Adds deltas to the open term: the distance of each position of a document from the previous one, the
+    /// first from 0.
     ///
-    /// `OutOfMemory` where a growth was refused: the deltas are then dropped. `SerializerClosed`
-    /// after an earlier refusal.
+    /// # Errors
+    ///
+    /// * `OutOfMemory` if an allocation fails; the deltas are then dropped.
+    /// * `SerializerClosed` after an earlier error.
     pub fn write_positions_delta(&mut self, positions_delta: &[u32]) -> Result<(), Fault>
         ensures ok { OnOk result (self.new ≡ record { deltas = self.old.deltas ++ positions_delta.now; closed = false }) }
         ensures err { OnErr result (self.new ≡ record { deltas = []; closed = true }) }
@@ -305,13 +307,16 @@ impl PositionWriter {
         added
     }
 
-    /// Writes the deltas of the term and ends it: the number of full blocks as a vint, their widths
-    /// in a byte each, the blocks packed in these, and the other deltas as vints. A `PositionReader`
-    /// reads them back.
+    /// Writes the deltas of the term and ends it. A `PositionReader` reads them back.
     ///
-    /// `Write` where the writer fails, `Limit(Offset)` where a count of the writer would pass
-    /// `u64::MAX`: a prefix is then written. `SerializerClosed` after an earlier refusal, and nothing
-    /// is written. It takes no memory.
+    /// The bytes are the number of full blocks as a vint, one byte for the width of each, the packed blocks,
+    /// and the other deltas as vints. Never allocates.
+    ///
+    /// # Errors
+    ///
+    /// * `Write` if the writer fails; a prefix is then written.
+    /// * `Limit(Offset)` if a count of the writer would exceed `u64::MAX`; a prefix is then written.
+    /// * `SerializerClosed` after an earlier error; nothing is then written.
     pub fn close_term<W: Write>(
         &mut self,
         positions_write: &mut CountingWriter<W>,
@@ -332,8 +337,8 @@ impl PositionWriter {
     }
 }
 
-/// Writes the positions of one term after the other, to a writer of its own. See `PositionWriter`,
-/// which does the same to a writer that is lent. Clauses see the writer too.
+/// Writes the positions of one term after the other to a writer that it owns, as `PositionWriter` does to a
+/// borrowed one. The model includes the writer.
 #[derive(Drop)]
 pub struct PositionSerializer<W: Write> {
     positions_write: CountingWriter<W>,
@@ -349,7 +354,7 @@ impl<W: Write> Model for PositionSerializer<W> {
 }
 
 impl<W: Write> PositionSerializer<W> {
-    /// A serializer of positions, whose open term has no deltas.
+    /// Creates a serializer whose open term has no deltas.
     pub fn new(alloc: Global, positions_write: CountingWriter<W>) -> PositionSerializer<W>
         ensures { result ≡ record { writer = positions_write; deltas = []; closed = false } }
     {
@@ -359,7 +364,7 @@ impl<W: Write> PositionSerializer<W> {
         }
     }
 
-    /// How many bytes were written through the writer.
+    /// Returns how many bytes were written through the writer.
     pub fn written_bytes(&self) -> u64
         ensures { result ≡ self.now.writer.written_bytes }
     {
@@ -368,8 +373,10 @@ impl<W: Write> PositionSerializer<W> {
 
     /// Adds deltas to the open term.
     ///
-    /// `OutOfMemory` where a growth was refused: the deltas are then dropped. `SerializerClosed`
-    /// after an earlier refusal.
+    /// # Errors
+    ///
+    /// * `OutOfMemory` if an allocation fails; the deltas are then dropped.
+    /// * `SerializerClosed` after an earlier error.
     pub fn write_positions_delta(&mut self, positions_delta: &[u32]) -> Result<(), Fault>
         ensures ok { OnOk result (self.new ≡ record self.old { deltas = self.old.deltas ++ positions_delta.now; closed = false }) }
         ensures err { OnErr result (self.new ≡ record self.old { deltas = []; closed = true }) }
@@ -379,11 +386,8 @@ impl<W: Write> PositionSerializer<W> {
         self.positions.write_positions_delta(positions_delta)
     }
 
-    /// Writes the deltas of the term and ends it, as `PositionWriter::close_term` does.
-    ///
-    /// `Write` where the writer fails, `Limit(Offset)` where a count of the writer would pass
-    /// `u64::MAX`: a prefix is then written. `SerializerClosed` after an earlier refusal, and nothing
-    /// is written. It takes no memory.
+    /// Writes the deltas of the term and ends it, with the errors of `PositionWriter::close_term`. Never
+    /// allocates.
     pub fn close_term(&mut self) -> Result<(), Fault>
         ensures written { WritesUnlessClosed self.old.closed self.old.writer self.new.writer (written_positions self.old.deltas) result }
         ensures holds { OnOk result (position_deltas (written_positions self.old.deltas) ≡ Some self.old.deltas) }
@@ -393,10 +397,13 @@ impl<W: Write> PositionSerializer<W> {
         self.positions.close_term(&mut self.positions_write)
     }
 
-    /// Flushes, and hands the writer back. The deltas of a term that wasn't ended are dropped.
+    /// Flushes and returns the writer. The deltas of a term that wasn't ended are dropped.
     ///
-    /// `Write` where the writer fails, `Limit(Offset)` where its count of failed calls would pass
-    /// `u64::MAX`. `SerializerClosed` after an earlier refusal, and the writer isn't touched.
+    /// # Errors
+    ///
+    /// * `Write` if the writer fails.
+    /// * `Limit(Offset)` if its count of failed calls would exceed `u64::MAX`.
+    /// * `SerializerClosed` after an earlier error; the writer isn't touched.
     pub fn close(self) -> (CountingWriter<W>, Result<(), Fault>)
         ensures { WritesUnlessClosed self.closed self.writer result.0 [] result.1 }
     {

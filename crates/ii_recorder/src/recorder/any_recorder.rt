@@ -11,19 +11,19 @@ use ii_base::{DocId, Fault, IndexRecordOption};
 use std::alloc::Global;
 use std::io::Write;
 
-/// A recorder of any option.
+/// A recorder for any option.
 #[derive(Drop)]
 pub enum AnyRecorder {
-    /// Of documents alone.
+    /// Keeps only documents.
     DocId(DocIdRecorder),
-    /// Of documents with their counts.
+    /// Keeps documents with their term frequencies.
     TermFrequency(TermFrequencyRecorder),
-    /// Of documents with their counts and positions.
+    /// Keeps documents with their term frequencies and positions.
     TfAndPosition(TfAndPositionRecorder),
 }
 
 impl AnyRecorder {
-    /// A recorder of no documents, which keeps what `option` says.
+    /// Creates an empty recorder, which keeps what `option` says.
     pub fn new(alloc: Global, option: IndexRecordOption) -> AnyRecorder
         ensures { any_state result ≡ record { option = option; closed = []; pending = None } }
     {

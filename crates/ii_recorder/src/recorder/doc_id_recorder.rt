@@ -13,14 +13,14 @@ use std::alloc::Global;
 use std::io::Write;
 use std::marker::Model;
 
-/// Keeps documents alone.
+/// Keeps only documents.
 #[derive(Drop)]
 pub struct DocIdRecorder {
-    // How far each document lies after the one before it, the first one from 0, as vints.
+    // The distance of each document from the previous one, the first from 0, as vints.
     deltas: Vec<u8>,
-    // The last document, 0 where there is none.
+    // The last document, or 0 if there is none.
     last: DocId,
-    // Whether it is open.
+    // Whether the last document is open.
     is_open: bool,
 }
 
@@ -37,7 +37,7 @@ impl Model for DocIdRecorder {
 }
 
 impl DocIdRecorder {
-    /// A recorder of no documents.
+    /// Creates an empty recorder.
     pub fn new(alloc: Global) -> DocIdRecorder
         ensures { result ≡ record { option = Basic; closed = []; pending = None } }
     {
@@ -49,7 +49,7 @@ impl DocIdRecorder {
     }
 }
 
-// Pushes a document.
+// Adds a document.
 fn push_doc<W: Write>(doc: DocId, serializer: &mut FieldSerializer<'_, W>) -> Result<(), Fault>
     requires { MayPush Basic serializer.old.index.now (document doc ∷ []) }
     ensures same_reference { serializer.new.index.ghost_name ≡ serializer.old.index.ghost_name }
@@ -58,7 +58,7 @@ fn push_doc<W: Write>(doc: DocId, serializer: &mut FieldSerializer<'_, W>) -> Re
     serializer.write_doc(doc, 0, &[])
 }
 
-// Pushes documents.
+// Adds documents.
 fn push_docs<W: Write>(
     docs: &mut SumReader<'_>,
     serializer: &mut FieldSerializer<'_, W>,
@@ -98,7 +98,7 @@ impl Recorder for DocIdRecorder {
     }
 
     fn record_position(&mut self, _position: u32) -> Result<(), Fault> {
-        // a field that is read, for the proof: without one it sees nothing of what is held
+        // For the proof, which sees what is held only if a field is read.
         let _deltas = &self.deltas;
         Ok(())
     }
@@ -118,13 +118,13 @@ impl Recorder for DocIdRecorder {
     }
 
     fn term_doc_freq(&self) -> Option<u32> {
-        // a field that is read, for the proof: without one it sees nothing of what is held
+        // For the proof, which sees what is held only if a field is read.
         let _deltas = &self.deltas;
         None
     }
 
     fn has_term_freq(&self) -> bool {
-        // a field that is read, for the proof: without one it sees nothing of what is held
+        // For the proof, which sees what is held only if a field is read.
         let _deltas = &self.deltas;
         false
     }

@@ -5,8 +5,7 @@ ghost use Rattle.ii_codes.specs.Sums.{running_sums};
 use super::vint32_reader::VInt32Reader;
 use std::marker::Model;
 
-// Reads documents by how far each lies after the one before it, the first one from 0. Its meaning is
-// those still to come.
+// Reads documents from their deltas, the first from 0. Its model is the remaining documents.
 #[derive(Drop)]
 pub(crate) struct SumReader<'a> {
     deltas: VInt32Reader<'a>,
@@ -26,7 +25,7 @@ impl<'a> Model for SumReader<'a> {
 }
 
 impl<'a> SumReader<'a> {
-    // A reader of these deltas, whose sum has 32 bits.
+    // Creates a reader of deltas whose sum fits in 32 bits.
     pub(crate) fn new(deltas: VInt32Reader<'a>) -> SumReader<'a>
         requires { sum deltas < 2 ^ 32 }
         ensures { result ≡ running_sums 0 deltas.entry }

@@ -13,17 +13,17 @@ use std::alloc::Global;
 use std::io::Write;
 use std::marker::Model;
 
-/// Keeps documents with their counts.
+/// Keeps documents with their term frequencies.
 #[derive(Drop)]
 pub struct TermFrequencyRecorder {
-    // Of each document how far it lies after the one before it, the first one from 0, and its count,
-    // which the open one lacks, as vints.
+    // For each document its distance from the previous one, the first from 0, and its term frequency, as
+    // vints. The frequency of the open document is missing.
     counts: Vec<u8>,
-    // The last document, 0 where there is none.
+    // The last document, or 0 if there is none.
     last: DocId,
-    // How often the term is in the open document.
+    // The term frequency of the open document.
     term_freq: u32,
-    // How many documents there are, or `u32::MAX` if there are more.
+    // The number of documents, or `u32::MAX` if there are more.
     doc_freq: u32,
 }
 
@@ -40,7 +40,7 @@ impl Model for TermFrequencyRecorder {
 }
 
 impl TermFrequencyRecorder {
-    /// A recorder of no documents.
+    /// Creates an empty recorder.
     pub fn new(alloc: Global) -> TermFrequencyRecorder
         ensures { result ≡ record { option = WithFreqs; closed = []; pending = None } }
     {
@@ -53,7 +53,7 @@ impl TermFrequencyRecorder {
     }
 }
 
-// The next number, or another one where the numbers are at their end.
+// Returns the next number, or `other` at the end.
 fn next_or(numbers: &mut VInt32Reader<'_>, other: u32) -> u32
     ensures number { result ≡ unwrap_or (slice_get numbers.old 0) other }
     ensures rest { numbers.new ≡ drop 1 numbers.old }
@@ -64,7 +64,7 @@ fn next_or(numbers: &mut VInt32Reader<'_>, other: u32) -> u32
     }
 }
 
-// Pushes a document with its count.
+// Adds a document with its term frequency.
 fn push_counted_doc<W: Write>(
     doc: DocId,
     term_freq: u32,
@@ -77,8 +77,8 @@ fn push_counted_doc<W: Write>(
     serializer.write_doc(doc, term_freq, &[])
 }
 
-// Pushes documents with their counts, that of the last one being given where it isn't among the
-// numbers.
+// Adds documents with their term frequencies. `open_freq` is that of the last document if the numbers end
+// before it.
 fn push_counted_docs<W: Write>(
     numbers: &mut VInt32Reader<'_>,
     open_freq: u32,
@@ -150,7 +150,7 @@ impl Recorder for TermFrequencyRecorder {
     }
 
     fn has_term_freq(&self) -> bool {
-        // a field that is read, for the proof: without one it sees nothing of what is held
+        // For the proof, which sees what is held only if a field is read.
         let _counts = &self.counts;
         true
     }

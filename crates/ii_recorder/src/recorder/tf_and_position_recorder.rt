@@ -15,22 +15,22 @@ use std::alloc::Global;
 use std::io::Write;
 use std::marker::Model;
 
-// What stands behind the last position of a document.
+// The number after the last position of a document.
 const END_OF_POSITIONS: u32 = 0;
 
-/// Keeps documents with their counts and positions.
+/// Keeps documents with their term frequencies and positions.
 #[derive(Drop)]
 pub struct TfAndPositionRecorder {
-    // Of each document how far it lies after the one before it, the first one from 0, each of its
-    // positions plus 1, and 0, which the open one lacks, as vints.
+    // For each document its distance from the previous one, the first from 0, each of its positions plus 1,
+    // and 0, as vints. The 0 of the open document is missing.
     positions: Vec<u8>,
-    // The last document, 0 where there is none.
+    // The last document, or 0 if there is none.
     last: DocId,
-    // How often the term is in the open document.
+    // The term frequency of the open document.
     term_freq: u32,
-    // The last position in the open document, 0 where there is none.
+    // The last position of the open document, or 0 if there is none.
     last_position: u32,
-    // How many documents there are, or `u32::MAX` if there are more.
+    // The number of documents, or `u32::MAX` if there are more.
     doc_freq: u32,
 }
 
@@ -47,7 +47,7 @@ impl Model for TfAndPositionRecorder {
 }
 
 impl TfAndPositionRecorder {
-    /// A recorder of no documents.
+    /// Creates an empty recorder.
     pub fn new(alloc: Global) -> TfAndPositionRecorder
         ensures { result ≡ record { option = WithFreqsAndPositions; closed = []; pending = None } }
     {
@@ -61,8 +61,8 @@ impl TfAndPositionRecorder {
     }
 }
 
-// Sets a buffer to how far each position of a document lies after the one before it, the first one
-// from 0, and answers how many they are. The numbers then go on behind its positions.
+// Sets `deltas` to the distance of each position of a document from the previous one, the first from 0, and
+// returns their number. The reader is then after its positions.
 fn take_deltas(numbers: &mut VInt32Reader<'_>, deltas: &mut Vec<u32>) -> Result<u32, Fault>
     requires few { length (first_positions numbers.old) < 2 ^ 32 }
     ensures ok { OnOk result (deltas.new.items ≡ differences 0 (first_positions numbers.old)) }
@@ -85,7 +85,7 @@ fn take_deltas(numbers: &mut VInt32Reader<'_>, deltas: &mut Vec<u32>) -> Result<
     Ok(count)
 }
 
-// Pushes the document whose positions come next among the numbers.
+// Adds the document whose positions are next among the numbers.
 fn push_located_doc<W: Write>(
     doc: DocId,
     numbers: &mut VInt32Reader<'_>,
@@ -111,7 +111,7 @@ fn push_located_doc<W: Write>(
     }
 }
 
-// Pushes documents with their counts and positions.
+// Adds documents with their term frequencies and positions.
 fn push_located_docs<W: Write>(
     numbers: &mut VInt32Reader<'_>,
     deltas: &mut Vec<u32>,
@@ -138,7 +138,7 @@ fn push_located_docs<W: Write>(
     Ok(())
 }
 
-// All bytes.
+// Returns all bytes.
 fn all_bytes(bytes: &[u8]) -> &[u8]
     ensures value { result.now ≡ bytes.now }
     ensures few { length bytes.now < 2 ^ 64 }
@@ -202,7 +202,7 @@ impl Recorder for TfAndPositionRecorder {
     }
 
     fn has_term_freq(&self) -> bool {
-        // a field that is read, for the proof: without one it sees nothing of what is held
+        // For the proof, which sees what is held only if a field is read.
         let _positions = &self.positions;
         true
     }

@@ -4,7 +4,7 @@ ghost use Rattle.ii_recorder.specs.VintRows.{AreVints, numbers};
 use ii_base::read_u32_vint;
 use std::marker::Model;
 
-/// Reads numbers of 32 bits, each spelled as a vint, one by one. Its meaning is those still to come.
+/// Reads 32-bit numbers, each encoded as a vint, one by one. Its model is the remaining numbers.
 #[derive(Drop)]
 pub struct VInt32Reader<'a> {
     bytes: &'a [u8],
@@ -22,7 +22,7 @@ impl<'a> Model for VInt32Reader<'a> {
 }
 
 impl<'a> VInt32Reader<'a> {
-    /// A reader of these bytes, which are vints of 32 bits to the last one.
+    /// Creates a reader of bytes that consist of 32-bit vints.
     pub fn new(bytes: &'a [u8]) -> VInt32Reader<'a>
         requires { AreVints bytes.now }
         ensures { result ≡ numbers bytes.entry.now }

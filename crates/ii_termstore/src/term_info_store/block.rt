@@ -9,7 +9,7 @@ use crate::term_info::TermInfo;
 use ii_codes::extract_bits;
 use std::ops::Range;
 
-// The number of `width` bits at a place after an offset in bytes. No bit is read at width 0.
+// Returns the `width` bits at bit `place` after a byte offset. Reads no bit if the width is 0.
 #[inline(always)]
 fn number_after(bits: &[u8], offset: u64, place: usize, width: u8) -> u64
     requires narrow { width ≤ MAX_OFFSET_NBITS }
@@ -24,8 +24,8 @@ fn number_after(bits: &[u8], offset: u64, place: usize, width: u8) -> u64
     extract_bits(&bits[offset as usize..], place, width)
 }
 
-// A range from two places after a first one. `None` where it ends before it begins, has 2^32 bytes
-// or more, or passes `u64::MAX`.
+// Returns the range between two distances from `first`. Returns `None` if it ends before it begins, has 2^32
+// bytes or more, or ends above `u64::MAX`.
 #[inline(always)]
 fn range_after(first: usize, start: u64, end: u64) -> Option<Range<usize>>
     ensures { result ≡ (if nat_le start end && nat_lt (end - start) (2 ^ 32) && nat_lt (first + end) (2 ^ 64)
@@ -40,7 +40,7 @@ fn range_after(first: usize, start: u64, end: u64) -> Option<Range<usize>>
     Some(first + start as usize..end)
 }
 
-// How many bits the two places of a term after the first take.
+// Returns the number of bits of the two offsets of a term after the first.
 #[inline(always)]
 fn places_bits(meta: &TermInfoBlockMeta) -> usize
     ensures { result ≡ meta.now.postings_offset_nbits + meta.now.positions_offset_nbits }
@@ -48,7 +48,7 @@ fn places_bits(meta: &TermInfoBlockMeta) -> usize
     usize::from(meta.postings_offset_nbits) + usize::from(meta.positions_offset_nbits)
 }
 
-// How many bits a term after the first takes.
+// Returns the number of bits of a term after the first.
 #[inline(always)]
 fn term_bits(meta: &TermInfoBlockMeta) -> usize
     ensures { result ≡ term_bits meta.now }
@@ -56,8 +56,8 @@ fn term_bits(meta: &TermInfoBlockMeta) -> usize
     places_bits(meta) + usize::from(meta.doc_freq_nbits)
 }
 
-// Where the postings of term `k` begin, counted from the first term's. After the last term stands
-// where its postings end.
+// Returns where the postings of term `k` begin, relative to the first term's. The number after the last term
+// is where its postings end.
 #[inline(always)]
 fn postings_number(meta: &TermInfoBlockMeta, bits: &[u8], terms: usize, k: usize) -> u64
     requires widths { widths_fit meta.now ≡ true }
@@ -70,7 +70,7 @@ fn postings_number(meta: &TermInfoBlockMeta, bits: &[u8], terms: usize, k: usize
     number_after(bits, meta.offset, place, meta.postings_offset_nbits)
 }
 
-// Where its positions begin, likewise.
+// Returns where its positions begin, in the same way.
 #[inline(always)]
 fn positions_number(meta: &TermInfoBlockMeta, bits: &[u8], terms: usize, k: usize) -> u64
     requires widths { widths_fit meta.now ≡ true }
@@ -83,7 +83,7 @@ fn positions_number(meta: &TermInfoBlockMeta, bits: &[u8], terms: usize, k: usiz
     number_after(bits, meta.offset, place, meta.positions_offset_nbits)
 }
 
-// In how many documents term `k` is.
+// Returns the document frequency of term `k`.
 #[inline(always)]
 fn doc_freq_number(meta: &TermInfoBlockMeta, bits: &[u8], terms: usize, k: usize) -> u32
     requires widths { widths_fit meta.now ≡ true }
@@ -96,7 +96,7 @@ fn doc_freq_number(meta: &TermInfoBlockMeta, bits: &[u8], terms: usize, k: usize
     number_after(bits, meta.offset, place, meta.doc_freq_nbits) as u32
 }
 
-// Term `k` of a block of so many terms, or `None` where it isn't sound.
+// Returns term `k` of a block of `terms` terms, or `None` if it isn't valid.
 #[inline(always)]
 pub(super) fn sound_info(
     meta: &TermInfoBlockMeta,
@@ -135,7 +135,7 @@ pub(super) fn sound_info(
     })
 }
 
-// The first term of a block, if it is sound.
+// Returns the first term of a block, if it is valid.
 fn sound_first(info: &TermInfo) -> Option<TermInfo>
     ensures { result ≡ (if is_sound info.now then Some info.now else None) }
 {
@@ -145,7 +145,7 @@ fn sound_first(info: &TermInfo) -> Option<TermInfo>
     None
 }
 
-// Whether a range ends at or after its start and has fewer than 2^32 bytes.
+// Returns whether a range ends at or after its start and has fewer than 2^32 bytes.
 fn is_short(range: &Range<usize>) -> bool
     ensures { result ≡ is_short range.now }
 {
@@ -153,7 +153,7 @@ fn is_short(range: &Range<usize>) -> bool
     start <= end && end - start <= u32::MAX as usize
 }
 
-// Whether no width is too large for its number.
+// Returns whether no width is too large for its number.
 fn do_widths_fit(meta: &TermInfoBlockMeta) -> bool
     ensures { result ≡ widths_fit meta.now }
 {
@@ -162,7 +162,7 @@ fn do_widths_fit(meta: &TermInfoBlockMeta) -> bool
         && meta.positions_offset_nbits <= MAX_OFFSET_NBITS
 }
 
-// Whether the bits of a block of so many terms lie within so many bytes.
+// Returns whether the bits of a block of `terms` terms lie within `size` bytes.
 fn do_bits_lie(meta: &TermInfoBlockMeta, terms: usize, size: usize) -> bool
     requires widths { widths_fit meta.now ≡ true }
     requires few { terms ≤ BLOCK_LEN }
@@ -181,7 +181,7 @@ fn do_bits_lie(meta: &TermInfoBlockMeta, terms: usize, size: usize) -> bool
     bits.div_ceil(8) as u64 <= room
 }
 
-/// Whether a block of so many terms is valid.
+/// Returns whether a block of `terms` terms is valid.
 pub(super) fn is_block(meta: &TermInfoBlockMeta, terms: usize, bits: &[u8]) -> bool
     requires few { terms ≤ BLOCK_LEN }
     ensures { result ≡ is_block meta.now terms bits.now }

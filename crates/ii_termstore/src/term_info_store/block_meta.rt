@@ -6,24 +6,24 @@ use crate::term_info::{TermInfo, put_info, put_u64};
 use ii_io::{BinarySerializable, CountingWriter, Fault, FixedSize};
 use std::io::Write;
 
-/// The most bits that a number of documents takes.
+/// The greatest bit width of a document frequency.
 pub const MAX_DOC_FREQ_NBITS: u8 = 32;
 
-/// The most bits that a place of postings or of positions takes, counted from the first term's.
+/// The greatest bit width of an offset of postings or positions, relative to the first term's.
 pub const MAX_OFFSET_NBITS: u8 = 56;
 
-/// What stands of a block of terms beside its bits.
+/// What a block of terms holds apart from its bits.
 #[derive(Debug, PartialEq, Eq, Drop)]
 pub struct TermInfoBlockMeta {
-    /// The byte, counted from the first bits of the store, at which the block's bits begin.
+    /// The byte where the block's bits begin, relative to the first bits of the store.
     pub offset: u64,
-    /// The block's first term.
+    /// The first term of the block.
     pub ref_term_info: TermInfo,
-    /// How many bits a number of documents takes, at most `MAX_DOC_FREQ_NBITS` where it is read.
+    /// The bit width of a document frequency, at most `MAX_DOC_FREQ_NBITS` where it is read.
     pub doc_freq_nbits: u8,
-    /// How many bits the start of a term's postings takes, counted from the first term's.
+    /// The bit width of the start of a term's postings, relative to the first term's.
     pub postings_offset_nbits: u8,
-    /// How many bits the start of a term's positions takes, counted from the first term's.
+    /// The bit width of the start of a term's positions, relative to the first term's.
     pub positions_offset_nbits: u8,
 }
 
@@ -44,7 +44,7 @@ impl Default for TermInfoBlockMeta {
     }
 }
 
-/// 39 bytes: `offset` in 8 with the lowest first, the first term in 28, then the widths of `doc_freq`,
+/// Takes 39 bytes: `offset` in 8, little-endian, the first term in 28, then the widths of `doc_freq`,
 /// postings and positions in one each.
 impl BinarySerializable for TermInfoBlockMeta {
     ghost use Rattle.std.specs.Prelude.{◌<◌, ◌^◌};
@@ -111,7 +111,7 @@ impl FixedSize for TermInfoBlockMeta {
 ghost use Rattle.ii_termstore.specs.TermInfos.{HasLengths, IsInRange};
 ghost use Rattle.ii_termstore.specs.TermStore.{meta_size, meta_bytes};
 
-// The bytes of a meta, in a buffer of their size.
+// Writes the bytes of a meta to a buffer of their size.
 #[tactic(auto, unfolding(crate::specs::TermStore::meta_bytes))]
 pub(super) fn put_meta(buf: &mut [u8], meta: &TermInfoBlockMeta)
     requires room { length buf.old ≡ meta_size }
@@ -138,7 +138,7 @@ fn put_widths(buf: &mut [u8], meta: &TermInfoBlockMeta)
     buf.copy_from_slice(&widths);
 }
 
-// Takes a byte from the front.
+// Reads a byte from the front.
 fn take_byte(reader: &mut &[u8]) -> Option<u8>
     ensures value { option_map (λ b. (b, reader.new.now)) result ≡ number_at 1 reader.old.now }
     ensures stays { IfNone result (reader.new.now ≡ reader.old.now) }

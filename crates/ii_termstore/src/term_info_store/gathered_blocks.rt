@@ -18,8 +18,8 @@ use ii_io::{BinarySerializable, CountingWriter, Fault, FixedSize, LimitName};
 use std::alloc::Global;
 use std::io::Write;
 
-/// The terms of a store before it is written: the metas and the bits of the full blocks as bytes, and
-/// the terms after them, fewer than a block has.
+/// Holds the terms of a store before it is written: the metas and the bits of the full blocks as bytes, and
+/// the terms after them, fewer than 256.
 #[derive(Drop)]
 pub(super) struct GatheredBlocks {
     pub num_terms: u64,
@@ -41,7 +41,7 @@ impl GatheredBlocks {
     }
 }
 
-/// Adds a term, and turns the open block into bytes once it is full.
+/// Adds a term, and encodes the open block if it is then full.
 pub(super) fn add_term(blocks: &mut GatheredBlocks, info: &TermInfo) -> Result<(), Fault>
     requires lengths { HasLengths info.now }
     requires all_lengths { HaveLengths blocks.old.open_block.items }
@@ -64,7 +64,7 @@ pub(super) fn add_term(blocks: &mut GatheredBlocks, info: &TermInfo) -> Result<(
     flush_block(blocks)
 }
 
-// Turns the open block into bytes.
+// Encodes the open block.
 fn flush_block(blocks: &mut GatheredBlocks) -> Result<(), Fault>
     requires some { 0 < length blocks.old.open_block.items }
     requires few { length blocks.old.open_block.items ≤ BLOCK_LEN }
@@ -82,7 +82,7 @@ fn flush_block(blocks: &mut GatheredBlocks) -> Result<(), Fault>
     Ok(())
 }
 
-// What stands beside the bits of a block, which begin at `offset`.
+// Returns the meta of a block whose bits begin at `offset`.
 fn block_meta(infos: &[TermInfo], offset: u64) -> TermInfoBlockMeta
     requires { 0 < length infos.now }
     ensures value { result ≡ meta_for offset (first_of infos.now) (drop 1 infos.now) }
@@ -106,7 +106,7 @@ fn add_meta(meta: &TermInfoBlockMeta, metas: &mut Vec<u8>) -> Result<(), Fault>
     Ok(())
 }
 
-// Adds the bits of a block, whose terms after the first are given.
+// Adds the bits of a block, given its terms after the first.
 fn add_bits(meta: &TermInfoBlockMeta, others: &[TermInfo], bits: &mut Vec<u8>) -> Result<(), Fault>
     requires narrow { AreNarrow meta.now }
     requires fits { FitsBlock meta.now others.now }
@@ -120,7 +120,7 @@ fn add_bits(meta: &TermInfoBlockMeta, others: &[TermInfo], bits: &mut Vec<u8>) -
     Ok(())
 }
 
-/// Writes the length of the metas, and the number of terms.
+/// Writes the length of the metas and the number of terms.
 pub(super) fn put_head<W: Write>(n: u64, writer: &mut CountingWriter<W>) -> Result<(), Fault>
     ensures { Writes writer.old writer.new (le_bytes 8 (meta_size * block_count n) ++ le_bytes 8 n) result }
 {
@@ -131,7 +131,7 @@ pub(super) fn put_head<W: Write>(n: u64, writer: &mut CountingWriter<W>) -> Resu
     writer.write_all(&bytes)
 }
 
-/// Writes the metas of all blocks, at last the open one's, whose bits begin at `offset`.
+/// Writes the metas of all blocks. The open block is the last, and its bits begin at `offset`.
 pub(super) fn put_metas<W: Write>(
     blocks: &GatheredBlocks,
     offset: u64,
@@ -161,7 +161,7 @@ fn put_open_meta<W: Write>(
     block_meta(infos, offset).serialize(writer)
 }
 
-/// Writes the bits of all blocks, the open one's last.
+/// Writes the bits of all blocks, the open one last.
 pub(super) fn put_bits<W: Write>(
     blocks: &GatheredBlocks,
     writer: &mut CountingWriter<W>,
@@ -186,7 +186,7 @@ fn put_open_bits<W: Write>(infos: &[TermInfo], writer: &mut CountingWriter<W>) -
     }
 }
 
-// Writes the bits of a block, whose terms after the first are given.
+// Writes the bits of a block, given its terms after the first.
 fn put_block<W: Write>(
     meta: &TermInfoBlockMeta,
     others: &[TermInfo],

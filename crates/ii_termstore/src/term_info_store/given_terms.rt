@@ -5,7 +5,7 @@ ghost use Rattle.ii_termstore.specs.declared.term_info.TermInfo.{TermInfo as Inf
 use crate::term_info::TermInfo;
 use std::marker::Model;
 
-/// The terms that a writer was given, for contracts alone: it takes no bytes, and no code can read it.
+/// Lists the terms that a writer was given, for contracts only: it takes no bytes and no code can read it.
 #[derive(Drop)]
 pub struct GivenTerms {
     pub ghost infos: { List Info },
@@ -16,14 +16,14 @@ impl Model for GivenTerms {
 }
 
 impl GivenTerms {
-    /// No terms.
+    /// Creates an empty list.
     pub fn new() -> GivenTerms
         ensures { result.infos ≡ [] }
     {
         GivenTerms {}
     }
 
-    /// These terms, and one more.
+    /// Returns the list with a term appended.
     pub fn and(&self, info: &TermInfo) -> GivenTerms
         ensures { result.infos ≡ self.now.infos ++ info.now ∷ [] }
     {

@@ -10,14 +10,15 @@ use crate::term_info::TermInfo;
 use ii_codes::bitpacker::writes_one_row;
 use ii_codes::{BitPacker, compute_num_bits};
 
-// The most bytes that a number takes, of at most 64 bits, a term of three numbers, and the bits of a block.
+// The greatest sizes in bytes: of a number of at most 64 bits, of a term of three numbers, and of the bits of
+// a block.
 const MAX_NUMBER_BYTES: usize = 8;
 
 const MAX_TERM_BYTES: usize = 3 * MAX_NUMBER_BYTES;
 
 pub(super) const MAX_BLOCK_BYTES: usize = MAX_TERM_BYTES * BLOCK_LEN;
 
-// Packs one number more of a row into a buffer that has so many bytes, and answers how many it has then.
+// Packs a number into a buffer that holds `count` bytes, and returns how many bytes it holds then.
 fn pack(packer: &mut BitPacker, val: u64, width: u8, buffer: &mut [u8], count: usize) -> usize
     requires narrow { width ≤ 64 }
     requires fits { val < 2 ^ width }
@@ -30,7 +31,7 @@ fn pack(packer: &mut BitPacker, val: u64, width: u8, buffer: &mut [u8], count: u
     count + packer.push(val, width, &mut buffer[count..])
 }
 
-// The largest number of documents of some terms.
+// Returns the largest document frequency of the terms.
 fn largest_doc_freq(others: &[TermInfo]) -> u64
     ensures { result ≡ largest (map (λ (i : TermInfo). i.doc_freq) others.now) }
 {
@@ -41,7 +42,7 @@ fn largest_doc_freq(others: &[TermInfo]) -> u64
     most
 }
 
-// The largest start of postings of some terms, counted from the first of their block.
+// Returns the largest start of the terms' postings, relative to the first of their block.
 fn largest_postings(first: &TermInfo, others: &[TermInfo]) -> u64
     ensures { result ≡ largest (map (postings_after first.now) others.now) }
 {
@@ -52,7 +53,7 @@ fn largest_postings(first: &TermInfo, others: &[TermInfo]) -> u64
     most
 }
 
-// The largest start of positions, likewise.
+// Returns the largest start of their positions, in the same way.
 fn largest_positions(first: &TermInfo, others: &[TermInfo]) -> u64
     ensures { result ≡ largest (map (positions_after first.now) others.now) }
 {
@@ -63,7 +64,7 @@ fn largest_positions(first: &TermInfo, others: &[TermInfo]) -> u64
     most
 }
 
-// Where the postings of a term begin, counted from the first of its block.
+// Returns where the postings of a term begin, relative to the first of its block.
 fn postings_of(first: &TermInfo, info: &TermInfo) -> u64
     ensures { result ≡ postings_after first.now info.now }
 {
@@ -72,7 +73,7 @@ fn postings_of(first: &TermInfo, info: &TermInfo) -> u64
         .saturating_sub(first.postings_range.start) as u64
 }
 
-// Where its positions begin, likewise.
+// Returns where its positions begin, in the same way.
 fn positions_of(first: &TermInfo, info: &TermInfo) -> u64
     ensures { result ≡ positions_after first.now info.now }
 {
@@ -81,7 +82,7 @@ fn positions_of(first: &TermInfo, info: &TermInfo) -> u64
         .saturating_sub(first.positions_range.start) as u64
 }
 
-// The last term of a block.
+// Returns the last term of a block.
 fn last_term<'a>(first: &'a TermInfo, others: &'a [TermInfo]) -> &'a TermInfo
     ensures { result.now ≡ last_of first.now others.now }
 {
@@ -91,7 +92,7 @@ fn last_term<'a>(first: &'a TermInfo, others: &'a [TermInfo]) -> &'a TermInfo
     }
 }
 
-// Where the postings of a block end, counted from the start of its first term's.
+// Returns where the postings of a block end, relative to the start of its first term's.
 fn end_of_postings(first: &TermInfo, others: &[TermInfo]) -> u64
     ensures { result ≡ postings_end first.now others.now }
 {
@@ -101,7 +102,7 @@ fn end_of_postings(first: &TermInfo, others: &[TermInfo]) -> u64
         .saturating_sub(first.postings_range.start) as u64
 }
 
-// Where its positions end, likewise.
+// Returns where its positions end, in the same way.
 fn end_of_positions(first: &TermInfo, others: &[TermInfo]) -> u64
     ensures { result ≡ positions_end first.now others.now }
 {
@@ -111,7 +112,7 @@ fn end_of_positions(first: &TermInfo, others: &[TermInfo]) -> u64
         .saturating_sub(first.positions_range.start) as u64
 }
 
-/// What stands beside the bits of a block, which begin at `offset`.
+/// Returns the meta of a block whose bits begin at `offset`.
 #[tactic(auto, unfolding(crate::specs::Written::meta_for))]
 pub(super) fn meta_for(offset: u64, first: &TermInfo, others: &[TermInfo]) -> TermInfoBlockMeta
     ensures value { result ≡ meta_for offset first.now others.now }
@@ -163,7 +164,7 @@ fn pack_term(
     )
 }
 
-/// Puts the bits of a block at the front of a buffer, and answers how many bytes they are.
+/// Writes the bits of a block to the front of a buffer, and returns how many bytes they take.
 pub(super) fn pack_block(meta: &TermInfoBlockMeta, others: &[TermInfo], buffer: &mut [u8]) -> usize
     requires narrow { AreNarrow meta.now }
     requires fits { (k : ℕ) → k < length others.now → FitsWidths meta.now (info_in others.now k) }

@@ -11,12 +11,12 @@ use crate::term_info::TermInfo;
 use ii_io::{BinarySerializable, FixedSize};
 use std::marker::Model;
 
-// The sizes of a block and of its meta, as numbers of 64 bits.
+// The sizes of a block and of its meta, as 64-bit numbers.
 const BLOCK_TERMS: u64 = BLOCK_LEN as u64;
 
 pub(super) const META_SIZE: u64 = TermInfoBlockMeta::SIZE_IN_BYTES as u64;
 
-/// A list of term infos, over lent bytes that were checked whole. Clauses see the list.
+/// A list of term infos over borrowed bytes that were validated completely. The model is the list.
 #[derive(Drop)]
 pub struct TermInfoStoreView<'a> {
     parts: Parts<'a>,
@@ -37,12 +37,13 @@ impl<'a> Model for TermInfoStoreView<'a> {
 }
 
 impl<'a> TermInfoStoreView<'a> {
-    /// The store in bytes, if they hold one: the length of the metas and the number of terms, 8 bytes
-    /// each with the lowest first, then for each block of 256 terms its `TermInfoBlockMeta`, then the
-    /// blocks' bits.
+    /// Opens the store in bytes, or returns `None` if they hold none. Never allocates.
     ///
-    /// It takes no memory. It reads each term once, and of all terms there are at most 256 for each 39
-    /// bytes of metas; several metas may name the same bits.
+    /// The bytes are the length of the metas and the number of terms, 8 bytes each and little-endian. A
+    /// `TermInfoBlockMeta` for each block of 256 terms follows, then the bits of the blocks.
+    ///
+    /// Reads each term once. There are at most 256 terms per 39 bytes of metas; several metas may refer to
+    /// the same bits.
     pub fn open(bytes: &'a [u8]) -> Option<TermInfoStoreView<'a>>
         ensures { result ≡ term_store bytes.now }
     {
@@ -55,7 +56,7 @@ impl<'a> TermInfoStoreView<'a> {
         Some(TermInfoStoreView { parts })
     }
 
-    /// The store in bytes that were checked before, which isn't done again.
+    /// Opens the store in bytes that were validated before, without validation.
     pub fn over(bytes: &'a [u8]) -> TermInfoStoreView<'a>
         requires { IsSome (term_store bytes.now) }
         ensures { term_store bytes.now ≡ Some result }
@@ -66,7 +67,7 @@ impl<'a> TermInfoStoreView<'a> {
         }
     }
 
-    /// The term at a place. It takes no memory.
+    /// Returns the term at an ordinal. Never allocates.
     pub fn get(&self, term_ord: TermOrdinal) -> TermInfo
         requires { term_ord < length self.now }
         ensures { slice_get self.now term_ord ≡ Some result }
@@ -74,7 +75,7 @@ impl<'a> TermInfoStoreView<'a> {
         term_info_at(&self.parts, term_ord)
     }
 
-    /// How many terms there are.
+    /// Returns the number of terms.
     pub fn num_terms(&self) -> u64
         ensures { result ≡ length self.now }
     {
@@ -82,7 +83,7 @@ impl<'a> TermInfoStoreView<'a> {
     }
 }
 
-// The parts of a store's bytes: the number of terms, the metas and what stands after them, and the bits.
+// The parts of a store's bytes: the number of terms, the bytes from the metas on, and the bits.
 #[derive(Clone, Copy)]
 struct Parts<'a> {
     num_terms: u64,
@@ -90,7 +91,7 @@ struct Parts<'a> {
     bits: &'a [u8],
 }
 
-// The parts, where bytes hold them.
+// Splits bytes into the parts, or returns `None` if they don't hold them.
 #[tactic(auto, unfolding(crate::specs::TermStore::store_parts))]
 fn parts_of(bytes: &[u8]) -> Option<Parts<'_>>
     ensures value { option_map (λ p. (p.num_terms, p.metas.now, p.bits.now)) result ≡ store_parts bytes.now }
@@ -116,14 +117,14 @@ fn parts_of(bytes: &[u8]) -> Option<Parts<'_>>
     })
 }
 
-// How many blocks so many terms have.
+// Returns the number of blocks of `terms` terms.
 pub(super) fn count_blocks(terms: u64) -> u64
     ensures { result ≡ block_count terms }
 {
     terms / BLOCK_TERMS + if terms % BLOCK_TERMS == 0 { 0 } else { 1 }
 }
 
-// The meta of block `b`.
+// Reads the meta of block `b`.
 #[tactic(auto, unfolding(crate::specs::TermStore::block_meta_at))]
 fn read_meta(metas: &[u8], b: u64) -> Option<TermInfoBlockMeta>
     requires { meta_size * b ≤ length metas.now }
@@ -133,7 +134,7 @@ fn read_meta(metas: &[u8], b: u64) -> Option<TermInfoBlockMeta>
     TermInfoBlockMeta::deserialize(&mut rest)
 }
 
-// How many terms block `b` of so many terms has.
+// Returns how many of `terms` terms are in block `b`.
 fn count_terms(terms: u64, b: u64) -> usize
     requires { b < block_count terms }
     ensures value { result ≡ block_terms terms b }
@@ -142,7 +143,7 @@ fn count_terms(terms: u64, b: u64) -> usize
     (terms - BLOCK_TERMS * b).min(BLOCK_TERMS) as usize
 }
 
-// Whether block `b` is valid.
+// Returns whether block `b` is valid.
 fn is_block_valid(metas: &[u8], bits: &[u8], terms: u64, b: u64) -> bool
     requires within { b < block_count terms }
     requires there { meta_size * b ≤ length metas.now }
@@ -154,7 +155,7 @@ fn is_block_valid(metas: &[u8], bits: &[u8], terms: u64, b: u64) -> bool
     }
 }
 
-// Whether all blocks are valid.
+// Returns whether all blocks are valid.
 fn are_blocks_valid(terms: u64, metas: &[u8], bits: &[u8]) -> bool
     requires { meta_size * block_count terms ≤ length metas.now }
     ensures { result ≡ are_blocks terms metas.now bits.now }
@@ -167,7 +168,7 @@ fn are_blocks_valid(terms: u64, metas: &[u8], bits: &[u8]) -> bool
     true
 }
 
-// The term at a place of valid blocks.
+// Returns the term at an ordinal of valid blocks.
 fn term_info_at(parts: &Parts<'_>, term_ord: u64) -> TermInfo
     requires valid { are_blocks parts.now.num_terms parts.now.metas.now parts.now.bits.now ≡ true }
     requires there { meta_size * block_count parts.now.num_terms ≤ length parts.now.metas.now }

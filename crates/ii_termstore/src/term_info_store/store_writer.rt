@@ -17,15 +17,15 @@ use std::alloc::Global;
 use std::io::Write;
 use std::marker::Model;
 
-/// Gathers term infos, and writes them as a store. It keeps a full block of 256 terms as its bytes.
-/// Clauses see the terms, and whether an earlier call was refused.
+/// Gathers term infos, and writes them as a store. It keeps a full block of 256 terms as its bytes. The model
+/// is the terms, and whether an earlier call failed.
 pub struct TermInfoStoreWriter {
     blocks: GatheredBlocks,
     given: GivenTerms,
     is_closed: bool,
 }
 
-// So that each drop is a call.
+// A drop has to be a call.
 impl Drop for TermInfoStoreWriter {
     fn drop(self) {
         let TermInfoStoreWriter {
@@ -50,7 +50,7 @@ impl Model for TermInfoStoreWriter {
 }
 
 impl TermInfoStoreWriter {
-    /// A writer that has no terms yet.
+    /// Creates a writer without terms.
     pub fn new(alloc: Global) -> TermInfoStoreWriter
         ensures { result ≡ record { infos = []; closed = false } }
     {
@@ -61,11 +61,14 @@ impl TermInfoStoreWriter {
         }
     }
 
-    /// Adds a term, whose ranges begin where those of the term before it end, and have lengths that
-    /// fit `u32`. Of a writer that an earlier call closed nothing is asked.
+    /// Adds a term. Its ranges must begin where those of the previous term end, and their lengths must fit in
+    /// `u32`. A closed writer has no preconditions.
     ///
-    /// `OutOfMemory` where the store can't grow; `Limit(Offset)` where the number of terms would pass
-    /// `u64::MAX`; `SerializerClosed` after an earlier refusal.
+    /// # Errors
+    ///
+    /// * `OutOfMemory` if the store can't grow.
+    /// * `Limit(Offset)` if the number of terms would exceed `u64::MAX`.
+    /// * `SerializerClosed` after an earlier error.
     pub fn write_term_info(&mut self, term_info: &TermInfo) -> Result<(), Fault>
         requires lengths { self.old.closed ≡ false → HasLengths term_info.now }
         requires joined { self.old.closed ≡ false → AreJoined (self.old.infos ++ term_info.now ∷ []) }
@@ -87,12 +90,17 @@ impl TermInfoStoreWriter {
         Ok(())
     }
 
-    /// Writes the store of all terms: the length of the metas and the number of terms in 8 bytes each,
-    /// the metas of the blocks, and their bits. Opened again it holds these terms.
+    /// Writes the store of all terms, which opens as these terms. Never allocates.
     ///
-    /// `Write` where the writer fails, `Limit(Offset)` where a count of the writer would pass
-    /// `u64::MAX`: a prefix of the store is then written. `SerializerClosed` after an earlier
-    /// refusal, and nothing is written. It takes no memory.
+    /// The bytes are the length of the metas and the number of terms in 8 bytes each, the metas of the
+    /// blocks, and their bits.
+    ///
+    /// # Errors
+    ///
+    /// * `Write` if the writer fails; a prefix of the store is then written.
+    /// * `Limit(Offset)` if a count of the writer would exceed `u64::MAX`; a prefix of the store is then
+    ///   written.
+    /// * `SerializerClosed` after an earlier error; nothing is then written.
     pub fn serialize<W: Write>(&mut self, writer: &mut CountingWriter<W>) -> Result<(), Fault>
         ensures written { WritesUnlessClosed self.old.closed writer.old writer.new (written_store self.old.infos) result }
         ensures holds { self.old.closed ≡ false → term_store (written_store self.old.infos) ≡ Some self.old.infos }
@@ -109,7 +117,7 @@ impl TermInfoStoreWriter {
     }
 }
 
-// Writes the store of gathered blocks.
+// Writes the store of the gathered blocks.
 fn put_store<W: Write>(blocks: &GatheredBlocks, writer: &mut CountingWriter<W>) -> Result<(), Fault>
     requires few { length blocks.now.open_block.items ≤ BLOCK_LEN }
     requires lengths { HaveLengths blocks.now.open_block.items }

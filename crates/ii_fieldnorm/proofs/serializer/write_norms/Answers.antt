@@ -1,5 +1,5 @@
 use Rattle.std.proofs.lemmas.List.{append-nil}
-use Rattle.ii_io.specs.CountingWriterLemmas.{writes_then, writes_went}
+use Rattle.ii_io.proofs.WriteSteps.{writes_then, writes_went}
 use Rattle.ii_fieldnorm.proofs.serializer.write_norms.Goals as goal
 
 pub returns-clause-written : goal.returns-clause-written

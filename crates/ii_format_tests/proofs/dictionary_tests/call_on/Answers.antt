@@ -1,5 +1,5 @@
 use Rattle.std.proofs.Common.{[], ◌∷◌, refl}
-use Rattle.ii_termdict.specs.ReadBackLemmas.{none_ascend, ascending_more, no_last_key}
+use Rattle.ii_termdict.proofs.ReadBackLemmas.{none_ascend, ascending_more, no_last_key}
 use Rattle.ii_format_tests.proofs.dictionary_tests.call_on.Goals as goal
 
 pub insert_key-requires-clause-ascending : goal.insert_key-requires-clause-ascending

@@ -2,7 +2,7 @@ use Rattle.std.proofs.Common.{◌≡◌, ℕ, ◌+◌, ◌-◌, ◌≤◌, List,
 use Rattle.std.proofs.lemmas.List.{take_at}
 use Rattle.ii_layout.proofs.positions.copy_into.Goals as goal
 
--- values that are copied behind what is done there
+-- values copied after those already there
 copied_behind : (output values front copied back : List ℕ) (done start n : ℕ) → front ≡ take done output → copied ≡ take n (drop start values) → done ≤ length output → n ≤ length values - start → take (done + n) (front ++ (copied ++ back)) ≡ take done output ++ take n (drop start values)
 copied_behind output values front copied back done start n before new inside within =
     let len : length (take done output ++ take n (drop start values)) ≡ done + n = simp (length-append, length-take, length-drop) (omega (arith, inside, within)) in

@@ -1,4 +1,4 @@
-use Rattle.ii_io.specs.CountingWriterLemmas.{writes_then, writes_went}
+use Rattle.ii_io.proofs.WriteSteps.{writes_then, writes_went}
 use Rattle.ii_layout.proofs.PackingLemmas.{rest_written, fits_cases, fits_by}
 use Rattle.ii_layout.proofs.serializer.write_rest.Goals as goal
 

@@ -1,5 +1,5 @@
 use Rattle.std.proofs.Common.{◌<◌, length, arith}
-use Rattle.ii_io.specs.CountingWriterLemmas.{writes_then, writes_went}
+use Rattle.ii_io.proofs.WriteSteps.{writes_then, writes_went}
 use Rattle.ii_layout.proofs.PackingLemmas.{sized_is}
 use Rattle.ii_layout.proofs.serializer.write_skip_list.Goals as goal
 

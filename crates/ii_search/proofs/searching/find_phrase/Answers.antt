@@ -1,6 +1,6 @@
 use Rattle.std.proofs.Common.{◌∷◌}
 use Rattle.ii_query.specs.Phrase.{cursors_in}
-use Rattle.ii_search.specs.DecodesLaws.{all_spent}
+use Rattle.ii_search.proofs.DecodesLaws.{all_spent}
 use Rattle.ii_search.proofs.searching.find_phrase.Goals as goal
 
 pub returns-in-Ok-phrase_parts-clause-lazy : goal.returns-in-Ok-phrase_parts-clause-lazy

@@ -1,7 +1,7 @@
 use Rattle.std.proofs.Common.{◌≡◌, Some, ap, subst, ◌∙◌}
 use Rattle.ii_store.specs.declared.name.Name.TheVariants.{Meta, NewMeta}
 use Rattle.ii_store.specs.Directory.{IsPut, IsRenamed}
-use Rattle.ii_store.specs.Index.{meta_bytes, used_slot, view}
+use Rattle.ii_store.specs.Index.{meta_file, used_slot, view}
 use Rattle.ii_store.specs.Names.{other_slot}
 use Rattle.ii_store.specs.Save.{HoldsIndex}
 use Rattle.ii_store.proofs.SaveLaws.{at_ok, files_leave, is_ready, leaves_none, meta_leaves, rename_leaves, renamed_is_new}
@@ -39,7 +39,7 @@ returns-clause-saved g c = λ known.
     let free : slot ≡ other_slot (used_slot (d.seen c.args.directory.now Meta)) = c.other-slot.ensures ∙ ap other_slot (c.in_ok-slot_in_use.ensures known) in
     let known_1 = c.in_ok-write_files.ensures.known known in
     let known_2 = c.in_ok-write.ensures.known known_1 in
-    let bytes : c.as_slice.result.now ≡ meta_bytes slot i = c.as_slice.ensures.value ∙ c.in_ok-meta.ensures.bytes in
+    let bytes : c.as_slice.result.now ≡ meta_file slot i = c.as_slice.ensures.value ∙ c.in_ok-meta.ensures.bytes in
     let put = subst (λ b. IsPut NewMeta (Some b) (d.seen c.write_files.new.directory) (d.seen c.write.new.self)) bytes (c.in_ok-write.ensures.written known_1) in
     let ready = is_ready slot i (d.seen c.args.directory.now) (d.seen c.write_files.new.directory) (d.seen c.write.new.self) free c.in_ok-meta.ensures.small
     (c.in_ok-write_files.ensures.outside known) (c.in_ok-write_files.ensures.written known) put in
@@ -54,7 +54,7 @@ returns-clause-leaves_one g c = λ known.
     let free : slot ≡ other_slot (used_slot (d.seen c.args.directory.now Meta)) = c.other-slot.ensures ∙ ap other_slot (c.in_ok-slot_in_use.ensures known) in
     let known_1 = c.in_ok-write_files.ensures.known known in
     let known_2 = c.in_ok-write.ensures.known known_1 in
-    let bytes : c.as_slice.result.now ≡ meta_bytes slot i = c.as_slice.ensures.value ∙ c.in_ok-meta.ensures.bytes in
+    let bytes : c.as_slice.result.now ≡ meta_file slot i = c.as_slice.ensures.value ∙ c.in_ok-meta.ensures.bytes in
     let put = subst (λ b. IsPut NewMeta (Some b) (d.seen c.write_files.new.directory) (d.seen c.write.new.self)) bytes (c.in_ok-write.ensures.written known_1) in
     let ready = is_ready slot i (d.seen c.args.directory.now) (d.seen c.write_files.new.directory) (d.seen c.write.new.self) free c.in_ok-meta.ensures.small
     (c.in_ok-write_files.ensures.outside known) (c.in_ok-write_files.ensures.written known) put in

@@ -1,5 +1,5 @@
 use Rattle.std.proofs.Common.{◌≡◌, ◌-◌, arith, sym}
-use Rattle.ii_termstore.specs.ListLemmas.{all_more, not_all}
+use Rattle.ii_termstore.proofs.ListLemmas.{all_more, not_all}
 use Rattle.ii_termdict.proofs.key_parts.do_keys_ascend.Goals as goal
 
 pub returns-then-not-is_key_below : goal.returns-then-not-is_key_below

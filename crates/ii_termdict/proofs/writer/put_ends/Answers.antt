@@ -1,4 +1,4 @@
-use Rattle.ii_io.specs.CountingWriterLemmas.{writes_both}
+use Rattle.ii_io.proofs.WriteSteps.{writes_both}
 use Rattle.ii_termdict.proofs.writer.put_ends.Goals as goal
 
 pub returns : goal.returns

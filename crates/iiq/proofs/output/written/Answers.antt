@@ -1,7 +1,7 @@
 use Rattle.std.proofs.Common.{arith, List, ℕ, Some, ap, ◌∙◌, sym}
 use Rattle.std.proofs.lemmas.List.{take_all}
 use Rattle.ii_io.specs.CountingWriter.{CountingWriterState}
-use Rattle.ii_io.specs.CountingWriterLemmas.{writes_went}
+use Rattle.ii_io.proofs.WriteSteps.{writes_went}
 use Rattle.ii_docset.proofs.CursorLemmas.{documents_take}
 use Rattle.iiq.proofs.ReplyLemmas.{few_documents, written_alone, holds_all}
 use Rattle.iiq.proofs.output.written.Goals as goal

@@ -1,5 +1,5 @@
 use Rattle.std.proofs.Common.{◌≤◌, ◌∙◌, arith}
-use Rattle.ii_codes.specs.BitsLemmas.{length-low_bits}
+use Rattle.ii_codes.proofs.BitsLemmas.{length-low_bits}
 use Rattle.ii_codes.proofs.BitLemmas.{bits_bytes-left, finish_front}
 use Rattle.ii_codes.proofs.bitpacker.BitPacker.finish.Goals as goal
 

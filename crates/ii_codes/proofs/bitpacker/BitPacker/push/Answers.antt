@@ -1,7 +1,7 @@
 use Rattle.std.proofs.Common.{◌+◌, ◌/◌, ◌++◌, ◌∙◌, arith, refl, sym, length-set}
 use Rattle.ii_codes.specs.Bits.{low_bits}
 use Rattle.ii_codes.proofs.PackedLemmas.{entries_in-zero, entries_written}
-use Rattle.ii_codes.specs.BitsLemmas.{length-low_bits}
+use Rattle.ii_codes.proofs.BitsLemmas.{length-low_bits}
 use Rattle.ii_codes.proofs.BitLemmas.{left_after, written_whole}
 use Rattle.ii_codes.proofs.bitpacker.BitPacker.push.Goals as goal
 

@@ -1,7 +1,7 @@
 use Rattle.std.proofs.Common.{inl, inr, List, ℕ, refl, sym, subst, ◌∙◌, ⊎_elim}
 use Rattle.std.proofs.lemmas.Result.{IfErr-weaker}
 use Rattle.ii_io.specs.CountingWriter.{CountingWriterState, Writes, Wrote}
-use Rattle.ii_io.specs.CountingWriterLemmas.{Grows-trans, grows_not, writes_grows, writes_went}
+use Rattle.ii_io.proofs.WriteSteps.{Grows-trans, grows_not, writes_grows, writes_went}
 use Rattle.ii_postings_writer.proofs.TermIndexLemmas.{on_ok}
 use Rattle.ii_indexing.proofs.WrittenFiles.{norms_before, norms_refused}
 use Rattle.ii_indexing.proofs.finished_fields.FinishedFields.write.Goals as goal

@@ -9,7 +9,7 @@ use Rattle.ii_indexing.specs.IndexedTerms.{IndexedTermsState}
 use Rattle.ii_indexing.specs.IndexFiles.{PassLimits}
 use Rattle.ii_indexing.proofs.WrittenFiles.{PassesBehind, begun_fields}
 use Rattle.ii_io.specs.CountingWriter.{Grows}
-use Rattle.ii_io.specs.CountingWriterLemmas.{grows_not}
+use Rattle.ii_io.proofs.WriteSteps.{grows_not}
 use Rattle.ii_indexing.proofs.indexed_terms.IndexedTerms.write.Goals as goal
 
 pub write_files-terms-requires-clause-fresh : goal.write_files-terms-requires-clause-fresh

@@ -3,7 +3,7 @@ use Rattle.std.specs.List.{flat_map}
 use Rattle.std.proofs.lemmas.List.{take_all}
 use Rattle.ii_io.specs.Composite.{place_bytes}
 use Rattle.ii_io.specs.CompositeWrite.{places_until}
-use Rattle.ii_io.specs.CountingWriterLemmas.{Wrote-trans, writes_all, writes_went}
+use Rattle.ii_io.proofs.WriteSteps.{Wrote-trans, writes_all, writes_went}
 use Rattle.ii_io.proofs.CompositeWriteLemmas.{length-places_until, places_more, place_refused}
 use Rattle.ii_io.proofs.composite_file.composite_write.write_places.Goals as goal
 

@@ -1,7 +1,7 @@
 use Rattle.std.proofs.Common.{arith, refl, inl, inr}
 use Rattle.ii_io.specs.Composite.{table_bytes}
 use Rattle.ii_io.specs.CompositeWrite.{places_until}
-use Rattle.ii_io.specs.CountingWriterLemmas.{writes_limit}
+use Rattle.ii_io.proofs.WriteSteps.{writes_limit}
 use Rattle.ii_io.proofs.CompositeWriteLemmas.{length-places_until, length-table_bytes}
 use Rattle.ii_io.proofs.composite_file.composite_write.write_table.Goals as goal
 

@@ -1,4 +1,4 @@
-use Rattle.ii_io.specs.CountingWriterLemmas.{writes_then}
+use Rattle.ii_io.proofs.WriteSteps.{writes_then}
 use Rattle.ii_layout.proofs.PackingLemmas.{rest_after, written_lent, written_is, first_refused, second_refused, two_went, fits_cases}
 use Rattle.ii_layout.proofs.serializer.PackedBlocks.write_with.Goals as goal
 

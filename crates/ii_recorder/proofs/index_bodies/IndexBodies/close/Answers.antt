@@ -1,4 +1,4 @@
-use Rattle.ii_io.specs.CountingWriterLemmas.{grows_not, unless_closed_grows}
+use Rattle.ii_io.proofs.WriteSteps.{grows_not, unless_closed_grows}
 use Rattle.ii_recorder.proofs.index_bodies.IndexBodies.close.Goals as goal
 
 pub returns-then-is_err-clause-grow : goal.returns-then-is_err-clause-grow

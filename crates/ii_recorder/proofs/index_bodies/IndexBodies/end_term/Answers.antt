@@ -1,5 +1,5 @@
 use Rattle.std.proofs.Common.{refl}
-use Rattle.ii_io.specs.CountingWriterLemmas.{grows_not}
+use Rattle.ii_io.proofs.WriteSteps.{grows_not}
 use Rattle.ii_recorder.proofs.index_bodies.IndexBodies.end_term.Goals as goal
 
 pub returns-clause-grow : goal.returns-clause-grow

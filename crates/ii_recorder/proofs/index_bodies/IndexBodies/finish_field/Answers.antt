@@ -1,6 +1,6 @@
 use Rattle.std.proofs.Common.{subst}
 use Rattle.ii_io.specs.CountingWriter.{CountingWriterState, Grows}
-use Rattle.ii_io.specs.CountingWriterLemmas.{Grows-trans, unless_closed_grows}
+use Rattle.ii_io.proofs.WriteSteps.{Grows-trans, unless_closed_grows}
 use Rattle.ii_recorder.proofs.index_bodies.IndexBodies.finish_field.Goals as goal
 
 pub returns-clause-grow : goal.returns-clause-grow

@@ -1,5 +1,5 @@
 use Rattle.std.proofs.Common.{◌∙◌, [], ◌∷◌, sym, arith, length-append}
-use Rattle.ii_io.specs.CountingWriterLemmas.{on_ok_went}
+use Rattle.ii_io.proofs.WriteSteps.{on_ok_went}
 use Rattle.ii_recorder.proofs.Documents.{few_documents}
 use Rattle.ii_recorder.proofs.open_term.OpenTerm.write_doc.Goals as goal
 

@@ -5,7 +5,7 @@ use Rattle.ii_recorder.specs.Gathered.{all_of, behind_positions, first_positions
 use Rattle.ii_recorder.proofs.GatheredLemmas.{fewer_behind, positions_left}
 use Rattle.ii_recorder.proofs.PushLemmas.{pushing_below, pushing_each, pushing_may, pushing_next, pushing_none, pushing_refused}
 use Rattle.ii_recorder.proofs.recorder.tf_and_position_recorder.push_located_docs.Goals as goal
-use Rattle.ii_io.specs.CountingWriterLemmas.{on_ok_went}
+use Rattle.ii_io.proofs.WriteSteps.{on_ok_went}
 
 pub overflow_add-doc : goal.overflow_add-doc
 overflow_add-doc g c =

@@ -1,4 +1,4 @@
-use Rattle.ii_io.specs.CountingWriterLemmas.{grows_not}
+use Rattle.ii_io.proofs.WriteSteps.{grows_not}
 use Rattle.ii_recorder.proofs.serializer.InvertedIndexSerializer.close.Goals as goal
 
 pub returns-then-is_closed-clause-grow : goal.returns-then-is_closed-clause-grow

@@ -1,5 +1,5 @@
 use Rattle.std.proofs.Common.{sym, ◌∙◌}
-use Rattle.ii_io.specs.CountingWriterLemmas.{on_ok_went}
+use Rattle.ii_io.proofs.WriteSteps.{on_ok_went}
 use Rattle.ii_recorder.proofs.GrowthLemmas.{AllGrow-trans}
 use Rattle.ii_recorder.proofs.serializer.InvertedIndexSerializer.end_field.Goals as goal
 

@@ -1,5 +1,5 @@
 use Rattle.std.proofs.Common.{◌∙◌, refl, sym, true, false}
-use Rattle.ii_io.specs.CountingWriterLemmas.{on_ok_went}
+use Rattle.ii_io.proofs.WriteSteps.{on_ok_went}
 use Rattle.ii_recorder.specs.FieldTerms.{field_terms}
 use Rattle.ii_recorder.specs.IndexSerializer.{IndexSerializerState}
 use Rattle.ii_recorder.proofs.IndexLemmas.{term_ended, on_ok_both}

@@ -1,5 +1,5 @@
 use Rattle.std.proofs.Common.{true, ◌∙◌, refl, sym}
-use Rattle.ii_io.specs.CountingWriterLemmas.{on_ok_went}
+use Rattle.ii_io.proofs.WriteSteps.{on_ok_went}
 use Rattle.ii_recorder.specs.FieldTerms.{field_terms}
 use Rattle.ii_recorder.proofs.TermLemmas.{begins_unrefused}
 use Rattle.ii_recorder.proofs.serializer.InvertedIndexSerializer.new_term.Goals as goal

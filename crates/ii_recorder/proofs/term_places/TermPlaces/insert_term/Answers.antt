@@ -1,6 +1,6 @@
 use Rattle.std.proofs.Common.{◌∙◌, sym}
-use Rattle.ii_io.specs.CountingWriterLemmas.{on_ok_went}
-use Rattle.ii_termstore.specs.ReadBackLemmas.{end_at_last, joined_more}
+use Rattle.ii_io.proofs.WriteSteps.{on_ok_went}
+use Rattle.ii_termstore.proofs.ReadBackLemmas.{end_at_last, joined_more}
 use Rattle.ii_recorder.proofs.term_places.TermPlaces.insert_term.Goals as goal
 
 pub insert_value-added-requires-clause-joined : goal.insert_value-added-requires-clause-joined

@@ -1,6 +1,6 @@
 use Rattle.std.proofs.Common.{◌∙◌, sym}
 use Rattle.ii_termdict.specs.TermDictionaryWriter.{keys_between}
-use Rattle.ii_io.specs.CountingWriterLemmas.{on_ok_went}
+use Rattle.ii_io.proofs.WriteSteps.{on_ok_went}
 use Rattle.ii_termdict.proofs.WriterLemmas.{still_has_keys, keys_added, key_added}
 use Rattle.ii_termdict.proofs.writer.TermDictionaryWriter.insert_key.Goals as goal
 

@@ -1,5 +1,5 @@
 use Rattle.std.proofs.Common.{refl, arith}
-use Rattle.ii_termdict.specs.ReadBackLemmas.{none_ascend}
+use Rattle.ii_termdict.proofs.ReadBackLemmas.{none_ascend}
 use Rattle.ii_termdict.proofs.writer.TermDictionaryWriter.new.Goals as goal
 
 pub invariant_of-result : goal.invariant_of-result

@@ -1,7 +1,7 @@
 use Rattle.std.proofs.Common.{◌≡◌, sym, arith, ◌∙◌}
 use Rattle.ii_termstore.specs.TermStore.{block_info}
 use Rattle.ii_termstore.proofs.BlockLemmas.{block-wide, block-lies_not, block-unsound, block-sound, is_some-sound}
-use Rattle.ii_termstore.specs.ListLemmas.{all_more}
+use Rattle.ii_termstore.proofs.ListLemmas.{all_more}
 use Rattle.ii_termstore.proofs.term_info_store.block.is_block.Goals as goal
 
 pub returns-then-not-do_widths_fit : goal.returns-then-not-do_widths_fit

@@ -1,4 +1,4 @@
-use Rattle.ii_io.specs.CountingWriterLemmas.{writes_refused_by, writes_then, writes_went}
+use Rattle.ii_io.proofs.WriteSteps.{writes_refused_by, writes_then, writes_went}
 use Rattle.ii_termstore.proofs.term_info_store.gathered_blocks.put_metas.Goals as goal
 
 pub returns : goal.returns

@@ -1,6 +1,6 @@
 use Rattle.std.proofs.Common.{◌≡◌, ◌<◌, [], length, rules}
 use Rattle.std.proofs.lemmas.List.{nil_from_length}
-use Rattle.ii_io.specs.CountingWriterLemmas.{writes_all, wrote_nothing}
+use Rattle.ii_io.proofs.WriteSteps.{writes_all, wrote_nothing}
 use Rattle.ii_termstore.proofs.GatherLemmas.{meta_has_lengths, open_meta_by}
 use Rattle.ii_termstore.proofs.term_info_store.gathered_blocks.put_open_meta.Goals as goal
 

@@ -1,6 +1,6 @@
 use Rattle.std.proofs.Common.{◌++◌, arith}
 use Rattle.ii_codes.specs.Bits.{low_bits, whole_bytes}
-use Rattle.ii_codes.specs.BitsLemmas.{length-low_bits}
+use Rattle.ii_codes.proofs.BitsLemmas.{length-low_bits}
 use Rattle.ii_termstore.proofs.PackLemmas.{packs_more, put_after}
 use Rattle.ii_termstore.proofs.term_info_store.packing.pack.Goals as goal
 

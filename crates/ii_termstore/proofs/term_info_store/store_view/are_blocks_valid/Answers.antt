@@ -1,6 +1,6 @@
 use Rattle.std.proofs.Common.{◌≡◌, arith, sym}
 use Rattle.ii_termstore.specs.TermStore.{block_count}
-use Rattle.ii_termstore.specs.ListLemmas.{all_more}
+use Rattle.ii_termstore.proofs.ListLemmas.{all_more}
 use Rattle.ii_termstore.proofs.StoreLemmas.{not_valid}
 use Rattle.ii_termstore.proofs.term_info_store.store_view.are_blocks_valid.Goals as goal
 

@@ -2,7 +2,7 @@ use Rattle.std.proofs.Common.{◌∙◌, ◌/◌, ◌%◌, sym}
 use Rattle.std.proofs.lemmas.Bool.{false≢true}
 use Rattle.ii_termstore.specs.TermStore.{block_info, block_terms}
 use Rattle.ii_termstore.proofs.BlockLemmas.{sound-some, sound-none}
-use Rattle.ii_termstore.specs.ListLemmas.{all_at}
+use Rattle.ii_termstore.proofs.ListLemmas.{all_at}
 use Rattle.ii_termstore.proofs.StoreLemmas.{valid_block, valid_meta, block_parts, term_info_at-is, block_within, term_within}
 use Rattle.ii_termstore.proofs.term_info_store.store_view.term_info_at.Goals as goal
 

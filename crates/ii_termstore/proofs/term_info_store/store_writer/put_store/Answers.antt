@@ -1,5 +1,5 @@
 use Rattle.std.proofs.Common.{◌≡◌, length, rules}
-use Rattle.ii_io.specs.CountingWriterLemmas.{Wrote-trans, writes_then, writes_went, writes_refused_by}
+use Rattle.ii_io.proofs.WriteSteps.{Wrote-trans, writes_then, writes_went, writes_refused_by}
 use Rattle.ii_termstore.proofs.term_info_store.store_writer.put_store.Goals as goal
 
 pub returns-then-is_err-2-clause-written : goal.returns-then-is_err-2-clause-written

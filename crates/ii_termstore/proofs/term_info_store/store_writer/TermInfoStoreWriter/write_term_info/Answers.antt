@@ -1,7 +1,7 @@
 use Rattle.std.proofs.Common.{◌≡◌, false, Result, refl, arith}
 use Rattle.std.specs.Result.{IsErrOf, is_err}
 use Rattle.ii_io.specs.declared.faults.Fault.{Fault}
-use Rattle.ii_io.specs.CountingWriterLemmas.{on_ok_went}
+use Rattle.ii_io.proofs.WriteSteps.{on_ok_went}
 use Rattle.ii_termstore.proofs.GatherLemmas.{sound_more}
 use Rattle.ii_termstore.proofs.term_info_store.store_writer.TermInfoStoreWriter.write_term_info.Goals as goal
 

@@ -25,7 +25,7 @@ below_new first (k ∷ ks) key last h is less =
     let up = Less-from_sorted (slice_cmp nat_cmp) (first ∷ k ∷ ks) 0 (suc (length ks)) [] h (omega arith) (omega arith) in
     total.trans first last key (rw end at up) less
 
--- a key above the last one
+-- a key greater than the last one
 pub ascending_more : (keys : List (List ℕ)) (key last : List ℕ) → AreAscending keys → LastKey keys last → slice_cmp nat_cmp last key ≡ Less → AreAscending (keys ++ key ∷ [])
 unfolding IsStrictlySortedBy
 ascending_more [] key last h is less = (tt, tt)

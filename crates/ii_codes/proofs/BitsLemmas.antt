@@ -1,4 +1,4 @@
--- How many bits and bytes a row of bits has.
+-- The number of bits and bytes in a list of bits.
 use Rattle.std.proofs.Common.{◌≡◌, ℕ, zero, suc, ◌+◌, ◌*◌, ◌/◌, ◌%◌, List, length, refl, ap, arith, length-drop}
 use Rattle.std.proofs.lemmas.List.FromFn.{length-map-range_with_len}
 use Rattle.ii_codes.specs.Packed.{bits_in, entries_in}

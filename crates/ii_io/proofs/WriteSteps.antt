@@ -1,4 +1,4 @@
--- Laws of what is written in steps.
+-- Laws of bytes that are written in steps.
 use Rattle.std.proofs.Common.{◌≡◌, ◌<◌, ◌≤◌, ℕ, ◌+◌, true, false, List, [], ◌∷◌, ◌++◌, length, take, Bool, Result, Ok, Err, is_err, refl, sym, subst, ◌∙◌, arith, length-append, ⊎_elim, inl, inr}
 use Rattle.std.specs.Prelude.{OnOk}
 use Rattle.std.proofs.KnownBytes.{Appends-nil, Appends-trans}
@@ -9,11 +9,11 @@ use Rattle.ii_io.specs.declared.faults.Fault.TheVariants.{Limit}
 use Rattle.ii_io.specs.declared.faults.LimitName.TheVariants.{Offset}
 use Rattle.ii_io.specs.CountingWriter.{CountingWriterState, Wrote, WrotePrefix, Grows, IsFull, Writes, WritesInMemory, WritesUnlessClosed}
 
--- a count that fewer bytes pass is passed by more
+-- a count that overflows with fewer bytes overflows with more
 pub full_more : (writer : CountingWriterState) (n size : ℕ) → n ≤ size → IsFull writer n → IsFull writer size
 full_more writer n size within full = ⊎_elim (λ past. inl (omega arith)) (λ most. inr most) full
 
--- a count that is full later is full for all that is written from the start on, and the other way round
+-- a count that overflows after some bytes overflows for all of them, and the other way round
 pub full_before : (a b : CountingWriterState) (bytes : List ℕ) (more size : ℕ) → Wrote a b bytes → length bytes + more ≤ size → IsFull b more → IsFull a size
 full_before a b bytes more size wrote within full =
     let written_bytes = wrote.written_bytes in
@@ -41,7 +41,7 @@ Wrote-trans a b c xs ys front back = record {
   fits = fits_both a b c xs ys front back;
 }
 
--- a prefix of bytes is one of what they begin
+-- a prefix of bytes is a prefix of their extension
 pub prefix_of_more : (a b : CountingWriterState) (xs ys : List ℕ) → WrotePrefix a b xs → WrotePrefix a b (xs ++ ys)
 prefix_of_more a b xs ys h = record {
   count = h.count;
@@ -51,7 +51,7 @@ prefix_of_more a b xs ys h = record {
   failed_calls = h.failed_calls;
 }
 
--- a prefix after bytes
+-- a prefix after complete bytes
 pub prefix_after : (a b c : CountingWriterState) (xs ys : List ℕ) → Wrote a b xs → WrotePrefix b c ys → WrotePrefix a c (xs ++ ys)
 prefix_after a b c xs ys front h = record {
   count = length xs + h.count;
@@ -61,11 +61,11 @@ prefix_after a b c xs ys front h = record {
   failed_calls = let same = front.failed_calls in let more = h.failed_calls in omega arith;
 }
 
--- nothing is a prefix of all
+-- nothing is a prefix
 pub prefix_of_all : (a : CountingWriterState) (xs : List ℕ) → WrotePrefix a a xs
 prefix_of_all a xs = record { count = 0; within = omega arith; appends = Appends-nil a.contents; written_bytes = omega arith; failed_calls = omega arith }
 
--- a call that writes after what was written
+-- a call that writes after earlier bytes
 pub writes_then : (a b c : CountingWriterState) (xs ys : List ℕ) (result : Result (Unit {0}) Fault) → Wrote a b xs → Writes b c ys result → Writes a c (xs ++ ys) result
 writes_then a b c xs ys (Ok u) h k = record { ok = Wrote-trans a b c xs ys h k.ok; write = rw (← h.failed_calls) k.write; by_one = λ e. absurd (cc); limit = λ e. absurd (cc); prefix = tt; only = tt }
 writes_then a b c xs ys (Err e) h k = record {
@@ -77,7 +77,7 @@ writes_then a b c xs ys (Err e) h k = record {
   only = k.only;
 }
 
--- a call that was refused, whatever was to follow
+-- a failed call, whatever was to follow
 pub writes_refused : (a b : CountingWriterState) (xs ys : List ℕ) (e : Fault) → Writes a b xs (Err e) → Writes a b (xs ++ ys) (Err e)
 writes_refused a b xs ys e h =
     record { ok = tt; write = h.write; by_one = h.by_one; limit = λ is. full_more a (length xs) (length (xs ++ ys)) (omega (arith, length-append xs ys)) (h.limit is); prefix = prefix_of_more a b xs ys h.prefix; only = h.only }
@@ -86,31 +86,31 @@ pub writes_refused_by : (a b : CountingWriterState) (xs ys : List ℕ) (result :
 writes_refused_by a b xs ys (Ok u) e h = absurd (cc)
 writes_refused_by a b xs ys (Err f) e h = writes_refused a b xs ys f h
 
--- a call that was not refused
+-- a call that succeeded
 pub writes_went : (a b : CountingWriterState) (xs : List ℕ) (result : Result (Unit {0}) Fault) → false ≡ is_err result → Writes a b xs result → Wrote a b xs
 writes_went a b xs (Ok u) e h = h.ok
 writes_went a b xs (Err f) e h = absurd (cc)
 
--- a call after one that was not refused
+-- a call after one that succeeded
 pub writes_both : (a b c : CountingWriterState) (xs ys : List ℕ) (first result : Result (Unit {0}) Fault) → false ≡ is_err first → Writes a b xs first → Writes b c ys result → Writes a c (xs ++ ys) result
 writes_both a b c xs ys first result went h k = writes_then a b c xs ys result (writes_went a b xs first went h) k
 
--- what a call ensures that was not refused
+-- what a call that succeeded ensures
 pub on_ok_went : {P : Type 0} (result : Result (Unit {0}) Fault) → false ≡ is_err result → OnOk result P → P
 on_ok_went (Ok u) e h = h
 on_ok_went (Err f) e h = absurd (cc)
 
--- a call that wrote all
+-- a call that wrote all its bytes
 pub writes_all : (a b : CountingWriterState) (xs : List ℕ) → Wrote a b xs → Writes a b xs (Ok tt)
 writes_all a b xs h =
     let same = h.failed_calls in
     record { ok = h; write = (λ e. absurd (cc), λ more. absurd (omega arith)); by_one = λ e. absurd (cc); limit = λ e. absurd (cc); prefix = tt; only = tt }
 
--- a call that is refused before it touches the writer, since a count is full
+-- a call that fails without writing, because a count is full
 pub writes_limit : (a : CountingWriterState) (xs : List ℕ) → IsFull a (length xs) → Writes a a xs (Err (Limit Offset))
 writes_limit a xs full = record { ok = tt; write = (λ e. absurd (cc), λ more. absurd (omega arith)); by_one = λ e. absurd (cc); limit = λ e. full; prefix = prefix_of_all a xs; only = inr refl }
 
--- the same of calls that may find no memory
+-- the same for calls that may fail with `OutOfMemory`
 pub memory_then : (a b c : CountingWriterState) (xs ys : List ℕ) (result : Result (Unit {0}) Fault) → Wrote a b xs → WritesInMemory false b c ys result → WritesInMemory false a c (xs ++ ys) result
 memory_then a b c xs ys result h k = record {
   writes = λ still had. writes_then a b c xs ys result h (k.writes still had);
@@ -125,7 +125,7 @@ memory_refused_by a b xs ys result refused k = record {
   refused = λ closed. absurd (cc);
 }
 
--- whatever was written, a writer grew
+-- an unchanged writer grew by nothing
 pub grows_not : (a b : CountingWriterState) → b ≡ a → Grows a b
 grows_not a b same = subst (Grows a) (sym same) (record { bytes = []; appends = Appends-nil a.contents; written_bytes = omega arith })
 

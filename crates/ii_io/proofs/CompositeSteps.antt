@@ -1,11 +1,11 @@
--- Laws of what a composite writer has written so far, for those who write bodies.
+-- Laws about the state of a composite writer, for callers that write bodies.
 use Rattle.std.proofs.Common.{◌≡◌, ℕ, ◌+◌, ◌-◌, List, [], ◌∷◌, ◌++◌, length, refl, ap, ◌∙◌, arith, length-append}
 use Rattle.std.proofs.lemmas.Grind.{flat_map-append}
 use Rattle.std.proofs.lemmas.List.{append-nil}
 use Rattle.ii_io.specs.declared.composite_file.place.BodyStart.{BodyStart}
 use Rattle.ii_io.specs.declared.composite_file.place.Place.{Place}
 use Rattle.ii_io.specs.CountingWriter.{CountingWriterState}
-use Rattle.ii_io.specs.CountingWriterLemmas.{Wrote-trans}
+use Rattle.ii_io.proofs.WriteSteps.{Wrote-trans}
 use Rattle.ii_io.specs.Composite.{Body, bodies_bytes, places_from}
 use Rattle.ii_io.specs.CompositeWrite.{CompositeWriteState, AddsBody, HasBodies, written_bodies, starts_from, places_until, places_of}
 
@@ -18,7 +18,7 @@ starts_from-more start (c ∷ bs) b =
     let ih = starts_from-more (start + length c.bytes) bs b in
     ap (λ (ss : List BodyStart). record { field = c.field; start = start } ∷ ss) (rw same at ih)
 
--- one body more
+-- one more body
 pub HasBodies-more : (initial : CountingWriterState) (old new : CompositeWriteState) (bodies : List Body) (field : ℕ) (bytes : List ℕ) → HasBodies initial old bodies → AddsBody old new field bytes
     → HasBodies initial new (bodies ++ record { field = field; bytes = bytes } ∷ [])
 HasBodies-more initial old new bodies field bytes has adds =
@@ -33,7 +33,7 @@ HasBodies-more initial old new bodies field bytes has adds =
       starts = adds.starts ∙ rw (has.starts, start, more) refl;
     }
 
--- bodies that stand one after the other have their places where they begin
+-- the places of consecutive bodies start where the bodies do
 places_until-from : (start : ℕ) (bodies : List Body) → places_until (starts_from start bodies) (start + length (bodies_bytes bodies)) ≡ places_from start bodies
 places_until-from start [] = refl
 places_until-from start (b ∷ []) = rw append-nil refl

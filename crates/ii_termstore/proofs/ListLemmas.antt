@@ -1,4 +1,4 @@
--- Tests of each number from 0 on, and pieces that stand one after the other.
+-- Tests of each number from 0 on, and pieces one after the other.
 use Rattle.std.specs.List.{flat_map, list_all, range_with_len}
 use Rattle.std.proofs.Common.{◌≡◌, ℕ, zero, suc, ◌+◌, ◌*◌, ◌<◌, Bool, true, false, List, [], ◌∷◌, ◌++◌, length, take, drop, get_or, zero-add, refl, sym, ap, ◌∙◌, arith, append_assoc, length-append}
 use Rattle.std.proofs.Math.Nat.{zero-mul, suc-mul}
@@ -8,7 +8,7 @@ use Rattle.std.proofs.lemmas.List.{map-id, drop_at, take-append-drop, drop_more}
 use Rattle.std.proofs.lemmas.List.Folds.{list_all-append, list_all_at}
 use Rattle.std.proofs.lemmas.List.FromFn.{map-range_with_len_more, get_or-range_with_len, length-range_with_len}
 
--- one more number of a row
+-- a range with one more number
 pub range_more : (a n : ℕ) → range_with_len a (n + 1) ≡ range_with_len a n ++ (a + n) ∷ []
 range_more a n = sym (map-id (range_with_len a (n + 1))) ∙ map-range_with_len_more (λ (k : ℕ). k) a n (a + n) refl ∙ ap (λ (xs : List ℕ). xs ++ (a + n) ∷ []) (map-id (range_with_len a n))
 
@@ -32,7 +32,7 @@ not_all p n k h fails =
     let at_k : get_or (range_with_len 0 n) k 0 ≡ k = get_or-range_with_len 0 n k 0 h ∙ zero-add k in
     list_all_at p (range_with_len 0 n) k 0 (rw (length-range_with_len 0 n) h) (ap p at_k ∙ fails)
 
--- what stands after a front
+-- the bytes after a prefix
 pub after_front : (front piece more rest : List ℕ) (place : ℕ) → place ≡ length front → drop place (((front ++ piece) ++ more) ++ rest) ≡ piece ++ (more ++ rest)
 after_front front piece more rest place e =
     ap (drop place) (append_assoc (front ++ piece) more rest ∙ append_assoc front piece (more ++ rest)) ∙ drop_at front (piece ++ (more ++ rest)) place (sym e)
@@ -55,7 +55,7 @@ length-each f size (x ∷ xs) h =
     let next : size + length xs * size ≡ suc (length xs) * size = omega (arith, suc-mul (length xs) size) in
     length-append (f x) (flat_map f xs) ∙ ap (λ (n : ℕ). n + length (flat_map f xs)) (h x) ∙ ap (λ (n : ℕ). size + n) (length-each f size xs h) ∙ next
 
--- a test that each number from 0 on passes
+-- a test that holds for each number from 0 on
 pub all_pass : (p : ℕ → Bool) (n : ℕ) → ((k : ℕ) → k < n → p k ≡ true) → list_all p (range_with_len 0 n) ≡ true
 all_pass p zero h = refl
 all_pass p (suc n) h =

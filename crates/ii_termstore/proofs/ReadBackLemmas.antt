@@ -4,7 +4,7 @@ use Rattle.ii_termstore.specs.declared.term_info.TermInfo.{TermInfo}
 use Rattle.ii_termstore.specs.Written.{info_in}
 use Rattle.ii_termstore.specs.ReadBack.{AreJoined, EndAt}
 
--- a pair of neighbours in a list with one term more
+-- a pair of neighbours in a list with one more term
 neighbours : (P : TermInfo → TermInfo → Type 0) (infos : List TermInfo) (i : TermInfo) → ((k : ℕ) → suc k < length infos → P (info_in infos k) (info_in infos (suc k)))
     → ((k : ℕ) → suc k ≡ length infos → P (info_in infos k) i) → (k : ℕ) → suc k < length (infos ++ i ∷ []) → P (info_in (infos ++ i ∷ []) k) (info_in (infos ++ i ∷ []) (suc k))
 neighbours P [] i each last k h = absurd (omega arith)
