@@ -24,9 +24,9 @@ def shim(folder, source='memory/refuse.c'):
 
 def run(crate, text, library, refused, folder, variable='REFUSE', **others):
     """Runs a program. Returns its result and how many of the calls selected by the variables failed."""
-    told = os.path.join(folder, 'told')
-    with open(told, 'wb') as sink:
+    reported = os.path.join(folder, 'reported')
+    with open(reported, 'wb') as sink:
         os.dup2(sink.fileno(), 3)
         done = subprocess.run([programs.program_of(crate)], input=text, stdout=subprocess.PIPE, stderr=subprocess.PIPE,
                               timeout=60, pass_fds=(3,), env={'LD_PRELOAD': library, variable: str(refused), **others})
-    return done, os.path.getsize(told)
+    return done, os.path.getsize(reported)

@@ -172,6 +172,7 @@ def at_once():
 
 
 def tell(name, text):
+    """Prints the progress of a program's build on standard error."""
     print(f'{name}: {text}', file=sys.stderr, flush=True)
 
 
@@ -198,6 +199,7 @@ class Progress:
                 tell(self.program, f'proving {crate} ({1 + self.crates.index(crate)} of {len(self.crates)})')
 
     def watch(self):
+        """Looks again and again until the run has ended."""
         while not self.ended.wait(0.2):
             self.look()
 

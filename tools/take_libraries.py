@@ -46,21 +46,21 @@ def take(crate, other, stamp):
 def take_all(here, there):
     """Copies each library that can be copied. Returns the names of the libraries that now exist, and of those
     that are missing."""
-    found, lacking = [], []
+    found, missing = [], []
     for name, crate in here.items():
         if not crate.makes_rlib():
             continue
         stamp, other = crate.stamp(), there.get(name)
         if any(below.name not in found for below in crate.below()):
-            lacking.append(name)
+            missing.append(name)
         elif crate.is_built():
             found.append(name)
         elif other is not None and other.stamp() == stamp and os.path.isdir(other.rlib):
             take(crate, other, stamp)
             found.append(name)
         else:
-            lacking.append(name)
-    return found, lacking
+            missing.append(name)
+    return found, missing
 
 
 def main():
@@ -76,9 +76,9 @@ def main():
         rt.read_files(self)
 
     rt.rtlib.Crate.__init__ = make
-    found, lacking = take_all(crates_of(rt, TOP), crates_of(rt, copy))
+    found, missing = take_all(crates_of(rt, TOP), crates_of(rt, copy))
     print('here:', *found)
-    print('lacking:', *lacking)
+    print('missing:', *missing)
     return 0
 
 

@@ -2,80 +2,68 @@
 // SIGKILL; before that in PAUSE_AT it stops the process by SIGSTOP. It counts calls that change files or take
 // a lock, and reports each by a letter on descriptor 3.
 
-typedef unsigned long size_t;
+#include "../preload.h"
+
 typedef unsigned int mode_t;
-extern long syscall(long number, ...);
-extern char *getenv(const char *name);
-extern int *__errno_location(void);
+
+enum {
+    SYS_OPEN = 2,
+    SYS_GETPID = 39,
+    SYS_KILL = 62,
+    SYS_FLOCK = 73,
+    SYS_FSYNC = 74,
+    SYS_RENAME = 82,
+    SYS_MKDIR = 83,
+    SYS_UNLINK = 87,
+};
+enum { KILL = 9, STOP = 19 };
+enum { WRITE_ONLY = 01, CREATE = 0100, TRUNCATE = 01000 };
 
 static long calls;
 
-static long number_of(const char *name) {
-    const char *text = getenv(name);
-    long number = 0;
-    while (text != 0 && *text != 0)
-        number = number * 10 + (*text++ - '0');
-    return number;
-}
-
 static void count(const char *letter) {
     calls++;
-    long process = syscall(39);
+    long process = syscall(SYS_GETPID);
     if (calls == number_of("STOP_AT"))
-        syscall(62, process, 9);
+        syscall(SYS_KILL, process, KILL);
     if (calls == number_of("PAUSE_AT"))
-        syscall(62, process, 19);
-    syscall(1, 3, letter, 1);
-}
-
-static long answer(long result) {
-    if (result < 0) {
-        *__errno_location() = (int)-result;
-        return -1;
-    }
-    return result;
-}
-
-static long raw(long number, long a, long b, long c, long d) {
-    long result;
-    register long r10 __asm__("r10") = d;
-    __asm__ volatile("syscall" : "=a"(result) : "a"(number), "D"(a), "S"(b), "d"(c), "r"(r10) : "rcx", "r11", "memory");
-    return answer(result);
+        syscall(SYS_KILL, process, STOP);
+    report(letter);
 }
 
 int open(const char *path, int flags, mode_t mode) {
-    if (flags & 01101)
+    if (flags & (WRITE_ONLY | CREATE | TRUNCATE))
         count("o");
-    return (int)raw(2, (long)path, flags, mode, 0);
+    return (int)syscall(SYS_OPEN, path, flags, mode);
 }
 
 long write(int descriptor, const void *bytes, size_t size) {
     if (descriptor > 3)
         count("w");
-    return raw(1, descriptor, (long)bytes, (long)size, 0);
+    return syscall(SYS_WRITE, descriptor, bytes, size);
 }
 
 int fsync(int descriptor) {
     count("s");
-    return (int)raw(74, descriptor, 0, 0, 0);
+    return (int)syscall(SYS_FSYNC, descriptor);
 }
 
 int rename(const char *from, const char *to) {
     count("r");
-    return (int)raw(82, (long)from, (long)to, 0, 0);
+    return (int)syscall(SYS_RENAME, from, to);
 }
 
 int unlink(const char *path) {
     count("u");
-    return (int)raw(87, (long)path, 0, 0, 0);
+    return (int)syscall(SYS_UNLINK, path);
 }
 
 int mkdir(const char *path, mode_t mode) {
     count("d");
-    return (int)raw(83, (long)path, mode, 0, 0);
+    return (int)syscall(SYS_MKDIR, path, mode);
 }
 
 int flock(int descriptor, int how) {
     count("l");
-    return (int)raw(73, descriptor, how, 0, 0);
+    return (int)syscall(SYS_FLOCK, descriptor, how);
 }

@@ -1,4 +1,4 @@
--- The leaves of JSON values: their paths have no byte 0, and their values are no texts.
+-- Leaves of JSON values: their paths have no byte 0, and their values are no texts.
 use Rattle.std.proofs.Common.{◌≡◌, ◌∙◌, ◌==◌, ◌||◌, ℕ, ◌^◌, Bool, true, false, pos, List, [], ◌∷◌, ◌++◌, map, nat_le, nat_lt, refl, sym, ap, subst, String}
 use Rattle.std.specs.Prelude.{⊤, if◌then◌else◌}
 use Rattle.std.specs.declared.alloc.Global.{Global}

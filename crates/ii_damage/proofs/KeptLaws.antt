@@ -1,4 +1,4 @@
--- What is kept of the tokens of a key.
+-- Entries that are kept for the tokens of a key.
 use Rattle.std.proofs.Common.{◌≡◌, ◌<◌, ◌==◌, ℕ, Bool, true, false, List, [], ◌∷◌, map, nat_eq, nat_le, None, refl}
 use Rattle.std.specs.Prelude.{filter, bytes_eq}
 use Rattle.std.specs.List.{AllByRecursion, find}

@@ -1,4 +1,4 @@
--- Lists of damages that are put together.
+-- Concatenated lists of damages.
 use Rattle.std.proofs.Common.{◌≡◌, ◌∙◌, ◌+◌, ◌≤◌, ℕ, zero, suc, Bool, true, List, [], ◌∷◌, ◌++◌, append-nil, append_assoc, drop, length, Option, Some, refl, sym, ap, subst, arith, add-one}
 use Rattle.std.specs.Prelude.{is_some, slice_get}
 use Rattle.std.specs.List.{enumerate_from, flat_map}

@@ -1,4 +1,4 @@
--- Norms and the numbers of tokens.
+-- Norms compared with numbers of tokens.
 use Rattle.std.proofs.Common.{◌≡◌, ◌∙◌, ◌+◌, ◌-◌, ◌<◌, ◌≤◌, ◌==◌, ℕ, zero, suc, Bool, true, false, List, [], ◌∷◌, min, nat_le, None, Some, refl, sym, ap, arith, add-one}
 use Rattle.std.specs.Prelude.{get_or}
 use Rattle.std.specs.List.{find, range_with_len}

@@ -1,4 +1,4 @@
--- Where the body of a field is.
+-- Places of the bodies of a field.
 use Rattle.std.proofs.Common.{◌≡◌, ◌==◌, ◌∙◌, ℕ, true, List, Option, None, Some, refl, sym, ap}
 use Rattle.std.specs.List.{find}
 use Rattle.std.specs.Prelude.{is_some}

@@ -1,4 +1,4 @@
--- How many tokens the postings of the keys of a field have.
+-- Number of tokens in the postings of a field's keys.
 use Rattle.std.proofs.Common.{◌≡◌, ◌∙◌, ◌+◌, ◌≤◌, ◌==◌, ℕ, Bool, true, false, ◌&&◌, cond, List, [], ◌∷◌, map, nat_eq, Some, refl, sym, ap, subst, arith, Less}
 use Rattle.std.specs.Prelude.{if◌then◌else◌, bytes_eq}
 use Rattle.std.specs.List.{AllByRecursion, flat_map, sum_by}

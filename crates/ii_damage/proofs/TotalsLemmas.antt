@@ -1,4 +1,4 @@
--- Totals of what was walked.
+-- Totals of the walked lists.
 use Rattle.std.proofs.Common.{◌≡◌, ◌∙◌, ◌+◌, ◌≤◌, ℕ, suc, List, [], ◌∷◌, ◌++◌, append-nil, append_assoc, drop, length, min, Option, None, Some, Ok, Err, refl, sym, ap, subst, arith, add-one}
 use Rattle.std.specs.Prelude.{Result, slice_get}
 use Rattle.std.specs.List.{cons_option, enumerate_from, filter_map, sum_by}

@@ -1,5 +1,4 @@
 mod AddingLemmas
-mod AddressLemmas
 mod JsonLemmas
 mod LineLemmas
 mod WorkedRows

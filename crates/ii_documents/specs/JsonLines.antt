@@ -20,7 +20,7 @@ use Rattle.ii_documents.specs.declared.faults.LineFault.{LineFault}
 use Rattle.ii_documents.specs.declared.faults.LineFault.TheVariants as faults
 use Rattle.ii_documents.specs.declared.faults.ValueFault.{ValueFault}
 use Rattle.ii_documents.specs.declared.faults.ValueFault.TheVariants as value_faults
-use Rattle.ii_documents.specs.Addresses.{address_in}
+use Rattle.ii_term_text.specs.Addresses.{address_in}
 use Rattle.ii_documents.specs.JsonValues.{json_from}
 use Rattle.ii_documents.specs.Steps.{◌>>=◌}
 

@@ -1,4 +1,3 @@
-pub mod Addresses
 pub mod JsonLines
 pub mod JsonValues
 pub mod Steps

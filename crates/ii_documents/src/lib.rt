@@ -2,12 +2,10 @@
 //! can't.
 #![tactic(auto)]
 
-pub mod addresses;
 pub mod faults;
 pub mod json_lines;
 mod json_values;
 mod values;
 
-pub use addresses::address_of;
 pub use faults::{LineFault, ValueFault};
 pub use json_lines::line_calls;

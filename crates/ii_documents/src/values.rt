@@ -6,12 +6,12 @@ ghost use Rattle.ii_base.specs.declared.schema.value_type.ValueType.TheVariants 
 ghost use Rattle.ii_documents.specs.JsonLines.{AnswersFromLine, call_with_content, content_in, value_call};
 ghost use Rattle.ii_definitions.specs.IndexCalls.{call_with, type_of};
 
-use crate::addresses::address_of;
 use crate::faults::{LineFault, ValueFault};
 use crate::json_values::{has_float, json_value};
 use ii_base::{Field, FieldEntry, ValueType};
 use ii_definitions::IndexCall;
 use ii_docset::DocId;
+use ii_term_text::address_of;
 use serde_json::Value;
 use std::alloc::Global;
 

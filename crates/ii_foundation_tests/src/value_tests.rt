@@ -76,8 +76,8 @@ static TWO: [u8; 8] = [0x80, 0, 0, 0, 0, 0, 0, 2];
 
 static TERM_OF_TWO: [u8; 11] = [0x61, 0, 0x69, 0x80, 0, 0, 0, 0, 0, 0, 2];
 
-// Returns whether an appended value is returned as bytes, whether the term is right after two others were
-// cut off (its path has a byte 00), and whether a term appended in one call is right.
+// Builds two terms. Returns whether an appended value is returned as bytes, and whether both terms are right.
+// The path of the first has a byte 00; the second is appended in one call.
 fn built_terms(alloc: Global) -> Result<[bool; 3], Fault> {
     let mut term = JsonTermSerializer::new(alloc);
     term.append_json_path("gone")?;

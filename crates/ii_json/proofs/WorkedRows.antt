@@ -80,7 +80,7 @@ text_of_a_sign = refl
 pub text_of_nothing : fast_value_in [] ≡ None
 text_of_nothing = refl
 
--- the terms of {"a": {"b": 1}, "a": 2}: the number 1 at the path a, b with the id 0, and 2 at the path a with the id 1
+-- the terms of {"a": {"b": 1}, "a": 2}: 1 at the path a, b with id 0, and 2 at the path a with id 1
 abbrev paths_of_value : List (List ℕ)
 paths_of_value = (0x61 ∷ 0x01 ∷ 0x62 ∷ []) ∷ a ∷ []
 

@@ -4,6 +4,7 @@ ghost use Rattle.ii_io.specs.Faults.{OnlyMemory};
 ghost use Rattle.ii_json.specs.DottedPaths.{dot_between, with_dots};
 ghost use Rattle.ii_json.specs.FastValues.{IsPathAlone, bool_in, fast_value_in, i64_in, typed_value, u64_in, with_value};
 
+use crate::fast_values::{bool_in, i64_in, u64_in};
 use ii_base::{FastValue, Fault, Term};
 use std::alloc::Global;
 
@@ -61,25 +62,6 @@ pub fn convert_to_fast_value_and_append_to_json_term(
         return Ok(Some(with_fast_value(alloc, term, value)?));
     }
     Ok(None)
-}
-
-// Parses a text as each of three types.
-fn i64_in(text: &str) -> Option<i64>
-    ensures { result ≡ i64_in text.now }
-{
-    text.parse().ok()
-}
-
-fn u64_in(text: &str) -> Option<u64>
-    ensures { result ≡ u64_in text.now }
-{
-    text.parse().ok()
-}
-
-fn bool_in(text: &str) -> Option<bool>
-    ensures { result ≡ bool_in text.now }
-{
-    text.parse().ok()
 }
 
 // Returns the term with a value appended.

@@ -6,9 +6,9 @@ ghost use Rattle.ii_layout.specs.TermList.{docs_and_freqs};
 use bytes::Bytes;
 use nequllpa::{BlockSegmentPostings, DocId, IndexRecordOption, LayoutFault};
 
-/// Bytes open exactly if the layout relation gives documents and term frequencies; otherwise the
-/// first corrupt part is returned. Opening decodes one block of documents if there is one, and at
-/// most one of term frequencies. It reads one skip entry if there is one.
+/// Any bytes open as the documents and term frequencies that the layout relation gives. If it gives
+/// none, the first corrupt part is returned. Opening decodes one block of documents if there is one,
+/// and at most one of term frequencies. It reads one skip entry if there is one.
 pub fn any_bytes_open_as_their_documents(
     doc_freq: u32,
     bytes: Bytes,

@@ -15,9 +15,9 @@ use nequllpa::{
 };
 use std::alloc::Global;
 
-/// Bytes open exactly if the layout relation gives a list, and as that list; otherwise the first
-/// corrupt part is returned. All documents remain. Opening decodes at most one block each of
-/// documents, term frequencies and positions, and reads at most one skip entry.
+/// Any bytes open as the list that the layout relation gives. If it gives none, the first corrupt part
+/// is returned. All documents remain. Opening decodes at most one block each of documents, term
+/// frequencies and positions, and reads at most one skip entry.
 pub fn any_bytes_open_as_their_list(
     doc_freq: u32,
     postings: Bytes,

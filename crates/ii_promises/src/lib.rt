@@ -10,6 +10,7 @@ pub mod damage;
 pub mod faults;
 pub mod indexing;
 pub mod json_fields;
+pub mod keys;
 pub mod opening;
 pub mod positions;
 pub mod queries;

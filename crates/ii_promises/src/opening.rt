@@ -103,7 +103,7 @@ pub fn trusted_readers_open_every_term(
 }
 
 /// Four files that open as an index are checked once. If the check reports damage, the result is
-/// `None`, otherwise the lookup of a term. Neither fails but with `OutOfMemory`.
+/// `None`, otherwise the lookup of a term. The only possible error is `OutOfMemory`.
 pub fn checked_files_open_every_term(
     alloc: Global,
     terms: Bytes,

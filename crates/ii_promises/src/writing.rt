@@ -111,7 +111,7 @@ pub fn each_call_has_its_analyzer<A: TextAnalyzer, B: TextAnalyzer>(
     indexer.index(second, other)
 }
 
-/// A JSON value with more than 128 nested arrays and objects returns a specific error, unless an
+/// A JSON value with arrays and objects nested more than 128 deep returns a specific error, unless an
 /// allocation fails.
 pub fn deep_values_are_refused<A: TextAnalyzer>(
     indexer: &mut Indexer,

@@ -172,7 +172,7 @@ backslash_boundary (b ∷ bs) place is inside some =
 pub escaped_case : (stop : Stop) (after : Bool) (b : ℕ) (bs : List ℕ) (here : Bool) → stops_at stop b after ≡ here → escaped stop after (b ∷ bs) ≡ cond here (92 ∷ b ∷ escaped stop false bs) (b ∷ escaped stop (b == 92) bs)
 escaped_case stop after b bs here is = ap (λ (h : Bool). cond h (92 ∷ b ∷ escaped stop false bs) (b ∷ escaped stop (b == 92) bs)) is
 
--- no byte has to be escaped: the text is as it is
+-- no byte must be escaped: the text is unchanged
 pub escaped_none : (stop : Stop) (after : Bool) (text : List ℕ) → place_of stop after text ≡ length text → escaped stop after text ≡ text
 escaped_none stop after [] over = refl
 escaped_none stop after (b ∷ bs) over = by (stops_at stop b after) refl (escaped_none stop (b == 92) bs)
@@ -181,7 +181,7 @@ escaped_none stop after (b ∷ bs) over = by (stops_at stop b after) refl (escap
     by true is later = absurd (omega (arith, over, place_case stop after b bs true is))
     by false is later = escaped_case stop after b bs false is ∙ ap (λ (l : List ℕ). b ∷ l) (later (omega (arith, over, place_case stop after b bs false is)))
 
--- one has to be
+-- one must be
 pub escaped_at : (stop : Stop) (after : Bool) (text : List ℕ) → place_of stop after text < length text
     → escaped stop after text ≡ take (place_of stop after text) (take (suc (place_of stop after text)) text) ++ 92 ∷ (drop (place_of stop after text) (take (suc (place_of stop after text)) text) ++ escaped stop false (drop (suc (place_of stop after text)) text))
 escaped_at stop after [] inside = absurd (omega (arith, inside))

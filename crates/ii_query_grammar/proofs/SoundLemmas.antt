@@ -125,8 +125,7 @@ whole_stands more w e (after_and_minus c) t done is ends = absurd (err_is_no_ok 
 whole_stands more w e after_or t done is ends = absurd (err_is_no_ok _ t ends)
 whole_stands more w e after_minus t done is ends = absurd (err_is_no_ok _ t ends)
 
--- Lexemes lead to open groups, innermost first, each before its parenthesis; `more` groups may still be
--- opened.
+-- Lexemes lead to open groups, innermost first, each before its parenthesis; `more` may still be opened.
 abbrev AreOpen : ℕ → ℕ → List GroupState → List Token → Type 0
 AreOpen limit more [] outer = (more ≡ limit) × (outer ≡ [])
 AreOpen limit more (g ∷ gs) outer = (front : List Token) × (done : List Token) × (at : ℕ) × (outer ≡ (front ++ done) ++ token at opening ∷ []) × Stands (suc more) g done × AreOpen limit (suc more) gs front

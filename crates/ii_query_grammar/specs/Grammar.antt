@@ -4,8 +4,8 @@ use Rattle.ii_query_grammar.specs.Lexemes.{Lexeme, Token, and_word, closing, lit
 use Rattle.ii_query_grammar.specs.Parsed.{ChainState, chain_and, chain_and_not, chain_of, whole, with_chain_tree}
 use Rattle.ii_query_grammar.specs.Trees.{Ast, Literal, leaf}
 
--- What lexemes may be together: a part; a chain of parts that AND joins; clauses with the trees that they want and those that
--- they exclude, also where they end with a chain; a query.
+-- What lexemes may form: a part; a chain of parts joined by AND; clauses, which may end with a chain, with
+-- their wanted and excluded trees; a query.
 pub data Kind : Type 0 where
   part : Ast → Kind
   chain : ChainState → Kind

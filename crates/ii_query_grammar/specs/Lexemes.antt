@@ -49,8 +49,8 @@ ends_word b = is_space b || b == 34 || b == 40 || b == 41 || b == 58 || b == 42 
 abbrev pub is_special : ℕ → Bool
 is_special b = ends_word b || b == 45 || b == 43 || b == 47 || b == 60 || b == 62 || b == 93 || b == 125
 
--- whether a byte is the one that is looked for, by whether a backslash comes before it: one that ends a word or a phrase;
--- one that a backslash makes literal; one that has to be escaped in a word or in a phrase
+-- whether a byte is a stop, given whether a backslash comes before it: the end of a word or a phrase, a byte
+-- that a backslash makes literal, or one that must be escaped in a word or a phrase
 abbrev pub stops_at : Stop → ℕ → Bool → Bool
 stops_at stops.WordEnd b escaped = ends_word b && not escaped
 stops_at stops.PhraseEnd b escaped = b == 34 && not escaped

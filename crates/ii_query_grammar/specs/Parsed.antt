@@ -18,8 +18,8 @@ pub record ChainState : Type 0 where
   pub wanted : List Ast
   pub excluded : List Ast
 
--- The place in a group: at the beginning or after an excluded part; after a chain; after an AND, or an AND and a minus, that
--- continues a chain; after an OR; after the minus of an excluded part.
+-- The place in a group: at the start or after an excluded part; after a chain; after an AND, or an AND and a
+-- minus, that continues a chain; after an OR; after the minus of an excluded part.
 pub data PlaceState : Type 0 where
   begins : PlaceState
   chained : ChainState → PlaceState

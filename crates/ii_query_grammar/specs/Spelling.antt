@@ -45,7 +45,7 @@ text_as_part (all_of ts) text = 40 ∷ text ++ 41 ∷ []
 text_as_part (any_of ts) text = 40 ∷ text ++ 41 ∷ []
 text_as_part (without first other) text = 40 ∷ text ++ 41 ∷ []
 
--- The text of a tree; of trees, each as a part, with a text before the first and one before each of the others.
+-- The text of a tree; or of trees as parts, with one text before the first and another before each other.
 abbrev mutual
   pub spelled : Ast → List ℕ
   spelled (leaf l) = literal_text l

@@ -11,8 +11,8 @@ pub record Literal : Type 0 where
   pub phrase : List ℕ
   pub delimiter : Delimiter
 
--- A tree: a word or a phrase; what all of its parts match; what one of them matches; what the first part matches and the
--- other one doesn't.
+-- A tree: a word or a phrase; what all parts match; what at least one matches; what the first part matches
+-- and the other doesn't.
 mutual
   pub data Ast : Type 0 where
     leaf : Literal → Ast

@@ -19,7 +19,7 @@ pub enum Expected {
     Quote,
     /// The parenthesis that closes an open one.
     Closing,
-    /// The end of the query, in place of a parenthesis that closes none.
+    /// The end of the query, instead of a parenthesis that closes none.
     End,
     /// A part without parentheses: `MAX_NESTING` of them are open.
     LessNesting,

@@ -20,24 +20,23 @@ pub const MAX_NESTING: usize = 128;
 // The message of `Expected::LessNesting` mentions this number.
 const _: () = prove!(MAX_NESTING == 128);
 
-/// Returns the tree of a text by the grammar:
+/// Parses a query:
 ///
 /// - A word is a run of characters without spaces, double quotes, parentheses and colons. A phrase is a text
-///   between double quotes. The name of a field, a word too, and a colon may come before each of them.
-/// - A part is a word, a phrase, or a query in parentheses, of which at most `MAX_NESTING` may be open at
-///   once.
+///   between double quotes. A field name, also a word, and a colon may come before each of them.
+/// - A part is a word, a phrase, or a query in parentheses. At most `MAX_NESTING` parentheses may be open.
 /// - `a AND b` matches what both match, and `a AND -b` what the first matches and the other doesn't.
-/// - `a OR b` and `a b` match what one of the two matches; AND binds tighter.
-/// - `-b` next to other parts excludes `b` from all that they match. Something has to be wanted.
-/// - `NOT b` is `-b`; the words `AND`, `OR` and `NOT` are searched for in quotes.
-/// - In a word and between quotes, a backslash makes a space, `"`, `(`, `)`, `:`, `*`, `?`, `~`, `^`, `[`, `]`,
-///   `{`, `}`, `-`, `+`, `/`, `<` or `>` after it literal, and is left out. Any other backslash is part of the
-///   text.
-/// - `Unsupported` at a `*`, `?`, `~`, `^`, `[` or `{` in a word, a `/`, `<` or `>` at its beginning, and a `+`
-///   at the beginning of a part.
+/// - `a OR b` and `a b` match what at least one of the two matches; AND binds tighter.
+/// - `-b` next to other parts excludes `b` from all that they match. At least one part must not be excluded.
+/// - `NOT b` is `-b`; to search for the words `AND`, `OR` and `NOT`, write them in quotes.
+/// - In a word or a phrase, a backslash makes a space, `"`, `(`, `)`, `:`, `*`, `?`, `~`, `^`, `[`, `]`, `{`,
+///   `}`, `-`, `+`, `/`, `<` or `>` after it literal, and is left out. Other backslashes belong to the text.
+/// - A `*`, `?`, `~`, `^`, `[` or `{` in a word, a `/`, `<` or `>` at its start, and a `+` at the start of a
+///   part are `Unsupported`.
 ///
-/// Returns `Syntax` with what the grammar expects, or `Unsupported`, at the first byte where the text goes
-/// wrong, and `OutOfMemory` if an allocation fails.
+/// # Errors
+///
+/// `Syntax` with what the grammar expects, or `Unsupported`, at the first wrong byte; `OutOfMemory`.
 pub fn parse(alloc: Global, text: &str) -> Result<UserInputAst, ParseError>
     ensures { IsReadAs result (parsed MAX_NESTING text.now) }
 {

@@ -1,10 +1,8 @@
 ghost use Rattle.std.specs.Prelude.{◌≡◌, ◌==◌, ◌<◌, ◌++◌, [], false, Err, None, length, position, slice_get, IfErr, IfOk, IfSome};
-ghost use Rattle.std.specs.Option.{option_map};
 ghost use Rattle.ii_io.specs.Faults.{OnlyMemory};
 ghost use Rattle.ii_base.specs.Options.{has_positions};
-ghost use Rattle.ii_base.specs.Values.{flipped, number_of_bool, text_key, u64_bytes};
+ghost use Rattle.ii_base.specs.Values.{text_key};
 ghost use Rattle.ii_base.specs.declared.schema.value_type.ValueType.TheVariants as types;
-ghost use Rattle.ii_json.specs.FastValues.{bool_in, i64_in, u64_in};
 ghost use Rattle.ii_query_grammar.specs.Trees.{literal_of};
 ghost use Rattle.ii_query_parser.specs.declared.query_parser_error.QueryParserError.TheVariants as errors;
 ghost use Rattle.ii_query_parser.specs.QueryTexts.{Adds, AddsIn, AddsOrKeeps, AddsMaybe, AddsText, CutsAtDot, field_named, has_json_values, left_out, named_terms, some_default, terms_in_field, terms_of, typed_terms, words_phrase};
@@ -12,7 +10,7 @@ ghost use Rattle.ii_query_parser.specs.QueryTexts.{Adds, AddsIn, AddsOrKeeps, Ad
 use crate::phrase_words::{PhraseWords, words_phrase};
 use crate::query_parser_error::QueryParserError;
 use ii_base::{Fault, Field, IndexRecordOption, Schema, Term, TextAnalyzer, ValueType};
-use ii_json::convert_to_fast_value_and_append_to_json_term;
+use ii_json::{bool_term, convert_to_fast_value_and_append_to_json_term, i64_term, u64_term};
 use ii_query_grammar::UserInputLiteral;
 use std::alloc::Global;
 
@@ -309,56 +307,6 @@ fn text_prefix(path: Term) -> Result<Term, Fault>
     let mut prefix = path;
     prefix.append_type_and_str("")?;
     Ok(prefix)
-}
-
-// The term of a number or a truth value that a text is taken for, if it is one.
-fn u64_term(alloc: Global, field: Field, phrase: &str) -> Result<Option<Term>, Fault>
-    ensures ok { IfOk result (λ term. term ≡ option_map (λ n. record { field = field; value = u64_bytes n }) (u64_in phrase.now)) }
-    ensures only { OnlyMemory result }
-{
-    match u64_in(phrase) {
-        Some(number) => Ok(Some(Term::from_field_u64(alloc, field, number)?)),
-        None => Ok(None),
-    }
-}
-
-fn i64_term(alloc: Global, field: Field, phrase: &str) -> Result<Option<Term>, Fault>
-    ensures ok { IfOk result (λ term. term ≡ option_map (λ n. record { field = field; value = u64_bytes (flipped n) }) (i64_in phrase.now)) }
-    ensures only { OnlyMemory result }
-{
-    match i64_in(phrase) {
-        Some(number) => Ok(Some(Term::from_field_i64(alloc, field, number)?)),
-        None => Ok(None),
-    }
-}
-
-fn bool_term(alloc: Global, field: Field, phrase: &str) -> Result<Option<Term>, Fault>
-    ensures ok { IfOk result (λ term. term ≡ option_map (λ b. record { field = field; value = u64_bytes (number_of_bool b) }) (bool_in phrase.now)) }
-    ensures only { OnlyMemory result }
-{
-    match bool_in(phrase) {
-        Some(value) => Ok(Some(Term::from_field_bool(alloc, field, value)?)),
-        None => Ok(None),
-    }
-}
-
-// The value that Rust's `parse` makes of a text, for each of three types.
-fn u64_in(text: &str) -> Option<u64>
-    ensures { result ≡ u64_in text.now }
-{
-    text.parse().ok()
-}
-
-fn i64_in(text: &str) -> Option<i64>
-    ensures { result ≡ i64_in text.now }
-{
-    text.parse().ok()
-}
-
-fn bool_in(text: &str) -> Option<bool>
-    ensures { result ≡ bool_in text.now }
-{
-    text.parse().ok()
 }
 
 // Adds a term, or returns this error if there is none.

@@ -50,8 +50,8 @@ pub fn parse_query<A: TextAnalyzer>(
 ///   no positions.
 /// - In a field of numbers or booleans, a text is the value that Rust's `parse` gives; `ExpectedInt` or
 ///   `ExpectedBool` if there is none.
-/// - At a JSON path, a text matches as a value (a signed number, an unsigned one or a boolean) or as a token
-///   or phrase, as in a text field. `UnsupportedPhrase` if it is neither.
+/// - At a JSON path, a text matches as a token or phrase, as in a text field, or as a value: a signed number,
+///   an unsigned one or a boolean. `UnsupportedPhrase` if it is neither.
 ///
 /// # Errors
 ///

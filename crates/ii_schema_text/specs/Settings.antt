@@ -3,6 +3,8 @@ use Rattle.std.specs.Prelude.{Bool, true, false, ◌&&◌, not, List, ℕ, bytes
 use Rattle.toml.specs.Data.{Data, as_bool, as_str, get}
 use Rattle.ii_base.specs.declared.schema.index_record_option.IndexRecordOption.{IndexRecordOption}
 use Rattle.ii_base.specs.declared.schema.index_record_option.IndexRecordOption.TheVariants.{Basic, WithFreqs, WithFreqsAndPositions}
+use Rattle.ii_base.specs.declared.schema.value_type.ValueType.{ValueType}
+use Rattle.ii_base.specs.declared.schema.value_type.ValueType.TheVariants as values
 use Rattle.ii_schema_text.specs.declared.faults.FieldKey.{FieldKey}
 use Rattle.ii_schema_text.specs.declared.faults.FieldKey.TheVariants as keys
 use Rattle.ii_schema_text.specs.declared.field_type.FieldType.{FieldType}
@@ -51,6 +53,17 @@ type_named name =
     else if bytes_eq name (codes "ip_addr") then Some types.IpAddr
     else if bytes_eq name (codes "json") then Some types.Json
     else None
+
+-- the name of a type of values
+abbrev pub type_name : ValueType → List ℕ
+type_name values.Str = codes "text"
+type_name values.U64 = codes "u64"
+type_name values.I64 = codes "i64"
+type_name values.Bool = codes "bool"
+type_name values.Date = codes "date"
+type_name values.Bytes = codes "bytes"
+type_name values.IpAddr = codes "ip_addr"
+type_name values.Json = codes "json"
 
 -- the option with this name
 unfoldable pub option_named : List ℕ → Option IndexRecordOption

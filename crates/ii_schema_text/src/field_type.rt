@@ -1,7 +1,8 @@
-ghost use Rattle.std.specs.Prelude.{◌≡◌, option_map};
+ghost use Rattle.std.specs.Prelude.{◌≡◌, Some, option_map};
 ghost use Rattle.toml.specs.View.{view};
 ghost use Rattle.ii_schema_text.specs.SchemaText.{value_type_of};
-ghost use Rattle.ii_schema_text.specs.Settings.{field_type_in, has_texts, is_json_type, is_text, type_named};
+ghost use Rattle.ii_schema_text.specs.Settings.{field_type_in, has_texts, is_json_type, is_text, type_name, type_named};
+ghost use Rattle.ii_schema_text.specs.declared.field_type.FieldType.{FieldType};
 
 use ii_base::ValueType;
 use toml::Value;
@@ -76,6 +77,23 @@ impl FieldType {
             | FieldType::IpAddr
             | FieldType::Text => false,
         }
+    }
+}
+
+/// Returns the name of a type of values, which is its name in a schema.
+pub fn type_name(value_type: ValueType) -> &'static str
+    ensures name { result.now ≡ type_name value_type }
+    ensures read { (t : FieldType) → value_type ≡ value_type_of t → type_named result.now ≡ Some t }
+{
+    match value_type {
+        ValueType::Str => "text",
+        ValueType::U64 => "u64",
+        ValueType::I64 => "i64",
+        ValueType::Bool => "bool",
+        ValueType::Date => "date",
+        ValueType::Bytes => "bytes",
+        ValueType::IpAddr => "ip_addr",
+        ValueType::Json => "json",
     }
 }
 

@@ -9,4 +9,5 @@ pub mod schema_text;
 pub mod settings;
 
 pub use faults::{FieldKey, SchemaFault};
+pub use field_type::type_name;
 pub use schema_text::{field_name_at, read_schema};

@@ -17,8 +17,8 @@ pub struct Settings {
     pub expands_dots: bool,
 }
 
-// Returns the boolean at a key: `default` if it is missing and allowed, `None` if it is invalid or not
-// allowed.
+// Returns the boolean at a key. If it is missing, returns `default` if allowed, else false. Returns `None`
+// if it is invalid, or present but not allowed.
 fn flag_of(value: Option<&Value>, allowed: bool, default: bool) -> Option<bool>
     ensures { result ≡ flag_in allowed default (option_map (λ v. view v.now) value.entry) }
 {

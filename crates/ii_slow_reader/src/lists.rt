@@ -58,8 +58,8 @@ pub struct Listed {
     deltas: Vec<u64>,
 }
 
-// A skip entry: the last document of the block, the widths, whether deltas are strict, the sum of its counts
-// and an upper bound of each if known, and the block's offset after the skip list.
+// A skip entry: the last document of the block, the widths, and whether deltas are strict. Also the sum of
+// its counts and an upper bound of each, if known, and the block's offset after the skip list.
 #[derive(Drop)]
 struct Block {
     last: u64,

@@ -1,3 +1,6 @@
+pub mod AddressLemmas
+pub mod AddressTexts
 pub mod CharTexts
 pub mod CutLemmas
+pub mod KeyLemmas
 pub mod PathLaws

@@ -8,7 +8,7 @@ use Rattle.ii_base.specs.Paths.{acts_as, kept_bytes, marked, path_bytes, segment
 use Rattle.ii_term_text.specs.PathTexts.{byte_text, cut_at_space, has_dot, is_escaped, path_text}
 
 -- one byte of a path: what it is as text, by the three cases
-by_byte : (P : List ℕ → Type 0) (b : ℕ) → ((b == 1) ≡ true → P (46 ∷ [])) → ((b == 1) ≡ false → P (92 ∷ b ∷ [])) → ((b == 1) ≡ false → is_escaped b ≡ false → P (b ∷ [])) → P (byte_text b)
+pub by_byte : (P : List ℕ → Type 0) (b : ℕ) → ((b == 1) ≡ true → P (46 ∷ [])) → ((b == 1) ≡ false → P (92 ∷ b ∷ [])) → ((b == 1) ≡ false → is_escaped b ≡ false → P (b ∷ [])) → P (byte_text b)
 by_byte P b one escaped plain = cases (b == 1) (is_escaped b) refl refl
   where
     cases : (x y : Bool) → (b == 1) ≡ x → is_escaped b ≡ y → P (cond x (46 ∷ []) (cond y (92 ∷ b ∷ []) (b ∷ [])))

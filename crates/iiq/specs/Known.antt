@@ -127,8 +127,7 @@ pub record IsReply (old : Session) (line : List ℕ) (now : SessionKept) (text :
   pub answers : AnswersLine old line new texts
   pub text_is : text ≡ with_ends texts
 
--- A query finds exactly the documents that match it, once there is an index; if indexing failed, it
--- replies the fault.
+-- A query finds exactly its matches, once there is an index; if indexing failed, the reply is the fault.
 abbrev pub FindsDocs : Session → QueryOf → List ℕ → Type 0
 FindsDocs (gathering calls) query reply = reply ≡ []
 FindsDocs (opened ts) query reply = (es : List Entry) × AreMatches query ts es × (reply ≡ found_text es)

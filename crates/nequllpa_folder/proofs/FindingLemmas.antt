@@ -77,7 +77,7 @@ found_by doc e es false below later here =
     let g : (e.doc == doc) ≡ false = neqb_of e.doc doc low in
     rw (below, g) (later f)
 
--- the document that is sought stands at the front of the rest
+-- the document that is sought is the first of the remaining ones
 found_front : (doc : ℕ) (es : List Entry) → doc < TERMINATED → doc_at (from_doc doc es) ≡ doc → Some (positions_at (from_doc doc es)) ≡ positions_in_doc es doc
 found_front doc [] low here = absurd (omega arith)
 found_front doc (e ∷ es) low here = found_by doc e es (nat_le doc e.doc) refl (found_front doc es low) here
@@ -106,7 +106,7 @@ missed_by doc e es false below h later other =
     let g : (e.doc == doc) ≡ false = neqb_of e.doc doc low in
     rw g (later f)
 
--- another document stands there, so the list hasn't it
+-- another document is there, so the list does not have it
 missed_front : (doc : ℕ) (es : List Entry) → IsAscending es → doc_at (from_doc doc es) ≢ doc → None ≡ positions_in_doc es doc
 missed_front doc [] h other = refl
 missed_front doc (e ∷ es) h other = missed_by doc e es (nat_le doc e.doc) refl h (missed_front doc es h.1) other

@@ -44,7 +44,7 @@ docs_found_ascend limit es docs sound docs_is = rw docs_is (docs_ascend limit es
 pub docs_refused : (index : OpenIndexState) (query : Query) (limit : ℕ) (fault : Fault) → IsRefusal (found_in index query) fault → IsRefusal (first_docs index query limit) fault
 docs_refused index query limit fault refused = refused_then (found_in index query) (λ (es : List Entry). Ok (docs_of (take limit es))) fault refused
 
--- where a term stands, by its list
+-- the positions of a term, by its list
 pub term_found : (index : OpenIndexState) (docs : List ℕ) (term : TermState) (es : List Entry) (places : List (Option (List ℕ))) → docs_of_term WithFreqsAndPositions index term ≡ Ok es → places ≡ map (positions_in_doc es) docs → term_places index docs term ≡ Ok places
 term_found index docs term es places found places_is = rw (found, places_is) refl
 
@@ -82,7 +82,7 @@ wanted_fields n query fields = tree_fields n (tree_of query) fields
 pub wanted_known : (n : ℕ) (query : Query) (terms : List TermState) → has_fields n query ≡ true → terms ≡ wanted_terms query → list_all (λ (t : TermState). nat_lt t.field n) terms ≡ true
 wanted_known n query terms fields wanted = rw wanted (wanted_fields n query fields)
 
--- lent terms
+-- borrowed terms
 abbrev pub lent : List (Bor TermState) → List TermState
 lent terms = map (λ (t : Bor TermState). t.now) terms
 

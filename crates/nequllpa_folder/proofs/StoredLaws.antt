@@ -1,4 +1,4 @@
--- An index by its readers and norms.
+-- An index from its readers and norms.
 use Rattle.std.proofs.Common.{ℕ, List, Result, Ok, Err}
 use Rattle.std.specs.Prelude.{IfOk}
 use Rattle.ii_io.specs.declared.faults.Fault.{Fault}

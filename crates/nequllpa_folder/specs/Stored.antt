@@ -29,7 +29,7 @@ IsSchemaRefusal bytes SchemaBytes = IsUtf8 bytes → ⊥
 IsSchemaRefusal bytes (Schema fault) = TellsOfText (told_of_text fault) (text_schema bytes)
 IsSchemaRefusal bytes (Files fault) = ⊥
 
--- Why an index doesn't open: its schema doesn't read, or its files don't open with it.
+-- Why an index doesn't open: its schema is invalid, or its files don't open with it.
 abbrev pub IsOpenRefusal : Index → OpenFault → Type 0
 IsOpenRefusal i SchemaBytes = IsSchemaRefusal i.schema SchemaBytes
 IsOpenRefusal i (Schema fault) = IsSchemaRefusal i.schema (Schema fault)

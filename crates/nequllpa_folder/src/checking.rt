@@ -12,10 +12,10 @@ ghost use Rattle.ii_damage.specs.Totals.{HasTotals, opened_readers};
 ghost use Rattle.ii_store.specs.Index.{view};
 
 use crate::faults::AnswerFault;
-use crate::keys::push_key;
 use ii_base::{Field, FieldEntry, Schema};
 use ii_damage::{FoundDamage, Totals, find_damages};
 use ii_store::StoredIndex;
+use ii_term_text::push_key;
 use std::alloc::Global;
 use std::io::Write;
 
@@ -119,7 +119,7 @@ fn write_key<W: Write>(
     key: &[u8],
 ) -> Result<(), AnswerFault> {
     let mut text = String::new(alloc);
-    push_key(&mut text, entry.value_type(), key)?;
+    push_key(alloc, &mut text, entry.value_type(), key)?;
     write!(out, ", term {text}")?;
     Ok(())
 }

@@ -1,7 +1,6 @@
 ghost use Rattle.std.specs.Prelude.{◌↔◌, IsTrue};
 ghost use Rattle.nequllpa_folder.specs.Faults.{LacksMemoryToAnswer, LacksMemoryToOpen};
 
-use hex::FromHexError;
 use ii_base::Fault;
 use ii_schema_text::SchemaFault;
 use std::alloc::{AllocError, AllocFailed};
@@ -55,14 +54,6 @@ impl OpenFault {
             OpenFault::Schema(fault) => matches!(fault, SchemaFault::OutOfMemory),
             OpenFault::Files(fault) => fault.is_memory(),
         }
-    }
-}
-
-// Returns `OutOfMemory` if an allocation failed, and accepts any other error.
-pub(crate) fn not_hex(error: FromHexError) -> Result<(), Fault> {
-    match error {
-        FromHexError::OutOfMemory => Err(Fault::OutOfMemory),
-        _ => Ok(()),
     }
 }
 

@@ -2,12 +2,12 @@
 ghost use Rattle.std.specs.Prelude.{◌≡◌, ◌<◌, IfOk, Ok, length};
 
 use crate::faults::AnswerFault;
-use crate::keys::push_key;
 use crate::opened::Opened;
 use ii_base::{Fault, Field, IndexRecordOption, ValueType};
 use ii_docset::{DocId, DocSet, TERMINATED};
 use ii_fieldnorm::FieldNormReader;
 use ii_reader::InvertedIndexReader;
+use ii_term_text::push_key;
 use ii_termdict::TermInfo;
 use std::alloc::Global;
 use thiserror::Error;
@@ -151,7 +151,7 @@ fn fill_ids(
             return Ok(());
         };
         text.clear();
-        push_key(&mut text, value_type, key)?;
+        push_key(alloc, &mut text, value_type, key)?;
         missing = missing.saturating_sub(put_term(reader, &info, docs, text.as_str(), ids)?);
     }
     Ok(())

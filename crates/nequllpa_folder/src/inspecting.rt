@@ -4,12 +4,13 @@ ghost use Rattle.ii_docset.specs.Cursor.{IsCurrent};
 ghost use Rattle.ii_query_parser.specs.Queries.{has_fields};
 
 use crate::faults::AnswerFault;
-use crate::keys::{push_key, push_path};
 use crate::opened::Opened;
 use ii_base::{Field, FieldEntry, IndexRecordOption, Term, ValueType};
 use ii_docset::{DocSet, Postings, TERMINATED};
 use ii_reader::{InvertedIndexFieldSpace, InvertedIndexReader, SegmentPostings};
+use ii_schema_text::type_name;
 use ii_search::{Query, count};
+use ii_term_text::{push_key, push_path_bytes};
 use std::alloc::Global;
 use std::io::Write;
 
@@ -85,7 +86,7 @@ fn write_all_terms<W: Write>(
             return Ok(());
         };
         text.clear();
-        push_key(&mut text, value_type, key)?;
+        push_key(alloc, &mut text, value_type, key)?;
         if text.as_str().starts_with(prefix) {
             writeln!(out, "{} {text}", info.doc_freq)?;
         }
@@ -130,7 +131,7 @@ fn write_ranks<W: Write>(
             return Ok(());
         }
         text.clear();
-        push_key(&mut text, value_type, dictionary.key(*ord))?;
+        push_key(alloc, &mut text, value_type, dictionary.key(*ord))?;
         writeln!(out, "{} {text}", u32::MAX - *others)?;
     }
     Ok(())
@@ -155,7 +156,7 @@ fn chosen(
             return Ok(ranks);
         };
         text.clear();
-        push_key(&mut text, value_type, key)?;
+        push_key(alloc, &mut text, value_type, key)?;
         if text.as_str().starts_with(prefix) {
             ranks.push((u32::MAX - info.doc_freq, ord))?;
         }
@@ -321,7 +322,7 @@ fn write_spaces<W: Write>(
     let mut text = String::new(alloc);
     for space in spaces {
         text.clear();
-        push_path(&mut text, space.field_name.as_slice())?;
+        push_path_bytes(alloc, &mut text, space.field_name.as_slice())?;
         writeln!(
             out,
             "  {text} {}: {} terms, {} bytes of postings, {} bytes of positions",
@@ -332,18 +333,4 @@ fn write_spaces<W: Write>(
         )?;
     }
     Ok(())
-}
-
-/// Returns the name of a type in the text of a schema.
-pub fn type_name(value_type: ValueType) -> &'static str {
-    match value_type {
-        ValueType::Str => "text",
-        ValueType::U64 => "u64",
-        ValueType::I64 => "i64",
-        ValueType::Bool => "bool",
-        ValueType::Date => "date",
-        ValueType::Bytes => "bytes",
-        ValueType::Json => "json",
-        ValueType::IpAddr => "ip_addr",
-    }
 }

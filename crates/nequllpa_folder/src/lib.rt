@@ -7,7 +7,6 @@ pub mod faults;
 pub mod finding;
 pub mod ids;
 pub mod inspecting;
-pub mod keys;
 pub mod listing;
 pub mod opened;
 pub mod stats;
@@ -16,10 +15,10 @@ pub use checking::{Checked, check};
 pub use faults::{AnswerFault, OpenFault};
 pub use finding::{FoundPlaces, TermPositions, find_places, first_docs, wanted_terms};
 pub use ids::{NoIds, id_field};
+pub use ii_term_text::{push_key, term_of};
 pub use inspecting::{
     CountFormat, TermChoice, write_count, write_fields, write_postings, write_terms,
 };
-pub use keys::{push_key, term_of};
 pub use listing::{Listing, write_listing};
 pub use opened::{Opened, schema_of};
 pub use stats::write_stats;

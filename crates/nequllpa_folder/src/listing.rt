@@ -5,11 +5,11 @@ ghost use Rattle.ii_query_parser.specs.Queries.{has_fields};
 use crate::faults::AnswerFault;
 use crate::finding::{FoundPlaces, TermPositions, find_places, first_docs, wanted_terms};
 use crate::ids::{Ids, ids_of};
-use crate::keys::push_key;
 use crate::opened::Opened;
 use ii_base::{Fault, Field, Term};
 use ii_docset::DocId;
 use ii_search::{Query, count};
+use ii_term_text::push_key;
 use serde_json::Value;
 use std::alloc::Global;
 use std::io::Write;
@@ -170,6 +170,7 @@ fn text_of(alloc: Global, opened: &Opened, term: &Term) -> Result<TermText, Answ
     let entry = opened.entry(term.field());
     text.field.push_str(entry.name())?;
     push_key(
+        alloc,
         &mut text.term,
         entry.value_type(),
         term.serialized_value_bytes(),

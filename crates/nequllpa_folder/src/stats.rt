@@ -2,9 +2,9 @@
 ghost use Rattle.std.specs.Prelude.{◌<◌, length};
 
 use crate::faults::AnswerFault;
-use crate::inspecting::type_name;
 use crate::opened::Opened;
 use ii_base::Field;
+use ii_schema_text::type_name;
 use std::io::Write;
 
 // The number of size classes of lists, one for each power of two.

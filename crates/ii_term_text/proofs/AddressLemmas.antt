@@ -7,7 +7,7 @@ use Rattle.std.specs.declared.net.ipv4_addr.Ipv4Addr.{Ipv4Addr}
 use Rattle.std.specs.declared.net.ipv6_addr.Ipv6Addr.{Ipv6Addr}
 use Rattle.std.proofs.NetLemmas.Ipv4.{read_ipv4_complete, read_ipv4_sound}
 use Rattle.std.proofs.NetLemmas.Ipv6.{EndsGroups-nil, IsDotted-not_colon_hex, read_ipv6_complete, read_ipv6_sound}
-use Rattle.ii_documents.specs.Addresses.{mapped, segments_in}
+use Rattle.ii_term_text.specs.Addresses.{mapped, segments_in}
 
 -- a reader that leaves something, or reads nothing, has no complete value
 not_whole : (r : Read (List ℕ)) → ((value : List ℕ) → r ≡ Some (value, []) → ⊥) → whole_value r ≡ None

@@ -1,6 +1,0 @@
-use Rattle.std.proofs.Common.{◌∙◌}
-use Rattle.ii_json.proofs.ParseLemmas.{parsed_signed}
-use Rattle.ii_query_parser.proofs.literal.i64_in.Goals as goal
-
-pub returns : goal.returns
-returns c = c.ok.ensures.value ∙ parsed_signed c.args.text.now c.parse.result c.parse.ensures.value.0

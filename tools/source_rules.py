@@ -1,0 +1,170 @@
+"""Rules for the sources that the prover doesn't check: none fabricates an allocation failure, and the moves of a
+cursor use one counted decoder. Each part returns how many tests passed and how many failed."""
+import glob
+import os
+import re
+
+import programs
+
+# The only files that may name `Fault::OutOfMemory`: there a refused allocation becomes that fault.
+FAULTS = tuple(os.path.join('crates', *name) for name in (
+    ('ii_io', 'src', 'faults.rt'), ('ii_store', 'src', 'faults.rt'), ('ii_store', 'src', 'memory_directory.rt'),
+    ('ii_schema_text', 'src', 'faults.rt'), ('ii_term_text', 'src', 'terms.rt'), ('ii_documents', 'src', 'faults.rt'),
+    ('nequllpa_folder', 'src', 'faults.rt'),
+    ('nequllpa_indexing', 'src', 'faults.rt')))
+# What only the named functions of a crate may contain; no move of a cursor is among them. A rule applies to the
+# crates that it lists. The prover counts the decodes and reads of the calls that take a counter. This table says
+# which functions create counters and decoders, and which read without such a call.
+COUNTED = (
+    ('a decoder', r'\bBlockDecoder\s*>?\s*::', {
+        'ii_codes': {'default'},
+        'ii_reader': {'empty_by', 'clear_by', 'fill'},
+        'ii_layout': {'open', 'has_small_sum'},
+        'ii_check': {'first_block', 'open_positions', 'are_positions'}}),
+    ('a copy', r'\bclone\(', {
+        'ii_codes': set(),
+        'ii_reader': {'clone', 'doc_freq_given_deletes'},
+        'ii_layout': {'clone'},
+        'ii_check': {'clone'}}),
+    ('a cursor that starts again',
+     r'\b(\w+Reader|\w+Postings|PositionBlocks|Self)\s*>?\s*::\s*(open|open_known|empty|empty_by|new|reset)\b'
+     r'|\.(reset|skip_reader|anew)\(|\breopened\(', {
+         'ii_reader': {'open', 'open_known', 'empty', 'empty_by', 'reset', 'clear_by', 'fill', 'fill_known', 'read_postings_from_terminfo',
+                       'read_block_postings_from_terminfo', 'read_known_postings_from_terminfo', 'read_known_block_postings_from_terminfo',
+                       'reset_block_postings_from_terminfo', 'reset_postings_from_terminfo', 'open_bodies', 'open_field'},
+         'ii_layout': {'open', 'reset', 'anew', 'reopened'},
+         'ii_check': {'skip_reader', 'first_block', 'open_positions', 'open_counted_positions', 'open_known_positions', 'are_positions',
+                      'num_positions', 'after_documents',
+                      'has_freqs'}}),
+    ('a cursor, a reader or a decoder built from its fields',
+     r'(?<!-> )(?<!impl )(?<!for )(?<!struct )(?<!let )'
+     r'\b(BlockDecoder|SkipReader|PositionBlocks|PositionReader|CheckedPostings|BlockSegmentPostings|SegmentPostings|Self)\s*\{', {
+         'ii_codes': {'with_val', 'clone'},
+         'ii_reader': {'open', 'open_known', 'empty_by', 'from_block_postings', 'clone'},
+         'ii_layout': {'open', 'new', 'anew', 'clone'},
+         'ii_check': {'open', 'open_known', 'empty', 'clone'}}),
+    ('the complete validation', r'\bcheck_postings\(|\bCheckedPostings::open\b|\.(has_small_sum|num_positions|open_counted_positions)\(', {
+        'ii_reader': {'fill', 'open_positions'},
+        'ii_layout': {'has_small_sum'},
+        'ii_check': {'open', 'open_positions', 'open_counted_positions', 'known_postings'}}),
+    ('a replaced value', r'\bdefault\(|\bmem\b|\b(swap|replace|take)\(', {
+        'ii_codes': {'default'},
+        'ii_reader': set(),
+        'ii_layout': set(),
+        'ii_check': set()}),
+    ('a new counter', r'\bGhostCounter\s*>?\s*(::|\{)', {
+        'ii_codes': {'with_val'},
+        'ii_reader': set(),
+        'ii_layout': {'new', 'counts_are_narrow'},
+        'ii_check': set()}),
+    ('a counter that is incremented or copied', r'\.\s*(next|same)\(\)|\.\s*(decodes|entries_read)\s*=(?!=)', {
+        'ii_codes': {'unpack_sorted', 'unpack_unsorted', 'count', 'clone'},
+        'ii_layout': {'read_entry', 'clone'},
+        'ii_check': set()}),
+    ('an unpacked block',
+     r'\b(unpack|unpack_from|unpack_width|unpack_narrow|unpack_wide|sorted_values|sorted_from|sorted_width|sorted_narrow|sorted_wide)\b', {
+         'ii_codes': {'unpack', 'unpack_from', 'unpack_sorted', 'unpack_unsorted', 'sum_of', 'sorted_values', 'sorted_from'}}),
+    ('a counted read', r'\b(unpack_sorted|unpack_unsorted|read_sorted_row|read_unsorted_row|read_until_end|count)\s*\(', {
+        'ii_codes': {'try_uncompress_block_sorted', 'try_uncompress_block_unsorted', 'try_uncompress_vint_sorted', 'try_uncompress_vint_unsorted',
+                     'try_uncompress_vint_unsorted_until_end', 'read_sorted_row', 'read_unsorted_row', 'read_until_end'}}),
+    ('entries read without a counter', r'\b(entry_of|read_bits|window|window_or_less)\s*\(', {
+        'ii_codes': {'unpack_width', 'sorted_width', 'entry_of', 'read_bits', 'window_or_less', 'extract_bits'}}),
+    ('a row of vints that is read', r'(?<!fn )\b(try_)?uncompress_(un)?sorted(_until_end)?\b|\bread_(long_)?u32\b', {
+        'ii_codes': {'read_sorted_row', 'read_unsorted_row', 'read_until_end', 'uncompress_sorted', 'uncompress_unsorted', 'uncompress_unsorted_until_end',
+                     'try_uncompress_sorted', 'try_uncompress_unsorted', 'try_uncompress_unsorted_until_end', 'read_u32', 'read_long_u32'}}),
+    ('a skip entry that is read', r'\bread_entry(_at)?\b', {
+        'ii_layout': {'new', 'advance', 'read_entry_at', 'counts_are_narrow'}}),
+    ('a decoded field of a skip entry', r'::\s*read_u(16|24|32|64)\b|\bdecode_(bitwidth|block_wand_max_tf)\b', {
+        'ii_layout': {'read_entry', 'split', 'split_into_skips_and_postings'},
+        'ii_check': {'known_places'},
+        'ii_reader': set()}),
+    ('bits read without a counter',
+     r'\bextract_bits\b|\blast_of_sorted_block\b|\bii_codes::(vint|packed)\b|(?<![.\w])(try_)?uncompress_|\bunpack', {
+         'ii_reader': set(),
+         'ii_layout': set()}),
+)
+# An import; the contract of a function.
+IMPORT = r'(?m)^\s*(?:pub(?:\(crate\))? )?use\b[^;]*;'
+CONTRACT = r'(?ms)^\s*(?:requires|ensures)\b.*?^\s*\{\s*$'
+TYPE_ALIAS = r'(?m)^\s*(?:pub(?:\(crate\))? )?type\b'
+
+
+def sources_of(crate):
+    """Returns the source files of a crate, or of all crates for `*`."""
+    return sorted(glob.glob(os.path.join(programs.TOP, 'crates', crate, 'src', '**', '*.rt'), recursive=True))
+
+
+def name_of(source):
+    """Returns the path of a source in the repository."""
+    return os.path.relpath(source, programs.TOP)
+
+
+def allocation_failures():
+    """Checks that no source fabricates an allocation failure: only the files of FAULTS, and tests, name that fault."""
+    found = 0
+    for source in sources_of('*'):
+        if name_of(source) in FAULTS or os.path.basename(source) == 'tests.rt':
+            continue
+        with open(source, encoding='utf-8') as lines:
+            for number, line in enumerate(lines, 1):
+                if 'Fault::OutOfMemory' in line.split('//')[0]:
+                    found += 1
+                    print(f'{name_of(source)}:{number}: fabricates an allocation failure')
+    print(f'sources: {"none of them fabricates" if found == 0 else f"{found} of their lines fabricate"} an allocation failure')
+    return (0, 1) if found else (1, 0)
+
+
+def is_test(source):
+    """Returns whether a source has only tests."""
+    return os.path.basename(source).endswith('tests.rt') or os.path.basename(os.path.dirname(source)).endswith('tests')
+
+
+def functions(source):
+    """Yields each function of a source: its name, its first line, and its text without comments. The text before
+    the first function has the name ''."""
+    name, first, texts = '', 1, []
+    with open(source, encoding='utf-8') as lines:
+        for number, line in enumerate(lines, 1):
+            text = '' if line.lstrip().startswith('ghost use ') else line.split('//')[0].rstrip('\n')
+            declared = re.match(r'\s*(?:pub(?:\(crate\))? )?(?:const )?fn (\w+)', text)
+            if declared:
+                yield name, first, '\n'.join(texts)
+                name, first, texts, text = declared.group(1), number, [], ''
+            texts.append(text)
+    yield name, first, '\n'.join(texts)
+
+
+def without(pattern, text):
+    """Removes each match of a pattern from a text, but not its line ends."""
+    return re.sub(pattern, lambda found: '\n' * found.group().count('\n'), text)
+
+
+def violations(crate, function, text):
+    """Yields each violation in the text of a function: its line in the text, counted from 0, and what is there."""
+    for imported in re.finditer(IMPORT, text):
+        if re.search(r'\bas\b', imported.group()):
+            yield text.count('\n', 0, imported.start()), 'an import under another name'
+    text = without(CONTRACT, without(IMPORT, text))
+    for alias in re.finditer(TYPE_ALIAS, text):
+        yield text.count('\n', 0, alias.end()), 'another name for a type'
+    for what, pattern, allowed in COUNTED:
+        if crate in allowed and function not in allowed[crate]:
+            for found in re.finditer(pattern, text):
+                yield text.count('\n', 0, found.start()), what
+
+
+def one_counted_decoder():
+    """Checks that no move of a cursor uses a decoder other than its own, reads what isn't counted, creates a counter
+    or starts its skip list again."""
+    count = 0
+    for crate in ('ii_codes', 'ii_reader', 'ii_layout', 'ii_check'):
+        for source in sources_of(crate):
+            if is_test(source):
+                continue
+            for function, first, text in functions(source):
+                place = f'in `{function}`' if function else 'before the first function'
+                for line, what in violations(crate, function, text):
+                    count += 1
+                    print(f'{name_of(source)}:{first + line}: {what} {place}')
+    print(f'one counted decoder: {"no" if count == 0 else count} violation{"" if count == 1 else "s"}')
+    return (0, 1) if count else (1, 0)
