@@ -13,7 +13,7 @@ use Rattle.ii_damage.specs.declared.checking.Totals.{Totals}
 use Rattle.ii_damage.specs.declared.walking.TermWalk.{TermWalk}
 use Rattle.ii_damage.specs.Damages.{FoundDamageState, IndexFiles, field_damages, field_entries, field_reader, max_u64}
 use Rattle.ii_damage.specs.Totals.{AddsTotals, HasTotals, opened_reader, opened_readers}
-use Rattle.ii_damage.specs.Walked.{HasWalked, num_positions}
+use Rattle.ii_damage.specs.Walked.{HasWalked, total_positions}
 use Rattle.ii_damage.proofs.ListedLemmas.{IsFinding, field_at, finding_next, none_left}
 
 -- one more reader, whose lists were walked
@@ -30,7 +30,7 @@ one_total n terms rs r walk old new t p q is walked h = record {
       let here = walked.postings in
       omega (arith, p, all, before, here);
   positions =
-      let all : sum_by (λ (x : InvertedIndexReaderState). num_positions (field_entries x)) (rs ++ r ∷ []) ≡ sum_by (λ (x : InvertedIndexReaderState). num_positions (field_entries x)) rs + num_positions (field_entries r) = sum_by_push (λ (x : InvertedIndexReaderState). num_positions (field_entries x)) rs r in
+      let all : sum_by (λ (x : InvertedIndexReaderState). total_positions (field_entries x)) (rs ++ r ∷ []) ≡ sum_by (λ (x : InvertedIndexReaderState). total_positions (field_entries x)) rs + total_positions (field_entries r) = sum_by_push (λ (x : InvertedIndexReaderState). total_positions (field_entries x)) rs r in
       let before = h.positions in
       let here = walked.positions in
       omega (arith, q, all, before, here);

@@ -25,7 +25,7 @@ use Rattle.ii_damage.specs.declared.damage.Damage.{Damage}
 use Rattle.ii_damage.specs.declared.damage.FieldPlaces.{FieldPlaces}
 use Rattle.ii_damage.specs.declared.walking.TermWalk.{TermWalk}
 use Rattle.ii_damage.specs.Damages.{FoundDamageState, entries_read, field_entries, list_damage, of_term, stray_in, term_damage, term_damages, term_entries, num_occurrences, tokens_of_doc, max_u32, max_u64, max_u128}
-use Rattle.ii_damage.specs.Walked.{HasWalked, num_positions, with_count}
+use Rattle.ii_damage.specs.Walked.{HasWalked, total_positions, count_with}
 
 -- nothing is counted before the first list
 pub none_walked : (n : ℕ) (counts : Vec ℕ Global) → counts.items ≡ replicate n 0 → HasWalked n [] (record { counts = counts; tokens = 0; postings = 0; positions = 0 })
@@ -42,13 +42,13 @@ none_walked n counts is = record {
 }
 
 -- the count of a document after one more entry
-raised_by : (es : List Entry) (e : Entry) (doc : ℕ) → with_count e.doc e.term_freq doc (min (tokens_of_doc doc es) max_u32) ≡ min (tokens_of_doc doc (es ++ e ∷ [])) max_u32
+raised_by : (es : List Entry) (e : Entry) (doc : ℕ) → count_with e.doc e.term_freq doc (min (tokens_of_doc doc es) max_u32) ≡ min (tokens_of_doc doc (es ++ e ∷ [])) max_u32
 raised_by es e doc = by_case (e.doc == doc) refl
   where
     sums : tokens_of_doc doc (es ++ e ∷ []) ≡ tokens_of_doc doc es + (if e.doc == doc then e.term_freq else 0)
     sums = sum_by_push (λ (x : Entry). if x.doc == doc then x.term_freq else 0) es e
 
-    by_case : (b : Bool) → (e.doc == doc) ≡ b → with_count e.doc e.term_freq doc (min (tokens_of_doc doc es) max_u32) ≡ min (tokens_of_doc doc (es ++ e ∷ [])) max_u32
+    by_case : (b : Bool) → (e.doc == doc) ≡ b → count_with e.doc e.term_freq doc (min (tokens_of_doc doc es) max_u32) ≡ min (tokens_of_doc doc (es ++ e ∷ [])) max_u32
     by_case true same =
         let all : tokens_of_doc doc (es ++ e ∷ []) ≡ tokens_of_doc doc es + e.term_freq = rw same at sums in
         let capped : min (min (tokens_of_doc doc es) max_u32 + e.term_freq) max_u32 ≡ min (tokens_of_doc doc es + e.term_freq) max_u32 = omega arith in
@@ -61,7 +61,7 @@ raised_by es e doc = by_case (e.doc == doc) refl
 -- one more entry is counted
 pub one_walked : (n : ℕ) (es : List Entry) (e : Entry) (old new : TermWalk) → new.tokens ≡ min (old.tokens + e.term_freq) max_u128 → new.postings ≡ min (old.postings + 1) max_u64
     → new.positions ≡ min (old.positions + length e.positions) max_u64 → length new.counts.items ≡ length old.counts.items
-    → ((d : ℕ) → slice_get new.counts.items d ≡ option_map (with_count e.doc e.term_freq d) (slice_get old.counts.items d)) → HasWalked n es old → HasWalked n (es ++ e ∷ []) new
+    → ((d : ℕ) → slice_get new.counts.items d ≡ option_map (count_with e.doc e.term_freq d) (slice_get old.counts.items d)) → HasWalked n es old → HasWalked n (es ++ e ∷ []) new
 one_walked n es e old new tokens postings positions many counts walked = record {
   tokens =
       let all : num_occurrences (es ++ e ∷ []) ≡ num_occurrences es + e.term_freq = sum_by_push (λ (x : Entry). x.term_freq) es e in
@@ -72,12 +72,12 @@ one_walked n es e old new tokens postings positions many counts walked = record 
       let before = walked.postings in
       omega (arith, postings, all, before);
   positions =
-      let all : num_positions (es ++ e ∷ []) ≡ num_positions es + length e.positions = sum_by_push (λ (x : Entry). length x.positions) es e in
+      let all : total_positions (es ++ e ∷ []) ≡ total_positions es + length e.positions = sum_by_push (λ (x : Entry). length x.positions) es e in
       let before = walked.positions in
       omega (arith, positions, all, before);
   counts = record {
     many = many ∙ walked.counts.many;
-    each = λ doc low. counts doc ∙ ap (option_map (with_count e.doc e.term_freq doc)) (walked.counts.each doc low) ∙ ap (λ (c : ℕ). Some c) (raised_by es e doc);
+    each = λ doc low. counts doc ∙ ap (option_map (count_with e.doc e.term_freq doc)) (walked.counts.each doc low) ∙ ap (λ (c : ℕ). Some c) (raised_by es e doc);
   };
 }
   where

@@ -6,8 +6,8 @@ use Rattle.ii_damage.specs.declared.walking.TermWalk.{TermWalk}
 use Rattle.ii_damage.specs.Damages.{num_occurrences, tokens_of_doc, max_u32, max_u64, max_u128}
 
 -- the number of positions of all entries
-abbrev pub num_positions : List Entry → ℕ
-num_positions es = sum_by (λ (e : Entry). length e.positions) es
+abbrev pub total_positions : List Entry → ℕ
+total_positions es = sum_by (λ (e : Entry). length e.positions) es
 
 -- `counts` holds the number of tokens of each document in these entries, at most `u32::MAX`.
 pub record HasCounts (num_docs : ℕ) (es : List Entry) (counts : List ℕ) : Type 0 where
@@ -18,9 +18,9 @@ pub record HasCounts (num_docs : ℕ) (es : List Entry) (counts : List ℕ) : Ty
 pub record HasWalked (num_docs : ℕ) (es : List Entry) (w : TermWalk) : Type 0 where
   pub tokens : w.tokens ≡ min (num_occurrences es) max_u128
   pub postings : w.postings ≡ min (length es) max_u64
-  pub positions : w.positions ≡ min (num_positions es) max_u64
+  pub positions : w.positions ≡ min (total_positions es) max_u64
   pub counts : HasCounts num_docs es w.counts.items
 
 -- the count of document `d` after `term_freq` more tokens of document `doc`
-abbrev pub with_count : ℕ → ℕ → ℕ → ℕ → ℕ
-with_count doc term_freq d count = if doc == d then min (count + term_freq) max_u32 else count
+abbrev pub count_with : ℕ → ℕ → ℕ → ℕ → ℕ
+count_with doc term_freq d count = if doc == d then min (count + term_freq) max_u32 else count

@@ -7,7 +7,7 @@ ghost use Rattle.ii_io.specs.Faults.{OnlyMemory};
 ghost use Rattle.ii_base.specs.Entries.{Entry};
 ghost use Rattle.ii_reader.specs.InvertedIndexReader.{term_of_file};
 ghost use Rattle.ii_damage.specs.Damages.{entries_read, field_entries, list_damage, of_term, stray_in, term_damages, max_u32};
-ghost use Rattle.ii_damage.specs.Walked.{HasWalked, with_count};
+ghost use Rattle.ii_damage.specs.Walked.{HasWalked, count_with};
 
 use crate::damage::{Damage, FieldPlaces, FoundDamage};
 use ii_base::{DocId, Fault, TERMINATED};
@@ -137,11 +137,11 @@ impl TermWalk {
 
     // Counts a document of a list with its term frequency and number of positions.
     #[tactic(auto, using(crate::proofs::WalkedLemmas::one_walked))]
-    fn add(&mut self, doc: DocId, term_freq: u32, num_positions: usize)
-        ensures { (n : ℕ) (es : List Entry) (e : Entry) → doc ≡ e.doc → term_freq ≡ e.term_freq → num_positions ≡ length e.positions → HasWalked n es self.old → HasWalked n (es ++ e ∷ []) self.new }
+    fn add(&mut self, doc: DocId, term_freq: u32, total_positions: usize)
+        ensures { (n : ℕ) (es : List Entry) (e : Entry) → doc ≡ e.doc → term_freq ≡ e.term_freq → total_positions ≡ length e.positions → HasWalked n es self.old → HasWalked n (es ++ e ∷ []) self.new }
     {
         self.postings = self.postings.saturating_add(1);
-        self.positions = self.positions.saturating_add(num_positions as u64);
+        self.positions = self.positions.saturating_add(total_positions as u64);
         self.tokens = self.tokens.saturating_add(u128::from(term_freq));
         add_count(self.counts.as_mut_slice(), doc, term_freq);
     }
@@ -150,7 +150,7 @@ impl TermWalk {
 // Adds to the count of a document, if it is in the index.
 fn add_count(counts: &mut [u32], doc: DocId, term_freq: u32)
     ensures length { length counts.new ≡ length counts.old }
-    ensures counts { (d : ℕ) → slice_get counts.new d ≡ option_map (with_count doc term_freq d) (slice_get counts.old d) }
+    ensures counts { (d : ℕ) → slice_get counts.new d ≡ option_map (count_with doc term_freq d) (slice_get counts.old d) }
 {
     let doc = doc as usize;
     if doc >= counts.len() {

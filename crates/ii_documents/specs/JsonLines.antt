@@ -159,7 +159,7 @@ pub record Adds (es : List SchemaEntry) (doc : ℕ) (old new : List IndexCall) (
   pub calls : map (call_of es) new ≡ map (call_of es) old ++ cs
   pub each : AllByRecursion (IsOf es doc) old → AllByRecursion (IsOf es doc) new
 
--- a call added what was expected, unless an allocation failed or it returned an error
+-- a call added what was expected, or returned the expected refusal, unless an allocation failed
 abbrev pub AddsAs : List SchemaEntry → ℕ → List IndexCall → List IndexCall → Result (Unit {0}) LineFault → Result (List Call) Refusal → Type 0
 AddsAs es doc old new (Ok _) wanted = (cs : List Call) × (wanted ≡ Ok cs) × Adds es doc old new cs
 AddsAs es doc old new (Err e) wanted = TellsOfLine (told_of_line e) wanted

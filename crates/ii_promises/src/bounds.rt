@@ -22,7 +22,8 @@ pub fn counts_stay_within_bounds(blocks: &BlockSegmentPostings) -> Option<(u8, u
 }
 
 /// A seek by term frequency moves to the first document that isn't below `target` and has a term
-/// frequency of at least `least`. It decodes no block whose bound is known and below `least`.
+/// frequency of at least `least`. It decodes at most as many blocks as have a bound that allows
+/// `least`, of those passed or reached.
 pub fn counts_are_sought(cursor: &mut SegmentPostings, target: DocId, least: u32) -> DocId
     requires { IsTarget target cursor.old.rest }
     ensures first { result ≡ doc_at (filter (λ (e : Entry). nat_le target e.doc && nat_le least e.term_freq) cursor.old.rest) }

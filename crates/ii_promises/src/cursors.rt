@@ -273,9 +273,9 @@ pub fn cursors_of_any_kind_hint_alike(alloc: Global, cursor: SegmentPostings) ->
 }
 
 /// A lawful run of calls gets the answers that the list gives. The cursor only moves forward. It
-/// decodes documents and term frequencies at most once for each block that it passes. Each call for
-/// positions decodes at most two blocks of positions, plus one for each 128 of the total term
-/// frequency of these documents. Other calls decode no positions.
+/// decodes documents and term frequencies at most once for each block that it passes. The calls for
+/// positions together decode at most two blocks of positions for each such call, and one for each 128
+/// of the total term frequency of their documents. Other calls decode no positions.
 pub fn calls_are_answered_as_over_the_list(
     alloc: Global,
     cursor: &mut SegmentPostings,

@@ -127,7 +127,7 @@ pub fn no_calls_pass_no_limit<A: TextAnalyzer>(
     index_in_ram(alloc, schema, num_docs, Vec::new(alloc), analyzer)
 }
 
-/// Valid calls whose terms exceed no limit and whose files have room fail only with `OutOfMemory`.
+/// Valid calls whose terms and files exceed no limit fail only with `OutOfMemory`.
 pub fn terms_within_limits_are_indexed<A: TextAnalyzer>(
     alloc: Global,
     schema: Schema,

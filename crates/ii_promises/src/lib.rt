@@ -1,4 +1,4 @@
-//! What the index promises, as a client can prove it. For each sentence of docs/PROMISES.md there is
+//! What the index promises, as a client can prove it. For most sentences of docs/PROMISES.md there is
 //! a short function that uses only public calls. Its contract states the sentence with its numbers
 //! written out.
 #![tactic(auto)]

@@ -72,7 +72,7 @@ pub fn queries_of_files_find_what_matches(
     }
 }
 
-/// A search decodes no block of a term's list twice, neither of documents nor of term frequencies.
+/// Each cursor of a search has decoded at most as many blocks of its term's list as it has reached.
 #[tactic(auto, using(crate::proofs::DecodesLaws::few_are_told))]
 pub fn searches_decode_no_block_twice(
     alloc: Global,
@@ -85,7 +85,7 @@ pub fn searches_decode_no_block_twice(
     search(alloc, index, query)
 }
 
-/// Advancing to the next match decodes no block twice.
+/// After the search advances to the next match, this still holds.
 #[tactic(auto, using(crate::proofs::DecodesLaws::few_go_on))]
 pub fn next_matches_decode_no_block_twice(
     cursor: &mut QueryCursor<TermOrPhrase<SegmentPostings>>,
@@ -96,7 +96,7 @@ pub fn next_matches_decode_no_block_twice(
     cursor.advance()
 }
 
-/// Seeking among the matches decodes no block twice.
+/// After the search seeks among the matches, this still holds.
 #[tactic(auto, using(crate::proofs::DecodesLaws::few_go_on))]
 pub fn sought_matches_decode_no_block_twice(
     cursor: &mut QueryCursor<TermOrPhrase<SegmentPostings>>,

@@ -2,14 +2,11 @@
 use Rattle.std.proofs.Common.{◌≡◌, ◌∙◌, ◌<◌, ◌^◌, ◌/◌, ◌%◌, ◌*◌, ◌+◌, ℕ, zero, suc, Bool, true, false, List, [], ◌∷◌, ◌++◌, Some, ap, arith, cond, drop, get_or, length, refl, subst, sym, take, take-append-drop}
 use Rattle.std.specs.Str.{bytes_eq}
 use Rattle.std.proofs.lemmas.Slice.Eq.{bytes_eq-Decides}
-use Rattle.std.specs.Net.Addr.{IsCanonicalOf, IsIpv4Mapped, IsIpv6Addr, ipv6_segments, octets_of, segments_of}
-use Rattle.std.specs.Net.Text.{ip_text, ipv4_text, ipv6_text}
-use Rattle.std.specs.declared.net.ip_addr.IpAddr.{IpAddr}
-use Rattle.std.specs.declared.net.ip_addr.IpAddr.TheVariants as Ip
-use Rattle.std.specs.declared.net.ipv6_addr.Ipv6Addr.{Ipv6Addr}
+use Rattle.std.specs.Net.Addr.{IsIpv6Addr, octets_of, segments_of}
+use Rattle.std.specs.Net.Text.{ipv4_text, ipv6_text}
 use Rattle.std.proofs.NetLemmas.Arrays.{eight_items}
 use Rattle.std.proofs.NetLemmas.Texts.{IsColonHex-ipv6_text, IsDotted-ipv4_text}
-use Rattle.ii_term_text.specs.Addresses.{mapped, segments_in}
+use Rattle.ii_term_text.specs.Addresses.{segments_in}
 use Rattle.ii_term_text.specs.KeyTexts.{address_text}
 use Rattle.ii_term_text.proofs.AddressLemmas.{v4_segments, v6_segments}
 
@@ -21,17 +18,6 @@ segments_again (x ∷ xs) = ap (λ (l : List ℕ). (x / 256 * 256 + x % 256) ∷
 -- the text of an address, by whether it is an IPv4 address
 text_case : (xs : List ℕ) (t : Bool) → bytes_eq (take 6 xs) (0 ∷ 0 ∷ 0 ∷ 0 ∷ 0 ∷ 0xffff ∷ []) ≡ t → address_text xs ≡ cond t (ipv4_text (octets_of (drop 6 xs))) (ipv6_text xs)
 text_case xs t is = ap (λ (b : Bool). cond b (ipv4_text (octets_of (drop 6 xs))) (ipv6_text xs)) is
-
--- what an address is printed as
-pub canonical_text : (a : Ipv6Addr) (c : IpAddr) → IsCanonicalOf a c → ip_text c ≡ address_text (ipv6_segments a)
-canonical_text a (Ip.V4 ip) is =
-    let segments = ipv6_segments a in
-    ap ipv4_text is.1 ∙ sym (text_case segments true ((bytes_eq-Decides (take 6 segments) (0 ∷ 0 ∷ 0 ∷ 0 ∷ 0 ∷ 0xffff ∷ [])).1 is.0))
-canonical_text a (Ip.V6 ip) is = by (bytes_eq (take 6 (ipv6_segments a)) (0 ∷ 0 ∷ 0 ∷ 0 ∷ 0 ∷ 0xffff ∷ [])) refl
-  where
-    by : (t : Bool) → bytes_eq (take 6 (ipv6_segments a)) (0 ∷ 0 ∷ 0 ∷ 0 ∷ 0 ∷ 0xffff ∷ []) ≡ t → ipv6_text (ipv6_segments ip) ≡ address_text (ipv6_segments a)
-    by true e = absurd (is.0 ((bytes_eq-Decides (take 6 (ipv6_segments a)) (0 ∷ 0 ∷ 0 ∷ 0 ∷ 0 ∷ 0xffff ∷ [])).0 e))
-    by false e = ap (λ (x : Ipv6Addr). ipv6_text (ipv6_segments x)) is.1 ∙ sym (text_case (ipv6_segments a) false e)
 
 -- two segments are four octets
 two_octets : (s t : ℕ) → s < 2 ^ 16 → t < 2 ^ 16 → (k : ℕ) → get_or (s / 256 ∷ s % 256 ∷ t / 256 ∷ t % 256 ∷ []) k 0 < 2 ^ 8

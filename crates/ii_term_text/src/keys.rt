@@ -1,15 +1,11 @@
 //! Keys of terms as texts.
-ghost use Rattle.std.specs.Prelude.{◌≡◌, ◌<◌, ◌^◌, ◌∷◌, ◌++◌, ℕ, Bool, ℤ, List, OnOk, Some, MatchOption, FitsSigned, decimal, position, ◌==◌, false, string_bytes};
+ghost use Rattle.std.specs.Prelude.{◌≡◌, ◌++◌, ◌==◌, ℤ, FitsSigned, None, OnOk, Some, MatchOption, decimal, option_map, position, string_bytes};
 ghost use Rattle.std.specs.Fmt.{signed_decimal};
 ghost use Rattle.std.specs.Int.{w64};
-ghost use Rattle.std.specs.Net.Addr.{IsIpv6Addr, octets_of};
-ghost use Rattle.std.specs.Str.{IsUtf8};
 ghost use Rattle.hex.specs.Hex.{encode_lower};
-ghost use Rattle.ii_base.specs.Paths.{has_zero};
-ghost use Rattle.ii_base.specs.Values.{flipped, json_key, number_of_bool, u64_bytes};
-ghost use Rattle.ii_base.specs.ValueTypes.{code_of};
-ghost use Rattle.ii_base.specs.declared.schema.value_type.ValueType.{ValueType};
-ghost use Rattle.ii_term_text.specs.KeyTexts.{IsOfType, IsScalar, KeyValue, Scalar, address_text, at_path, boolean_text, bytes_text, scalar_key, scalar_text, scalar_type, value_key, value_text};
+ghost use Rattle.ii_base.specs.Values.{flipped};
+ghost use Rattle.ii_base.specs.declared.schema.value_type.ValueType.TheVariants as types;
+ghost use Rattle.ii_term_text.specs.KeyTexts.{boolean_in, boolean_text, bytes_text, text_of_key, number_of_key, parts_of_key, text_of_scalar_key, text_or_bytes, unflipped, utf8_or_bytes};
 ghost use Rattle.ii_term_text.specs.PathTexts.{path_text};
 
 use crate::paths::push_path;
@@ -18,15 +14,16 @@ use std::alloc::{AllocError, Global};
 use std::net::Ipv6Addr;
 
 /// Appends the text of a key of a field with values of this type: a word as it is, a number in decimal, `true`
-/// or `false`, bytes in hexadecimal, an IP address; for JSON values the path, the letter of the type and the
-/// value, separated by spaces. Bytes that aren't such a key are appended in hexadecimal after `0x`.
+/// or `false`, a date as its nanoseconds, bytes in hexadecimal, an IP address; for JSON values the path, the
+/// letter of the type and the value, separated by spaces. A key, path or value that isn't one of its type is
+/// appended in hexadecimal after `0x`.
 pub fn push_key(
     alloc: Global,
     text: &mut String,
     value_type: ValueType,
     key: &[u8],
 ) -> Result<(), AllocError>
-    ensures { (v : KeyValue) → IsOfType value_type v → key.now ≡ value_key v → OnOk result (string_bytes text.new ≡ string_bytes text.old ++ value_text v) }
+    ensures { OnOk result (string_bytes text.new ≡ string_bytes text.old ++ text_of_key value_type key.now) }
 {
     match value_type {
         ValueType::Bytes => push_hex(alloc, text, key),
@@ -44,7 +41,7 @@ fn push_scalar(
     value_type: ValueType,
     key: &[u8],
 ) -> Result<(), AllocError>
-    ensures { (s : Scalar) → value_type ≡ scalar_type s → IsScalar s → key.now ≡ scalar_key s → OnOk result (string_bytes text.new ≡ string_bytes text.old ++ scalar_text s) }
+    ensures { OnOk result (string_bytes text.new ≡ string_bytes text.old ++ text_of_scalar_key value_type key.now) }
 {
     match value_type {
         ValueType::Str => push_word(alloc, text, key),
@@ -57,7 +54,7 @@ fn push_scalar(
 
 // Appends a word.
 fn push_word(alloc: Global, text: &mut String, key: &[u8]) -> Result<(), AllocError>
-    ensures { IsUtf8 key.now → OnOk result (string_bytes text.new ≡ string_bytes text.old ++ key.now) }
+    ensures { OnOk result (string_bytes text.new ≡ string_bytes text.old ++ utf8_or_bytes (λ k. k) key.now) }
 {
     match std::str::from_utf8(key) {
         Ok(word) => text.push_str(word),
@@ -83,9 +80,9 @@ fn push_hex(alloc: Global, text: &mut String, key: &[u8]) -> Result<(), AllocErr
 
 // Appends an unsigned number.
 fn push_unsigned(alloc: Global, text: &mut String, key: &[u8]) -> Result<(), AllocError>
-    ensures { (n : ℕ) → n < 2 ^ 64 → key.now ≡ u64_bytes n → OnOk result (string_bytes text.new ≡ string_bytes text.old ++ decimal n) }
+    ensures { OnOk result (string_bytes text.new ≡ string_bytes text.old ++ text_or_bytes key.now (option_map decimal (number_of_key key.now))) }
 {
-    match number_in(key) {
+    match number_of_key(key) {
         Some(number) => write!(text, "{number}"),
         None => push_bytes(alloc, text, key),
     }
@@ -93,9 +90,9 @@ fn push_unsigned(alloc: Global, text: &mut String, key: &[u8]) -> Result<(), All
 
 // Appends a signed number.
 fn push_signed(alloc: Global, text: &mut String, key: &[u8]) -> Result<(), AllocError>
-    ensures { (z : ℤ) → FitsSigned w64 z → key.now ≡ u64_bytes (flipped z) → OnOk result (string_bytes text.new ≡ string_bytes text.old ++ signed_decimal z) }
+    ensures { OnOk result (string_bytes text.new ≡ string_bytes text.old ++ text_or_bytes key.now (option_map (λ n. signed_decimal (unflipped n)) (number_of_key key.now))) }
 {
-    match number_in(key) {
+    match number_of_key(key) {
         Some(number) => {
             let number = signed(number);
             write!(text, "{number}")
@@ -106,9 +103,9 @@ fn push_signed(alloc: Global, text: &mut String, key: &[u8]) -> Result<(), Alloc
 
 // Appends a boolean.
 fn push_boolean(alloc: Global, text: &mut String, key: &[u8]) -> Result<(), AllocError>
-    ensures { (b : Bool) → key.now ≡ u64_bytes (number_of_bool b) → OnOk result (string_bytes text.new ≡ string_bytes text.old ++ boolean_text b) }
+    ensures { OnOk result (string_bytes text.new ≡ string_bytes text.old ++ text_or_bytes key.now (option_map boolean_text (boolean_in key.now))) }
 {
-    let Some(number) = number_in(key) else {
+    let Some(number) = number_of_key(key) else {
         return push_bytes(alloc, text, key);
     };
     if number == 0 {
@@ -121,13 +118,13 @@ fn push_boolean(alloc: Global, text: &mut String, key: &[u8]) -> Result<(), Allo
 }
 
 // The number in 8 bytes, big-endian.
-fn number_in(key: &[u8]) -> Option<u64>
-    ensures { (n : ℕ) → n < 2 ^ 64 → key.now ≡ u64_bytes n → result ≡ Some n }
+fn number_of_key(key: &[u8]) -> Option<u64>
+    ensures { result ≡ number_of_key key.now }
 {
-    let [a, b, c, d, e, f, g, h] = key else {
-        return None;
-    };
-    Some(u64::from_be_bytes([*a, *b, *c, *d, *e, *f, *g, *h]))
+    match <[u8; 8]>::try_from(key) {
+        Ok(octets) => Some(u64::from_be_bytes(octets)),
+        Err(_) => None,
+    }
 }
 
 // The signed number whose encoding is a number: 2^63 less.
@@ -139,7 +136,7 @@ fn signed(number: u64) -> i64
 
 // Appends an IP address.
 fn push_address(alloc: Global, text: &mut String, key: &[u8]) -> Result<(), AllocError>
-    ensures { (segments : List ℕ) → IsIpv6Addr (record { segments = segments }) → key.now ≡ octets_of segments → OnOk result (string_bytes text.new ≡ string_bytes text.old ++ address_text segments) }
+    ensures { OnOk result (string_bytes text.new ≡ string_bytes text.old ++ text_of_key types.IpAddr key.now) }
 {
     let Ok(octets) = <[u8; 16]>::try_from(key) else {
         return push_bytes(alloc, text, key);
@@ -150,8 +147,7 @@ fn push_address(alloc: Global, text: &mut String, key: &[u8]) -> Result<(), Allo
 
 // Appends a scalar at a path.
 fn push_json_key(alloc: Global, text: &mut String, key: &[u8]) -> Result<(), AllocError>
-    ensures { (path : List ℕ) (s : Scalar) → IsUtf8 path → has_zero path ≡ false → IsScalar s → key.now ≡ json_key path (code_of (scalar_type s) ∷ scalar_key s)
-        → OnOk result (string_bytes text.new ≡ string_bytes text.old ++ value_text (at_path path s)) }
+    ensures { OnOk result (string_bytes text.new ≡ string_bytes text.old ++ text_of_key types.Json key.now) }
 {
     let Some((path, value_type, value)) = split_key(key) else {
         return push_bytes(alloc, text, key);
@@ -165,7 +161,7 @@ fn push_json_key(alloc: Global, text: &mut String, key: &[u8]) -> Result<(), All
 
 // The path, the type and the value in a key of a JSON field.
 fn split_key(key: &[u8]) -> Option<(&[u8], ValueType, &[u8])>
-    ensures { (path value : List ℕ) (t : ValueType) → has_zero path ≡ false → key.now ≡ json_key path (code_of t ∷ value) → MatchOption result ⊥ (λ r. (r.0.now ≡ path) × (r.1 ≡ t) × (r.2.now ≡ value)) }
+    ensures { MatchOption result (parts_of_key key.now ≡ None) (λ r. parts_of_key key.now ≡ Some (record { path = r.0.now; value_type = r.1; value = r.2.now })) }
 {
     let Some(place) = zero_in(key) else {
         return None;
@@ -190,7 +186,7 @@ fn zero_in(key: &[u8]) -> Option<usize>
 
 /// Appends a path as text (see `push_path`). Bytes that aren't UTF-8 are appended in hexadecimal after `0x`.
 pub fn push_path_bytes(alloc: Global, text: &mut String, path: &[u8]) -> Result<(), AllocError>
-    ensures { IsUtf8 path.now → OnOk result (string_bytes text.new ≡ string_bytes text.old ++ path_text path.now) }
+    ensures { OnOk result (string_bytes text.new ≡ string_bytes text.old ++ utf8_or_bytes path_text path.now) }
 {
     match std::str::from_utf8(path) {
         Ok(path) => push_path(text, path),

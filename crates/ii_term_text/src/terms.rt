@@ -1,54 +1,49 @@
 //! Terms of texts.
-ghost use Rattle.std.specs.Prelude.{◌≡◌, ◌∷◌, ◌++◌, [], List, ℕ, IfOk, None, OnOk, OnErr, MatchOption, Some, true, false};
-ghost use Rattle.std.specs.Str.{IsUtf8};
-ghost use Rattle.hex.specs.Hex.{IsBytes, encode_lower};
+ghost use Rattle.std.specs.Prelude.{◌≡◌, ◌↔◌, IfOk, IsTrue, MatchOption, None, Some};
+ghost use Rattle.std.specs.Option.{option_map};
+ghost use Rattle.std.specs.Net.Addr.{octets_of};
+ghost use Rattle.std.specs.Result.{result_ok};
+ghost use Rattle.hex.specs.Hex.{decode_of};
 ghost use Rattle.hex.specs.declared.error.FromHexError.TheVariants.{OutOfMemory};
 ghost use Rattle.ii_io.specs.Faults.{OnlyMemory};
-ghost use Rattle.std.specs.Net.Addr.{IsIpv6Addr, octets_of};
 ghost use Rattle.ii_base.specs.Paths.{has_zero};
-ghost use Rattle.ii_base.specs.Values.{json_key};
-ghost use Rattle.ii_base.specs.ValueTypes.{code_of};
-ghost use Rattle.ii_base.specs.declared.schema.value_type.ValueType.{ValueType};
-ghost use Rattle.ii_term_text.specs.KeyTexts.{AppendsScalar, FitsDots, IsOfType, IsScalar, KeyValue, Scalar, address_text, at_path, boolean, scalar_key, scalar_text, scalar_type, signed, unsigned, value_key, value_text};
 ghost use Rattle.ii_json.specs.FastValues.{bool_in, i64_in, u64_in};
-ghost use Rattle.std.specs.Option.{option_map};
-ghost use Rattle.ii_term_text.specs.PathTexts.{has_dot, path_text};
+ghost use Rattle.ii_term_text.specs.Addresses.{segments_in};
+ghost use Rattle.ii_term_text.specs.KeyTexts.{AppendsScalar, boolean, date, json_key_in, key_in, scalar_in, signed, term_with, text_parts, unsigned};
 
 use crate::addresses::octets_in;
 use crate::paths::cut_at_space;
 use hex::FromHexError;
-use ii_base::{Fault, Field, FieldEntry, Term, ValueType};
+use ii_base::{DateTime, Fault, Field, FieldEntry, Term, ValueType};
 use ii_json::{bool_in, bool_term, i64_in, i64_term, u64_in, u64_term};
 use std::alloc::Global;
 
-/// Returns the term of a field that a text spells, as `push_key` writes it, or `None` if the text spells none of
-/// the field's type. `entry` is that of the field. Returns `OutOfMemory` if allocation fails.
-#[tactic(auto, using(ii_json::proofs::ParseLemmas::u64_of_decimal, ii_json::proofs::ParseLemmas::i64_of_decimal))]
+/// Returns the term of a field that a text spells, as `push_key` writes it or in another spelling that `parse`,
+/// `hex::decode` or the address parsers accept. Returns `None` if the text spells none of the field's type. `entry`
+/// is that of the field. Returns `OutOfMemory` if allocation fails.
 pub fn term_of(
     alloc: Global,
     field: Field,
     entry: &FieldEntry,
     text: &str,
 ) -> Result<Option<Term>, Fault>
-    ensures spelled { (v : KeyValue) → IsOfType entry.now.value_type v → FitsDots entry.now.expands_dots v → text.now ≡ value_text v
-        → IfOk result (λ term. term ≡ Some (record { field = field; value = value_key v })) }
+    ensures ok { IfOk result (λ term. term ≡ term_with field (key_in entry.now.value_type entry.now.expands_dots text.now)) }
     ensures only { OnlyMemory result }
 {
     match entry.value_type() {
         ValueType::Str => Ok(Some(Term::from_field_text(alloc, field, text)?)),
         ValueType::U64 => u64_term(alloc, field, text),
-        ValueType::I64 => i64_term(alloc, field, text),
+        ValueType::I64 | ValueType::Date => i64_term(alloc, field, text),
         ValueType::Bool => bool_term(alloc, field, text),
         ValueType::Bytes => bytes_term(alloc, field, text),
         ValueType::IpAddr => address_term(alloc, field, text),
         ValueType::Json => json_term(alloc, field, entry.expands_dots(), text),
-        ValueType::Date => Ok(None),
     }
 }
 
 // The term of bytes in hexadecimal.
 fn bytes_term(alloc: Global, field: Field, text: &str) -> Result<Option<Term>, Fault>
-    ensures spelled { (bytes : List ℕ) → IsBytes bytes → text.now ≡ encode_lower bytes → IfOk result (λ term. term ≡ Some (record { field = field; value = bytes })) }
+    ensures ok { IfOk result (λ term. term ≡ term_with field (result_ok (decode_of text.now))) }
     ensures only { OnlyMemory result }
 {
     match hex::decode(alloc, text) {
@@ -64,15 +59,14 @@ fn bytes_term(alloc: Global, field: Field, text: &str) -> Result<Option<Term>, F
 
 // Whether an allocation failed.
 fn is_memory(error: &FromHexError) -> bool
-    ensures { error.now ≡ OutOfMemory → result ≡ true }
+    ensures { IsTrue result ↔ (error.now ≡ OutOfMemory) }
 {
     matches!(error, FromHexError::OutOfMemory)
 }
 
 // The term of an IP address.
-#[tactic(auto, using(crate::proofs::AddressTexts::address_read))]
 fn address_term(alloc: Global, field: Field, text: &str) -> Result<Option<Term>, Fault>
-    ensures spelled { (segments : List ℕ) → IsIpv6Addr (record { segments = segments }) → text.now ≡ address_text segments → IfOk result (λ term. term ≡ Some (record { field = field; value = octets_of segments })) }
+    ensures ok { IfOk result (λ term. term ≡ term_with field (option_map octets_of (segments_in text.now))) }
     ensures only { OnlyMemory result }
 {
     match octets_in(text) {
@@ -88,8 +82,7 @@ fn json_term(
     expands_dots: bool,
     text: &str,
 ) -> Result<Option<Term>, Fault>
-    ensures spelled { (path : List ℕ) (s : Scalar) → has_zero path ≡ false → (expands_dots ≡ true → has_dot path ≡ false) → IsScalar s → text.now ≡ value_text (at_path path s)
-        → IfOk result (λ term. term ≡ Some (record { field = field; value = value_key (at_path path s) })) }
+    ensures ok { IfOk result (λ term. term ≡ term_with field (json_key_in expands_dots text.now)) }
     ensures only { OnlyMemory result }
 {
     let Some((path, letter, value)) = split_text(text) else {
@@ -107,7 +100,7 @@ fn json_term(
 
 // The path, the letter and the value in the text of a key of a JSON field.
 fn split_text(text: &str) -> Option<(&str, &str, &str)>
-    ensures { (path value : List ℕ) (t : ValueType) → text.now ≡ path_text path ++ 32 ∷ code_of t ∷ 32 ∷ value → MatchOption result ⊥ (λ r. (r.0.now ≡ path_text path) × (r.1.now ≡ code_of t ∷ []) × (r.2.now ≡ value)) }
+    ensures { MatchOption result (text_parts text.now ≡ None) (λ r. text_parts text.now ≡ Some (record { path = r.0.now; letter = r.1.now; value = r.2.now })) }
 {
     let Some((path, rest)) = cut_at_space(text) else {
         return None;
@@ -126,10 +119,8 @@ fn has_zero(path: &str) -> bool
 }
 
 // Appends a scalar of the type with this letter to a term, and returns whether the text spells one.
-#[tactic(auto, using(ii_json::proofs::ParseLemmas::u64_of_decimal, ii_json::proofs::ParseLemmas::i64_of_decimal))]
 fn append_scalar(term: &mut Term, letter: &str, value: &str) -> Result<bool, Fault>
-    ensures spelled { (s : Scalar) → IsScalar s → letter.now ≡ code_of (scalar_type s) ∷ [] → value.now ≡ scalar_text s
-        → IfOk result (λ found. (found ≡ true) × (term.new ≡ record term.old { value = term.old.value ++ code_of (scalar_type s) ∷ scalar_key s })) }
+    ensures ok { IfOk result (λ found. AppendsScalar (scalar_in letter.now value.now) term.old term.new found) }
     ensures only { OnlyMemory result }
 {
     if letter == "s" {
@@ -145,12 +136,15 @@ fn append_scalar(term: &mut Term, letter: &str, value: &str) -> Result<bool, Fau
     if letter == "o" {
         return append_boolean(term, value);
     }
+    if letter == "d" {
+        return append_date(term, value);
+    }
     Ok(false)
 }
 
 // Appends a signed number, and returns whether the text spells one.
 fn append_signed(term: &mut Term, value: &str) -> Result<bool, Fault>
-    ensures spelled { IfOk result (λ found. AppendsScalar (option_map signed (i64_in value.now)) term.old term.new found) }
+    ensures ok { IfOk result (λ found. AppendsScalar (option_map signed (i64_in value.now)) term.old term.new found) }
     ensures only { OnlyMemory result }
 {
     let Some(number) = i64_in(value) else {
@@ -160,9 +154,21 @@ fn append_signed(term: &mut Term, value: &str) -> Result<bool, Fault>
     Ok(true)
 }
 
+// Appends a date in nanoseconds, and returns whether the text spells one.
+fn append_date(term: &mut Term, value: &str) -> Result<bool, Fault>
+    ensures ok { IfOk result (λ found. AppendsScalar (option_map date (i64_in value.now)) term.old term.new found) }
+    ensures only { OnlyMemory result }
+{
+    let Some(number) = i64_in(value) else {
+        return Ok(false);
+    };
+    term.append_type_and_fast_value(DateTime(number))?;
+    Ok(true)
+}
+
 // Appends an unsigned number, and returns whether the text spells one.
 fn append_unsigned(term: &mut Term, value: &str) -> Result<bool, Fault>
-    ensures spelled { IfOk result (λ found. AppendsScalar (option_map unsigned (u64_in value.now)) term.old term.new found) }
+    ensures ok { IfOk result (λ found. AppendsScalar (option_map unsigned (u64_in value.now)) term.old term.new found) }
     ensures only { OnlyMemory result }
 {
     let Some(number) = u64_in(value) else {
@@ -174,7 +180,7 @@ fn append_unsigned(term: &mut Term, value: &str) -> Result<bool, Fault>
 
 // Appends a boolean, and returns whether the text spells one.
 fn append_boolean(term: &mut Term, value: &str) -> Result<bool, Fault>
-    ensures spelled { IfOk result (λ found. AppendsScalar (option_map boolean (bool_in value.now)) term.old term.new found) }
+    ensures ok { IfOk result (λ found. AppendsScalar (option_map boolean (bool_in value.now)) term.old term.new found) }
     ensures only { OnlyMemory result }
 {
     let Some(value) = bool_in(value) else {

@@ -13,7 +13,7 @@ use ii_layout::PostingsSerializer;
 use ii_reader::SegmentPostings;
 use std::alloc::{AllocError, Global};
 
-/// Writes the postings of these documents, and returns their bytes.
+/// Returns the encoded postings of `docs`.
 pub fn written(alloc: Global, docs: &[u32]) -> Result<Vec<u8>, AllocError>
     requires { IsTrue (are_documents docs.now) }
     ensures { IfOk result (λ bytes. bytes.items ≡ written_documents docs.now) }

@@ -51,7 +51,8 @@ pub struct TermChoice<'a> {
     pub top: Option<usize>,
 }
 
-/// Writes the terms of a field, one per line: the number of documents, a space and the term.
+/// Writes the terms of a field, one per line: the number of documents, a space and the term. A line feed in a
+/// JSON key is written as it is.
 pub fn write_terms<W: Write>(
     alloc: Global,
     out: &mut W,

@@ -1,16 +1,13 @@
-use Rattle.std.proofs.Common.{rules, ◌≡◌, ◌∙◌, None, Some, sym}
-use Rattle.ii_base.specs.Values.{flipped}
-use Rattle.ii_term_text.proofs.KeyLemmas.{flipped_small}
+use Rattle.std.proofs.Common.{rules, ◌≡◌, ◌<◌, ◌^◌, ℕ, Option, ap, option_map, sym}
+use Rattle.std.specs.Fmt.{signed_decimal}
+use Rattle.ii_term_text.specs.KeyTexts.{text_or_bytes, unflipped}
+use Rattle.ii_term_text.proofs.KeyLemmas.{unflipped_again}
 use Rattle.ii_term_text.proofs.keys.push_signed.Goals as goal
 
 pub returns-in-Some : goal.returns-in-Some
-returns-in-Some c = λ z fit key.
-    let number : Some c.in-Some.number ≡ Some (flipped z) = sym c.in-Some.is ∙ c.number_in.ensures (flipped z) (flipped_small z fit) key in
-    let same : c.in-Some.number ≡ flipped z = cc in
-    let is : c.signed-number.result ≡ z = c.signed-number.ensures z fit same in
-    search (rules, is)
-
-pub returns-in-None : goal.returns-in-None
-returns-in-None c = λ z fit key.
-    let number : None ≡ Some (flipped z) = sym c.in-None.is ∙ c.number_in.ensures (flipped z) (flipped_small z fit) key in
-    absurd (cc)
+returns-in-Some c =
+    let low : c.in-Some.number < 2 ^ 64 = search rules in
+    let again = unflipped_again c.in-Some.number low in
+    let same : c.signed-number.result ≡ unflipped c.in-Some.number = c.signed-number.ensures (unflipped c.in-Some.number) again.0 again.1 in
+    let text = ap (λ (n : Option ℕ). text_or_bytes c.args.key.now (option_map (λ n. signed_decimal (unflipped n)) n)) (sym c.in-Some.ensures) in
+    rw text (search (rules, same))

@@ -1,38 +1,20 @@
-use Rattle.std.proofs.Common.{◌≡◌, ◌∙◌, [], ◌∷◌, ◌++◌, List, ℕ, false, Some, ap, sym}
-use Rattle.ii_base.specs.Paths.{has_zero, path_bytes, segments_of}
+use Rattle.std.proofs.Common.{◌∙◌, ◌∷◌, ◌++◌, Some, ap, sym}
+use Rattle.ii_base.specs.Paths.{path_bytes, segments_of}
 use Rattle.ii_base.specs.Terms.{TermState}
 use Rattle.ii_base.specs.ValueTypes.{code_of}
-use Rattle.ii_term_text.specs.KeyTexts.{scalar_key, scalar_text, scalar_type}
-use Rattle.ii_term_text.specs.PathTexts.{path_text}
-use Rattle.ii_term_text.proofs.KeyLemmas.{key_again, no_zero_text, path_again}
+use Rattle.ii_term_text.specs.KeyTexts.{scalar_in, scalar_key, scalar_type, term_with}
+use Rattle.ii_term_text.proofs.KeyLemmas.{appended_scalar, key_again, spelled_by}
 use Rattle.ii_term_text.proofs.terms.json_term.Goals as goal
 
-pub returns-in_default-clause-spelled : goal.returns-in_default-clause-spelled
-returns-in_default-clause-spelled c = λ path s none dots is text. absurd (c.in_default.ensures path (scalar_text s) (scalar_type s) text)
-
-pub returns-then-has_zero-clause-spelled : goal.returns-then-has_zero-clause-spelled
-returns-then-has_zero-clause-spelled c = λ path s none dots is text.
-    let parts = c.in-Some.ensures path (scalar_text s) (scalar_type s) text in
-    let zero = c.has_zero.ensures in
-    let found = c.if-has_zero.true in
-    let other : has_zero c.in-Some.path.now ≡ false = rw parts.0 (no_zero_text path none) in
-    absurd (cc)
-
-pub returns-then-branch-clause-spelled : goal.returns-then-branch-clause-spelled
-returns-then-branch-clause-spelled c = λ path s none dots is text.
-    let parts = c.in-Some.ensures path (scalar_text s) (scalar_type s) text in
-    let spelled = c.in_ok-append_scalar.ensures.spelled s is parts.1 parts.2 in
-    let key = code_of (scalar_type s) ∷ scalar_key s in
+pub returns-then-branch-clause-ok : goal.returns-then-branch-clause-ok
+returns-then-branch-clause-ok c =
+    let letter = c.in-Some.letter.now in
+    let value = c.in-Some.value.now in
+    let a = appended_scalar (scalar_in letter value) c.in_ok-term.term c.append_scalar.new.term c.in_ok-append_scalar.field-0 c.in_ok-append_scalar.ensures.ok c.if-branch.true in
+    let key = code_of (scalar_type a.0) ∷ scalar_key a.0 in
+    let path = path_bytes c.args.expands_dots (segments_of c.in-Some.path.now) in
     let old = c.in_ok-term.ensures.ok in
-    let bytes : c.in_ok-term.term.value ≡ path ++ 0 ∷ [] = ap (λ (t : TermState). t.value) old ∙ ap (λ (p : List ℕ). path_bytes c.args.expands_dots (segments_of p) ++ 0 ∷ []) parts.0
-    ∙ ap (λ (p : List ℕ). p ++ 0 ∷ []) (path_again c.args.expands_dots path dots) in
-    let all = ap (λ (l : List ℕ). l ++ key) bytes ∙ key_again path key in
+    let all = ap (λ (t : TermState). t.value ++ key) old ∙ key_again path key in
     let field = ap (λ (t : TermState). t.field) old in
-    ap Some (spelled.1 ∙ (λ i. record { field = field i; value = all i }))
-
-pub returns-clause-spelled : goal.returns-clause-spelled
-returns-clause-spelled c = λ path s none dots is text.
-    let parts = c.in-Some.ensures path (scalar_text s) (scalar_type s) text in
-    let spelled = c.in_ok-append_scalar.ensures.spelled s is parts.1 parts.2 in
-    let no = sym spelled.0 ∙ c.if-branch.false in
-    absurd (cc)
+    let spelled = spelled_by c.args.expands_dots c.args.text.now c.in-Some.path.now letter value a.0 c.in-Some.ensures (sym c.has_zero.ensures ∙ c.if-has_zero.false) a.1 in
+    ap Some (a.2 ∙ (λ i. record { field = field i; value = all i })) ∙ sym (ap (term_with c.args.field) spelled)

@@ -1,0 +1,37 @@
+-- Keys as text, and texts as keys, computed.
+use Rattle.std.proofs.Common.{◌≡◌, false, [], ◌∷◌, ◌++◌, None, Some, codes, decimal, refl}
+use Rattle.std.specs.Net.Text.{ipv4_text}
+use Rattle.hex.specs.Hex.{encode_lower}
+use Rattle.ii_base.specs.declared.schema.value_type.ValueType.TheVariants as types
+use Rattle.ii_term_text.specs.KeyTexts.{key_in, text_of_key}
+
+number_text : text_of_key types.U64 (0 ∷ 0 ∷ 0 ∷ 0 ∷ 0 ∷ 0 ∷ 4 ∷ 210 ∷ []) ≡ decimal 1234
+number_text = refl
+
+-- -2 is encoded as 2^63 - 2
+signed_text : text_of_key types.I64 (127 ∷ 255 ∷ 255 ∷ 255 ∷ 255 ∷ 255 ∷ 255 ∷ 254 ∷ []) ≡ codes "-" ++ decimal 2
+signed_text = refl
+
+boolean_key : text_of_key types.Bool (0 ∷ 0 ∷ 0 ∷ 0 ∷ 0 ∷ 0 ∷ 0 ∷ 1 ∷ []) ≡ codes "true"
+boolean_key = refl
+
+-- three bytes are no number
+short_key : text_of_key types.U64 (1 ∷ 2 ∷ 171 ∷ []) ≡ codes "0x" ++ encode_lower (1 ∷ 2 ∷ 171 ∷ [])
+short_key = refl
+
+mapped_key : text_of_key types.IpAddr (0 ∷ 0 ∷ 0 ∷ 0 ∷ 0 ∷ 0 ∷ 0 ∷ 0 ∷ 0 ∷ 0 ∷ 255 ∷ 255 ∷ 192 ∷ 0 ∷ 2 ∷ 33 ∷ []) ≡ ipv4_text (192 ∷ 0 ∷ 2 ∷ 33 ∷ [])
+mapped_key = refl
+
+-- the value 5 at the key "x y" under the key "a.b"
+path_read : key_in types.Json false (codes "a\\.b.x\\ y u 5") ≡ Some (97 ∷ 46 ∷ 98 ∷ 1 ∷ 120 ∷ 32 ∷ 121 ∷ 0 ∷ 117 ∷ 0 ∷ 0 ∷ 0 ∷ 0 ∷ 0 ∷ 0 ∷ 0 ∷ 5 ∷ [])
+path_read = refl
+
+-- another spelling of a number, and a text that spells none
+padded_number : key_in types.U64 false (codes "007") ≡ Some (0 ∷ 0 ∷ 0 ∷ 0 ∷ 0 ∷ 0 ∷ 0 ∷ 7 ∷ [])
+padded_number = refl
+
+no_number : key_in types.U64 false (codes "seven") ≡ None
+no_number = refl
+
+no_letter_x : key_in types.Json false (codes "a x 5") ≡ None
+no_letter_x = refl
