@@ -37,7 +37,7 @@ fn numbers_have_ids(rt: HostRuntime) {
         assert!(rt; (fieldnorm_to_id(fieldnorm), id_to_fieldnorm(id)) == (id, norm));
     }
     assert!(rt; (fieldnorm_to_id(u32::MAX), id_to_fieldnorm(255)) == (255, 2_013_265_944));
-    for fieldnorm in 0..5 {
+    for fieldnorm in 0..41 {
         assert!(rt; id_to_fieldnorm(fieldnorm_to_id(fieldnorm)) == fieldnorm);
     }
     assert!(rt; rises_at(&FIELD_NORMS_TABLE));
@@ -116,12 +116,19 @@ fn norms_of(readers: &FieldNormReaders, field: u32) -> Result<Option<(u32, u32, 
     Ok(Some((num_docs, first, last)))
 }
 
+// One field whose documents have the norms 1, 2, 3, 4 and 1,000,000.
+static FIVE_NORMS: [u8; 29] = [
+    1, 2, 3, 4, 167, 0, 0, 0, 0, 0, 0, 0, 0, 0, 0, 0, 0, 5, 0, 0, 0, 0, 0, 0, 0, 1, 0, 0, 0,
+];
+
 #[test]
 fn norms_are_read(rt: HostRuntime) -> Result<(), Fail> {
     let bytes = Bytes::from_static(&TWO_NORMS);
     let readers = FieldNormReaders::open(rt.alloc(), bytes)?.clone()?;
     let found = [norms_of(&readers, 0), norms_of(&readers, 1)];
     assert!(rt; found == [Ok(Some((2, 13, 2))), Ok(None)]);
+    let five = FieldNormReaders::open(rt.alloc(), Bytes::from_static(&FIVE_NORMS))?;
+    assert!(rt; norms_of(&five, 0) == Ok(Some((5, 1, 983_064))));
     Ok(())
 }
 

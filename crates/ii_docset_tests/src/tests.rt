@@ -232,7 +232,10 @@ fn documents_are_common(rt: HostRuntime) -> Result<(), Fail> {
 
 static DELETED: [DocId; 3] = [10, 4, 10];
 
-// Counts alive documents with a set that has deletions, then with one that has none.
+static ALL_DELETED: [DocId; 12] = [0, 1, 2, 3, 4, 5, 6, 7, 8, 9, 10, 11];
+
+// Counts alive documents with a set that has deletions, with one of no alive documents, and with one that has
+// no deletions.
 #[test]
 fn living_documents_are_counted(rt: HostRuntime) -> Result<(), Fail> {
     let alive = AliveBitSet::from_deleted_docs(rt.alloc(), &DELETED, 12)?;
@@ -240,6 +243,8 @@ fn living_documents_are_counted(rt: HostRuntime) -> Result<(), Fail> {
     let two = [alive.is_alive(0), alive.is_alive(10)];
     let some = (two, cursor.count(&alive), cursor.doc());
     assert!(rt; some == ([true, false], 2, TERMINATED));
+    let none_alive = AliveBitSet::from_deleted_docs(rt.alloc(), &ALL_DELETED, 12)?;
+    assert!(rt; three().count(&none_alive) == 0);
     let all = three().count(&AliveBitSet::full(rt.alloc(), 11)?);
     assert!(rt; all == 3);
     Ok(())

@@ -1,4 +1,4 @@
-ghost use Rattle.std.specs.Prelude.{◌≡◌, ◌+◌, ◌*◌, ◌<◌, ◌≤◌, slice_index};
+ghost use Rattle.std.specs.Prelude.{ℕ, ◌≡◌, ◌+◌, ◌*◌, ◌<◌, ◌≤◌, slice_index};
 ghost use Rattle.std.specs.List.Sorted.{IsStrictlyIncreasing};
 
 use ii_codes::{BlockDecoder, BlockEncoder, last_of_sorted_block};
@@ -76,6 +76,27 @@ fn packed(block: &[u32; 128], offset: u32) -> (u8, usize, bool)
     (width, bytes.len(), same)
 }
 
+// Returns a block whose values follow no order, from 11 to 22.
+fn cycled() -> [u32; 128]
+    ensures { (k : ℕ) → k < 128 → 0 < slice_index result k }
+{
+    let mut block = [0u32; 128];
+    for k in 0..128u8 {
+        block[usize::from(k)] = 11 + 7 * u32::from(k) % 12;
+    }
+    block
+}
+
+// Packs this block as it is or minus one. Returns the width, and whether it reads back with other bytes after
+// it.
+fn cycled_are_read_back(minus_one: bool) -> (u8, bool) {
+    let block = cycled();
+    let mut encoder = BlockEncoder::new();
+    let (width, bytes) = encoder.compress_block_unsorted(&block, minus_one);
+    let read = unsorted_values(&with_others(bytes), width, minus_one);
+    (width, read == Ok((bytes.len(), block)))
+}
+
 // Returns whether 128 threes pack minus one in two bits, and read back with other bytes after them.
 fn threes_are_read_back() -> bool {
     let threes = [3; 128];
@@ -104,6 +125,8 @@ fn blocks_are_read_back(rt: HostRuntime) {
         (3, 48, true),
     ];
     assert!(rt; (blocks, threes_are_read_back()) == (want, true));
+    let unsorted = [cycled_are_read_back(false), cycled_are_read_back(true)];
+    assert!(rt; unsorted == [(5, true); 2]);
 }
 
 // Even numbers from 0 and all numbers from 1, by strict deltas; the former also by plain deltas.

@@ -305,6 +305,14 @@ fn widths_and_bounds_have_bytes(rt: HostRuntime) {
     assert!(rt; [decode_bitwidth(0x45), decode_bitwidth(0x9F)] == [(5, true), (31, false)]);
     let counts = [decode_block_wand_max_tf(254), decode_block_wand_max_tf(255)];
     assert!(rt; (encode_block_wand_max_tf(254), counts) == (254, [254, u32::MAX]));
+    for count in [255, 256, 1_000_000, u32::MAX] {
+        assert!(rt; encode_block_wand_max_tf(count) == 255);
+    }
+    for width in 0..32u8 {
+        let codes = [encode_bitwidth(width, false), encode_bitwidth(width, true)];
+        let read = [decode_bitwidth(codes[0]), decode_bitwidth(codes[1])];
+        assert!(rt; read == [(width, false), (width, true)]);
+    }
 }
 
 // Returns the last document of a block and of the previous one, and the block's byte offset.
@@ -330,6 +338,14 @@ fn read_entries() -> ([(DocId, DocId, usize); 4], [BlockInfo; 4]) {
         [first, second, third, fourth],
         [rest, end, after, skip.block_info()],
     )
+}
+
+// Reads the entry of the only block of 128 documents. Returns its last document, and the state after it.
+fn read_last_entry() -> (DocId, BlockInfo) {
+    let mut skip = SkipReader::new(&TWO_ENTRIES[..5], 128, IndexRecordOption::Basic);
+    let last = skip.last_doc_in_block();
+    skip.advance(&TWO_ENTRIES[..5]);
+    (last, skip.block_info())
 }
 
 // Reads two blocks with counts, then three times the state after them.
@@ -359,6 +375,7 @@ fn skip_entries_are_read(rt: HostRuntime) {
         BlockInfo::VInt { num_docs: 7 },
     ];
     assert!(rt; infos == ends);
+    assert!(rt; read_last_entry() == (1, BlockInfo::VInt { num_docs: 0 }));
 }
 
 #[test]

@@ -1,4 +1,5 @@
-ghost use Rattle.std.specs.Prelude.{◌≡◌, ◌≤◌, drop, take, Some, IsSome};
+ghost use Rattle.std.specs.Prelude.{ℕ, ◌≡◌, ◌≤◌, drop, take, Some, IsSome};
+ghost use Rattle.ii_codes.specs.Sums.{DoNotFall};
 ghost use Rattle.ii_codes.specs.UnsortedVints.{u32s_until_end};
 ghost use Rattle.ii_io.specs.Vints.{u32s_at};
 
@@ -32,6 +33,40 @@ fn encodes_sorted_vints(rt: HostRuntime) {
     let padding = 234_234_345;
     assert!(rt; (used, decoder.output_len()) == (Ok(3), 3));
     assert!(rt; first_four(&decoder) == ([1, 3, 11, padding], padding));
+    let halves = [
+        halves_are_read_back(0),
+        halves_are_read_back(1),
+        halves_are_read_back(2),
+    ];
+    assert!(rt; halves == [true; 3]);
+}
+
+// Returns 4, 7, 11, 14, ..: `4 + k * 7 / 2` in whole numbers.
+fn halves() -> [u32; 123]
+    ensures { (offset : ℕ) → offset ≤ 4 → DoNotFall offset result }
+{
+    let mut values = [0u32; 123];
+    for k in 0..123u8 {
+        values[usize::from(k)] = 4 + u32::from(k) * 7 / 2;
+    }
+    values
+}
+
+// Returns whether these values after an offset take at most 154 bytes and read back with their padding.
+fn halves_are_read_back(offset: u32) -> bool
+    requires { offset ≤ 4 }
+{
+    let values = halves();
+    let mut encoder = BlockEncoder::new();
+    let bytes = encoder.compress_vint_sorted(&values, offset);
+    let mut decoder = BlockDecoder::default();
+    let used = decoder.try_uncompress_vint_sorted(bytes, offset, 123, 234_234_345);
+    let mut all = bytes.len() <= 154 && used == Ok(bytes.len());
+    all &= decoder.output_array() == values.as_slice();
+    for k in 123..128 {
+        all &= decoder.output(k) == 234_234_345;
+    }
+    all
 }
 
 // Differences of each vint length, and their sums below.

@@ -15,3 +15,5 @@ mod list_tests;
 mod recorder_tests;
 #[cfg(test)]
 mod serializer_tests;
+#[cfg(test)]
+mod written_tests;

@@ -1,8 +1,12 @@
 ghost use Rattle.std.specs.Prelude.{◌≡◌, [], ◌∷◌, IfSome};
+ghost use Rattle.ii_base.specs.Entries.{document};
 
 use bytes::Bytes;
-use ii_base::{Fault, HasLen, IndexRecordOption, LayoutFault};
-use ii_docset::{DocId, DocSet, Lent, Postings, SeekDangerResult, SeekOnce, TERMINATED};
+use ii_base::{AliveBitSet, Fault, HasLen, IndexRecordOption, LayoutFault};
+use ii_docset::{
+    CursorAnswer, CursorCall, DocId, DocSet, Lent, Postings, SeekDangerResult, SeekOnce,
+    TERMINATED, walk,
+};
 use ii_reader::{BlockSegmentPostings, LoadedPostings, SegmentPostings};
 use std::alloc::Global;
 use std::test::Fail;
@@ -15,7 +19,7 @@ const FULL: IndexRecordOption = IndexRecordOption::WithFreqsAndPositions;
 
 // A call of a cursor and its expected answer.
 #[derive(Clone, Copy)]
-enum Step {
+pub(crate) enum Step {
     // the current document
     At(DocId),
     // the document after `advance`
@@ -78,7 +82,7 @@ fn is_so<P: Postings>(alloc: Global, cursor: &mut P, step: Step) -> bool {
 }
 
 // Returns how many steps pass before the first unexpected answer.
-fn answered<P: Postings>(alloc: Global, cursor: &mut P, steps: &[Step]) -> usize {
+pub(crate) fn answered<P: Postings>(alloc: Global, cursor: &mut P, steps: &[Step]) -> usize {
     for (i, step) in steps.iter().enumerate() {
         if !is_so(alloc, cursor, *step) {
             return i;
@@ -435,6 +439,92 @@ fn cursors_are_lent_and_boxed(rt: HostRuntime) -> Result<(), Fail> {
     let list = &LISTS[0];
     assert!(rt; answered_in_box(rt.alloc(), list)? == list.steps.len());
     assert!(rt; sought_thrice(rt.alloc(), list)? == [2, 10, TERMINATED]);
+    Ok(())
+}
+
+// Documents 0, 2 and 10.
+static THREE: [u8; 3] = [0x80, 0x82, 0x88];
+
+// Opens a cursor over them.
+fn three() -> Option<SegmentPostings>
+    ensures { IfSome result (λ cursor. cursor.rest ≡ document 0 ∷ document 2 ∷ document 10 ∷ []) }
+{
+    let bytes = Bytes::from_static(&THREE);
+    match SegmentPostings::open(3, bytes, None, BASIC, BASIC) {
+        Ok(cursor) => Some(cursor),
+        Err(_) => None,
+    }
+}
+
+// Returns whether five calls of a cursor over them have these answers.
+fn is_walked<P: Postings>(alloc: Global, cursor: &mut P) -> bool
+    requires { P.rest cursor.old ≡ document 0 ∷ document 2 ∷ document 10 ∷ [] }
+{
+    let calls = [
+        CursorCall::Seek(1),
+        CursorCall::TermFreq,
+        CursorCall::Advance,
+        CursorCall::Advance,
+        CursorCall::Seek(0),
+    ];
+    let answers = [
+        CursorAnswer::Doc(2),
+        CursorAnswer::Freq(1),
+        CursorAnswer::Doc(10),
+        CursorAnswer::Doc(TERMINATED),
+        CursorAnswer::Doc(TERMINATED),
+    ];
+    let walked = walk(alloc, cursor, &calls);
+    walked.complete && walked.answers.as_slice() == answers.as_slice()
+}
+
+// Returns the same for a new cursor.
+fn three_are_walked(alloc: Global) -> bool {
+    match three() {
+        Some(mut cursor) => is_walked(alloc, &mut cursor),
+        None => false,
+    }
+}
+
+// Returns the same for a `dyn Postings`.
+fn boxed_are_walked(alloc: Global) -> Result<bool, Fault> {
+    let Some(cursor) = three() else {
+        return Ok(false);
+    };
+    let mut erased: Box<dyn Postings> = Box::new(alloc, cursor)?;
+    Ok(is_walked(alloc, &mut erased))
+}
+
+#[test]
+fn calls_are_walked(rt: HostRuntime) -> Result<(), Fail> {
+    assert!(rt; three_are_walked(rt.alloc()));
+    assert!(rt; boxed_are_walked(rt.alloc())?);
+    Ok(())
+}
+
+static ALL_DELETED: [DocId; 12] = [0, 1, 2, 3, 4, 5, 6, 7, 8, 9, 10, 11];
+
+// Returns how many of them are alive where document 2 of 12 is deleted, and where all are.
+fn alive_counts(alloc: Global, cursor: &SegmentPostings) -> Result<[u32; 2], Fault>
+    requires { cursor.now.rest ≡ document 0 ∷ document 2 ∷ document 10 ∷ [] }
+{
+    let without_one = AliveBitSet::from_deleted_docs(alloc, &[2], 12)?;
+    let first = cursor.doc_freq_given_deletes(&without_one)?;
+    let without_any = AliveBitSet::from_deleted_docs(alloc, &ALL_DELETED, 12)?;
+    Ok([first, cursor.doc_freq_given_deletes(&without_any)?])
+}
+
+// Returns the same for a new cursor.
+fn alive_of_three(alloc: Global) -> Result<[u32; 2], Fault> {
+    match three() {
+        Some(cursor) => alive_counts(alloc, &cursor),
+        None => Ok([0; 2]),
+    }
+}
+
+#[test]
+fn deletes_are_counted(rt: HostRuntime) -> Result<(), Fail> {
+    assert!(rt; alive_of_three(rt.alloc())? == [2, 0]);
     Ok(())
 }
 

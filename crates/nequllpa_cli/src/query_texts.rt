@@ -78,3 +78,34 @@ pub(crate) fn tell_left_out(
     }
     Ok(())
 }
+
+// Whether a tree has a text of several words without a field name.
+#[cycle(has_default_phrase)]
+fn has_default_phrase(ast: &UserInputAst) -> bool {
+    match ast {
+        UserInputAst::Leaf(literal) => {
+            literal.field_name.is_none() && has_words(literal.phrase.as_str())
+        }
+        UserInputAst::And(parts) => have_default_phrase(parts),
+        UserInputAst::Or(parts) => have_default_phrase(parts),
+        UserInputAst::AndNot(first, other) => {
+            has_default_phrase(first) || has_default_phrase(other)
+        }
+    }
+}
+
+#[cycle(has_default_phrase)]
+fn have_default_phrase(parts: &Vec<UserInputAst>) -> bool {
+    for part in parts {
+        if has_default_phrase(part) {
+            return true;
+        }
+    }
+    false
+}
+
+// Whether a text has several words.
+fn has_words(text: &str) -> bool {
+    let mut stream = AsciiTokenizer.token_stream(text);
+    stream.advance() && stream.advance()
+}

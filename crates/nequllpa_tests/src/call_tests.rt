@@ -1,10 +1,11 @@
 // Limits of the texts of a document, and an indexer after a failed call.
-ghost use Rattle.std.specs.Prelude.{◌≡◌, ◌<◌, ◌≤◌, true, false, IfOk, OnErr, OnOk};
-ghost use Rattle.ii_base.specs.declared.schema.value_type.ValueType.TheVariants as types;
-ghost use Rattle.ii_definitions.specs.IndexCalls.{Takes};
+ghost use Rattle.std.specs.Prelude.{◌≡◌, ◌≤◌, false};
+ghost use Rattle.ii_definitions.specs.IndexCalls.{MayBeIndexed, doc_of};
 
-use crate::memory_index::{FULL, Place, tokens_at};
-use ii_base::{AsciiTokenizer, Fault, Field, FieldEntry, LimitName, Schema, TokenList};
+use crate::memory_index::{
+    Call, FULL, Kind, Leaf, Place, Said, call_of, may_be_indexed, schema_of, tokens_at,
+};
+use ii_base::{AsciiTokenizer, Fault, LeafKind, LimitName};
 use ii_indexing::{
     IndexCall, IndexWriters, Indexer, IndexingContext, IndexingPosition, IndexingTerm,
     PostingsWriter, SpecializedPostingsWriter,
@@ -70,49 +71,41 @@ fn texts_of_a_document_have_limits(rt: HostRuntime) -> Result<(), Fail> {
     Ok(())
 }
 
-// Builds an indexer for 9 documents with one text field.
-fn indexer(alloc: Global) -> Result<Indexer, Fault>
-    ensures ready { IfOk result (λ i. (i.failed ≡ false) × (i.last_doc ≡ 0) × (i.num_docs ≡ 9)) }
-    ensures takes { IfOk result (λ i. Takes i.schema 0 types.Str) }
-{
-    let mut entries = Vec::new(alloc);
-    let name = String::from_str(alloc, "text")?;
-    entries.push(FieldEntry::text(name, FULL, true))?;
-    Indexer::new(alloc, Schema::new(entries), 9)
-}
+// A text field with norms, and a JSON field.
+static FIELDS: [Kind; 2] = [Kind::Text(true), Kind::Json(false)];
 
-// Indexes tokens in a document.
-fn put(indexer: &mut Indexer, doc: u32, tokens: TokenList) -> Result<(), Fault>
-    requires order { indexer.old.failed ≡ false → indexer.old.last_doc ≤ doc }
-    requires below { indexer.old.failed ≡ false → doc < indexer.old.num_docs }
-    requires takes { indexer.old.failed ≡ false → Takes indexer.old.schema 0 types.Str }
-    ensures rest { OnOk result ((indexer.new.schema ≡ indexer.old.schema) × (indexer.new.num_docs ≡ indexer.old.num_docs) × (indexer.new.last_doc ≡ doc) × (indexer.new.failed ≡ false)) }
-    ensures fails { OnErr result (indexer.new.failed ≡ true) }
-{
-    let field = Field::from_field_id(0);
-    indexer.index(IndexCall::Tokens(doc, field, tokens), &AsciiTokenizer)
-}
+// A token at position 0 of document 8.
+static LAST: Call = (8, 0, Said::Tokens(&[(0, 1, 1)]));
 
-// Returns the results of a new indexer for two lists of tokens.
+// Returns the results of a new indexer for two calls.
 fn answers_of(
     indexer: &mut Indexer,
-    first: TokenList,
-    second: TokenList,
+    first: IndexCall,
+    second: IndexCall,
 ) -> (Result<(), Fault>, Result<(), Fault>)
     requires ready { (indexer.old.failed ≡ false) × (indexer.old.last_doc ≡ 0) × (indexer.old.num_docs ≡ 9) }
-    requires takes { Takes indexer.old.schema 0 types.Str }
+    requires first { MayBeIndexed indexer.old.schema 9 first }
+    requires second { MayBeIndexed indexer.old.schema 9 second }
+    requires order { doc_of first ≤ doc_of second }
 {
-    match put(indexer, 0, first) {
-        Ok(()) => (Ok(()), put(indexer, 8, second)),
-        Err(fault) => (Err(fault), put(indexer, 0, second)),
+    match indexer.index(first, &AsciiTokenizer) {
+        Ok(()) => (Ok(()), indexer.index(second, &AsciiTokenizer)),
+        Err(fault) => (Err(fault), indexer.index(second, &AsciiTokenizer)),
     }
 }
 
-// Returns these results for some tokens and one at position 0, the result of finishing, and the length of the
-// file of postings.
-fn run(alloc: Global, places: &[Place]) -> Result<([Result<(), Fault>; 3], u64), Fault> {
-    let (first, second) = (tokens_at(alloc, places)?, tokens_at(alloc, &[(0, 1, 1)])?);
-    let mut indexer = indexer(alloc)?;
+// Returns these results for a call and the token after it, the result of finishing, and the length of the file
+// of postings.
+fn run(alloc: Global, call: &Call) -> Result<([Result<(), Fault>; 3], u64), Fault> {
+    let schema = schema_of(alloc, &FIELDS)?;
+    let (first, second) = (call_of(alloc, call)?, call_of(alloc, &LAST)?);
+    if first.doc() > second.doc() {
+        return Err(Fault::IndexerFailed);
+    }
+    if !may_be_indexed(&schema, 9, &first) || !may_be_indexed(&schema, 9, &second) {
+        return Err(Fault::IndexerFailed);
+    }
+    let mut indexer = Indexer::new(alloc, schema, 9)?;
     let (one, other) = answers_of(&mut indexer, first, second);
     let (files, finished) = indexer.finish(IndexWriters::in_memory(alloc));
     let len = files.postings.written_bytes();
@@ -123,11 +116,16 @@ fn run(alloc: Global, places: &[Place]) -> Result<([Result<(), Fault>; 3], u64),
 // The length of the number of tokens, the postings of documents with counts 2 and 1, and the table.
 const LEN: u64 = 36;
 
-static RUNS: [(&[Place], [Result<(), Fault>; 3], u64); 3] = [
-    (&[(5, 1, 1), (5, 1, 1)], [Ok(()), Ok(()), Ok(())], LEN),
+// A call, the results, and the length.
+static RUNS: [(Call, [Result<(), Fault>; 3], u64); 4] = [
+    (
+        (0, 0, Said::Tokens(&[(5, 1, 1), (5, 1, 1)])),
+        [Ok(()), Ok(()), Ok(())],
+        LEN,
+    ),
     // positions must not decrease
     (
-        &[(5, 1, 1), (4, 1, 1)],
+        (0, 0, Said::Tokens(&[(5, 1, 1), (4, 1, 1)])),
         [
             Err(Fault::DecreasingPosition),
             Err(Fault::IndexerFailed),
@@ -137,9 +135,26 @@ static RUNS: [(&[Place], [Result<(), Fault>; 3], u64); 3] = [
     ),
     // a token of length 0 at the last position
     (
-        &[(4294967295, 0, 1)],
+        (0, 0, Said::Tokens(&[(4294967295, 0, 1)])),
         [
             Err(LIMIT_POSITION),
+            Err(Fault::IndexerFailed),
+            Err(Fault::IndexerFailed),
+        ],
+        0,
+    ),
+    // a float after a number
+    (
+        (
+            0,
+            1,
+            Said::Object(&[
+                ("a", Leaf::Number(1)),
+                ("b", Leaf::Float(4607182418800017408)),
+            ]),
+        ),
+        [
+            Err(Fault::UnsupportedLeaf(LeafKind::Float)),
             Err(Fault::IndexerFailed),
             Err(Fault::IndexerFailed),
         ],
@@ -150,9 +165,8 @@ static RUNS: [(&[Place], [Result<(), Fault>; 3], u64); 3] = [
 #[test]
 fn an_indexer_that_refused_a_call_has_failed(rt: HostRuntime) -> Result<(), Fail> {
     for row in &RUNS {
-        let (places, wanted, wanted_len) = *row;
-        let (answers, len) = run(rt.alloc(), places)?;
-        assert!(rt; (answers, len) == (wanted, wanted_len));
+        let (call, wanted, wanted_len) = row;
+        assert!(rt; run(rt.alloc(), call)? == (*wanted, *wanted_len));
     }
     Ok(())
 }

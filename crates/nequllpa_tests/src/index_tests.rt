@@ -1,13 +1,29 @@
 // Tables of calls: the postings found, the files written, and the errors.
-use crate::memory_index::{Call, Key, Kind, Leaf, Said, calls_of, files_of, indexed, told};
-use ii_base::{Fault, LeafKind, LimitName};
+ghost use Rattle.std.specs.Prelude.{◌≡◌, length};
+
+use crate::memory_index::{
+    Call, Key, Kind, Leaf, Said, calls_of, files_of, files_of_calls, indexed, tokens_at, told,
+};
+use ii_base::{Fault, Field, LeafKind, LimitName, ValueType};
 use ii_docset::DocId;
-use ii_indexing::IndexWriters;
+use ii_indexing::{IndexCall, IndexWriters};
+use ii_reader::{InvertedIndexFieldSpace, OpenIndex};
 use std::alloc::Global;
 use std::test::Fail;
 
+// An object of numbers. A key is repeated, and one has byte 0.
+const NUMBERS: Call = (
+    0,
+    0,
+    Said::Object(&[
+        ("a", Leaf::Under("b", 1)),
+        ("a", Leaf::Number(2)),
+        ("c\0", Leaf::Number(3)),
+    ]),
+);
+
 // Fields, number of documents, calls, keys, and the postings found.
-static FOUND: [(&[Kind], DocId, &[Call], &[Key], &str); 11] = [
+static FOUND: [(&[Kind], DocId, &[Call], &[Key], &str); 13] = [
     // no calls
     (
         &[Kind::Text(false)],
@@ -135,6 +151,37 @@ static FOUND: [(&[Kind], DocId, &[Call], &[Key], &str); 11] = [
         &[(0, b"k8s.node\0sx"), (0, b"k8s\x01node\0sx")],
         "; 0:1:0, ; 1 tokens of 1 terms",
     ),
+    // texts of an array have one path, with a gap between them
+    (
+        &[Kind::Json(false)],
+        1,
+        &[(
+            0,
+            0,
+            Said::Object(&[(
+                "bands",
+                Leaf::Each("band_name", &["Elliot Smith", "The Who"]),
+            )]),
+        )],
+        &[
+            (0, b"bands\x01band_name\0sElliot"),
+            (0, b"bands\x01band_name\0sSmith"),
+            (0, b"bands\x01band_name\0sThe"),
+            (0, b"bands\x01band_name\0sWho"),
+        ],
+        "0:1:0, ; 0:1:1, ; 0:1:3, ; 0:1:4, ; 4 tokens of 4 terms",
+    ),
+    // a number at a path, one below it, and one under a key with byte 0
+    (
+        &[Kind::Json(false)],
+        1,
+        &[NUMBERS],
+        &[
+            (0, &[0x61, 0, 0x69, 0x80, 0, 0, 0, 0, 0, 0, 2]),
+            (0, &[0x61, 1, 0x62, 0, 0x69, 0x80, 0, 0, 0, 0, 0, 0, 1]),
+        ],
+        "0:1: ; 0:1: ; 2 tokens of 2 terms",
+    ),
 ];
 
 // Returns the postings of keys in the index of some calls.
@@ -159,6 +206,46 @@ fn calls_are_found(rt: HostRuntime) -> Result<(), Fail> {
         let told = told_of(rt.alloc(), kinds, num_docs, table, keys)?;
         assert_eq!(rt; told.as_str(), wanted);
     }
+    Ok(())
+}
+
+// Returns whether a path of the numbers has one term of one byte of postings and of positions.
+fn is_path(space: &InvertedIndexFieldSpace, path: &[u8]) -> bool {
+    space.field_name.as_slice() == path
+        && space.field_type == ValueType::I64
+        && space.postings_size == 1
+        && space.positions_size == 1
+        && space.num_terms == 1
+}
+
+// Returns whether these are the paths of the numbers.
+fn are_paths(spaces: &[InvertedIndexFieldSpace]) -> bool {
+    spaces.len() == 2 && is_path(&spaces[0], b"a") && is_path(&spaces[1], b"a\x01b")
+}
+
+// Returns the same for the first field of an index.
+fn has_paths(alloc: Global, num_fields: usize, index: &OpenIndex) -> Result<bool, Fault>
+    requires { num_fields ≡ length index.now.readers }
+{
+    if num_fields == 0 {
+        return Ok(false);
+    }
+    let reader = index.reader(Field::from_field_id(0));
+    Ok(are_paths(reader.list_encoded_json_fields(alloc)?.as_slice()))
+}
+
+// Returns the same for the index of the numbers.
+fn numbers_have_paths(alloc: Global) -> Result<bool, Fault> {
+    let calls = calls_of(alloc, &[NUMBERS])?;
+    let (num_fields, index) = indexed(alloc, &[Kind::Json(false)], 1, calls)?;
+    let have = has_paths(alloc, num_fields, &index);
+    drop(index);
+    have
+}
+
+#[test]
+fn paths_are_listed(rt: HostRuntime) -> Result<(), Fail> {
+    assert!(rt; numbers_have_paths(rt.alloc())?);
     Ok(())
 }
 
@@ -225,6 +312,56 @@ fn files_have_their_bytes(rt: HostRuntime) -> Result<(), Fail> {
             "of {num_docs} documents"
         );
     }
+    Ok(())
+}
+
+// Builds the calls of a word at positions 1, 3, 6 and 8 of each of 120 documents.
+fn often(alloc: Global) -> Result<Vec<IndexCall>, Fault> {
+    let places = [(1, 1, 1), (3, 1, 1), (6, 1, 1), (8, 1, 1)];
+    let mut calls = Vec::new(alloc);
+    for doc in 0..120 {
+        let tokens = tokens_at(alloc, &places)?;
+        calls.push(IndexCall::Tokens(doc, Field::from_field_id(0), tokens))?;
+    }
+    Ok(calls)
+}
+
+// Returns whether a file of positions has three blocks of two bits, 96 deltas, and its table.
+fn has_deltas(bytes: &[u8]) -> bool {
+    if bytes.len() != 196 + 24 {
+        return false;
+    }
+    let mut all = bytes.starts_with(&[0x83, 2, 2, 2]);
+    for byte in &bytes[4..100] {
+        all &= *byte == 0xB9;
+    }
+    for deltas in bytes[100..196].chunks(4) {
+        all &= deltas == [0x81, 0x82, 0x83, 0x82].as_slice();
+    }
+    all
+}
+
+// Returns whether the index of these calls has such a file.
+fn often_has_deltas(alloc: Global) -> Result<bool, Fault> {
+    let calls = often(alloc)?;
+    let (files, answer) = files_of_calls(alloc, &[Kind::Text(false)], 120, calls)?;
+    let IndexWriters {
+        terms,
+        postings,
+        positions,
+        fieldnorms,
+    } = files;
+    drop(terms);
+    drop(postings);
+    drop(fieldnorms);
+    let have = has_deltas(positions.finish().as_slice());
+    answer?;
+    Ok(have)
+}
+
+#[test]
+fn deltas_are_packed(rt: HostRuntime) -> Result<(), Fail> {
+    assert!(rt; often_has_deltas(rt.alloc())?);
     Ok(())
 }
 

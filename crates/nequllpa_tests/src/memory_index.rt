@@ -38,6 +38,10 @@ pub enum Leaf {
     Number(u64),
     Date(i64),
     Float(u64),
+    /// An object with one number.
+    Under(&'static str, u64),
+    /// An array of objects with one text each, all under the same key.
+    Each(&'static str, &'static [&'static str]),
 }
 
 /// A token: its position, its position length, and its number of letters `a`.
@@ -122,6 +126,23 @@ pub fn tokens_at(alloc: Global, places: &[Place]) -> Result<TokenList, Fault> {
     Ok(TokenList::new(tokens))
 }
 
+// Builds an object with one member.
+fn object(alloc: Global, key: &str, value: JsonValue) -> Result<JsonValue, Fault> {
+    let mut members = Vec::new(alloc);
+    members.push((String::from_str(alloc, key)?, value))?;
+    Ok(JsonValue::Object(members))
+}
+
+// Builds an array of objects with one text each.
+fn objects(alloc: Global, key: &str, texts: &[&'static str]) -> Result<JsonValue, Fault> {
+    let mut items = Vec::new(alloc);
+    for text in texts {
+        let text = JsonValue::Str(String::from_str(alloc, text)?);
+        items.push(object(alloc, key, text)?)?;
+    }
+    Ok(JsonValue::Array(items))
+}
+
 // Builds a member with a leaf.
 fn member_of(alloc: Global, key: &str, leaf: &Leaf) -> Result<(String, JsonValue), Fault> {
     let key = String::from_str(alloc, key)?;
@@ -130,6 +151,8 @@ fn member_of(alloc: Global, key: &str, leaf: &Leaf) -> Result<(String, JsonValue
         Leaf::Number(number) => JsonValue::U64(*number),
         Leaf::Date(date) => JsonValue::Date(*date),
         Leaf::Float(bits) => JsonValue::F64Bits(*bits),
+        Leaf::Under(below, number) => object(alloc, below, JsonValue::U64(*number))?,
+        Leaf::Each(below, texts) => objects(alloc, below, texts)?,
     };
     Ok((key, value))
 }
@@ -154,8 +177,8 @@ fn arrays_of(alloc: Global, number: usize) -> Result<JsonValue, Fault> {
     Ok(value)
 }
 
-// Builds a call.
-fn call_of(alloc: Global, call: &Call) -> Result<IndexCall, Fault> {
+/// Builds a call.
+pub fn call_of(alloc: Global, call: &Call) -> Result<IndexCall, Fault> {
     let (doc, field, said) = call;
     let (doc, field) = (*doc, Field::from_field_id(*field));
     Ok(match said {
@@ -195,8 +218,8 @@ fn type_in(call: &IndexCall) -> ValueType
     }
 }
 
-// Returns whether a call may be made.
-fn may_be_indexed(schema: &Schema, num_docs: DocId, call: &IndexCall) -> bool
+/// Returns whether a call may be made.
+pub fn may_be_indexed(schema: &Schema, num_docs: DocId, call: &IndexCall) -> bool
     ensures { result ≡ true → MayBeIndexed schema.now num_docs call.now }
 {
     let field = call.field();
@@ -277,7 +300,18 @@ pub fn files_of(
     num_docs: DocId,
     table: &[Call],
 ) -> Result<(IndexWriters<Vec<u8>>, Result<(), Fault>), Fault> {
-    let (schema, calls) = ready_of(alloc, kinds, num_docs, table)?;
+    let calls = calls_of(alloc, table)?;
+    files_of_calls(alloc, kinds, num_docs, calls)
+}
+
+/// Does the same for calls.
+pub fn files_of_calls(
+    alloc: Global,
+    kinds: &[Kind],
+    num_docs: DocId,
+    calls: Vec<IndexCall>,
+) -> Result<(IndexWriters<Vec<u8>>, Result<(), Fault>), Fault> {
+    let (schema, calls) = ready(alloc, kinds, num_docs, calls)?;
     let files = IndexWriters::in_memory(alloc);
     Ok(write_index(alloc, schema, num_docs, calls, &AsciiTokenizer, files))
 }
@@ -317,8 +351,12 @@ pub fn cursor_of(
     cursor
 }
 
-// Appends the current document of a cursor with its count and positions, and a space.
-fn push_doc(alloc: Global, text: &mut String, cursor: &mut SegmentPostings) -> Result<(), Fault> {
+/// Appends the current document of a cursor with its count and positions, and a space.
+pub fn push_doc(
+    alloc: Global,
+    text: &mut String,
+    cursor: &mut SegmentPostings,
+) -> Result<(), Fault> {
     let doc = cursor.doc();
     if doc >= TERMINATED {
         return Ok(());
