@@ -1,5 +1,6 @@
 -- The offsets of the runs of a text.
 use Rattle.std.proofs.Common.{◌≡◌, ℕ, zero, suc, ◌+◌, ◌-◌, ◌<◌, ◌≤◌, Bool, true, false, not, ◌&&◌, ◌||◌, List, [], ◌∷◌, ◌++◌, length, length-drop, drop, get_or, nat_eq, nat_le, refl, ap, arith, ◌∙◌, Some, None, rules}
+use Rattle.std.proofs.Math.Bool.{and-false}
 use Rattle.std.specs.List.{prefix_len, range_with_len, slice_index}
 use Rattle.std.specs.Prelude.{IsSome, if◌then◌else◌}
 use Rattle.std.specs.Str.{IsUtf8, IsCharBoundary}
@@ -96,10 +97,6 @@ skip_run text p i (suc n) within out =
     let less : i + n < length text = omega (arith, within) in
     ap (words_from text p) last ∙ words_skip text p (i + n) less (out (i + n) (omega arith) (omega arith)) ∙ known
 
-and_false : (b : Bool) → (b && false) ≡ false
-and_false true = refl
-and_false false = refl
-
 -- no run begins inside another
 inside_run : (text : List ℕ) (i j : ℕ) → i < j → j < i + length (run_at text i) → begins_run text j ≡ false
 inside_run text i j low high =
@@ -108,7 +105,7 @@ inside_run text i j low high =
     let word = prefix_len_passes is_word_byte (drop i text) k 0 (omega (arith, len, low, high)) in
     let place : i + k ≡ j - 1 = omega (arith, low) in
     let here : is_word_at text (j - 1) ≡ true = rw (← place) (rw (get_or-drop i text k 0) at word) in
-    rw (here, ne_eqb j 0 (λ e. omega (arith, e, low))) (and_false (is_word_at text j))
+    rw (here, ne_eqb j 0 (λ e. omega (arith, e, low))) (and-false (is_word_at text j))
 
 some_by : (text : List ℕ) (i n : ℕ) → prefix_len is_word_byte (drop i text) ≡ n → i < length text → is_word_at text i ≡ true → 0 < n
 some_by text i zero e within word =

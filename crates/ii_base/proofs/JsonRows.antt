@@ -65,14 +65,11 @@ float_is_reached = refl
 pub float_is_left_out : json_leaves false (object (member (codes "a") (number 1) (member (codes "b" ++ 0 ∷ []) (leaf (unsupported kinds.Float)) no_members))) ≡ (codes "a", value_leaf types.I64 (2 ^ 63 + 1)) ∷ []
 float_is_left_out = refl
 
--- nested arrays with nothing inside
+-- a number in nested arrays
 abbrev in_arrays : ℕ → Json
-in_arrays zero = null
+in_arrays zero = number 1
 in_arrays (suc n) = array (item (in_arrays n) no_items)
 
--- the deepest value that is taken, and one that is deeper
-pub deepest : json_leaves false (in_arrays 128) ≡ []
-deepest = refl
-
-pub too_deep : json_leaves false (in_arrays 129) ≡ ([], unsupported kinds.Deep) ∷ []
-too_deep = refl
+-- a leaf below many levels
+pub deep_leaf : json_leaves false (in_arrays 200) ≡ ([], value_leaf types.I64 (2 ^ 63 + 1)) ∷ []
+deep_leaf = refl

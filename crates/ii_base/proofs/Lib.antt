@@ -2,7 +2,6 @@ mod AliveLemmas
 pub mod AscentLemmas
 pub mod AsciiLemmas
 mod CharLemmas
-mod DepthLemmas
 mod JsonRows
 mod PathLemmas
 mod PathRows

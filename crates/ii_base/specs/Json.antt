@@ -1,5 +1,5 @@
 -- A JSON value and its leaves.
-use Rattle.std.specs.Prelude.{ℕ, ◌^◌, Bool, pos, List, [], ◌∷◌, ◌++◌, max, nat_le, nat_lt, suc, if◌then◌else◌, Option, Some, None, String, string_bytes}
+use Rattle.std.specs.Prelude.{ℕ, ◌^◌, Bool, pos, List, [], ◌∷◌, ◌++◌, nat_lt, if◌then◌else◌, Option, Some, None, String, string_bytes}
 use Rattle.std.specs.declared.alloc.Global.{Global}
 use Rattle.ii_io.specs.declared.faults.LeafKind.{LeafKind}
 use Rattle.ii_io.specs.declared.faults.LeafKind.TheVariants as kinds
@@ -7,7 +7,6 @@ use Rattle.ii_base.specs.declared.json_value.JsonValue.{JsonValue, fold-JsonValu
 use Rattle.ii_base.specs.declared.json_value.JsonValue.TheOpen.{JsonValue-F}
 use Rattle.ii_base.specs.declared.json_value.JsonLeaf.{JsonLeaf}
 use Rattle.ii_base.specs.declared.json_value.JsonLeaf.TheVariants.{Text, Value, Unsupported}
-use Rattle.ii_base.specs.declared.json_value.TheConstants.{MAX_DEPTH}
 use Rattle.ii_base.specs.declared.schema.value_type.ValueType.{ValueType}
 use Rattle.ii_base.specs.declared.schema.value_type.ValueType.TheVariants as types
 use Rattle.ii_base.specs.Paths.{has_zero, joined_segments, segment_bytes}
@@ -51,25 +50,9 @@ abbrev mutual
   members_leaves expand_dots path (member k j ms) =
       (if has_zero k then [] else leaves_below expand_dots (path ++ segment_bytes expand_dots k ∷ []) j) ++ members_leaves expand_dots path ms
 
--- the nesting depth of arrays and objects
-abbrev mutual
-  pub depth : Json → ℕ
-  depth null = 0
-  depth (leaf l) = 0
-  depth (array is) = suc (items_depth is)
-  depth (object ms) = suc (members_depth ms)
-
-  pub items_depth : Items → ℕ
-  items_depth no_items = 0
-  items_depth (item j is) = max (depth j) (items_depth is)
-
-  pub members_depth : Members → ℕ
-  members_depth no_members = 0
-  members_depth (member k j ms) = max (depth j) (members_depth ms)
-
--- the leaves of a value with their paths, in order; a value that is too deep is one unsupported leaf
+-- the leaves of a value with their paths, in order
 abbrev pub json_leaves : Bool → Json → List (List ℕ × Leaf)
-json_leaves expand_dots j = if nat_le (depth j) MAX_DEPTH then leaves_below expand_dots [] j else ([], unsupported kinds.Deep) ∷ []
+json_leaves expand_dots j = leaves_below expand_dots [] j
 
 -- the leaf of an unsigned number, a signed one if it fits
 abbrev pub u64_leaf : ℕ → Leaf

@@ -1,14 +1,10 @@
-ghost use Rattle.std.specs.Prelude.{◌≡◌, map, nat_le};
-ghost use Rattle.ii_base.specs.Json.{depth, items_depth, items_from, json_of, members_depth, members_from};
+ghost use Rattle.std.specs.Prelude.{◌≡◌};
 ghost use Rattle.ii_base.specs.Values.{whole_seconds};
 
 use crate::datetime::DateTime;
 use crate::fast_value::FastValue;
 use crate::schema::value_type::ValueType;
 use ii_io::LeafKind;
-
-/// The maximum nesting depth of arrays and objects in a value that can be indexed.
-pub const MAX_DEPTH: usize = 128;
 
 /// A JSON value, or another value that a document may hold within JSON.
 #[derive(Drop)]
@@ -77,42 +73,6 @@ impl JsonValue {
             JsonValue::Ip => Some(JsonLeaf::Unsupported(LeafKind::Ip)),
         }
     }
-}
-
-/// Returns whether arrays and objects are nested at most `limit` deep, without descending further.
-#[cycle(within)]
-pub fn is_within(value: &JsonValue, limit: usize) -> bool
-    ensures { result ≡ nat_le (depth (json_of value.now)) limit }
-{
-    match value {
-        JsonValue::Array(items) => limit > 0 && are_items_within(items, limit - 1),
-        JsonValue::Object(members) => limit > 0 && are_members_within(members, limit - 1),
-        _ => true,
-    }
-}
-
-#[cycle(within)]
-fn are_items_within(items: &Vec<JsonValue>, limit: usize) -> bool
-    ensures { result ≡ nat_le (items_depth (items_from (map json_of items.now.items))) limit }
-{
-    for item in items {
-        if !is_within(item, limit) {
-            return false;
-        }
-    }
-    true
-}
-
-#[cycle(within)]
-fn are_members_within(members: &Vec<(String, JsonValue)>, limit: usize) -> bool
-    ensures { result ≡ nat_le (members_depth (members_from (map (λ m. (m.0, json_of m.1)) members.now.items))) limit }
-{
-    for (_key, member) in members {
-        if !is_within(member, limit) {
-            return false;
-        }
-    }
-    true
 }
 
 impl<'a> JsonLeaf<'a> {

@@ -22,7 +22,7 @@ pub use ii_io::{
 };
 pub use json_path_writer::JsonPathWriter;
 pub use json_utils::{encode_column_name, split_json_path};
-pub use json_value::{JsonLeaf, JsonValue, MAX_DEPTH};
+pub use json_value::{JsonLeaf, JsonValue};
 pub use schema::Schema;
 pub use schema::field_entry::FieldEntry;
 pub use schema::index_record_option::IndexRecordOption;

@@ -7,7 +7,7 @@ use ii_io::{CountingWriter, Fault, LimitName};
 use std::io::Write;
 use std::marker::Model;
 
-/// Returns the number of bits of `n`, from 0 to 64.
+/// Returns the number of significant bits of `n`, from 0 to 64.
 pub fn compute_num_bits(n: u64) -> u8
     ensures value { result ≡ num_bits n }
     ensures most { result ≤ 64 }

@@ -6,14 +6,13 @@ use Rattle.std.specs.List.{AllByRecursion}
 use Rattle.std.proofs.lemmas.Bool.{eqb-true}
 use Rattle.std.proofs.lemmas.List.Folds.{list_any-append}
 use Rattle.ii_io.specs.declared.faults.LeafKind.TheVariants as kinds
-use Rattle.ii_base.specs.Json.{depth, Items, Json, Leaf, Members, array, item, items_from, items_leaves, json_leaves, json_of, json_step, leaf, leaves_below, member, members_from, members_leaves, no_items, no_members, null, object, text_leaf, u64_leaf, unsupported, value_leaf}
+use Rattle.ii_base.specs.Json.{Items, Json, Leaf, Members, array, item, items_from, items_leaves, json_leaves, json_of, json_step, leaf, leaves_below, member, members_from, members_leaves, no_items, no_members, null, object, text_leaf, u64_leaf, unsupported, value_leaf}
 use Rattle.ii_base.specs.Paths.{has_zero, joined_segments, segment_bytes}
 use Rattle.ii_base.specs.Values.{flipped}
 use Rattle.ii_base.specs.ValueTypes.{code_of}
 use Rattle.ii_base.specs.declared.json_value.JsonValue.{JsonValue, map-JsonValue}
 use Rattle.ii_base.specs.declared.json_value.JsonValue.TheOpen.{JsonValue-F}
 use Rattle.ii_base.specs.declared.json_value.JsonValue.TheFolds.{fold-roll-JsonValue, ind-JsonValue}
-use Rattle.ii_base.specs.declared.json_value.TheConstants.{MAX_DEPTH}
 use Rattle.ii_base.specs.declared.schema.value_type.ValueType.TheVariants as types
 use Rattle.ii_definitions.proofs.ListLaws.{all_both}
 
@@ -137,8 +136,4 @@ mutual
 
 -- the leaves of a value have clean paths, and are plain
 pub clean_leaves : (expand_dots : Bool) (v : JsonValue) → AllByRecursion IsCleanLeaf (json_leaves expand_dots (json_of v))
-clean_leaves expand_dots v = by (nat_le (depth (json_of v)) MAX_DEPTH)
-  where
-    by : (b : Bool) → AllByRecursion IsCleanLeaf (if b then leaves_below expand_dots [] (json_of v) else ([], unsupported kinds.Deep) ∷ [])
-    by true = clean_below expand_dots [] (json_of v) tt (all_plain v)
-    by false = ((refl, tt), tt)
+clean_leaves expand_dots v = clean_below expand_dots [] (json_of v) tt (all_plain v)

@@ -1,6 +1,6 @@
 ghost use Rattle.std.specs.Prelude.{◌≡◌, ◌<◌, ◌++◌, ◌∷◌, [], List, ℕ, true, false, length, IfOk, OnOk};
 ghost use Rattle.std.specs.List.{flat_map};
-ghost use Rattle.ii_base.specs.Json.{json_leaves, json_of, leaves_below};
+ghost use Rattle.ii_base.specs.Json.{json_leaves, json_of};
 ghost use Rattle.ii_base.specs.Schema.{SchemaEntry};
 ghost use Rattle.ii_base.specs.declared.schema.value_type.ValueType.TheVariants.{Json};
 ghost use Rattle.ii_base.specs.declared.doc_id.TheConstants.{TERMINATED};
@@ -13,10 +13,7 @@ ghost use Rattle.ii_indexing.specs.OpenDocuments.{with_norms};
 ghost use Rattle.ii_indexing.specs.Refusals.{next_leaf_fault};
 
 use crate::indexed_fields::IndexedFields;
-use ii_base::json_value::is_within;
-use ii_base::{
-    DocId, Fault, Field, JsonLeaf, JsonPathWriter, JsonValue, LeafKind, MAX_DEPTH, TextAnalyzer,
-};
+use ii_base::{DocId, Fault, Field, JsonLeaf, JsonPathWriter, JsonValue, TextAnalyzer};
 use ii_json::{LeafSink, visit_leaves};
 use std::alloc::Global;
 
@@ -77,8 +74,7 @@ impl<A: TextAnalyzer> LeafSink for LeafIndexer<'_, A> {
     }
 }
 
-// Indexes the leaves of a value. `expand_dots` says whether the dots of keys are expanded. A value
-// that is too deep is refused before it is visited.
+// Indexes the leaves of a value. `expand_dots` says whether the dots of keys are expanded.
 pub(crate) fn index_json_value<A: TextAnalyzer>(
     alloc: Global,
     fields: &mut IndexedFields,
@@ -103,37 +99,6 @@ pub(crate) fn index_json_value<A: TextAnalyzer>(
     ensures refused { (entries : List SchemaEntry) (ps : List Piece) → Takes entries field Json → StoresAll entries fields.old ps
         → IsRefusedBy (leaves_fault (next_leaf_fault (A.words analyzer.now) (option_of entries field) ps doc field) [] (json_leaves expand_dots (json_of value.now))) result }
 {
-    if !is_within(value, MAX_DEPTH) {
-        return Err(Fault::UnsupportedLeaf(LeafKind::Deep));
-    }
-    index_leaves(alloc, fields, doc, field, value, expand_dots, analyzer)
-}
-
-// Indexes the leaves of a value of any depth.
-fn index_leaves<A: TextAnalyzer>(
-    alloc: Global,
-    fields: &mut IndexedFields,
-    doc: DocId,
-    field: Field,
-    value: &JsonValue,
-    expand_dots: bool,
-    analyzer: &A,
-) -> Result<(), Fault>
-    requires low { doc < TERMINATED }
-    requires known { field < length fields.old.indexed.writers }
-    requires ends { EndsAt doc fields.old }
-    ensures stored { OnOk result ((entries : List SchemaEntry) (ps : List Piece) → Takes entries field Json → StoresAll entries fields.old ps
-        → StoresAll entries fields.new (ps ++ flat_map (leaf_pieces (A.words analyzer.now) doc field) (leaves_below expand_dots [] (json_of value.now)))) }
-
-    // Preconditions of the next call.
-    ensures ends { OnOk result (EndsAt doc fields.new) }
-    ensures fields { OnOk result (length fields.new.indexed.writers ≡ length fields.old.indexed.writers) }
-    ensures norms { OnOk result (with_norms fields.new.opened.norms ≡ with_norms fields.old.opened.norms) }
-
-    // Errors.
-    ensures refused { (entries : List SchemaEntry) (ps : List Piece) → Takes entries field Json → StoresAll entries fields.old ps
-        → IsRefusedBy (leaves_fault (next_leaf_fault (A.words analyzer.now) (option_of entries field) ps doc field) [] (leaves_below expand_dots [] (json_of value.now))) result }
-{
     let mut writer = JsonPathWriter::new(alloc);
     writer.set_expand_dots(expand_dots);
     let mut sink = LeafIndexer {
@@ -143,5 +108,5 @@ fn index_leaves<A: TextAnalyzer>(
         field,
         alloc,
     };
-    visit_leaves(value, &mut writer, &mut sink)
+    visit_leaves(alloc, value, &mut writer, &mut sink)
 }

@@ -14,8 +14,6 @@ pub enum LeafKind {
     Bytes,
     Facet,
     Ip,
-    /// A value with arrays and objects nested more deeply than an index supports.
-    Deep,
 }
 
 /// The limit that a number exceeded.
@@ -149,7 +147,6 @@ impl LeafKind {
             LeafKind::Bytes => "bytes",
             LeafKind::Facet => "facet",
             LeafKind::Ip => "IP address",
-            LeafKind::Deep => "deep value",
         }
     }
 }

@@ -1,11 +1,11 @@
 -- The fault for leaves after others.
-use Rattle.std.proofs.Common.{◌≡◌, ◌⊎◌, ℕ, ◌-◌, length, length-append, take, String, Global, arith, List, [], ◌∷◌, ◌++◌, append_assoc, append-nil, Option, None, Some, inl, inr, refl, sym, ap, subst, ◌∙◌}
+use Rattle.std.proofs.Common.{◌≡◌, ◌⊎◌, ℕ, ◌-◌, length, length-append, take, arith, List, [], ◌∷◌, ◌++◌, append_assoc, append-nil, Option, None, Some, inl, inr, refl, sym, ap, subst, ◌∙◌}
 use Rattle.ii_io.specs.declared.faults.Fault.{Fault}
 use Rattle.ii_io.specs.declared.faults.Fault.TheVariants.{OutOfMemory}
 use Rattle.std.proofs.Math.Seq.{take-append_seam}
 use Rattle.ii_base.specs.Json.{Leaf}
 use Rattle.ii_base.specs.Paths.{PathState, segment_bytes}
-use Rattle.ii_base.specs.declared.json_value.JsonValue.{JsonValue}
+use Rattle.ii_json.specs.Branches.{with_key, without_last}
 use Rattle.ii_json.specs.LeafVisit.{first_fault, leaves_fault}
 
 abbrev pub AtPath : Type 0
@@ -38,6 +38,10 @@ module _ {S Given Constant : Type 0} (constant : S → Constant) (ready : S → 
         → (taken : List AtPath) × (holds now given taken) × (taken ++ rest ≡ before ++ all) × (leaves_fault (fault (constant start) given) before all ≡ leaves_fault (fault (constant start) given) taken rest)
 
 module _ {S Given Constant : Type 0} (constant : S → Constant) (ready : S → Type 0) (holds : S → Given → List AtPath → Type 0) (fault : Constant → Given → LeafFault) (start now : S) (all rest : List AtPath) where
+  pub handed_same : (more : List AtPath) → IsHanding constant ready holds fault start now all rest → rest ≡ more → IsHanding constant ready holds fault start now all more
+  handed_same more is same = subst (IsHanding constant ready holds fault start now all) same is
+
+module _ {S Given Constant : Type 0} (constant : S → Constant) (ready : S → Type 0) (holds : S → Given → List AtPath → Type 0) (fault : Constant → Given → LeafFault) (start now : S) (all rest : List AtPath) where
   pub handed_more : (after : S) (one more : List AtPath) → IsHanding constant ready holds fault start now all rest → rest ≡ one ++ more → ready after
       → ((given : Given) (before : List AtPath) → holds now given before → holds after given (before ++ one))
       → ((given : Given) (before : List AtPath) → holds now given before → leaves_fault (fault (constant now) given) before one ≡ None)
@@ -65,16 +69,6 @@ module _ {S Given Constant : Type 0} (constant : S → Constant) (ready : S → 
       let cause : (e ≡ OutOfMemory) ⊎ (leaves_fault f k.0 one ≡ Some e) = subst (λ (c : Constant). (e ≡ OutOfMemory) ⊎ (leaves_fault (fault c given) k.0 one ≡ Some e)) is.same (refused given k.0 k.1) in
       let whole = k.3 ∙ ap (leaves_fault f k.0) step ∙ leaves_fault-append f k.0 one more in
       subst (λ (c : Option Fault). (e ≡ OutOfMemory) ⊎ (c ≡ Some e)) (sym whole) (cause_first (leaves_fault f k.0 one) (leaves_fault f (k.0 ++ one) more) e cause)
-
-abbrev pub Member : Type 0
-Member = String Global × JsonValue
-
--- a path with one segment more
-abbrev pub with_key : PathState → List ℕ → PathState
-with_key at key = record { segments = at.segments ++ segment_bytes at.expand_dots key ∷ []; expand_dots = at.expand_dots }
-
-abbrev pub without_last : PathState → PathState
-without_last at = record { segments = take (length at.segments - 1) at.segments; expand_dots = at.expand_dots }
 
 pub key_popped : (at : PathState) (key : List ℕ) → without_last (with_key at key) ≡ at
 key_popped at key =

@@ -1,3 +1,4 @@
+mod BranchLemmas
 mod CleanPaths
 mod DottedLemmas
 pub mod KeyOrder

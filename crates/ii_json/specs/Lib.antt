@@ -1,3 +1,4 @@
+pub mod Branches
 pub mod DottedPaths
 pub mod FastValues
 pub mod JsonTerms

@@ -1,6 +1,7 @@
 //! The JSON paths of a field's values, during indexing and in term keys.
 #![tactic(auto)]
 
+mod branch;
 pub mod fast_values;
 pub mod json_term_serializer;
 pub mod json_utils;

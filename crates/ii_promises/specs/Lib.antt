@@ -1,2 +1,3 @@
 pub mod Decodes
+pub mod DeepValues
 pub mod Texts

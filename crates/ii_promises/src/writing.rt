@@ -1,15 +1,16 @@
 // What is written, and what is reported if it can't be.
-ghost use Rattle.std.specs.Prelude.{◌≡◌, ◌+◌, ◌≤◌, ◌<◌, ◌⊎◌, ◌↔◌, ◌∷◌, ◌++◌, List, [], true, false, map, Err, IfErr, IfSome, IsErrOf, OnErr, OnOk, Some};
-ghost use Rattle.ii_base.specs.Json.{depth, json_of};
+ghost use Rattle.std.specs.Prelude.{◌≡◌, ◌+◌, ◌≤◌, ◌<◌, ◌⊎◌, ◌↔◌, ◌∷◌, ◌++◌, ℕ, List, [], true, false, map, Err, IfErr, IfSome, IsErrOf, OnErr, OnOk, Some};
+ghost use Rattle.ii_base.specs.Json.{Leaf, json_of};
 ghost use Rattle.ii_definitions.specs.Fields.{option_of};
-ghost use Rattle.ii_definitions.specs.Tokens.{Piece, call_pieces, tokens_of};
+ghost use Rattle.ii_definitions.specs.Tokens.{Piece, call_pieces, leaf_pieces, tokens_of};
 ghost use Rattle.ii_definitions.specs.IndexCalls.{MayAllBeIndexed, Takes, call_of, doc_of, field_of, type_of};
 ghost use Rattle.ii_indexing.specs.IndexFiles.{FilesGrow, WroteIndex};
 ghost use Rattle.ii_indexing.specs.Indexer.{Stores};
-ghost use Rattle.ii_indexing.specs.Refusals.{call_fault, calls_fault};
+ghost use Rattle.ii_indexing.specs.Refusals.{call_fault, calls_fault, leaf_fault};
+ghost use Rattle.ii_promises.specs.DeepValues.{in_arrays};
 
 use nequllpa::{
-    DocId, Fault, Field, IndexCall, IndexWriters, Indexer, JsonValue, LeafKind, Schema,
+    DocId, Fault, Field, IndexCall, IndexWriters, Indexer, JsonValue, Schema,
     TextAnalyzer, ValueType, write_index,
 };
 use std::alloc::Global;
@@ -111,9 +112,8 @@ pub fn each_call_has_its_analyzer<A: TextAnalyzer, B: TextAnalyzer>(
     indexer.index(second, other)
 }
 
-/// A JSON value with arrays and objects nested more than 128 deep returns a specific error, unless an
-/// allocation fails.
-pub fn deep_values_are_refused<A: TextAnalyzer>(
+/// A leaf in any number of nested arrays is indexed as it is without them.
+pub fn deep_values_are_indexed<A: TextAnalyzer>(
     indexer: &mut Indexer,
     doc: DocId,
     field: Field,
@@ -124,9 +124,10 @@ pub fn deep_values_are_refused<A: TextAnalyzer>(
     requires order { indexer.old.last_doc ≤ doc }
     requires below { doc < indexer.old.num_docs }
     requires takes { Takes indexer.old.schema field ValueType.Json }
-    requires deep { 128 < depth (json_of value) }
-    ensures refused { (ps : List Piece) → Stores indexer.old ps → (result ≡ Err (Fault.UnsupportedLeaf LeafKind.Deep)) ⊎ (result ≡ Err Fault.OutOfMemory) }
-    ensures fails { OnErr result (indexer.new.failed ≡ true) }
+    ensures stored { OnOk result ((levels : ℕ) (l : Leaf) (ps : List Piece) → json_of value.entry ≡ in_arrays levels l → Stores indexer.old ps
+        → Stores indexer.new (ps ++ leaf_pieces (A.words analyzer.now) doc field ([], l))) }
+    ensures fault { (levels : ℕ) (l : Leaf) (ps : List Piece) → json_of value.entry ≡ in_arrays levels l → Stores indexer.old ps
+        → IfErr result (λ e. (e ≡ Fault.OutOfMemory) ⊎ (leaf_fault (A.words analyzer.now) (option_of indexer.old.schema field) ps doc field ([], l) ≡ Some e)) }
 {
     indexer.index(IndexCall::Json(doc, field, value), analyzer)
 }

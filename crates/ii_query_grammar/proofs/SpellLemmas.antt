@@ -1,5 +1,6 @@
 -- The text of a tree is parsed as that tree.
 use Rattle.std.proofs.Common.{◌≡◌, ◌∙◌, ℕ, zero, suc, ◌-◌, ◌≤◌, Bool, true, false, ◌&&◌, ◌||◌, ◌==◌, not, List, [], ◌∷◌, ◌++◌, append_assoc, append-nil, cond, drop, take, length, Option, None, Some, option_map, Ok, refl, sym, ap, subst, arith}
+use Rattle.std.proofs.Math.Bool.{and-false, or-true}
 use Rattle.std.specs.Prelude.{bytes_eq, codes, slice_index}
 use Rattle.std.specs.List.{take_while}
 use Rattle.std.proofs.lemmas.Bool.{and_parts, eqb-true, not-true}
@@ -27,10 +28,6 @@ record AreTogether (end quoting : Stop) : Type 0 where
   plain : (b : ℕ) (a f : Bool) → stops_at quoting b a ≡ false → stops_at end b f ≡ false
   special : (b : ℕ) (a : Bool) → stops_at quoting b a ≡ true → is_special b ≡ true
 
-and_false : (a : Bool) → (a && false) ≡ false
-and_false true = refl
-and_false false = refl
-
 or_more : (a b c d e f g h : Bool) → a ≡ true → (a || b || c || d || e || f || g || h) ≡ true
 or_more a b c d e f g h is = rw is refl
 
@@ -48,7 +45,7 @@ left_false p q is = rw is refl
 
 words : AreTogether stops.WordEnd stops.WordEscape
 words = record {
-  never = λ b. and_false (ends_word b);
+  never = λ b. and-false (ends_word b);
   backslash = λ f. refl;
   plain = λ b a f h. left_false (ends_word b) (not f) (not_special (ends_word b) (is_special b) a (ends_special b) h);
   special = λ b a h. (and_parts (is_special b) (ends_word b || a) h).0;
@@ -59,7 +56,7 @@ quote_special b is = rw (eqb-true b 34 is) refl
 
 phrases : AreTogether stops.PhraseEnd stops.PhraseEscape
 phrases = record {
-  never = λ b. and_false (b == 34);
+  never = λ b. and-false (b == 34);
   backslash = λ f. refl;
   plain = λ b a f h. left_false (b == 34) (not f) (not_special (b == 34) (is_special b) a (quote_special b) h);
   special = λ b a h. (and_parts (is_special b) (b == 34 || a) h).0;
@@ -124,7 +121,7 @@ no_escape quoting b (c ∷ cs) each = by (b == 92) (is_special c) refl refl
       where
         first : (text : List ℕ) → is_escape b text ≡ false
         first [] = refl
-        first (d ∷ ds) = ap (λ (x : Bool). is_special d && x) is ∙ and_false (is_special d)
+        first (d ∷ ds) = ap (λ (x : Bool). is_special d && x) is ∙ and-false (is_special d)
     by true true is kind =
         let here : stops_at quoting c (b == 92) ≡ true = ap (stops_at quoting c) is ∙ each c kind in
         ap (is_escape b) (escaped_case quoting (b == 92) c cs true here)
@@ -139,7 +136,7 @@ unescaped_case b bs here is = ap (λ (h : Bool). cond h (unescaped bs) (b ∷ un
 
 special_no_escape : (b : ℕ) (bs : List ℕ) → is_special b ≡ true → is_escape b bs ≡ false
 special_no_escape b [] is = refl
-special_no_escape b (c ∷ cs) is = ap (λ (x : Bool). is_special c && x) (special_differs b is) ∙ and_false (is_special c)
+special_no_escape b (c ∷ cs) is = ap (λ (x : Bool). is_special c && x) (special_differs b is) ∙ and-false (is_special c)
 
 -- the text of an escaped text
 unescapes : (end quoting : Stop) → AreTogether end quoting → ((c : ℕ) → is_special c ≡ true → stops_at quoting c true ≡ true) → (a : Bool) (text : List ℕ) → unescaped (escaped quoting a text) ≡ text
@@ -160,18 +157,14 @@ unescapes end quoting are each a (b ∷ bs) = by (stops_at quoting b a) refl (λ
         ∙ unescaped_case b others false (no_escape quoting b bs each)
         ∙ ap (λ (l : List ℕ). b ∷ l) (later (b == 92))
 
-or_true : (a : Bool) → (a || true) ≡ true
-or_true true = refl
-or_true false = refl
-
 both_true : (p q : Bool) → p ≡ true → q ≡ true → (p && q) ≡ true
 both_true p q h i = rw (h, i) refl
 
 word_unescapes : (text : List ℕ) → unescaped (word_text text) ≡ text
-word_unescapes text = unescapes stops.WordEnd stops.WordEscape words (λ c is. both_true (is_special c) (ends_word c || true) is (or_true (ends_word c))) true text
+word_unescapes text = unescapes stops.WordEnd stops.WordEscape words (λ c is. both_true (is_special c) (ends_word c || true) is (or-true (ends_word c))) true text
 
 phrase_unescapes : (text : List ℕ) → unescaped (escaped stops.PhraseEscape false text) ≡ text
-phrase_unescapes text = unescapes stops.PhraseEnd stops.PhraseEscape phrases (λ c is. both_true (is_special c) (c == 34 || true) is (or_true (c == 34))) false text
+phrase_unescapes text = unescapes stops.PhraseEnd stops.PhraseEscape phrases (λ c is. both_true (is_special c) (c == 34 || true) is (or-true (c == 34))) false text
 
 -- A word begins with a byte that isn't special.
 record IsPlain (text : List ℕ) : Type 0 where
@@ -188,7 +181,7 @@ is_plain (b ∷ bs) some = by (is_special b) refl
     by true is = record {
       first = 92;
       others = b ∷ escaped stops.WordEscape false bs;
-      text_is = escaped_case stops.WordEscape true b bs true (both_true (is_special b) (ends_word b || true) is (or_true (ends_word b)));
+      text_is = escaped_case stops.WordEscape true b bs true (both_true (is_special b) (ends_word b || true) is (or-true (ends_word b)));
       plain = refl;
     }
     by false is = record {

@@ -6,7 +6,7 @@ ghost use Rattle.ii_query_grammar.specs.Parsed.{parsed};
 ghost use Rattle.ii_query_grammar.specs.Spelling.{has_spelling, nesting, spelled};
 ghost use Rattle.ii_query_grammar.specs.Trees.{Ast};
 
-/// Law: a text is parsed as a tree if and only if the grammar derives it, so as at most one tree.
+/// Law: a text is parsed as a tree if and only if the grammar derives it: as one tree at most.
 #[tactic(auto, using(crate::proofs::CompleteLemmas::reads_query, crate::proofs::SoundLemmas::spells_query))]
 pub fn reads_what_the_grammar_has()
     ensures sound { (limit : ℕ) (text : List ℕ) (t : Ast) → parsed limit text ≡ Ok t → Spells limit (query t) (lexemes (length text) text) }

@@ -3,6 +3,7 @@ use Rattle.std.proofs.Common.{◌≡◌, ◌∙◌, ℕ, ◌+◌, ◌<◌, ◌�
 use Rattle.std.specs.Prelude.{IfErr, IfOk, IfSome, bytes_eq, option_map, position, slice_get}
 use Rattle.std.specs.List.{AllByRecursion, list_all, position_from, position_or_len}
 use Rattle.std.specs.Result.{result_unwrap_or}
+use Rattle.std.proofs.Math.Bool.{or-true}
 use Rattle.std.proofs.Math.Seq.{drop-cons}
 use Rattle.std.proofs.lemmas.Bool.{and_parts, eqb-true, lt-ltb, ltb-true}
 use Rattle.std.proofs.lemmas.List.{append-nil, drop_all, length-append}
@@ -196,12 +197,8 @@ words_field prefix (w ∷ ws) p is = by (stand_after w.position ws) refl is
     by true after is = subst (IsOfField prefix.field) (same_Some _ p (rw after at is)) (refl, after_fields prefix w.position ws)
     by false after is = absurd (let none = rw after at is in cc)
 
-or_true : (b : Bool) → (b || true) ≡ true
-or_true true = refl
-or_true false = refl
-
 alone_in : (field : ℕ) (keeps : Bool) (t : TermState) → t.field ≡ field → IsPhraseIn field keeps (one_term t)
-alone_in field keeps t is = record { first = is; others = tt; kept = or_true keeps }
+alone_in field keeps t is = record { first = is; others = tt; kept = or-true keeps }
 
 ok_is : (a b : List PhraseState) (x : Terms) → x ≡ Ok a → x ≡ Ok b → a ≡ b
 ok_is a b x first other = ap (λ (r : Terms). result_unwrap_or r []) (sym first ∙ other)

@@ -44,7 +44,7 @@ pub all_taken : (changes : List Change) → take (length changes) changes ≡ ch
 all_taken [] = refl
 all_taken (change ∷ changes) = ap (λ more. change ∷ more) (all_taken changes)
 
--- a stop since an earlier time may be a stop now
+-- a stop now counts as a stop since any earlier time
 pub counts_now : (changes : List Change) (t : ℕ) → t ≤ length changes → WereSince changes t (files_after changes)
 counts_now changes t le = (length changes, le, le_refl (length changes), λ name. ap (λ all. files_after all name) (sym (all_taken changes)))
 

@@ -49,7 +49,7 @@ pub trait Directory {
         ensures removed { is_known self.old → OnOk result (IsPut name None (seen self.old) (seen self.new)) }
         ensures time { is_known self.old → Elapses (moment self.old) (moment self.new) (left_since self.old) (left_since self.new) (Elsewhere name (seen self.old)) };
 
-    // A stop since an earlier time may be a stop now.
+    // A stop now counts as a stop since any earlier time.
     ghost counts_now: { (d : Self) (t : ℕ) → is_known d → t ≤ moment d → left_since d t (seen d) };
 
     // A stop since now, before any further call, leaves the current files.
