@@ -1,9 +1,10 @@
 mod AliveLemmas
 pub mod AscentLemmas
 pub mod AsciiLemmas
-mod CharLemmas
+pub mod CharLemmas
 mod JsonRows
 mod PathLemmas
 mod PathRows
 mod SplitLemmas
+mod WeightLemmas
 mod WorkedRows

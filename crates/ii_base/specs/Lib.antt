@@ -2,10 +2,12 @@ pub mod AliveBitSet
 pub mod AsciiWords
 pub mod Entries
 pub mod Json
+pub mod JsonWeight
 pub mod Options
 pub mod Paths
 pub mod Schema
 pub mod Terms
+pub mod TextTokens
 pub mod ValueTypes
 pub mod Values
 pub mod Words

@@ -33,7 +33,7 @@ impl AliveBitSet {
     }
 
     /// Creates a set in which all documents below `num_docs` are alive except `docs`, which may be in any
-    /// order. Returns `OutOfMemory` if allocation fails.
+    /// order and must each be less than `num_docs`. Returns `OutOfMemory` if allocation fails.
     pub fn from_deleted_docs(
         alloc: Global,
         docs: &[u32],

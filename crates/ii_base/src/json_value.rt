@@ -1,13 +1,14 @@
-ghost use Rattle.std.specs.Prelude.{◌≡◌};
+ghost use Rattle.std.specs.Prelude.{◌≡◌, ◌<◌, ◌+◌, ◌*◌, ◌++◌, ◌∷◌, [], sum, length, IfSome};
+ghost use Rattle.ii_base.specs.JsonWeight.{HasRoom, children_weight, held_weights, weight};
 ghost use Rattle.ii_base.specs.Values.{whole_seconds};
 
 use crate::datetime::DateTime;
 use crate::fast_value::FastValue;
 use crate::schema::value_type::ValueType;
 use ii_io::LeafKind;
+use std::mem;
 
 /// A JSON value, or another value that a document may hold within JSON.
-#[derive(Drop)]
 pub enum JsonValue {
     /// No value.
     Null,
@@ -71,6 +72,157 @@ impl JsonValue {
             JsonValue::Bytes => Some(JsonLeaf::Unsupported(LeafKind::Bytes)),
             JsonValue::Facet => Some(JsonLeaf::Unsupported(LeafKind::Facet)),
             JsonValue::Ip => Some(JsonLeaf::Unsupported(LeafKind::Ip)),
+        }
+    }
+}
+
+// A loop that takes no memory, so that a deep value takes no more of the stack than a flat one.
+impl Drop for JsonValue {
+    fn drop(self) {
+        let mut rest = self.reduced();
+        while let Some(value) = rest {
+            rest = value.reduced();
+        }
+    }
+}
+
+impl JsonValue {
+    // Lets go of a part, and returns the rest, which weighs less. A last child that has no children is let
+    // go. Any other last child and its parent change places: the parent becomes the child's first child,
+    // and gets the child's last child in exchange.
+    fn reduced(self) -> Option<JsonValue>
+        ensures { IfSome result (λ rest. weight rest < weight self) }
+    {
+        let (parent, child) = self.opened()?;
+        let Some(parent) = parent.if_not_empty() else {
+            return Some(child);
+        };
+        match child.opened() {
+            None => Some(parent.closed()),
+            Some((branch, grandchild)) => {
+                Some(branch.closed_below(parent.closed_with(grandchild)))
+            }
+        }
+    }
+
+    // Takes out the last child. A value without children is let go.
+    fn opened(self) -> Option<(OpenBranch, JsonValue)>
+        ensures taken { IfSome result (λ r. weight self ≡ 1 + children_weight (held_weights r.0 ++ weight r.1 ∷ [])) }
+        ensures room { IfSome result (λ r. HasRoom r.0) }
+        ensures positive { 0 < weight self }
+    {
+        match self {
+            JsonValue::Null
+            | JsonValue::Str(_)
+            | JsonValue::U64(_)
+            | JsonValue::I64(_)
+            | JsonValue::Bool(_)
+            | JsonValue::Date(_)
+            | JsonValue::F64Bits(_)
+            | JsonValue::PreTok
+            | JsonValue::Bytes
+            | JsonValue::Facet
+            | JsonValue::Ip => None,
+            JsonValue::Array(mut items) => {
+                if items.is_empty() {
+                    items.destroy_empty();
+                    return None;
+                }
+                let child = items.take_last();
+                Some((OpenBranch::Array(items), child))
+            }
+            JsonValue::Object(mut members) => {
+                if members.is_empty() {
+                    members.destroy_empty();
+                    return None;
+                }
+                let (key, child) = members.take_last();
+                Some((OpenBranch::Object(members, key), child))
+            }
+        }
+    }
+}
+
+// An array or an object without the child that was its last, with room for one child.
+enum OpenBranch {
+    // The other elements.
+    Array(Vec<JsonValue>),
+    // The other members, and the key of the one that was the last.
+    Object(Vec<(String, JsonValue)>, String),
+}
+
+impl OpenBranch {
+    // Returns the branch if it has other children. Otherwise it is let go.
+    fn if_not_empty(self) -> Option<OpenBranch>
+        ensures same { IfSome result (λ branch. branch ≡ self) }
+        ensures not_empty { IfSome result (λ branch. 0 < length (held_weights branch)) }
+    {
+        match self {
+            OpenBranch::Array(items) => {
+                if items.is_empty() {
+                    items.destroy_empty();
+                    return None;
+                }
+                Some(OpenBranch::Array(items))
+            }
+            OpenBranch::Object(members, key) => {
+                if members.is_empty() {
+                    members.destroy_empty();
+                    return None;
+                }
+                Some(OpenBranch::Object(members, key))
+            }
+        }
+    }
+
+    // Closes the branch over its other children.
+    fn closed(self) -> JsonValue
+        ensures { weight result ≡ 1 + children_weight (held_weights self) }
+    {
+        match self {
+            OpenBranch::Array(items) => JsonValue::Array(items),
+            OpenBranch::Object(members, _) => JsonValue::Object(members),
+        }
+    }
+
+    // Closes the branch with a last child.
+    fn closed_with(self, child: JsonValue) -> JsonValue
+        requires { HasRoom self }
+        ensures { weight result ≡ 1 + children_weight (held_weights self ++ weight child ∷ []) }
+    {
+        match self {
+            OpenBranch::Array(mut items) => {
+                items.push_reserved(child);
+                JsonValue::Array(items)
+            }
+            OpenBranch::Object(mut members, key) => {
+                members.push_reserved((key, child));
+                JsonValue::Object(members)
+            }
+        }
+    }
+
+    // Closes the branch with its former parent as the first child, and its first child as the last.
+    fn closed_below(self, parent: JsonValue) -> JsonValue
+        requires { HasRoom self }
+        ensures { weight result ≡ 1 + weight parent + 2 * sum (held_weights self) }
+    {
+        let mut last = parent;
+        match self {
+            OpenBranch::Array(mut items) => {
+                if let Some(first) = items.first_mut() {
+                    mem::swap(first, &mut last);
+                }
+                items.push_reserved(last);
+                JsonValue::Array(items)
+            }
+            OpenBranch::Object(mut members, key) => {
+                if let Some(first) = members.first_mut() {
+                    mem::swap(&mut first.1, &mut last);
+                }
+                members.push_reserved((key, last));
+                JsonValue::Object(members)
+            }
         }
     }
 }

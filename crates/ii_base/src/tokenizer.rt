@@ -3,6 +3,5 @@ pub mod text_analyzer;
 pub mod text_tokens;
 pub mod token;
 pub mod token_list;
-pub mod token_places;
 pub mod token_stream;
 pub mod token_view;

@@ -1,8 +1,8 @@
-ghost use Rattle.std.specs.Prelude.{◌≡◌};
+ghost use Rattle.std.specs.Prelude.{◌≡◌, ◌∷◌, [], length};
 
 use ii_base::{
-    AsciiTokenizer, Fault, Field, FieldEntry, IndexRecordOption, Schema, Term, TextAnalyzer,
-    TokenStream, TokenView, ValueType,
+    AsciiTokenizer, AsciiTokens, Fault, Field, FieldEntry, IndexRecordOption, Schema, Term,
+    TextAnalyzer, Token, TokenList, TokenStream, TokenView, ValueType,
 };
 use std::alloc::{AllocError, Global};
 use std::test::Fail;
@@ -151,7 +151,7 @@ fn are_spelled<T: TextAnalyzer>(
 ) -> Result<[bool; 2], Fault> {
     let mut tokens = analyzer.token_list(alloc, text)?;
     let cut = spell_stream(alloc, &mut tokens)?;
-    let mut tokens = analyzer.token_stream(text);
+    let mut tokens = analyzer.token_stream(alloc, text)?;
     let lent = spell_stream(alloc, &mut tokens)?;
     Ok([cut.as_str() == spelled, lent.as_str() == spelled])
 }
@@ -178,6 +178,48 @@ fn texts_are_cut(rt: HostRuntime) -> Result<(), Fail> {
     Ok(())
 }
 
+// Makes one token of each text, by `token_list` alone.
+struct RawTokenizer;
+
+impl TextAnalyzer for RawTokenizer {
+    ghost words = { λ tokenizer text. record { offset_from = 0; offset_to = length text; position = 0; text = text; position_length = 1 } ∷ [] };
+
+    fn token_list(&self, alloc: Global, text: &str) -> Result<TokenList, Fault> {
+        let mut tokens = Vec::new(alloc);
+        tokens.push(Token {
+            offset_from: 0,
+            offset_to: text.len(),
+            position: 0,
+            text: String::from_str(alloc, text)?,
+            position_length: 1,
+        })?;
+        Ok(TokenList::new(tokens))
+    }
+}
+
+#[test]
+fn an_analyzer_needs_only_a_list(rt: HostRuntime) -> Result<(), Fail> {
+    let rows = [
+        ("", "@0+1 0..0, "),
+        ("Le caf\u{e9}, 3x", "Le caf\u{e9}, 3x@0+1 0..12, "),
+    ];
+    for (text, spelled) in rows {
+        let found = are_spelled(rt.alloc(), &RawTokenizer, text, spelled)?;
+        assert!(rt; found == [true; 2]);
+    }
+    Ok(())
+}
+
+#[test]
+fn remaining_tokens_are_collected(rt: HostRuntime) -> Result<(), Fail> {
+    let mut stream = AsciiTokens::new("x y z");
+    let first = stream.advance();
+    let mut tokens = TokenList::from_stream(rt.alloc(), &mut stream)?;
+    let spelled = spell_stream(rt.alloc(), &mut tokens)?;
+    assert!(rt; (first, spelled.as_str()) == (true, "y@1+1 2..3, z@2+1 4..5, "));
+    Ok(())
+}
+
 // Returns whether the next token is `x` at byte 0 and the one after it is at byte 2, the position of that
 // one, and whether two more follow.
 fn gone_over<S: TokenStream>(tokens: &mut S) -> ([bool; 2], usize, [bool; 2]) {
@@ -195,7 +237,7 @@ fn gone_over<S: TokenStream>(tokens: &mut S) -> ([bool; 2], usize, [bool; 2]) {
 
 #[test]
 fn tokens_are_gone_over(rt: HostRuntime) -> Result<(), Fail> {
-    let lent = gone_over(&mut AsciiTokenizer.token_stream("x y"));
+    let lent = gone_over(&mut AsciiTokenizer.token_stream(rt.alloc(), "x y")?);
     let cut = gone_over(&mut AsciiTokenizer.token_list(rt.alloc(), "x y")?);
     assert!(rt; [cut, lent] == [([true; 2], 1, [false; 2]); 2]);
     Ok(())

@@ -52,7 +52,7 @@ impl IndexedFields {
         let number = call.number();
         match call {
             IndexCall::Text(doc, field, text) => {
-                let mut tokens = analyzer.token_stream(text.as_str());
+                let mut tokens = analyzer.token_stream(alloc, text.as_str())?;
                 self.index_words(doc, field, &mut tokens)
             }
             IndexCall::Tokens(doc, field, tokens) => {

@@ -62,7 +62,7 @@ impl<A: TextAnalyzer> LeafSink for LeafIndexer<'_, A> {
     fn take_leaf(&mut self, path: &str, leaf: JsonLeaf<'_>) -> Result<(), Fault> {
         match leaf {
             JsonLeaf::Text(text) => {
-                let mut tokens = self.analyzer.token_stream(text);
+                let mut tokens = self.analyzer.token_stream(self.alloc, text)?;
                 self.fields
                     .index_text_at(self.alloc, self.doc, self.field, path, &mut tokens)
             }

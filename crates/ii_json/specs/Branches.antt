@@ -4,7 +4,7 @@ use Rattle.ii_base.specs.Json.{Json, Items, Members, Leaf, array, item, items_fr
 use Rattle.ii_base.specs.Paths.{PathState, has_zero, segment_bytes}
 use Rattle.ii_json.specs.declared.branch.Branch.{Branch}
 use Rattle.ii_json.specs.declared.branch.Branch.TheVariants as branches
-use Rattle.ii_json.specs.declared.branch.OpenBranch.{OpenBranch}
+use Rattle.ii_json.specs.declared.branch.OuterBranch.{OuterBranch}
 use Rattle.ii_json.specs.declared.branch.Part.{Part}
 use Rattle.ii_json.specs.LeafVisit.{items_leaves_at, leaves_at, members_leaves_at}
 
@@ -40,16 +40,16 @@ branch_leaves at (branches.Items items) = items_leaves_at at items.now
 branch_leaves at (branches.Members members) = members_leaves_at at members.now
 
 -- the path of an open branch, given that of the part in it
-abbrev pub path_around : PathState → OpenBranch → PathState
+abbrev pub path_around : PathState → OuterBranch → PathState
 path_around at b = if b.has_key then without_last at else at
 
 -- the path of the outermost of these open branches, the innermost first
-abbrev pub path_outside : PathState → List OpenBranch → PathState
+abbrev pub path_outside : PathState → List OuterBranch → PathState
 path_outside at [] = at
 path_outside at (b ∷ outer) = path_outside (path_around at b) outer
 
 -- the leaves of the open branches, the innermost first
-abbrev pub leaves_outside : PathState → List OpenBranch → List (List ℕ × Leaf)
+abbrev pub leaves_outside : PathState → List OuterBranch → List (List ℕ × Leaf)
 leaves_outside at [] = []
 leaves_outside at (b ∷ outer) = branch_leaves (path_around at b) b.branch ++ leaves_outside (path_around at b) outer
 

@@ -3,11 +3,11 @@ use Rattle.std.specs.Prelude.{ℕ, List, [], ◌∷◌, ◌++◌, map, ◌==◌,
 use Rattle.ii_base.specs.ValueTypes.{code_of}
 use Rattle.ii_base.specs.declared.schema.value_type.ValueType.{ValueType}
 
--- the byte that ends a path, and its replacement inside a path: the digit 0
+-- the byte that ends a path
 abbrev pub end_of_path : ℕ
 end_of_path = 0x00
 
--- the encoding of a byte of a path in a term
+-- the encoding of a byte of a path in a term: the digit 0 replaces the byte that ends a path
 abbrev pub written_byte : ℕ → ℕ
 written_byte byte = if byte == end_of_path then 0x30 else byte
 

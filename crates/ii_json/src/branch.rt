@@ -27,7 +27,7 @@ pub(crate) struct Part<'a> {
 // A branch that is continued when the visit of one of its parts ends, and whether the path has a segment
 // for that part.
 #[derive(Clone, Copy)]
-pub(crate) struct OpenBranch<'a> {
+pub(crate) struct OuterBranch<'a> {
     pub branch: Branch<'a>,
     pub has_key: bool,
 }
@@ -83,7 +83,7 @@ impl<'a> Part<'a> {
 
 // Opens a branch that is continued after one of its parts, and appends the key of the part to the path.
 pub(crate) fn open_branch<'a>(
-    outer: &mut Vec<OpenBranch<'a>>,
+    outer: &mut Vec<OuterBranch<'a>>,
     branch: Branch<'a>,
     part: Part<'a>,
     writer: &mut JsonPathWriter,
@@ -97,14 +97,14 @@ pub(crate) fn open_branch<'a>(
     ensures only { OnlyMemory result }
 {
     let Some(key) = part.key else {
-        outer.push(OpenBranch {
+        outer.push(OuterBranch {
             branch,
             has_key: false,
         })?;
         return Ok(());
     };
     push_key(writer, key)?;
-    if let Err(refused) = outer.push(OpenBranch {
+    if let Err(refused) = outer.push(OuterBranch {
         branch,
         has_key: true,
     }) {
@@ -115,7 +115,7 @@ pub(crate) fn open_branch<'a>(
 }
 
 // Removes the segments of the parts in which the visit ended from the path.
-pub(crate) fn leave_all(outer: Vec<OpenBranch<'_>>, writer: &mut JsonPathWriter)
+pub(crate) fn leave_all(outer: Vec<OuterBranch<'_>>, writer: &mut JsonPathWriter)
     ensures { writer.new ≡ path_outside writer.old (reverse outer.entry.items) }
 {
     let mut outer = outer;

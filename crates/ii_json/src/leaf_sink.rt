@@ -6,7 +6,7 @@ ghost use Rattle.ii_base.specs.Paths.{has_zero, joined_segments, segment_bytes};
 ghost use Rattle.ii_json.specs.Branches.{branch_leaves, key_bytes, key_has_zero, part_leaves, path_outside};
 ghost use Rattle.ii_json.specs.LeafVisit.{IsRefusedBy, is_no_branch, may_be_leaf, leaves_at, leaves_fault};
 
-use crate::branch::{Branch, OpenBranch, Part, leave_all, open_branch};
+use crate::branch::{Branch, OuterBranch, Part, leave_all, open_branch};
 use ii_base::{Fault, JsonLeaf, JsonPathWriter, JsonValue};
 use std::alloc::Global;
 
@@ -75,7 +75,7 @@ pub fn visit_leaves<S: LeafSink>(
 // Visits the leaves of a branch. After an error, `outer` has the branches in which it ended.
 fn visit_branch<'a, S: LeafSink>(
     branch: Branch<'a>,
-    outer: &mut Vec<OpenBranch<'a>>,
+    outer: &mut Vec<OuterBranch<'a>>,
     writer: &mut JsonPathWriter,
     sink: &mut S,
 ) -> Result<(), Fault>

@@ -71,7 +71,7 @@ pub(crate) fn words_phrase<A: TextAnalyzer>(
     ensures ok { IfOk result (λ words. words ≡ words_phrase prefix.now (A.words analyzer.now phrase.now)) }
     ensures only { OnlyMemory result }
 {
-    let mut tokens = analyzer.token_stream(phrase);
+    let mut tokens = analyzer.token_stream(alloc, phrase)?;
     let words = stream_phrase(alloc, prefix, &mut tokens);
     drop(tokens);
     words

@@ -1,17 +1,11 @@
 -- The text of a character of a path.
-use Rattle.std.proofs.Common.{◌≡◌, ◌<◌, ◌≤◌, lit<, ℕ, All, Bool, true, false, ◌==◌, List, [], ◌∷◌, ap, append-nil, arith, refl, sym, ⊎_elim}
+use Rattle.std.proofs.Common.{◌≡◌, ◌<◌, ◌≤◌, lit<, ℕ, All, Bool, true, false, ◌==◌, List, [], ◌∷◌, ap, arith, refl, ⊎_elim}
 use lib.Utf8.{encode}
 use Rattle.std.proofs.lemmas.Bool.{cases_lt, eqb-true, ne_eqb}
-use Rattle.std.proofs.lemmas.List.Elements.{All-from_get_or, All-head, All-tail}
-use Rattle.std.proofs.lemmas.Str.{encode_ascii, inside_one}
+use Rattle.std.proofs.lemmas.List.Elements.{All-head, All-tail}
+use Rattle.std.proofs.lemmas.Str.{encode_ascii}
+use Rattle.ii_base.proofs.CharLemmas.{past_ascii}
 use Rattle.ii_term_text.specs.PathTexts.{is_escaped, path_text}
-
--- no byte of a character past ASCII is ASCII
-past_ascii : (c : ℕ) → 128 ≤ c → All (λ b. 128 ≤ b) (encode c)
-past_ascii c high =
-    All-from_get_or (λ b. 128 ≤ b) (encode c) 0 (λ i within. ⊎_elim (λ low.
-    let same = inside_one c [] (encode c) i (sym (append-nil (encode c))) within low in
-    absurd (omega (arith, same, low, high))) (λ h. h) (cases_lt _ 128))
 
 -- bytes past ASCII are as they are
 past : (xs : List ℕ) → All (λ b. 128 ≤ b) xs → path_text xs ≡ xs

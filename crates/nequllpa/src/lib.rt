@@ -13,7 +13,7 @@ pub use ii_indexing::IndexCall;
 
 // how texts become tokens
 pub use ii_base::{
-    AsciiTokenizer, TextAnalyzer, TextTokens, Token, TokenList, TokenPlaces, TokenStream, TokenView,
+    AsciiTokenizer, AsciiTokens, TextAnalyzer, TextTokens, Token, TokenList, TokenStream, TokenView,
 };
 
 // how an index is written and opened

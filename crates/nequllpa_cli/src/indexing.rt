@@ -417,7 +417,10 @@ fn save_index(
         reported: _,
         begun: _,
     } = intake;
-    tell_long_words(rt, documents.num_long_words(&AsciiTokenizer))?;
+    match documents.num_long_words(rt.alloc(), &AsciiTokenizer) {
+        Ok(count) => tell_long_words(rt, count)?,
+        Err(fault) => return Ok(ExitCode::from(refuse(rt, fault)?)),
+    }
     let stored = match store(rt.alloc(), documents, schema) {
         Ok(stored) => stored,
         Err(fault) => return Ok(ExitCode::from(refuse(rt, fault)?)),

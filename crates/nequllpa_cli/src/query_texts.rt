@@ -1,6 +1,6 @@
 //! Messages about a query text: why it is refused, and which fields a phrase is not searched in.
 use crate::commands::{PROGRAM, REFUSED, refuse_path};
-use ii_base::{AsciiTokenizer, Field, TextAnalyzer, TokenStream};
+use ii_base::{AsciiTokens, Field, TokenStream};
 use ii_query_parser::{QueryParserError, UserInputAst, parse, unknown_field_name};
 use nequllpa_folder::Opened;
 
@@ -106,6 +106,6 @@ fn have_default_phrase(parts: &Vec<UserInputAst>) -> bool {
 
 // Whether a text has several words.
 fn has_words(text: &str) -> bool {
-    let mut stream = AsciiTokenizer.token_stream(text);
+    let mut stream = AsciiTokens::new(text);
     stream.advance() && stream.advance()
 }

@@ -1,5 +1,6 @@
 //! Documents to be indexed.
 ghost use Rattle.std.specs.Prelude.{◌≡◌, ◌⊎◌, [], Err, IfErr, IfOk, IfSome, None, OnErr, OnOk};
+ghost use Rattle.ii_io.specs.Faults.{OnlyMemory};
 ghost use Rattle.ii_definitions.specs.Fields.{option_of};
 ghost use Rattle.ii_definitions.specs.Tokens.{tokens_of};
 ghost use Rattle.ii_indexing.specs.IndexFiles.{CountsIndexFailures, FilesGrow, IsIndexFault, WroteIndex};
@@ -100,8 +101,11 @@ impl Documents {
     }
 
     /// Returns how many words of the documents are too long to be indexed (`count_long_words`).
-    pub fn num_long_words<A: TextAnalyzer>(&self, analyzer: &A) -> u64 {
-        count_long_words(analyzer, self.calls.as_slice())
+    /// Returns `OutOfMemory` if allocation fails.
+    pub fn num_long_words<A: TextAnalyzer>(&self, alloc: Global, analyzer: &A) -> Result<u64, Fault>
+        ensures only { OnlyMemory result }
+    {
+        count_long_words(alloc, analyzer, self.calls.as_slice())
     }
 
     /// Writes the files of an index of the documents, with texts split by `analyzer`, and returns the

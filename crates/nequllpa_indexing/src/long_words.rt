@@ -1,60 +1,77 @@
 //! Words that are too long to be indexed.
-use ii_base::{JsonValue, TextAnalyzer, TokenStream};
+ghost use Rattle.ii_io.specs.Faults.{OnlyMemory};
+
+use ii_base::{Fault, JsonValue, TextAnalyzer, TokenStream};
 use ii_indexing::IndexCall;
 use ii_postings_writer::postings_writer::MAX_TOKEN_LEN;
+use std::alloc::Global;
 
 /// Returns how many words in the texts of index calls have more than `MAX_TOKEN_LEN` bytes and so
-/// aren't indexed, at most `u64::MAX`.
-pub fn count_long_words<A: TextAnalyzer>(analyzer: &A, calls: &[IndexCall]) -> u64 {
+/// aren't indexed, at most `u64::MAX`. Returns `OutOfMemory` if allocation fails.
+pub fn count_long_words<A: TextAnalyzer>(
+    alloc: Global,
+    analyzer: &A,
+    calls: &[IndexCall],
+) -> Result<u64, Fault>
+    ensures only { OnlyMemory result }
+{
     let mut count = 0u64;
     for call in calls {
         let more = match call {
-            IndexCall::Text(_, _, text) => long_words_of(analyzer, text.as_str()),
-            IndexCall::Json(_, _, value) => long_words_in(analyzer, value),
+            IndexCall::Text(_, _, text) => long_words_of(alloc, analyzer, text.as_str())?,
+            IndexCall::Json(_, _, value) => long_words_in(alloc, analyzer, value)?,
             _ => 0,
         };
         count = count.saturating_add(more);
     }
-    count
+    Ok(count)
 }
 
 // Counts the words of a text that are too long. Most texts are too short to have any.
-fn long_words_of<A: TextAnalyzer>(analyzer: &A, text: &str) -> u64 {
+fn long_words_of<A: TextAnalyzer>(alloc: Global, analyzer: &A, text: &str) -> Result<u64, Fault>
+    ensures only { OnlyMemory result }
+{
     if text.len() <= MAX_TOKEN_LEN {
-        return 0;
+        return Ok(0);
     }
-    let mut words = analyzer.token_stream(text);
+    let mut words = analyzer.token_stream(alloc, text)?;
     let mut count = 0u64;
     for _ in 0..text.len() {
         if !words.advance() {
-            return count;
+            return Ok(count);
         }
         if words.token().text.len() > MAX_TOKEN_LEN {
             count = count.saturating_add(1);
         }
     }
-    count
+    Ok(count)
 }
 
 // Counts the words that are too long in the texts of a JSON value.
 #[cycle(long_words_in)]
-fn long_words_in<A: TextAnalyzer>(analyzer: &A, value: &JsonValue) -> u64 {
+fn long_words_in<A: TextAnalyzer>(
+    alloc: Global,
+    analyzer: &A,
+    value: &JsonValue,
+) -> Result<u64, Fault>
+    ensures only { OnlyMemory result }
+{
     match value {
-        JsonValue::Str(text) => long_words_of(analyzer, text.as_str()),
+        JsonValue::Str(text) => long_words_of(alloc, analyzer, text.as_str()),
         JsonValue::Array(items) => {
             let mut count = 0u64;
             for item in items {
-                count = count.saturating_add(long_words_in(analyzer, item));
+                count = count.saturating_add(long_words_in(alloc, analyzer, item)?);
             }
-            count
+            Ok(count)
         }
         JsonValue::Object(members) => {
             let mut count = 0u64;
             for member in members {
-                count = count.saturating_add(long_words_in(analyzer, &member.1));
+                count = count.saturating_add(long_words_in(alloc, analyzer, &member.1)?);
             }
-            count
+            Ok(count)
         }
-        _ => 0,
+        _ => Ok(0),
     }
 }

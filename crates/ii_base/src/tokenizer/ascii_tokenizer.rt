@@ -1,32 +1,53 @@
-ghost use Rattle.std.specs.Prelude.{◌≡◌, ◌≤◌, ◌<◌, ◌-◌, length, if◌then◌else◌, Some, None};
+ghost use Rattle.std.specs.Prelude.{◌≡◌, ◌≤◌, ◌<◌, ◌-◌, length, true, if◌then◌else◌, Some, None};
 ghost use Rattle.std.specs.List.{take_while};
 ghost use Rattle.ii_base.specs.AsciiWords.{ascii_words, begins_run, is_run, is_word_byte, run_word, words_from};
+ghost use Rattle.ii_base.specs.Words.{seen_word};
 
 use super::text_analyzer::TextAnalyzer;
-use super::token_places::TokenPlaces;
+use super::text_tokens::TextTokens;
+use super::token_list::TokenList;
+use super::token_stream::TokenStream;
 use super::token_view::TokenView;
+use ii_io::Fault;
+use std::alloc::Global;
 
 /// Splits a text into maximal runs of ASCII letters, ASCII digits and non-ASCII characters, unchanged.
 /// Their positions are 0, 1, 2 and so on, one each.
 #[derive(Clone, Copy, Debug, Default, PartialEq, Eq)]
 pub struct AsciiTokenizer;
 
-/// The offsets of the current run, and the number of runs so far.
+/// Iterates over the tokens that `AsciiTokenizer` splits a text into, borrowed from the text.
 #[derive(Drop)]
-pub struct AsciiPlaces {
+pub struct AsciiTokens<'t> {
+    text: &'t str,
+    // The offsets of the current run.
     start: usize,
     end: usize,
+    // The number of runs so far.
     passed: usize,
     ghost apart: { passed ≤ end },
 }
 
 impl TextAnalyzer for AsciiTokenizer {
-    type Places = AsciiPlaces;
-
     ghost words = { λ tokenizer text. ascii_words text };
 
-    fn places(&self, _text: &str) -> AsciiPlaces {
-        AsciiPlaces {
+    fn token_list(&self, alloc: Global, text: &str) -> Result<TokenList, Fault> {
+        let mut tokens = AsciiTokens::new(text);
+        TokenList::from_stream(alloc, &mut tokens)
+    }
+
+    fn token_stream<'t>(&self, _alloc: Global, text: &'t str) -> Result<TextTokens<'t>, Fault> {
+        Ok(TextTokens::Ascii(AsciiTokens::new(text)))
+    }
+}
+
+impl<'t> AsciiTokens<'t> {
+    /// Creates an iterator before the first token of a text.
+    pub fn new(text: &'t str) -> AsciiTokens<'t>
+        ensures { ⟦<AsciiTokens<'t> as TokenStream>⟧.to_come result ≡ ascii_words text.now }
+    {
+        AsciiTokens {
+            text,
             start: 0,
             end: 0,
             passed: 0,
@@ -34,12 +55,13 @@ impl TextAnalyzer for AsciiTokenizer {
     }
 }
 
-impl TokenPlaces for AsciiPlaces {
-    ghost to_come = { λ s text. words_from text s.passed s.end };
+impl<'t> TokenStream for AsciiTokens<'t> {
+    ghost to_come = { λ s. words_from s.text.now s.passed s.end };
 
-    ghost current = { λ s text. if is_run text s.start s.end then Some (run_word text (s.passed - 1) s.start) else None };
+    ghost current = { λ s. if is_run s.text.now s.start s.end then Some (run_word s.text.now (s.passed - 1) s.start) else None };
 
-    fn advance(&mut self, text: &str) -> bool {
+    fn advance(&mut self) -> bool {
+        let text = self.text;
         let mut at = self.end;
         while at < text.len() && !begins_run(text.as_bytes(), at) {
             at += 1;
@@ -48,7 +70,8 @@ impl TokenPlaces for AsciiPlaces {
             return false;
         }
         let end = at + run_len(&text.as_bytes()[at..]);
-        *self = AsciiPlaces {
+        *self = AsciiTokens {
+            text,
             start: at,
             end,
             passed: self.passed + 1,
@@ -56,14 +79,24 @@ impl TokenPlaces for AsciiPlaces {
         true
     }
 
-    fn token<'t>(&'t self, text: &'t str) -> TokenView<'t> {
-        TokenView {
-            offset_from: self.start,
-            offset_to: self.end,
-            position: self.passed.saturating_sub(1),
-            text: &text[self.start..self.end],
-            position_length: 1,
-        }
+    fn token(&self) -> TokenView<'_> {
+        let position = self.passed.saturating_sub(1);
+        run_token(self.text, self.start, self.end, position)
+    }
+}
+
+// Returns the token of the run between two offsets.
+#[inline(always)]
+fn run_token(text: &str, start: usize, end: usize, position: usize) -> TokenView<'_>
+    requires { is_run text.now start end ≡ true }
+    ensures { seen_word result ≡ run_word text.now position start }
+{
+    TokenView {
+        offset_from: start,
+        offset_to: end,
+        position,
+        text: &text[start..end],
+        position_length: 1,
     }
 }
 

@@ -1,43 +1,37 @@
-ghost use Rattle.std.specs.Prelude.{◌≡◌};
-ghost use Rattle.ii_base.specs.Words.{Word};
-
-use super::token_places::TokenPlaces;
+use super::ascii_tokenizer::AsciiTokens;
+use super::token_list::TokenList;
 use super::token_stream::TokenStream;
 use super::token_view::TokenView;
 
-/// The tokens of a text, borrowed from it.
+/// Iterates over the tokens of a text, as a list of them or borrowed from the text.
 #[derive(Drop)]
-pub struct TextTokens<'t, P: TokenPlaces> {
-    text: &'t str,
-    places: P,
+pub enum TextTokens<'t> {
+    /// The tokens of a list.
+    Owned(TokenList),
+    /// The tokens of `AsciiTokenizer`, which it finds one by one.
+    Ascii(AsciiTokens<'t>),
 }
 
-impl<'t, P: TokenPlaces> TextTokens<'t, P> {
-    /// Creates the stream of the tokens that `places` hasn't passed.
-    pub fn new(text: &'t str, places: P) -> TextTokens<'t, P>
-        ensures { ⟦<TextTokens<'t, P> as TokenStream>⟧.to_come result ≡ P.to_come places text.now }
-    {
-        TextTokens { text, places }
-    }
-}
+impl<'t> TokenStream for TextTokens<'t> {
+    ghost use Rattle.ii_base.specs.TextTokens.{current_of, to_come_of};
 
-impl<'t, P: TokenPlaces> TokenStream for TextTokens<'t, P> {
-    ghost to_come = { λ s. P.to_come s.places s.text.now };
+    ghost to_come = { to_come_of };
 
-    ghost current = { λ s. P.current s.places s.text.now };
+    ghost current = { current_of };
 
+    #[inline(always)]
     fn advance(&mut self) -> bool {
-        self.places.advance(self.text)
-    }
-
-    fn token(&self) -> TokenView<'_> {
-        self.places.token(self.text)
-    }
-
-    fn next(&mut self) -> Option<TokenView<'_>> {
-        if self.advance() {
-            return Some(self.token());
+        match self {
+            TextTokens::Owned(tokens) => tokens.advance(),
+            TextTokens::Ascii(tokens) => tokens.advance(),
         }
-        None
+    }
+
+    #[inline(always)]
+    fn token(&self) -> TokenView<'_> {
+        match self {
+            TextTokens::Owned(tokens) => tokens.token(),
+            TextTokens::Ascii(tokens) => tokens.token(),
+        }
     }
 }

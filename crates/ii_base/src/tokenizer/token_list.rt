@@ -1,9 +1,12 @@
-ghost use Rattle.std.specs.Prelude.{◌≡◌, None};
-ghost use Rattle.ii_base.specs.Words.{words_of};
+ghost use Rattle.std.specs.Prelude.{◌≡◌, [], None, IfOk, OnOk};
+ghost use Rattle.ii_io.specs.Faults.{OnlyMemory};
+ghost use Rattle.ii_base.specs.Words.{seen_word, word_of, words_of};
 
 use super::token::Token;
 use super::token_stream::TokenStream;
 use super::token_view::TokenView;
+use ii_io::Fault;
+use std::alloc::Global;
 use std::marker::Model;
 
 /// Iterates over a list of tokens.
@@ -34,6 +37,19 @@ impl TokenList {
     {
         TokenList { tokens, passed: 0 }
     }
+
+    /// Collects the remaining tokens of a stream. Returns `OutOfMemory` if allocation fails.
+    pub fn from_stream<S: TokenStream>(alloc: Global, stream: &mut S) -> Result<TokenList, Fault>
+        ensures ok { IfOk result (λ tokens. tokens ≡ record { current = None; to_come = S.to_come stream.old }) }
+        ensures ended { OnOk result (S.to_come stream.new ≡ []) }
+        ensures only { OnlyMemory result }
+    {
+        let mut tokens = Vec::new(alloc);
+        while stream.advance() {
+            tokens.push(owned(alloc, stream.token())?)?;
+        }
+        Ok(TokenList::new(tokens))
+    }
 }
 
 impl TokenStream for TokenList {
@@ -52,4 +68,18 @@ impl TokenStream for TokenList {
     fn token(&self) -> TokenView<'_> {
         self.tokens[self.passed - 1].view()
     }
+}
+
+// Returns a token that owns its text.
+fn owned(alloc: Global, token: TokenView<'_>) -> Result<Token, Fault>
+    ensures ok { IfOk result (λ t. word_of t ≡ seen_word token.entry) }
+    ensures only { OnlyMemory result }
+{
+    Ok(Token {
+        offset_from: token.offset_from,
+        offset_to: token.offset_to,
+        position: token.position,
+        text: String::from_str(alloc, token.text)?,
+        position_length: token.position_length,
+    })
 }

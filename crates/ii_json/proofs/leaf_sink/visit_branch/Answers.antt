@@ -1,5 +1,5 @@
 use Rattle.std.proofs.Common.{refl, sym, is_some, reverse}
-use Rattle.ii_json.specs.declared.branch.OpenBranch.{OpenBranch}
+use Rattle.ii_json.specs.declared.branch.OuterBranch.{OuterBranch}
 use Rattle.ii_json.specs.Branches.{key_bytes}
 use Rattle.ii_json.proofs.BranchLemmas.{IsSplit, below_opened, innermost_clean, opened, opened_last}
 use Rattle.ii_json.proofs.LeafVisitLemmas.{handed_same}
@@ -17,7 +17,7 @@ loop-part-preserved g c =
     let outer = reverse l.outer.items in
     let part = c.in-Some.part in
     let ok = c.in_ok-open_branch.ensures in
-    let b : OpenBranch = record { branch = c.in-Some.rest; has_key = is_some (key_bytes part) } in
+    let b : OuterBranch = record { branch = c.in-Some.rest; has_key = is_some (key_bytes part) } in
     let last = opened_last c.open_branch.new.outer.items l.outer.items b ok.outer in
     let split : IsSplit l.current c.in-Some.rest part = record { leaves = c.in-Some.ensures.leaves } in
     let clean = sym c.if-has_zero.ensures in

@@ -11,16 +11,16 @@ use Rattle.ii_indexing.proofs.CallLaws.{CallRefused, CallStored, TextRefused, Te
 use Rattle.ii_postings_writer.proofs.TermIndexLemmas.{on_both}
 use Rattle.ii_indexing.proofs.indexed_fields.IndexedFields.index_call.Goals as goal
 
-pub returns-in-Text-clause-stored : goal.returns-in-Text-clause-stored
-returns-in-Text-clause-stored g c =
-    let told = rw c.token_stream-tokens.ensures at c.index_words.ensures.stored in
+pub returns-in_ok-tokens-in-Text-clause-stored : goal.returns-in_ok-tokens-in-Text-clause-stored
+returns-in_ok-tokens-in-Text-clause-stored g c =
+    let told = rw c.in_ok-tokens-in-Text.ensures.ok at c.index_words.ensures.stored in
     let at = subst (λ (t : List ℕ). OnOk c.index_words.result (TextStored c.args.self.now c.index_words.new.self c.in-Text.doc c.in-Text.field [] [] (g.A.TextAnalyzer.words c.args.analyzer.now t))) c.as_str.ensures.value told in
     subst (λ (x : IndexCall). OnOk c.index_words.result (CallStored (g.A.TextAnalyzer.words c.args.analyzer.now) c.args.self.now c.index_words.new.self (call_with c.args.expand_dots x) (type_of x))) (sym c.in-Text.is)
     (on_both c.index_words.result _ _ _ (text_call (g.A.TextAnalyzer.words c.args.analyzer.now) c.args.self.now c.index_words.new.self c.in-Text.doc c.in-Text.field c.in-Text.text.bytes.items) at c.index_words.ensures.same_paths)
 
-pub returns-in-Text-clause-refused : goal.returns-in-Text-clause-refused
-returns-in-Text-clause-refused g c =
-    let told = rw c.token_stream-tokens.ensures at c.index_words.ensures.refused in
+pub returns-in_ok-tokens-in-Text-clause-refused : goal.returns-in_ok-tokens-in-Text-clause-refused
+returns-in_ok-tokens-in-Text-clause-refused g c =
+    let told = rw c.in_ok-tokens-in-Text.ensures.ok at c.index_words.ensures.refused in
     let at = subst (λ (t : List ℕ). TextRefused c.args.self.now c.index_words.result c.in-Text.doc c.in-Text.field [] [] (g.A.TextAnalyzer.words c.args.analyzer.now t)) c.as_str.ensures.value told in
     subst (λ (x : IndexCall). CallRefused (g.A.TextAnalyzer.words c.args.analyzer.now) c.args.self.now c.index_words.result (call_with c.args.expand_dots x) (type_of x)) (sym c.in-Text.is)
     (text_call_refused (g.A.TextAnalyzer.words c.args.analyzer.now) c.args.self.now c.index_words.result c.in-Text.doc c.in-Text.field c.in-Text.text.bytes.items at)

@@ -6,20 +6,20 @@ use Rattle.ii_indexing.proofs.LeafLaws.{LeafRefused, LeafTaken, leaf_held, text_
 use Rattle.ii_postings_writer.proofs.TermIndexLemmas.{on_ok}
 use Rattle.ii_indexing.proofs.json_utils.LeafIndexerLeafSink.take_leaf.Goals as goal
 
-pub returns-in-Text-clause-refused : goal.returns-in-Text-clause-refused
-returns-in-Text-clause-refused g c =
+pub returns-in_ok-tokens-in-Text-clause-refused : goal.returns-in_ok-tokens-in-Text-clause-refused
+returns-in_ok-tokens-in-Text-clause-refused g c =
     let s = c.args.self.now in
     let words = g.A.TextAnalyzer.words s.analyzer.now in
-    let told = rw c.token_stream-tokens.ensures at c.index_text_at.ensures.refused in
+    let told = rw c.in_ok-tokens-in-Text.ensures.ok at c.index_text_at.ensures.refused in
     subst (λ (l : JsonLeaf). LeafRefused words s.doc s.field s.fields.now c.index_text_at.result (c.args.path.now, leaf_of l)) (sym c.in-Text.is)
     (text_leaf_refused words s.doc s.field s.fields.now c.index_text_at.result c.args.path.now c.in-Text.text.now told)
 
-pub returns-in-Text-clause-ok : goal.returns-in-Text-clause-ok
-returns-in-Text-clause-ok g c =
+pub returns-in_ok-tokens-in-Text-clause-ok : goal.returns-in_ok-tokens-in-Text-clause-ok
+returns-in_ok-tokens-in-Text-clause-ok g c =
     let s = c.args.self.now in
     let new = c.index_text_at.new.self in
     let words = g.A.TextAnalyzer.words s.analyzer.now in
-    let told = rw c.token_stream-tokens.ensures at c.index_text_at.ensures.stored in
+    let told = rw c.in_ok-tokens-in-Text.ensures.ok at c.index_text_at.ensures.stored in
     subst (λ (l : JsonLeaf). OnOk c.index_text_at.result (LeafTaken words s.doc s.field s.fields.now new (c.args.path.now, leaf_of l))) (sym c.in-Text.is)
     (on_ok c.index_text_at.result _ _ (leaf_held words s.doc s.field s.fields.now new (c.args.path.now, text_leaf c.in-Text.text.now)) told)
 

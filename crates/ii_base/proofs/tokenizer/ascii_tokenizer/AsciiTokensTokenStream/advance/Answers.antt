@@ -4,12 +4,12 @@ use Rattle.std.specs.List.{slice_get, take_while}
 use Rattle.ii_base.specs.AsciiWords.{begins_run, is_word_byte, run_at, words_from}
 use Rattle.ii_base.specs.Words.{Word}
 use Rattle.ii_base.proofs.AsciiLemmas.{cut_after_run, is_run_here, run_within, words_after_run, words_past, words_skip, words_take}
-use Rattle.ii_base.proofs.tokenizer.ascii_tokenizer.AsciiPlacesTokenPlaces.advance.Goals as goal
-use Rattle.ii_base.proofs.tokenizer.ascii_tokenizer.AsciiPlacesTokenPlaces.advance.Goals.{then-loop-at-test+else-not-begins_run, else-loop-at-test}
+use Rattle.ii_base.proofs.tokenizer.ascii_tokenizer.AsciiTokensTokenStream.advance.Goals as goal
+use Rattle.ii_base.proofs.tokenizer.ascii_tokenizer.AsciiTokensTokenStream.advance.Goals.{then-loop-at-test+else-not-begins_run, else-loop-at-test}
 
 pub returns-clause-rest : goal.returns-clause-rest
 returns-clause-rest c =
-    let text = c.args.text.now in
+    let text = c.args.self.now.text.now in
     let at = c.loop-at.at in
     let bytes = c.as_bytes-2.ensures.value in
     let begins : begins_run text at ≡ true = elim c.loop-at-test.branch [ then-loop-at-test+else-not-begins_run w ↦ search rules | else-loop-at-test w ↦ search rules ] in
@@ -24,13 +24,13 @@ returns-clause-rest c =
 
 pub loop-at-preserved : goal.loop-at-preserved
 loop-at-preserved c =
-    let text = c.args.text.now in
+    let text = c.args.self.now.text.now in
     let out : begins_run text c.loop-at.at ≡ false = search rules in
     (omega arith, words_skip text c.args.self.now.passed c.loop-at.at (omega arith) out ∙ c.loop-at.invariant.1)
 
 pub returns-clause-found : goal.returns-clause-found
 returns-clause-found c =
-    let text = c.args.text.now in
+    let text = c.args.self.now.text.now in
     let at = c.loop-at.at in
     let begins : begins_run text at ≡ true = elim c.loop-at-test.branch [ then-loop-at-test+else-not-begins_run w ↦ search rules | else-loop-at-test w ↦ search rules ] in
     let first = sym (words_take text c.args.self.now.passed at begins) ∙ c.loop-at.invariant.1 in
@@ -38,7 +38,7 @@ returns-clause-found c =
 
 pub returns-clause-current : goal.returns-clause-current
 returns-clause-current c = λ found.
-    let text = c.args.text.now in
+    let text = c.args.self.now.text.now in
     let at = c.loop-at.at in
     let bytes = c.as_bytes-2.ensures.value in
     let begins : begins_run text at ≡ true = elim c.loop-at-test.branch [ then-loop-at-test+else-not-begins_run w ↦ search rules | else-loop-at-test w ↦ search rules ] in
@@ -50,10 +50,10 @@ returns-clause-current c = λ found.
 
 pub returns-then-at-text-clause-found : goal.returns-then-at-text-clause-found
 returns-then-at-text-clause-found c =
-    let none = words_past c.args.text.now c.args.self.now.passed c.loop-at.at (omega arith) in
+    let none = words_past c.args.self.now.text.now c.args.self.now.passed c.loop-at.at (omega arith) in
     ap (λ (ws : List Word). nat_lt 0 (length ws)) (sym none ∙ c.loop-at.invariant.1)
 
 pub returns-then-at-text-clause-rest : goal.returns-then-at-text-clause-rest
 returns-then-at-text-clause-rest c =
-    let none = words_past c.args.text.now c.args.self.now.passed c.loop-at.at (omega arith) in
+    let none = words_past c.args.self.now.text.now c.args.self.now.passed c.loop-at.at (omega arith) in
     rw (← c.loop-at.invariant.1, none) refl
