@@ -1,5 +1,6 @@
-ghost use Rattle.std.specs.Prelude.{◌≡◌, ◌<◌, ◌+◌, ◌*◌, ◌++◌, ◌∷◌, [], sum, length, IfSome};
-ghost use Rattle.ii_base.specs.JsonWeight.{HasRoom, children_weight, held_weights, weight};
+ghost use Rattle.std.specs.Prelude.{◌≡◌, ◌<◌, ◌+◌, ◌*◌, ◌++◌, ◌∷◌, [], sum, length, ◌≤◌, map, None, IfSome};
+ghost use Rattle.std.specs.Vec.{vec_len, vec_capacity};
+ghost use Rattle.ii_base.specs.JsonWeight.{HasRoom, children_weight, held_weights, member_weights, weight};
 ghost use Rattle.ii_base.specs.Values.{whole_seconds};
 
 use crate::datetime::DateTime;
@@ -87,7 +88,7 @@ impl Drop for JsonValue {
 }
 
 impl JsonValue {
-    // Lets go of a part, and returns the rest, which weighs less. A last child that has no children is let
+    // Lets go of a part, and returns the rest, which weighs less. A last child that has only leaves is let
     // go. Any other last child and its parent change places: the parent becomes the child's first child,
     // and gets the child's last child in exchange.
     fn reduced(self) -> Option<JsonValue>
@@ -105,9 +106,10 @@ impl JsonValue {
         }
     }
 
-    // Takes out the last child. A value without children is let go.
+    // Takes out the last child that isn't a leaf, and lets go of those after it. A value without such a
+    // child is let go.
     fn opened(self) -> Option<(OpenBranch, JsonValue)>
-        ensures taken { IfSome result (λ r. weight self ≡ 1 + children_weight (held_weights r.0 ++ weight r.1 ∷ [])) }
+        ensures taken { IfSome result (λ r. 1 + children_weight (held_weights r.0 ++ weight r.1 ∷ []) ≤ weight self) }
         ensures room { IfSome result (λ r. HasRoom r.0) }
         ensures positive { 0 < weight self }
     {
@@ -124,23 +126,70 @@ impl JsonValue {
             | JsonValue::Facet
             | JsonValue::Ip => None,
             JsonValue::Array(mut items) => {
-                if items.is_empty() {
+                let Some(child) = last_branch(&mut items) else {
                     items.destroy_empty();
                     return None;
-                }
-                let child = items.take_last();
+                };
                 Some((OpenBranch::Array(items), child))
             }
             JsonValue::Object(mut members) => {
-                if members.is_empty() {
+                let Some((key, child)) = last_branch_member(&mut members) else {
                     members.destroy_empty();
                     return None;
-                }
-                let (key, child) = members.take_last();
+                };
                 Some((OpenBranch::Object(members, key), child))
             }
         }
     }
+
+    // Returns an array or an object. A leaf is let go.
+    fn branch(self) -> Option<JsonValue>
+        ensures { IfSome result (λ branch. branch ≡ self) }
+    {
+        match self {
+            JsonValue::Null
+            | JsonValue::Str(_)
+            | JsonValue::U64(_)
+            | JsonValue::I64(_)
+            | JsonValue::Bool(_)
+            | JsonValue::Date(_)
+            | JsonValue::F64Bits(_)
+            | JsonValue::PreTok
+            | JsonValue::Bytes
+            | JsonValue::Facet
+            | JsonValue::Ip => None,
+            JsonValue::Array(items) => Some(JsonValue::Array(items)),
+            JsonValue::Object(members) => Some(JsonValue::Object(members)),
+        }
+    }
+}
+
+// Takes out the last element that isn't a leaf, and lets go of those after it.
+fn last_branch(items: &mut Vec<JsonValue>) -> Option<JsonValue>
+    ensures taken { IfSome result (λ child. children_weight (map weight items.new.items ++ weight child ∷ []) ≤ children_weight (map weight items.old.items)) }
+    ensures room { IfSome result (λ _. vec_len items.new < vec_capacity items.new) }
+    ensures none { result ≡ None → vec_len items.new ≡ 0 }
+{
+    while let Some(child) = items.pop() {
+        if let Some(branch) = child.branch() {
+            return Some(branch);
+        }
+    }
+    None
+}
+
+// Takes out the last member that isn't a leaf, and lets go of those after it.
+fn last_branch_member(members: &mut Vec<(String, JsonValue)>) -> Option<(String, JsonValue)>
+    ensures taken { IfSome result (λ member. children_weight (member_weights members.new.items ++ weight member.1 ∷ []) ≤ children_weight (member_weights members.old.items)) }
+    ensures room { IfSome result (λ _. vec_len members.new < vec_capacity members.new) }
+    ensures none { result ≡ None → vec_len members.new ≡ 0 }
+{
+    while let Some((key, child)) = members.pop() {
+        if let Some(branch) = child.branch() {
+            return Some((key, branch));
+        }
+    }
+    None
 }
 
 // An array or an object without the child that was its last, with room for one child.

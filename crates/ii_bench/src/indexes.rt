@@ -8,7 +8,7 @@ use bytes::Bytes;
 use ii_base::{AsciiTokenizer, Field, FieldEntry, IndexRecordOption, Schema, Term};
 use ii_indexing::{IndexCall, IndexWriters, Indexer};
 use ii_io::{CountingWriter, Fault};
-use ii_reader::{InvertedIndexReader, OpenIndex, SegmentPostings, open_index};
+use ii_reader::{InvertedIndexReader, OpenIndex, SegmentPostings, open_index_with_norms};
 use std::alloc::Global;
 use std::time::{Duration, Instant};
 
@@ -183,7 +183,7 @@ impl Files {
             positions,
             fieldnorms,
         } = self;
-        open_index(alloc, terms, postings, positions, fieldnorms, &schema)
+        open_index_with_norms(alloc, terms, postings, positions, fieldnorms, &schema)
     }
 }
 

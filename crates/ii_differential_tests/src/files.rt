@@ -3,7 +3,7 @@ ghost use Rattle.std.specs.Prelude.{◌≡◌, length, IfOk};
 use crate::compare::{DifferenceCounts, MODES, goes_over, names, option_of, shared};
 use ii_base::{CompositeFile, Fault, Field, FieldEntry, IndexRecordOption, Schema};
 use ii_fieldnorm::FieldNormReader;
-use ii_reader::{InvertedIndexReader, OpenIndex, open_index};
+use ii_reader::{InvertedIndexReader, OpenIndex, open_index_with_norms};
 use ii_slow_reader::{
     Body, Damage, Entry, FieldFiles, Files, Info, Mode, body_of, bytes_in, read_composite,
     read_dictionary, read_index, read_store, read_term,
@@ -137,7 +137,7 @@ fn one_text(alloc: Global, option: IndexRecordOption) -> Result<Schema, Fault>
 // Returns whether both readers find the same terms, lists and norms in an index.
 fn same_index(alloc: Global, files: Files<'_>, recorded: Mode) -> Result<bool, Fault> {
     let schema = one_text(alloc, option_of(recorded))?;
-    let opened = open_index(
+    let opened = open_index_with_norms(
         alloc,
         shared(alloc, files.terms)?,
         shared(alloc, files.postings)?,

@@ -13,7 +13,7 @@ ghost use Rattle.ii_reader.specs.OpenIndex.{IndexHolds, OpenIndexState, index_of
 use bytes::Bytes;
 use nequllpa::{
     DamagedTerm, Fault, Field, IndexRecordOption, InvertedIndexReader, OpenIndex, Schema,
-    SegmentPostings, Term, open_index,
+    SegmentPostings, Term, open_index_with_norms,
 };
 use std::alloc::Global;
 
@@ -31,7 +31,7 @@ pub fn any_files_open_as_their_index(
     ensures fault { IfErr result (λ fault. (fault ≡ Fault.OutOfMemory)
         ⊎ ((part : Part) × (fault ≡ Fault.Damaged part) × (index_of_files terms postings positions fieldnorms schema.now ≡ Err part))) }
 {
-    open_index(alloc, terms, postings, positions, fieldnorms, schema)
+    open_index_with_norms(alloc, terms, postings, positions, fieldnorms, schema)
 }
 
 /// Files that hold tokens and their norms open as an index with these. Opening fails only with
@@ -49,7 +49,7 @@ pub fn files_of_tokens_are_opened(
     ensures memory { (tokens : List IndexToken) → (num_docs : ℕ) → HoldTokens (option_of schema.now) terms postings positions tokens → HoldNorms schema.now num_docs fieldnorms tokens
         → IfErr result (λ fault. fault ≡ Fault.OutOfMemory) }
 {
-    open_index(alloc, terms, postings, positions, fieldnorms, schema)
+    open_index_with_norms(alloc, terms, postings, positions, fieldnorms, schema)
 }
 
 /// A term is read completely: all its documents remain, as many as its entry in the dictionary says.
@@ -117,7 +117,7 @@ pub fn checked_files_open_every_term(
     requires { term.now.field < length schema.now }
     ensures { (index : OpenIndexState) → index_of_files terms postings positions fieldnorms schema.now ≡ Ok index → IfErr result (λ fault. fault ≡ Fault.OutOfMemory) }
 {
-    let mut index = open_index(alloc, terms, postings, positions, fieldnorms, schema)?;
+    let mut index = open_index_with_norms(alloc, terms, postings, positions, fieldnorms, schema)?;
     if index.check()?.is_some() {
         return Ok(None);
     }

@@ -16,7 +16,7 @@ ghost use Rattle.ii_promises.specs.Decodes.{HaveDecodedFew};
 use bytes::Bytes;
 use nequllpa::{
     DocId, DocSet, Fault, IndexCall, OpenIndex, Query, QueryCursor, Schema, SegmentPostings,
-    TermOrPhrase, TextAnalyzer, index_in_ram, open_index, search,
+    TermOrPhrase, TextAnalyzer, index_in_ram, open_index_with_norms, search,
 };
 use std::alloc::Global;
 
@@ -66,7 +66,7 @@ pub fn queries_of_files_find_what_matches(
     ensures memory { (tokens : List IndexToken) → (num_docs : ℕ) → HoldTokens (option_of schema.now) terms postings positions tokens → HoldNorms schema.now num_docs fieldnorms tokens
         → IfErr result (λ fault. fault ≡ Fault.OutOfMemory) }
 {
-    match open_index(alloc, terms, postings, positions, fieldnorms, schema) {
+    match open_index_with_norms(alloc, terms, postings, positions, fieldnorms, schema) {
         Ok(index) => search(alloc, &index, query),
         Err(fault) => Err(fault),
     }

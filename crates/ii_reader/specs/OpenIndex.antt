@@ -74,6 +74,13 @@ index_of_files terms postings positions fieldnorms entries = do
   readers ← field_readers bodies entries
   Ok (record { readers = readers; fieldnorms = norms })
 
+-- the index in three files, without norms
+abbrev pub index_of_terms : List ℕ → List ℕ → List ℕ → List SchemaEntry → Result OpenIndexState Part
+index_of_terms terms postings positions entries = do
+  bodies ← index_bodies terms postings positions
+  readers ← field_readers bodies entries
+  Ok (record { readers = readers; fieldnorms = [] })
+
 -- A reader has the option of a field of the schema, and holds its tokens.
 pub record FieldReaderHolds (entries : List SchemaEntry) (field : ℕ) (reader : InvertedIndexReaderState) (ts : List IndexToken) : Type 0 where
   pub option_is : reader.option ≡ option_of entries field

@@ -12,7 +12,7 @@ ghost use Rattle.ii_definitions.specs.Norms.{HoldNorms};
 ghost use Rattle.ii_io.specs.Faults.{OnlyMemory};
 ghost use Rattle.ii_reader.specs.Damage.{first_damaged_field};
 ghost use Rattle.ii_reader.specs.InvertedIndexReader.{AllOpen, IsRefusal};
-ghost use Rattle.ii_reader.specs.OpenIndex.{GivesNorms, GivesReaders, NormsHold, field_readers, index_bodies, index_of_files, reader_of_bodies, reader_of_field};
+ghost use Rattle.ii_reader.specs.OpenIndex.{GivesNorms, GivesReaders, NormsHold, field_readers, index_bodies, index_of_files, index_of_terms, reader_of_bodies, reader_of_field};
 
 use super::damage::DamagedTerm;
 use super::inverted_index_reader::InvertedIndexReader;
@@ -22,6 +22,9 @@ use ii_fieldnorm::{FieldNormReader, FieldNormReaders};
 use ii_termdict::TermDictionary;
 use std::alloc::Global;
 use std::marker::Model;
+
+// A composite file without bodies: its table has no place.
+const NO_BODIES: [u8; 4] = [0; 4];
 
 /// Holds the readers of the fields of a schema and their norms, over the files of an index. The model is the
 /// readers in the order of the fields, and the norms.
@@ -127,6 +130,26 @@ fn check_all(readers: &mut [InvertedIndexReader]) -> Result<Option<(Field, Damag
     Ok(None)
 }
 
+/// Opens an index from its files of terms, postings and positions, as `open_index_with_norms` does, but
+/// without norms: `get_fieldnorms_reader` returns `None` for each field. The errors are the same, without
+/// those of a file of norms.
+pub fn open_index(
+    alloc: Global,
+    terms: Bytes,
+    postings: Bytes,
+    positions: Bytes,
+    schema: &Schema,
+) -> Result<OpenIndex, Fault>
+    ensures ok { IfOk result (λ index. index_of_terms terms postings positions schema.now ≡ Ok index) }
+    ensures many { IfOk result (λ index. length index.readers ≡ length schema.now) }
+    ensures err { IfErr result (IsRefusal (index_of_terms terms postings positions schema.now)) }
+    // If the files hold tokens.
+    ensures holds { (tokens : List IndexToken) → HoldTokens (option_of schema.now) terms postings positions tokens → GivesReaders schema.now tokens result }
+{
+    let fieldnorms = Bytes::from_static(&NO_BODIES);
+    open_index_with_norms(alloc, terms, postings, positions, fieldnorms, schema)
+}
+
 /// Opens an index. Its files of terms, postings and positions have a body for each field with tokens, and its
 /// file of norms one for each field with norms.
 ///
@@ -144,7 +167,7 @@ fn check_all(readers: &mut [InvertedIndexReader]) -> Result<Option<(Field, Damag
 /// * `Damaged(TokenCount)` if its postings don't begin with its number of tokens.
 ///
 /// Returns `OutOfMemory` if an allocation fails or a file's buffer can't be shared again.
-pub fn open_index(
+pub fn open_index_with_norms(
     alloc: Global,
     terms: Bytes,
     postings: Bytes,

@@ -13,7 +13,7 @@ pub use block_segment_postings::BlockSegmentPostings;
 pub use damage::DamagedTerm;
 pub use field_space::InvertedIndexFieldSpace;
 pub use ii_check::FreqReadingOption;
-pub use index_files::{OpenIndex, open_index};
+pub use index_files::{OpenIndex, open_index, open_index_with_norms};
 pub use inverted_index_reader::InvertedIndexReader;
 pub use loaded_postings::LoadedPostings;
 pub use segment_postings::SegmentPostings;

@@ -4,7 +4,7 @@ use bytes::Bytes;
 use ii_base::{Fault, Field, FieldEntry, IndexRecordOption, Part, Schema, Term, ValueType};
 use ii_docset::{DocId, DocSet, TERMINATED};
 use ii_reader::{
-    BlockSegmentPostings, DamagedTerm, InvertedIndexReader, OpenIndex, SegmentPostings, open_index,
+    BlockSegmentPostings, DamagedTerm, InvertedIndexReader, OpenIndex, SegmentPostings, open_index_with_norms,
 };
 use ii_termdict::{TermDictionary, TermInfo};
 use std::alloc::Global;
@@ -64,7 +64,7 @@ fn opened_by(alloc: Global, files: Files, schema: &Schema) -> Result<OpenIndex, 
     ensures { IfOk result (λ index. length index.readers ≡ length schema.now) }
 {
     let [terms, postings, positions, fieldnorms] = files;
-    open_index(
+    open_index_with_norms(
         alloc,
         Bytes::from_static(terms),
         Bytes::from_static(postings),

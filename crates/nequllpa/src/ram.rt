@@ -16,7 +16,7 @@ use bytes::Bytes;
 use ii_base::{Fault, Schema, TextAnalyzer};
 use ii_docset::DocId;
 use ii_indexing::{IndexCall, IndexWriters, write_index};
-use ii_reader::{OpenIndex, open_index};
+use ii_reader::{OpenIndex, open_index_with_norms};
 use std::alloc::Global;
 
 /// Indexes calls in memory, and opens the index. The readers hold exactly the tokens of the calls.
@@ -84,7 +84,7 @@ fn open_files(
         positions,
         fieldnorms,
     } = files;
-    open_index(
+    open_index_with_norms(
         alloc,
         Bytes::from_vec(terms.finish())?,
         Bytes::from_vec(postings.finish())?,

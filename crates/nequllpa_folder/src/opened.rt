@@ -16,7 +16,7 @@ use crate::faults::OpenFault;
 use bytes::Bytes;
 use ii_base::{Fault, Field, FieldEntry, Schema};
 use ii_query_parser::field_named;
-use ii_reader::{InvertedIndexReader, OpenIndex, open_index};
+use ii_reader::{InvertedIndexReader, OpenIndex, open_index_with_norms};
 use ii_schema_text::read_schema;
 use ii_store::StoredIndex;
 use std::alloc::Global;
@@ -188,6 +188,6 @@ impl Files {
         let postings = Bytes::from_vec(postings)?;
         let positions = Bytes::from_vec(positions)?;
         let fieldnorms = Bytes::from_vec(fieldnorms)?;
-        open_index(alloc, terms, postings, positions, fieldnorms, schema)
+        open_index_with_norms(alloc, terms, postings, positions, fieldnorms, schema)
     }
 }

@@ -5,7 +5,7 @@ use crate::memory_index::{Call, Key, Kind, Said, files_of, schema_of, told};
 use bytes::Bytes;
 use ii_base::{Fault, Field, Part, Schema};
 use ii_indexing::IndexWriters;
-use ii_reader::{DamagedTerm, OpenIndex, open_index};
+use ii_reader::{DamagedTerm, OpenIndex, open_index_with_norms};
 use std::alloc::Global;
 use std::test::Fail;
 
@@ -38,7 +38,7 @@ fn opened(
     if let Some(found) = postings.get_mut(place) {
         *found = byte;
     }
-    open_index(
+    open_index_with_norms(
         alloc,
         Bytes::from_vec(terms.finish())?,
         Bytes::from_vec(postings)?,

@@ -13,8 +13,8 @@ returns-clause-holds c t p q f n ts terms postings positions fieldnorms hold nor
     let d = same_file c.in_ok-from_vec-3.field-0 c.finish-3.result.items q c.args.files.positions.contents c.in_ok-from_vec-3.ensures.ok c.finish-3.ensures positions in
     let e = same_file c.in_ok-from_vec-4.field-0 c.finish-4.result.items f c.args.files.fieldnorms.contents c.in_ok-from_vec-4.ensures.ok c.finish-4.ensures fieldnorms in
     let read = subst (λ (x : List ℕ). HoldNorms c.args.schema.now n x ts) e norms in (
-      c.open_index-2.ensures.holds ts
+      c.open_index_with_norms-2.ensures.holds ts
           (subst (λ (x : List ℕ). HoldTokens option x c.in_ok-from_vec-2.field-0 c.in_ok-from_vec-3.field-0 ts) a (subst (λ (x : List ℕ). HoldTokens option t x c.in_ok-from_vec-3.field-0 ts) b (subst (λ (x : List ℕ). HoldTokens option t p x ts) d hold)))
           (rw read.opened refl),
-      c.open_index-2.ensures.norms n ts read,
+      c.open_index_with_norms-2.ensures.norms n ts read,
     )

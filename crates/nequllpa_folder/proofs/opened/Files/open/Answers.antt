@@ -20,4 +20,4 @@ returns-clause-holds c n ts hold norms =
     let tokens = subst (λ (x : List ℕ). HoldTokens option x postings positions ts) a
     (subst (λ (x : List ℕ). HoldTokens option files.terms.items x positions ts) b
     (subst (λ (x : List ℕ). HoldTokens option files.terms.items files.postings.items x ts) d hold)) in
-    index_holds c.args.schema.now n ts c.open_index.result (c.open_index.ensures.holds ts tokens (rw read.opened refl)) (c.open_index.ensures.norms n ts read)
+    index_holds c.args.schema.now n ts c.open_index_with_norms.result (c.open_index_with_norms.ensures.holds ts tokens (rw read.opened refl)) (c.open_index_with_norms.ensures.norms n ts read)

@@ -1,5 +1,5 @@
 use Rattle.ii_reader.proofs.IndexLemmas.{many_readers, opened_holds, opened_norms, refused_holds}
-use Rattle.ii_reader.proofs.index_files.open_index.Goals as goal
+use Rattle.ii_reader.proofs.index_files.open_index_with_norms.Goals as goal
 
 pub returns-in-Ok-clause-many : goal.returns-in-Ok-clause-many
 returns-in-Ok-clause-many c = many_readers c.args.terms c.args.postings c.args.positions c.args.fieldnorms c.args.schema.now c.in-Ok.index c.in-Ok.ensures.ok
