@@ -3,4 +3,5 @@ pub mod BoxLemmas
 pub mod BufferLemmas
 pub mod CursorLemmas
 pub mod IntersectionLemmas
+pub mod OffsetLemmas
 pub mod WalkLemmas

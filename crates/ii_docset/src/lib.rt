@@ -15,6 +15,6 @@ pub use docset::{COLLECT_BLOCK_BUFFER_LEN, DocSet, SeekDangerResult};
 pub use ii_base::{DocId, TERMINATED};
 pub use intersection::intersect;
 pub use lent::Lent;
-pub use postings::{Postings, copy_positions};
+pub use postings::{Postings, add_offset, copy_positions};
 pub use seek_once::SeekOnce;
 pub use walking::walk;

@@ -8,7 +8,8 @@ use ii_base::Fault;
 
 /// A cursor over documents with term frequencies and positions.
 ///
-/// Positions plus an offset must be less than 2^32.
+/// An implementation needs `term_freq` and `read_positions`; for positions in memory the latter is
+/// `copy_positions`. Positions plus an offset must be less than 2^32.
 #[tactic(auto, using(crate::proofs::CursorLemmas::positions_fit))]
 pub trait Postings: DocSet {
     // A bound on what was decoded between two states, given the number of calls that read positions, and
@@ -18,15 +19,18 @@ pub trait Postings: DocSet {
 
     /// Returns the term frequency of the current document, or 1 if frequencies aren't read. If they are
     /// read, there must be a current document.
+    ///
+    /// The current document has at most this many positions.
     fn term_freq(&self) -> u32
         requires { IsTrue (Self.always_one self.now) ⊎ IsCurrent (Self.rest self.now) }
-        ensures { result ≡ term_freq_at (Self.always_one self.now) (Self.rest self.now) };
+        ensures freq { result ≡ term_freq_at (Self.always_one self.now) (Self.rest self.now) }
+        ensures positions { length (positions_at (Self.rest self.now)) ≤ result };
 
     /// Appends the positions of the current document to `output`, each plus `offset`. The cursor doesn't
     /// move.
     ///
     /// Returns `OutOfMemory`, and leaves `output` as it is, if `output` or a buffer of the cursor can't
-    /// grow.
+    /// grow. By default, it grows `output` by the term frequency, and calls `read_positions` once.
     fn append_positions_with_offset(
         &mut self,
         offset: u32,
@@ -39,7 +43,18 @@ pub trait Postings: DocSet {
         ensures only { OnlyMemory result }
         ensures rest { Self.rest self.new ≡ Self.rest self.old }
         ensures kind { Self.always_one self.new ≡ Self.always_one self.old }
-        ensures work { spent 1 (term_freq_at (Self.always_one self.old) (Self.rest self.old)) self.old self.new };
+        ensures work { spent 1 (term_freq_at (Self.always_one self.old) (Self.rest self.old)) self.old self.new }
+    {
+        let start = output.len();
+        let most = self.term_freq() as usize;
+        output.resize(start + most, 0)?;
+        let (_, added) = output.as_mut_slice().split_at_mut(start);
+        let count = self.read_positions(0, 0, added);
+        output.truncate(start + count);
+        let (_, added) = output.as_mut_slice().split_at_mut(start);
+        add_offset(added, offset);
+        Ok(())
+    }
 
     /// Replaces the contents of `output` with the positions of the current document, each plus `offset`.
     /// The cursor doesn't move.
@@ -114,4 +129,14 @@ pub fn copy_positions(positions: &[u32], from: usize, output: &mut [u32]) -> usi
     let (front, _) = output.split_at_mut(count);
     front.copy_from_slice(&positions[from..from + count]);
     count
+}
+
+/// Adds `offset` to each value. Each sum must be less than 2^32.
+pub fn add_offset(values: &mut [u32], offset: u32)
+    requires { All (λ v. v + offset < 2 ^ 32) values.old }
+    ensures { values.new ≡ map (λ v. v + offset) values.old }
+{
+    for i in 0..values.len() {
+        values[i] += offset;
+    }
 }

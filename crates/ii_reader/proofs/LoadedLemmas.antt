@@ -1,10 +1,10 @@
 -- Laws of lists that are loaded into memory.
-use Rattle.std.proofs.Common.{◌≡◌, ℕ, zero, suc, ◌+◌, ◌-◌, ◌<◌, ◌≤◌, ◌^◌, Bool, true, false, List, [], ◌∷◌, ◌++◌, length, take, drop, map, get_or, set, nat_lt, refl, sym, ap, ◌∙◌, arith, inl, inr, length-drop, length-append, append-nil, append_assoc}
+use Rattle.std.proofs.Common.{◌≡◌, ℕ, zero, suc, ◌+◌, ◌-◌, ◌<◌, ◌≤◌, ◌^◌, Bool, true, false, List, [], ◌∷◌, ◌++◌, length, take, drop, map, get_or, nat_lt, refl, sym, ap, ◌∙◌, arith, inl, inr, length-drop, length-append, append-nil, append_assoc}
 use Rattle.std.specs.List.{All}
 use Rattle.std.proofs.Math.Seq.{drop-cons, drop-append_seam, drop-length}
 use Rattle.std.proofs.lemmas.Bool.{ltb-true, ltb-false}
-use Rattle.std.proofs.lemmas.List.{get_or-drop, drop-drop, drop-append-le, take-append-le, get_or_append_left, get_or-append_right, length-map, nil_from_length, length-take-le, take_all, take_more_set, drop-set-lt, get_or_default}
-use Rattle.std.proofs.lemmas.List.Elements.{All-drop, All-map}
+use Rattle.std.proofs.lemmas.List.{get_or-drop, drop-drop, drop-append-le, take-append-le, get_or_append_left, get_or-append_right, length-map, nil_from_length, length-take-le, take_all, get_or_default}
+use Rattle.std.proofs.lemmas.List.Elements.{All-map}
 use Rattle.std.proofs.lemmas.List.Sums.{sum_by-cons}
 use Rattle.ii_io.specs.declared.faults.Fault.{Fault}
 use Rattle.ii_base.specs.declared.doc_id.TheConstants.{TERMINATED}
@@ -267,18 +267,6 @@ at_current docs offsets positions c start end h current start_is end_is = at_cas
 pub next_is_held : (docs offsets positions : List ℕ) (c : ℕ) → IsHeld docs offsets positions c → c < length docs → IsHeld docs offsets positions (c + 1)
 next_is_held docs offsets positions c h inside =
     record { offsets_are = h.offsets_are; few = h.few; inside = omega arith; sound = rw (next_held docs offsets positions c inside) (IsSound_drop 1 (entries_held (drop c docs) (drop c offsets) positions) h.sound) }
-
--- an offset was added to one more value
-pub raised : (offset : ℕ) (vs : List ℕ) (i : ℕ) → i < length vs
-    → take (i + 1) (set vs i (get_or vs i 0 + offset)) ++ map (λ (v : ℕ). v + offset) (drop (i + 1) (set vs i (get_or vs i 0 + offset))) ≡ take i vs ++ map (λ (v : ℕ). v + offset) (drop i vs)
-raised offset vs i inside =
-    let next : i + 1 ≡ suc i = omega arith in
-    rw (take_more_set vs i (get_or vs i 0 + offset) inside, drop-set-lt (i + 1) vs i (get_or vs i 0 + offset) (omega arith), drop-cons vs i 0 inside, next)
-    (append_assoc (take i vs) ((get_or vs i 0 + offset) ∷ []) (map (λ (v : ℕ). v + offset) (drop (suc i) vs)))
-
-pub still_fit : (offset : ℕ) (vs : List ℕ) (i : ℕ) → All (λ (v : ℕ). v + offset < 2 ^ 32) (drop i vs) → All (λ (v : ℕ). v + offset < 2 ^ 32) (drop (i + 1) (set vs i (get_or vs i 0 + offset)))
-still_fit offset vs i h =
-    rw (drop-set-lt (i + 1) vs i (get_or vs i 0 + offset) (omega arith), ← drop-drop 1 i vs) (All-drop (λ (v : ℕ). v + offset < 2 ^ 32) 1 (drop i vs) h)
 
 -- Positions were asked for once for each entry that was passed, with these counts.
 pub record HasLoaded (asked counts : ℕ) (one : Bool) (all rest : List Entry) : Type 0 where

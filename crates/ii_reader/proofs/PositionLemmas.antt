@@ -13,7 +13,7 @@ use Rattle.ii_base.specs.Options.{downgrade, has_positions}
 use Rattle.ii_base.specs.declared.doc_id.TheConstants.{TERMINATED}
 use Rattle.ii_codes.specs.Sums.{fit_u32, running_sums}
 use Rattle.ii_base.specs.Entries.{document}
-use Rattle.ii_docset.specs.Cursor.{positions_at}
+use Rattle.ii_docset.specs.Cursor.{positions_at, term_freq_at}
 use Rattle.ii_layout.specs.Postings.{entries_of}
 use Rattle.ii_layout.specs.Positions.{position_deltas, positions_of, deltas_at}
 use Rattle.ii_layout.specs.TermList.{deltas_if, docs_and_freqs, term_list, list_of, located, positions_if}
@@ -23,6 +23,7 @@ use Rattle.ii_docset.proofs.CursorLemmas.{ascending, length_below}
 use Rattle.ii_codes.specs.BlockDecoder.{BlockDecoderState}
 use Rattle.ii_layout.specs.PositionReader.{PositionReaderState}
 use Rattle.ii_layout.specs.SkipReader.{SkipReaderState}
+use Rattle.ii_codes.proofs.LengthLemmas.{length-running_sums}
 use Rattle.ii_layout.proofs.BlockDocs.{get_or-block_of}
 use Rattle.ii_check.specs.CheckedPostings.{AreReadFreqs, CheckedPostingsState, HasDocuments, HoldsFreqs, IsAtBlock}
 use Rattle.ii_check.specs.Positions.{deltas_read}
@@ -93,6 +94,26 @@ unread_cases (Some fs) = refl
 
 pub none_at : (docs : List ℕ) (freqs deltas : Option (List ℕ)) (i : ℕ) → deltas ≡ None → [] ≡ positions_at (drop i (list_of docs freqs deltas))
 none_at docs freqs deltas i e = no_position docs freqs i ∙ ap (λ (pss : List (List ℕ)). positions_at (drop i (located pss (entries_of docs freqs)))) (sym (ap (positions_if freqs) e ∙ unread_cases freqs))
+
+few_at : (docs freqs deltas : List ℕ) (i : ℕ)
+    → length (positions_at (drop i (located (positions_of freqs deltas) (entries_of docs (Some freqs))))) ≤ term_freq_at false (drop i (located (positions_of freqs deltas) (entries_of docs (Some freqs))))
+few_at [] [] deltas zero = omega arith
+few_at [] [] deltas (suc i) = omega arith
+few_at [] (f ∷ fs) deltas zero = omega arith
+few_at [] (f ∷ fs) deltas (suc i) = omega arith
+few_at (d ∷ ds) [] deltas zero = omega arith
+few_at (d ∷ ds) [] deltas (suc i) = omega arith
+few_at (d ∷ ds) (f ∷ fs) deltas zero =
+    let sums = length-running_sums 0 (take f deltas) in
+    let size = length-take f deltas in
+    omega (arith, sums, size)
+few_at (d ∷ ds) (f ∷ fs) deltas (suc i) = few_at ds fs (drop f deltas) i
+
+-- the current document has at most as many positions as its term frequency
+pub few_positions : (docs : List ℕ) (freqs deltas : Option (List ℕ)) (i : ℕ) → length (positions_at (drop i (list_of docs freqs deltas))) ≤ term_freq_at false (drop i (list_of docs freqs deltas))
+few_positions docs None deltas i = let none = ap length (no_position docs None i) in omega (arith, none)
+few_positions docs (Some freqs) None i = let none = ap length (no_position docs (Some freqs) i) in omega (arith, none)
+few_positions docs (Some freqs) (Some deltas) i = few_at docs freqs deltas i
 
 -- What a reader is asked for the current document: its deltas, by the counts before it and its own.
 pub record AsksFor (freqs deltas : List ℕ) (place start count : ℕ) : Type 0 where

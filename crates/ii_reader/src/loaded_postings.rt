@@ -1,11 +1,11 @@
-ghost use Rattle.std.specs.Prelude.{◌≡◌, ◌+◌, ◌<◌, ◌^◌, ◌++◌, false, [], length, map, IfOk, IfErr, OnOk, OnErr};
+ghost use Rattle.std.specs.Prelude.{◌≡◌, ◌+◌, ◌<◌, ◌≤◌, ◌^◌, ◌++◌, false, [], length, map, IfOk, IfErr, OnOk, OnErr};
 ghost use Rattle.std.specs.List.{All};
 ghost use Rattle.ii_io.specs.Faults.{OnlyMemory};
 ghost use Rattle.ii_docset.specs.Cursor.{IsCurrent, total_freq, doc_at, positions_at, term_freq_at};
 ghost use Rattle.ii_reader.specs.LoadedPostings.{IsEndOf, IsLoadFault, loaded, num_positions};
 
 use ii_base::{Fault, LimitName};
-use ii_docset::{DocId, DocSet, Postings, TERMINATED, copy_positions};
+use ii_docset::{DocId, DocSet, Postings, TERMINATED, add_offset, copy_positions};
 use std::alloc::Global;
 use std::marker::Model;
 
@@ -168,7 +168,8 @@ impl Postings for LoadedPostings {
 
     fn term_freq(&self) -> u32
         requires { IsCurrent self.now.rest }
-        ensures { result ≡ term_freq_at false self.now.rest }
+        ensures freq { result ≡ term_freq_at false self.now.rest }
+        ensures positions { length (positions_at self.now.rest) ≤ result }
     {
         self.current_positions().len() as u32
     }
@@ -198,14 +199,4 @@ fn append_with_offset(positions: &[u32], offset: u32, output: &mut Vec<u32>) -> 
     let (_, added) = output.as_mut_slice().split_at_mut(len);
     add_offset(added, offset);
     Ok(())
-}
-
-// Adds an offset to each value.
-fn add_offset(values: &mut [u32], offset: u32)
-    requires { All (λ v. v + offset < 2 ^ 32) values.old }
-    ensures { values.new ≡ map (λ v. v + offset) values.old }
-{
-    for i in 0..values.len() {
-        values[i] += offset;
-    }
 }

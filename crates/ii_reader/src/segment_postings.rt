@@ -452,6 +452,7 @@ impl Postings for SegmentPostings {
     fn term_freq(&self) -> u32
         requires { IsTrue (not (is_read self.now.freq_reading)) ⊎ IsCurrent self.now.rest }
         ensures freq { result ≡ term_freq_at (not (is_read self.now.freq_reading)) self.now.rest }
+        ensures positions { length (positions_at self.now.rest) ≤ result }
         // What a caller learns beyond the trait.
         ensures entry { result ≡ term_freq_at false self.now.rest }
     {

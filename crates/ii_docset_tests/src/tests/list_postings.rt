@@ -1,9 +1,7 @@
-ghost use Rattle.std.specs.Prelude.{◌≡◌, ◌+◌, ◌<◌, ◌^◌, ◌++◌, length, map, IfErr, OnErr, OnOk};
-ghost use Rattle.std.specs.List.{All};
+ghost use Rattle.std.specs.Prelude.{◌≡◌, length, map};
 ghost use Rattle.ii_base.specs.Entries.{Entry};
 ghost use Rattle.ii_docset.specs.Cursor.{IsSound};
 
-use ii_base::Fault;
 use ii_docset::{DocId, DocSet, Postings, TERMINATED, copy_positions};
 use std::marker::Model;
 
@@ -73,40 +71,12 @@ impl Postings for ListPostings {
         first.positions.len() as u32
     }
 
-    fn append_positions_with_offset(
-        &mut self,
-        offset: u32,
-        output: &mut Vec<u32>,
-    ) -> Result<(), Fault> {
-        let Some((first, _)) = self.left.split_first() else {
-            return Ok(());
-        };
-        append(first.positions, offset, output)
-    }
-
     fn read_positions(&mut self, from: usize, _before: u32, output: &mut [u32]) -> usize {
         let Some((first, _)) = self.left.split_first() else {
             return 0;
         };
         copy_positions(first.positions, from, output)
     }
-}
-
-// Appends each position plus an offset, or nothing if that fails.
-fn append(positions: &[u32], offset: u32, output: &mut Vec<u32>) -> Result<(), Fault>
-    requires { All (λ p. p + offset < 2 ^ 32) positions.now }
-    ensures ok { OnOk result (output.new.items ≡ output.old.items ++ map (λ p. p + offset) positions.now) }
-    ensures err { OnErr result (output.new.items ≡ output.old.items) }
-    ensures only { IfErr result (λ e. e ≡ Fault.OutOfMemory) }
-{
-    let start = output.len();
-    for position in positions {
-        if let Err(refused) = output.push(*position + offset) {
-            output.truncate(start);
-            return Err(Fault::from(refused));
-        }
-    }
-    Ok(())
 }
 
 impl ListPostings {

@@ -1,6 +1,6 @@
 use Rattle.std.proofs.Common.{◌∙◌, arith}
-use Rattle.ii_reader.proofs.LoadedLemmas.{raised, still_fit}
-use Rattle.ii_reader.proofs.loaded_postings.add_offset.Goals as goal
+use Rattle.ii_docset.proofs.OffsetLemmas.{raised, still_fit}
+use Rattle.ii_docset.proofs.postings.add_offset.Goals as goal
 
 pub loop-i-preserved : goal.loop-i-preserved
 loop-i-preserved c =

@@ -1,6 +1,6 @@
 use Rattle.std.proofs.Common.{◌≡◌, ℕ, ◌+◌, ◌<◌, ◌^◌, ◌++◌, map, take, drop}
 use Rattle.std.specs.List.{All}
-use Rattle.ii_reader.proofs.loaded_postings.add_offset.Given as goal
+use Rattle.ii_docset.proofs.postings.add_offset.Given as goal
 
 abbrev pub invariant-loop-i : goal.invariant-loop-i
 invariant-loop-i l = record {
