@@ -58,7 +58,7 @@ fn leaves_of(alloc: Global, value: &JsonValue) -> Result<String, Fault> {
     let mut gathered = Gathered {
         text: String::new(alloc),
     };
-    visit_leaves(value, &mut writer, &mut gathered)?;
+    visit_leaves(alloc, value, &mut writer, &mut gathered)?;
     Ok(gathered.text)
 }
 

@@ -12,6 +12,7 @@ use Rattle.ii_io.specs.declared.faults.Part.{Part}
 use Rattle.ii_io.specs.declared.faults.Part.TheVariants.{Composite, FieldNorms}
 use Rattle.ii_io.specs.Parts.{◌>>=◌}
 use Rattle.ii_io.specs.Composite.{Body, body_of, composite}
+use Rattle.ii_io.specs.Numbers.{number_at}
 use Rattle.ii_base.specs.Schema.{SchemaEntry}
 use Rattle.ii_base.specs.declared.schema.index_record_option.IndexRecordOption.{IndexRecordOption}
 use Rattle.ii_definitions.specs.Tokens.{IndexToken}
@@ -22,7 +23,7 @@ use Rattle.ii_definitions.specs.Norms.{HoldNorms, has_norms, norm_file, norm_ids
 use Rattle.ii_fieldnorm.specs.Norms.{id_of_norm}
 use Rattle.ii_fieldnorm.specs.Readers.{Norms, norms_of_ids}
 use Rattle.ii_reader.specs.InvertedIndexReader.{InvertedIndexReaderState, IsRefusal, ReaderHolds, reader_of_none}
-use Rattle.ii_reader.specs.OpenIndex.{AnswersNorms, FieldReaderHolds, GivesNorms, IndexBodies, NormsHold, ReadersHold, all_or_first, field_readers, OpenIndexState, index_bodies, index_of_files, reader_if, reader_of_field}
+use Rattle.ii_reader.specs.OpenIndex.{AnswersNorms, FieldReaderHolds, GivesNorms, IndexBodies, NormsHold, ReadersHold, all_or_first, field_readers, OpenIndexState, index_bodies, index_of_files, index_of_terms, reader_if, reader_of_field}
 use Rattle.ii_definitions.proofs.GroupedLaws.{no_field}
 
 -- a list before what others give
@@ -290,3 +291,12 @@ pub fields_refused : (terms postings positions fieldnorms : List ℕ) (entries :
     → composite fieldnorms ≡ Some norms → IsRefusal (field_readers bodies entries) fault → IsRefusal (index_of_files terms postings positions fieldnorms entries) fault
 fields_refused terms postings positions fieldnorms entries bodies norms fault tables opened (inl memory) = inl memory
 fields_refused terms postings positions fieldnorms entries bodies norms fault tables opened (inr (part, damaged, failed)) = inr (part, damaged, rw (tables, opened, failed) refl)
+
+-- a composite file without bodies
+pub no_bodies : composite (0 ∷ 0 ∷ 0 ∷ 0 ∷ []) ≡ Some []
+unfolding number_at
+no_bodies = refl
+
+-- a file of norms without bodies gives an index without norms
+pub without_norms : (terms postings positions fieldnorms : List ℕ) (entries : List SchemaEntry) → composite fieldnorms ≡ Some [] → index_of_files terms postings positions fieldnorms entries ≡ index_of_terms terms postings positions entries
+without_norms terms postings positions fieldnorms entries none = ap (λ (n : Option (List Body)). with_parts (index_bodies terms postings positions) (ok_or n Composite) (λ bodies. field_readers bodies entries)) none
