@@ -1,5 +1,5 @@
 -- Why terms, fields and contexts can't be written.
-use Rattle.std.proofs.Common.{Option, ◌≡◌, ℕ, zero, suc, ◌+◌, ◌-◌, ◌<◌, ◌⊎◌, inl, inr, Bool, false, List, [], ◌∷◌, ◌++◌, length, map, take, drop, get_or, Result, Ok, Err, refl, sym, ap, ◌∙◌, subst, arith, length-append, append-nil, append_assoc, add-zero, true≢false}
+use Rattle.std.proofs.Common.{Option, ◌≡◌, ℕ, zero, suc, ◌+◌, ◌-◌, ◌<◌, ◌⊎◌, inl, inr, Bool, false, List, [], ◌∷◌, ◌++◌, length, map, take, drop, get_or, Result, Ok, Err, refl, sym, ap, ◌∙◌, subst, arith, length-append, append-nil, add-zero, true≢false}
 use Rattle.std.specs.Prelude.{◌↔◌, IsTrue, slice_index_or, IsErrOf, IfErr}
 use Rattle.std.specs.List.{AllByRecursion, flat_map}
 use Rattle.std.proofs.lemmas.Grind.{flat_map-append}
@@ -25,7 +25,7 @@ use Rattle.ii_postings_writer.specs.SortedTerms.{norms_in, IsTold, SortedTerm, s
 use Rattle.ii_postings_writer.specs.declared.sorted_terms.TermOfField.{TermOfField}
 use Rattle.ii_definitions.specs.Fields.{option_of}
 use Rattle.ii_postings_writer.specs.TermLimits.{AreWithin, FirstOf, HasLargeSum, IsLong, IsWithin, PassEnds}
-use Rattle.ii_postings_writer.specs.WriteFaults.{FirstPartEnds, IsFaultBy, IsPartFault, IsPartsFault, IsTermFaultAfter, IsWithinPart, all_bodies}
+use Rattle.ii_postings_writer.specs.WriteFaults.{FirstPartEnds, IsFaultBy, IsPartFault, IsPartsFault, IsTermFaultAfter, IsTermsFaultAfter, IsWithinPart, all_bodies}
 use Rattle.ii_postings_writer.proofs.PartLemmas.{one_more_part, part_of, some_part}
 use Rattle.ii_postings_writer.proofs.SerializeLemmas.{all_written}
 use Rattle.ii_io.proofs.WriteSteps.{full_before, full_more}
@@ -39,12 +39,12 @@ module _ {X : Type 0} (Q P : X → Type 0) where
   first_before (x ∷ xs) ys (inr later) = inr (later.0, first_before xs ys later.1)
 
   -- the first after others
-  first_at : (xs ys : List X) (x : X) → AllByRecursion Q xs → P x → FirstOf Q P (xs ++ x ∷ ys)
+  pub first_at : (xs ys : List X) (x : X) → AllByRecursion Q xs → P x → FirstOf Q P (xs ++ x ∷ ys)
   first_at [] ys x all p = inl p
   first_at (y ∷ xs) ys x all p = inr (all.0, first_at xs ys x all.1 p)
 
 module _ {X : Type 0} (f : X → List ℕ) where
-  length-more : (xs ys : List X) → length (flat_map f (xs ++ ys)) ≡ length (flat_map f xs) + length (flat_map f ys)
+  pub length-more : (xs ys : List X) → length (flat_map f (xs ++ ys)) ≡ length (flat_map f xs) + length (flat_map f ys)
   length-more xs ys = ap length (flat_map-append f xs ys) ∙ length-append (flat_map f xs) (flat_map f ys)
 
   length-one : (x : X) → length (flat_map f (x ∷ [])) ≡ length (f x)
@@ -62,11 +62,11 @@ fault_more e f g h (inr (inr (inr (inl long)))) = inr (inr (inr (inl (long.0, g 
 fault_more e f g h (inr (inr (inr (inr full)))) = inr (inr (inr (inr (full.0, h full.1))))
 
 module _ (mode : IndexRecordOption) (tokens : ℕ) where
-  length-postings : (ts us : List WrittenTerm) → length (le_bytes 8 tokens ++ flat_map postings_bytes (ts ++ us)) ≡ length (le_bytes 8 tokens ++ flat_map postings_bytes ts) + length (flat_map postings_bytes us)
+  pub length-postings : (ts us : List WrittenTerm) → length (le_bytes 8 tokens ++ flat_map postings_bytes (ts ++ us)) ≡ length (le_bytes 8 tokens ++ flat_map postings_bytes ts) + length (flat_map postings_bytes us)
   length-postings ts us =
       omega (arith, length-append (le_bytes 8 tokens) (flat_map postings_bytes (ts ++ us)), length-append (le_bytes 8 tokens) (flat_map postings_bytes ts), length-more postings_bytes ts us)
 
-  abbrev located : WrittenTerm → List ℕ
+  abbrev pub located : WrittenTerm → List ℕ
   located t = positions_bytes mode t.deltas
 
   -- there is no room for terms, and for a field that begins with them
@@ -82,13 +82,10 @@ module _ (mode : IndexRecordOption) (tokens : ℕ) where
   room_more initial ts us (inr (inl far)) = inr (inl (omega (arith, far, length-more postings_bytes ts us)))
   room_more initial ts us (inr (inr far)) = inr (inr (omega (arith, far, length-more located ts us)))
 
-  -- a term of a field that can't be written
-  pub term_of_part : (initial : IndexBodiesState) (before : List WrittenTerm) (t : WrittenTerm) (after all : List WrittenTerm) (e : Fault) → all ≡ before ++ t ∷ after → AllByRecursion (IsWithin mode) before → IsTermFaultAfter initial mode tokens before t e
-      → IsFaultBy (FirstOf (IsWithin mode) HasLargeSum all) (FirstOf (IsWithin mode) (IsLong mode) all) (NoRoom initial all) e
-  term_of_part initial before t after all e is within fault =
-      subst (λ (ts : List WrittenTerm). IsFaultBy (FirstOf (IsWithin mode) HasLargeSum ts) (FirstOf (IsWithin mode) (IsLong mode) ts) (NoRoom initial ts) e) (sym is)
-      (fault_more e (first_at (IsWithin mode) HasLargeSum before after t within) (first_at (IsWithin mode) (IsLong mode) before after t within)
-      (λ room. subst (NoRoom initial) (append_assoc before (t ∷ []) after) (room_more initial (before ++ t ∷ []) after room)) fault)
+  -- the terms of a field that can't be written
+  pub terms_of_part : (initial : IndexBodiesState) (ts : List WrittenTerm) (e : Fault) → IsTermsFaultAfter initial mode tokens [] ts e
+      → IsFaultBy (FirstOf (IsWithin mode) HasLargeSum ts) (FirstOf (IsWithin mode) (IsLong mode) ts) (NoRoom initial ts) e
+  terms_of_part initial ts e fault = fault_more e (λ large. large) (λ long. long) (λ room. subst (NoRoom initial) (append-nil ts) (room_more initial ts [] room)) fault
 
   pub begin_full : (initial : IndexBodiesState) (ts : List WrittenTerm) → IsFull initial.postings.writer 8 → NoRoom initial ts
   begin_full initial ts full =
@@ -146,7 +143,7 @@ module _ (initial : IndexBodiesState) (s : IndexSerializerState) (field tokens :
   closed_fault kept e w between same (inr (inr full)) =
       inr (inr (inr (inr (full.0, subst (λ (m : IndexRecordOption). NoRoom m tokens initial ts) same (inl (dictionary_full w (subst (OneIsFull s.bodies) (closing_is s.field between) full.1)))))))
 
-all_within_limits : (norms : Option Norms) (kept : IndexRecordOption) (us : List TermOfField) → AllByRecursion (IsTold kept) (map state_of us) → AllByRecursion (IsShort kept) (all_written norms kept us) → AllByRecursion (IsWithin kept) (all_written norms kept us)
+pub all_within_limits : (norms : Option Norms) (kept : IndexRecordOption) (us : List TermOfField) → AllByRecursion (IsTold kept) (map state_of us) → AllByRecursion (IsShort kept) (all_written norms kept us) → AllByRecursion (IsWithin kept) (all_written norms kept us)
 all_within_limits norms kept [] told short = tt
 all_within_limits norms kept (u ∷ us) told short = ((told.0.small, short.0), all_within_limits norms kept us told.1 short.1)
 

@@ -22,6 +22,8 @@ pub mod SerializeLemmas
 pub mod SortedLemmas
 pub mod TermIndexLemmas
 pub mod TermLemmas
+mod TermsLemmas
 pub mod TextLaws
 pub mod TokenFaults
 pub mod TokenTerms
+mod WriterLists

@@ -1,5 +1,5 @@
 -- Terms of a field that are written in order.
-use Rattle.std.proofs.Common.{Option, Result, Ok, Err, OnOk, zero, suc, ◌+◌, ◌<◌, arith, append-nil, take, map, length, Ordering, Less, get_or, ◌≡◌, ℕ, Bool, List, [], ◌∷◌, ◌++◌, refl, sym, ap, ◌∙◌, subst}
+use Rattle.std.proofs.Common.{Option, Result, Ok, Err, OnOk, zero, suc, ◌+◌, ◌<◌, arith, append_assoc, take, map, length, Ordering, Less, get_or, ◌≡◌, ℕ, Bool, List, [], ◌∷◌, ◌++◌, refl, sym, ap, ◌∙◌, subst}
 use Rattle.std.specs.Prelude.{if◌then◌else◌, IsTrue, ◌^◌}
 use Rattle.std.specs.List.{AllByRecursion}
 use Rattle.std.specs.List.Sorted.{IsStrictlySortedBy}
@@ -7,6 +7,7 @@ use Rattle.std.specs.Cmp.Lexicographic.{slice_cmp}
 use Rattle.std.specs.Ordering.{nat_cmp}
 use Rattle.std.proofs.lemmas.List.{map-append, take_more}
 use Rattle.std.specs.List.{take-map}
+use Rattle.std.proofs.Math.Seq.{take-append-add}
 use Rattle.ii_termdict.specs.ReadBack.{AreAscending}
 use Rattle.ii_base.specs.Schema.{SchemaEntry}
 use Rattle.ii_definitions.specs.Fields.{option_of}
@@ -60,10 +61,10 @@ module _ (norms : Option Norms) (mode : IndexRecordOption) where
   abbrev pub all_written : List TermOfField → List WrittenTerm
   all_written terms = map (written_term norms mode) (map state_of terms)
 
-  abbrev key_of : TermOfField → List ℕ
+  abbrev pub key_of : TermOfField → List ℕ
   key_of t = (state_of t).key
 
-  written_keys : (terms : List TermOfField) → map (λ (t : WrittenTerm). t.key) (all_written terms) ≡ map key_of terms
+  pub written_keys : (terms : List TermOfField) → map (λ (t : WrittenTerm). t.key) (all_written terms) ≡ map key_of terms
   written_keys [] = refl
   written_keys (t ∷ ts) = ap (λ (ks : List (List ℕ)). key_of t ∷ ks) (written_keys ts)
 
@@ -74,13 +75,16 @@ module _ (norms : Option Norms) (mode : IndexRecordOption) where
       ∙ map-append (written_term norms mode) (map state_of (take k terms)) (state_of (get_or terms k d) ∷ [])
 
   -- the next key is above the ones before it
-  pub next_above : (terms : List TermOfField) (k : ℕ) (d : TermOfField) (keys : List (List ℕ)) → k < length terms → AreAscending (map key_of terms)
-      → keys ≡ map (λ (t : WrittenTerm). t.key) (all_written (take k terms)) ++ [] → AreAscending (keys ++ key_of (get_or terms k d) ∷ [])
-  next_above terms k d keys inside ascending known =
-      let before : keys ≡ map key_of (take k terms) = known ∙ append-nil (map (λ (t : WrittenTerm). t.key) (all_written (take k terms))) ∙ written_keys (take k terms) in
-      let all : map key_of (take (k + 1) terms) ≡ keys ++ key_of (get_or terms k d) ∷ [] =
-      ap (map key_of) (take_more terms k d inside) ∙ map-append key_of (take k terms) (get_or terms k d ∷ []) ∙ ap (λ (ks : List (List ℕ)). ks ++ key_of (get_or terms k d) ∷ []) (sym before) in
-      subst AreAscending (take-map key_of (k + 1) terms ∙ all) (ascend_taken (slice_cmp nat_cmp) (k + 1) (map key_of terms) ascending)
+  pub next_above : (terms : List TermOfField) (k : ℕ) (d : TermOfField) (before keys : List (List ℕ)) → k < length terms → AreAscending (before ++ map key_of terms)
+      → keys ≡ before ++ map key_of (take k terms) → AreAscending (keys ++ key_of (get_or terms k d) ∷ [])
+  next_above terms k d before keys inside ascending known =
+      let next : map key_of (take (k + 1) terms) ≡ map key_of (take k terms) ++ key_of (get_or terms k d) ∷ [] = ap (map key_of) (take_more terms k d inside) ∙ map-append key_of (take k terms) (get_or terms k d ∷ []) in
+      let all : take (length before + (k + 1)) (before ++ map key_of terms) ≡ keys ++ key_of (get_or terms k d) ∷ [] =
+      take-append-add before (map key_of terms) (k + 1)
+      ∙ ap (λ (ks : List (List ℕ)). before ++ ks) (take-map key_of (k + 1) terms ∙ next)
+      ∙ sym (append_assoc before (map key_of (take k terms)) (key_of (get_or terms k d) ∷ []))
+      ∙ ap (λ (ks : List (List ℕ)). ks ++ key_of (get_or terms k d) ∷ []) (sym known) in
+      subst AreAscending all (ascend_taken (slice_cmp nat_cmp) (length before + (k + 1)) (before ++ map key_of terms) ascending)
 
 pub writable_at : (norms : Option Norms) (terms : List TermOfField) (k : ℕ) (d : TermOfField) → k < length terms → AllByRecursion (IsWritable norms) (map state_of terms) → IsWritable norms (state_of (get_or terms k d))
 writable_at norms [] k d inside all = absurd (omega (arith, inside))

@@ -271,3 +271,12 @@ words_refused option p at ts fault (inr cause) = inr (ap (λ (c : Option Fault).
 pub text_ends : (option : IndexRecordOption) (p : Piece) (at : IndexingPosition) (ts : List IndexToken) (cause : Option Fault)
     → words_fault option p at.end_position at.num_tokens ts (kept_words p.words) ≡ None → gap_fault at.end_position p.words ≡ cause → text_fault option p at ts ≡ cause
 text_ends option p at ts cause words gap = ap (λ (c : Option Fault). first_fault c (gap_fault at.end_position p.words)) words ∙ gap
+
+-- the tokens of a writer, as another one with its option and count has them
+pub tokens_as : (kind : ℕ → List ℕ → IndexRecordOption) (p : Piece) (terms : TermIndex) (w v : PostingsWriterState) (ts : List IndexToken) → v.option ≡ w.option → v.total_num_tokens ≡ w.total_num_tokens → HasTokens kind p terms w ts → HasTokens kind p terms v ts
+tokens_as kind p terms w v ts same count h = record {
+  records = h.records;
+  kinds = λ key. h.kinds key ∙ sym same;
+  of_text = λ key. subst (λ (o : IndexRecordOption). kind_of o (tokens_at p.field (p.prefix ++ key) ts) ≡ o) (sym same) (h.of_text key);
+  counted = count ∙ h.counted;
+}

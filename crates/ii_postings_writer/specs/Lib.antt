@@ -5,6 +5,7 @@ pub mod IndexingTerm
 pub mod Lending
 pub mod LendingWriters
 pub mod PostingsWriter
+pub mod PostingsWriterKind
 pub mod Records
 pub mod ResolvedTerms
 pub mod SortedTerms

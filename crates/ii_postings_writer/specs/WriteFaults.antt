@@ -33,6 +33,12 @@ abbrev pub IsTermFaultAfter : IndexBodiesState → IndexRecordOption → ℕ →
 IsTermFaultAfter initial mode tokens before t fault =
     let ts = before ++ t ∷ [] in IsFaultBy (HasLargeSum t) (IsLong mode t) (OneIsFull initial (open_bodies mode tokens ts) ⊎ PassEnds mode ts) fault
 
+-- Why terms can't be written after `before`: the first of them that exceeds a limit, or no room.
+abbrev pub IsTermsFaultAfter : IndexBodiesState → IndexRecordOption → ℕ → List WrittenTerm → List WrittenTerm → Fault → Type 0
+IsTermsFaultAfter initial mode tokens before ts fault =
+    let all = before ++ ts in
+    IsFaultBy (FirstOf (IsWithin mode) HasLargeSum ts) (FirstOf (IsWithin mode) (IsLong mode) ts) (OneIsFull initial (open_bodies mode tokens all) ⊎ PassEnds mode all) fault
+
 -- Why a field can't be written after `initial`: its first term that exceeds a limit, or no room.
 abbrev pub IsPartFault : List SchemaEntry → IndexBodiesState → FieldPart → Fault → Type 0
 IsPartFault entries initial p fault =

@@ -5,15 +5,21 @@
 pub mod indexing_context;
 pub mod indexing_position;
 pub mod indexing_term;
+pub mod json_postings_writer;
 pub mod per_field_postings_writer;
 pub mod postings_writer;
+pub mod postings_writer_kind;
 pub mod serialize_postings;
+mod serialize_term;
 pub mod sorted_terms;
 pub mod term_recorders;
 
 pub use indexing_context::IndexingContext;
 pub use indexing_position::IndexingPosition;
 pub use indexing_term::{IndexingTerm, IndexingTermRef};
+pub use json_postings_writer::JsonPostingsWriter;
 pub use per_field_postings_writer::PerFieldPostingsWriter;
 pub use postings_writer::{PostingsWriter, SpecializedPostingsWriter};
+pub use postings_writer_kind::PostingsWriterKind;
+pub use sorted_terms::TermOfField;
 pub use term_recorders::TermRecorders;

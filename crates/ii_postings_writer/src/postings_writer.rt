@@ -1,22 +1,35 @@
-ghost use Rattle.std.specs.Prelude.{◌≡◌, ◌≤◌, ◌<◌, ◌+◌, ◌++◌, ◌∷◌, ◌^◌, [], ℕ, List, Bool, length, max, map, nat_le, nat_lt, if◌then◌else◌, true, Err, Ok, Some, None, IfErr, IfOk, OnErr, OnOk};
+ghost use Rattle.std.specs.Prelude.{◌≡◌, ◌≤◌, ◌<◌, ◌+◌, ◌++◌, ◌∷◌, ◌^◌, [], ℕ, List, Bool, length, max, map, nat_le, nat_lt, if◌then◌else◌, true, false, Err, Ok, Option, Some, None, IfErr, IfOk, OnErr, OnOk};
+ghost use Rattle.std.specs.List.{AllByRecursion};
 ghost use Rattle.ii_io.specs.declared.faults.LimitName.TheVariants as limit;
 ghost use Rattle.ii_base.specs.Words.{Word, seen_word};
-ghost use Rattle.ii_base.specs.declared.schema.index_record_option.IndexRecordOption.TheVariants.{Basic};
 ghost use Rattle.ii_base.specs.declared.doc_id.TheConstants.{TERMINATED};
+ghost use Rattle.ii_fieldnorm.specs.Readers.{Norms};
+ghost use Rattle.ii_termdict.specs.ReadBack.{AreAscending};
+ghost use Rattle.ii_recorder.specs.IndexBodies.{AllGrow, IndexBodiesState};
+ghost use Rattle.ii_recorder.specs.IndexSerializer.{EndsWriting, IsInField, IsWriting};
 ghost use Rattle.ii_recorder.specs.Recorded.{u32_max};
+ghost use Rattle.ii_recorder.specs.Terms.{WrittenTerm};
+ghost use Rattle.ii_definitions.specs.Fields.{option_of};
 ghost use Rattle.ii_definitions.specs.Tokens.{IndexToken, end_after, kept_words, piece_tokens_from};
 ghost use Rattle.ii_postings_writer.specs.IndexingContext.{AllEndBy, IsRecorded};
 ghost use Rattle.ii_postings_writer.specs.IndexingTerm.{field_bytes, term_bytes};
 ghost use Rattle.ii_postings_writer.specs.PostingsWriter.{HasTokens, IndexesKept, IndexesWords, PostingsWriterState, RefusesWords, TextState, kept_fault, subscribe_fault, term_token, text_fault, text_piece, text_state, tokens_counted};
 ghost use Rattle.ii_postings_writer.specs.Records.{Records};
+ghost use Rattle.ii_postings_writer.specs.SortedTerms.{IsTold, IsWritable, state_of, written_term};
 ghost use Rattle.ii_postings_writer.specs.WordRefusals.{gap_fault, words_fault};
+ghost use Rattle.ii_postings_writer.specs.WriteFaults.{IsTermsFaultAfter};
 ghost use Rattle.ii_json.specs.LeafVisit.{IsRefusedBy, first_fault};
 
 use crate::indexing_context::IndexingContext;
 use crate::indexing_position::IndexingPosition;
 use crate::indexing_term::IndexingTerm;
+use crate::serialize_term::serialize_one_term;
+use crate::sorted_terms::TermOfField;
 use crate::term_recorders::TermRecorders;
 use ii_base::{DocId, Fault, IndexRecordOption, LimitName, TokenStream, TokenView};
+use ii_json::JsonTermSerializer;
+use ii_recorder::{BufferLender, FieldSerializer};
+use std::io::Write;
 use std::marker::Model;
 
 // The number of positions between two texts of a field.
@@ -94,16 +107,65 @@ pub trait PostingsWriter: Drop {
             → let p = text_piece doc_id term_buffer.old (S.to_come token_stream.old) in HasTokens kind p ctx.old.term_index (state self.old) ts
             → IsRefusedBy (text_fault (state self.old).option p indexing_position.old ts) result };
 
+    /// Writes terms of this writer's field, in the order of their keys. `serializer` must have started
+    /// the field, with no term open. `keys` and `buffer_lender` are buffers.
+    ///
+    /// The keys must ascend, and be greater than those that were written before. Each term's documents
+    /// must ascend, its term frequencies must not be 0, and the field's norms, if it has some, must
+    /// cover the documents.
+    ///
+    /// # Errors
+    ///
+    /// - `Write` if a writer fails.
+    /// - `Limit(Offset)` if a writer would count more than `u64::MAX` bytes, or the terms of the field
+    ///   reach 2^56 bytes in total.
+    /// - `Limit(TermBytes)` if the postings or the positions of a term exceed `u32::MAX` bytes.
+    /// - `Limit(BlockFrequencySum)` if term frequencies in a block sum up above `u32::MAX`, for a term
+    ///   with positions.
+    /// - `OutOfMemory` if an allocation fails.
+    ///
+    /// A fault closes the serializer.
+    fn serialize<W: Write>(
+        &self,
+        terms: &[TermOfField<'_>],
+        keys: &mut JsonTermSerializer,
+        buffer_lender: &mut BufferLender,
+        serializer: &mut FieldSerializer<'_, W>,
+    ) -> Result<(), Fault>
+        requires open { serializer.old.index.now.closed ≡ false }
+        requires field { IsInField serializer.old.index.now }
+        requires between { serializer.old.index.now.field.term_open ≡ false }
+        requires ascending { AreAscending (serializer.old.index.now.field.places.keys ++ map (λ t. (state_of t).key) terms.now) }
+        requires writable { AllByRecursion (IsWritable serializer.old.index.now.field.term.norms) (map state_of terms.now) }
+        ensures same_reference { serializer.new.index.ghost_name ≡ serializer.old.index.ghost_name }
+        ensures writing { (initial : IndexBodiesState) (field tokens : ℕ) (norms : Option Norms) (ts : List WrittenTerm) → IsWriting initial serializer.old.index.now field tokens norms ts []
+            → OnOk result (IsWriting initial serializer.new.index.now field tokens norms (ts ++ map (written_term norms (option_of serializer.old.index.now.entries field)) (map state_of terms.now)) []) }
+        ensures told { OnOk result (AllByRecursion (IsTold serializer.old.index.now.field.term.mode) (map state_of terms.now)) }
+        ensures between { OnOk result (serializer.new.index.now.field.term_open ≡ false) }
+
+        // The state afterwards, and the errors.
+        ensures ends { EndsWriting serializer.old.index.now serializer.new.index.now result }
+        ensures grow { AllGrow serializer.old.index.now.bodies serializer.new.index.now.bodies }
+        ensures fault { (initial : IndexBodiesState) (field tokens : ℕ) (norms : Option Norms) (ts : List WrittenTerm) → IsWriting initial serializer.old.index.now field tokens norms ts []
+            → IfErr result (IsTermsFaultAfter initial (option_of serializer.old.index.now.entries field) tokens ts
+            (map (written_term norms (option_of serializer.old.index.now.entries field)) (map state_of terms.now))) }
+    {
+        for place in 0..terms.len() {
+            let term = terms[place];
+            serialize_one_term(term, keys, buffer_lender, serializer)?;
+        }
+        Ok(())
+    }
+
     /// Returns the number of tokens.
     fn total_num_tokens(&self) -> u64
         ensures { result ≡ (state self.now).total_num_tokens };
 }
 
-/// A writer with one option for all terms of texts, and one for all terms of values.
+/// A writer that keeps the same of all terms.
 #[derive(Drop)]
 pub struct SpecializedPostingsWriter {
     option: IndexRecordOption,
-    value_option: IndexRecordOption,
     total_num_tokens: u64,
 }
 
@@ -112,7 +174,7 @@ impl Model for SpecializedPostingsWriter {
 
     ghost Value = { PostingsWriterState };
 
-    ghost view = { λ w. record { option = w.option; value_option = w.value_option; total_num_tokens = w.total_num_tokens } };
+    ghost view = { λ w. record { option = w.option; value_option = w.option; total_num_tokens = w.total_num_tokens } };
 }
 
 impl SpecializedPostingsWriter {
@@ -122,26 +184,13 @@ impl SpecializedPostingsWriter {
     {
         SpecializedPostingsWriter {
             option,
-            value_option: option,
-            total_num_tokens: 0,
-        }
-    }
-
-    /// Creates a writer without tokens for a JSON field. It keeps what `option` says of a text's
-    /// terms, and only the documents of a value's.
-    pub fn for_json(option: IndexRecordOption) -> SpecializedPostingsWriter
-        ensures { result ≡ record { option = option; value_option = Basic; total_num_tokens = 0 } }
-    {
-        SpecializedPostingsWriter {
-            option,
-            value_option: IndexRecordOption::Basic,
             total_num_tokens: 0,
         }
     }
 
     // Records a position of a term under `option`.
     #[tactic(auto, using(crate::proofs::TermLemmas::long_term))]
-    fn record(
+    pub(crate) fn record(
         &mut self,
         option: IndexRecordOption,
         doc: DocId,
@@ -277,7 +326,7 @@ impl PostingsWriter for SpecializedPostingsWriter {
     ) -> Result<(), Fault> {
         // Shows the proof that the field fits in 32 bits.
         let _field = term.field().field_id();
-        self.record(self.value_option, doc, pos, term, &mut ctx.term_index)
+        self.record(self.option, doc, pos, term, &mut ctx.term_index)
     }
 
     fn index_text<S: TokenStream>(

@@ -1,12 +1,10 @@
-ghost use Rattle.std.specs.Prelude.{◌≡◌, ◌≤◌, ◌<◌, ◌++◌, ◌∷◌, ◌^◌, ◌⊎◌, ℕ, List, [], false, length, map, IsTrue, IfErr, IfOk, OnErr, OnOk, Option, slice_index_or};
+ghost use Rattle.std.specs.Prelude.{◌≡◌, ◌≤◌, ◌<◌, ◌++◌, ◌^◌, ◌⊎◌, ℕ, List, [], false, length, map, IsTrue, IfErr, IfOk, OnErr, OnOk, slice_index_or};
 ghost use Rattle.std.specs.List.{AllByRecursion};
-ghost use Rattle.ii_fieldnorm.specs.Readers.{Norms};
 ghost use Rattle.ii_termdict.specs.ReadBack.{AreAscending};
 ghost use Rattle.ii_definitions.specs.Fields.{option_of};
-ghost use Rattle.ii_recorder.specs.AnyRecorder.{any_state};
 ghost use Rattle.ii_recorder.specs.IndexBodies.{AddsBodies, AllGrow, IndexBodiesState, LacksField};
-ghost use Rattle.ii_recorder.specs.IndexSerializer.{EndsWriting, IsWriting};
-ghost use Rattle.ii_recorder.specs.Terms.{WrittenTerm, field_bodies};
+ghost use Rattle.ii_recorder.specs.IndexSerializer.{EndsWriting};
+ghost use Rattle.ii_recorder.specs.Terms.{field_bodies};
 ghost use Rattle.ii_recorder.specs.HeldTerms.{HoldsTerms};
 ghost use Rattle.ii_postings_writer.specs.FieldParts.{AreShortNorms, FieldPart, HasFields, WroteContext, first_parts, parts_of, tokens_in};
 ghost use Rattle.ii_definitions.specs.Tokens.{IndexToken};
@@ -14,93 +12,30 @@ ghost use Rattle.ii_definitions.specs.JsonKeys.{is_json};
 ghost use Rattle.ii_io.specs.Composite.{Body};
 ghost use Rattle.ii_io.specs.Faults.{OnlyMemory};
 ghost use Rattle.ii_postings_writer.specs.HeldBodies.{HaveTokens, WroteTokens};
+ghost use Rattle.ii_postings_writer.specs.PostingsWriterKind.{state_of_kind};
 ghost use Rattle.ii_postings_writer.specs.ResolvedTerms.{AreFieldTerms, HaveHeldTokens, HaveUnlessMemory, MayWriteTerms, json_fields, resolved_terms};
 ghost use Rattle.ii_postings_writer.specs.SortedTerms.{IsTold, IsWritable, norms_in, state_of, written_term};
 ghost use Rattle.ii_postings_writer.specs.TermLimits.{AreWithin};
-ghost use Rattle.ii_postings_writer.specs.WriteFaults.{ClosesOrStays, EndsParts, IsContextFault, IsPartFault, IsPartsFault, IsTermFaultAfter};
+ghost use Rattle.ii_postings_writer.specs.WriteFaults.{ClosesOrStays, EndsParts, IsContextFault, IsPartFault, IsPartsFault};
 
 use crate::indexing_context::IndexingContext;
 use crate::per_field_postings_writer::PerFieldPostingsWriter;
 use crate::postings_writer::PostingsWriter;
+use crate::postings_writer_kind::PostingsWriterKind;
 use crate::sorted_terms::{FieldTerms, TermOfField};
 use ii_base::{Fault, Field, FieldEntry, Schema, ValueType};
 use ii_fieldnorm::{FieldNormReader, FieldNormReaders};
 use ii_json::JsonTermSerializer;
 use ii_layout::written::reads_uncounted_term_back;
 use ii_recorder::held_terms::reads_entries_back;
-use ii_recorder::{AnyRecorder, BufferLender, FieldSerializer, InvertedIndexSerializer, Recorder};
+use ii_recorder::{BufferLender, InvertedIndexSerializer};
 use std::alloc::Global;
 use std::io::Write;
 
-// Writes a term of the field under a key.
-fn serialize_under_key<W: Write>(
-    key: &[u8],
-    recorder: &AnyRecorder,
-    buffer_lender: &mut BufferLender,
-    serializer: &mut FieldSerializer<'_, W>,
-) -> Result<(), Fault>
-    requires open { serializer.old.index.now.closed ≡ false }
-    requires between { serializer.old.index.now.field.term_open ≡ false }
-    requires ascending { AreAscending (serializer.old.index.now.field.places.keys ++ key.now ∷ []) }
-    requires writable { IsWritable serializer.old.index.now.field.term.norms (record { key = key.now; recorder = any_state recorder.now }) }
-    ensures same_reference { serializer.new.index.ghost_name ≡ serializer.old.index.ghost_name }
-    ensures writing { (initial : IndexBodiesState) (field tokens : ℕ) (norms : Option Norms) (ts : List WrittenTerm) → IsWriting initial serializer.old.index.now field tokens norms ts []
-        → OnOk result (IsWriting initial serializer.new.index.now field tokens norms (ts ++ written_term norms (option_of serializer.old.index.now.entries field) (record { key = key.now; recorder = any_state recorder.now }) ∷ []) []) }
-    ensures told { OnOk result (IsTold serializer.old.index.now.field.term.mode (record { key = key.now; recorder = any_state recorder.now })) }
-    ensures between { OnOk result (serializer.new.index.now.field.term_open ≡ false) }
-
-    // The state afterwards, and the errors.
-    ensures ends { EndsWriting serializer.old.index.now serializer.new.index.now result }
-    ensures grow { AllGrow serializer.old.index.now.bodies serializer.new.index.now.bodies }
-    ensures fault { (initial : IndexBodiesState) (field tokens : ℕ) (norms : Option Norms) (ts : List WrittenTerm) → IsWriting initial serializer.old.index.now field tokens norms ts []
-        → IfErr result (IsTermFaultAfter initial (option_of serializer.old.index.now.entries field) tokens ts
-        (written_term norms (option_of serializer.old.index.now.entries field) (record { key = key.now; recorder = any_state recorder.now }))) }
-{
-    let doc_freq = recorder.term_doc_freq().unwrap_or(0);
-    serializer.new_term(key, doc_freq, recorder.has_term_freq())?;
-    recorder.serialize(buffer_lender, serializer)?;
-    serializer.close_term()
-}
-
-// Writes a term of the field. If it has a path, its key is composed in a buffer.
-fn serialize_one_term<W: Write>(
-    term: TermOfField<'_>,
-    keys: &mut JsonTermSerializer,
-    buffer_lender: &mut BufferLender,
-    serializer: &mut FieldSerializer<'_, W>,
-) -> Result<(), Fault>
-    requires open { serializer.old.index.now.closed ≡ false }
-    requires between { serializer.old.index.now.field.term_open ≡ false }
-    requires ascending { AreAscending (serializer.old.index.now.field.places.keys ++ (state_of term).key ∷ []) }
-    requires writable { IsWritable serializer.old.index.now.field.term.norms (state_of term) }
-    ensures same_reference { serializer.new.index.ghost_name ≡ serializer.old.index.ghost_name }
-    ensures writing { (initial : IndexBodiesState) (field tokens : ℕ) (norms : Option Norms) (ts : List WrittenTerm) → IsWriting initial serializer.old.index.now field tokens norms ts []
-        → OnOk result (IsWriting initial serializer.new.index.now field tokens norms (ts ++ written_term norms (option_of serializer.old.index.now.entries field) (state_of term.entry) ∷ []) []) }
-    ensures told { OnOk result (IsTold serializer.old.index.now.field.term.mode (state_of term.entry)) }
-    ensures between { OnOk result (serializer.new.index.now.field.term_open ≡ false) }
-
-    // The state afterwards, and the errors.
-    ensures ends { EndsWriting serializer.old.index.now serializer.new.index.now result }
-    ensures grow { AllGrow serializer.old.index.now.bodies serializer.new.index.now.bodies }
-    ensures fault { (initial : IndexBodiesState) (field tokens : ℕ) (norms : Option Norms) (ts : List WrittenTerm) → IsWriting initial serializer.old.index.now field tokens norms ts []
-        → IfErr result (IsTermFaultAfter initial (option_of serializer.old.index.now.entries field) tokens ts
-        (written_term norms (option_of serializer.old.index.now.entries field) (state_of term.entry))) }
-{
-    let Some(path) = term.path else {
-        return serialize_under_key(term.value, term.recorder, buffer_lender, serializer);
-    };
-    keys.clear();
-    if let Err(refused) = keys.append_key(path, term.value) {
-        serializer.shut();
-        return Err(refused);
-    }
-    serialize_under_key(keys.as_bytes(), term.recorder, buffer_lender, serializer)
-}
-
-// Writes a field with its number of tokens and its terms, which ascend.
+// Writes a field with the number of tokens of its writer, and its terms, which ascend.
 fn serialize_field<W: Write>(
     field: Field,
-    total_num_tokens: u64,
+    writer: &PostingsWriterKind,
     fieldnorm_reader: Option<FieldNormReader>,
     terms: &[TermOfField<'_>],
     keys: &mut JsonTermSerializer,
@@ -112,9 +47,9 @@ fn serialize_field<W: Write>(
     requires ascending { AreAscending (map (λ t. (state_of t).key) terms.now) }
     requires writable { AllByRecursion (IsWritable fieldnorm_reader) (map state_of terms.now) }
     ensures wrote { OnOk result (AddsBodies serializer.old.bodies serializer.new.bodies field
-        (field_bodies (option_of serializer.old.entries field) total_num_tokens (map (written_term fieldnorm_reader (option_of serializer.old.entries field)) (map state_of terms.now)))) }
-    ensures holds { OnOk result (HoldsTerms (option_of serializer.old.entries field) total_num_tokens
-        (field_bodies (option_of serializer.old.entries field) total_num_tokens (map (written_term fieldnorm_reader (option_of serializer.old.entries field)) (map state_of terms.now)))
+        (field_bodies (option_of serializer.old.entries field) (state_of_kind writer.now).total_num_tokens (map (written_term fieldnorm_reader (option_of serializer.old.entries field)) (map state_of terms.now)))) }
+    ensures holds { OnOk result (HoldsTerms (option_of serializer.old.entries field) (state_of_kind writer.now).total_num_tokens
+        (field_bodies (option_of serializer.old.entries field) (state_of_kind writer.now).total_num_tokens (map (written_term fieldnorm_reader (option_of serializer.old.entries field)) (map state_of terms.now)))
         (map (written_term fieldnorm_reader (option_of serializer.old.entries field)) (map state_of terms.now))) }
     ensures told { OnOk result (AllByRecursion (IsTold (option_of serializer.old.entries field)) (map state_of terms.now)) }
     ensures within { OnOk result (AreWithin (option_of serializer.old.entries field) (map (written_term fieldnorm_reader (option_of serializer.old.entries field)) (map state_of terms.now))) }
@@ -123,13 +58,11 @@ fn serialize_field<W: Write>(
     ensures ends { EndsWriting serializer.old serializer.new result }
     ensures grow { AllGrow serializer.old.bodies serializer.new.bodies }
     ensures fault { IfErr result (λ e. (e ≡ Fault.SerializerClosed)
-        ⊎ IsPartFault serializer.old.entries serializer.old.bodies (record { field = field; tokens = total_num_tokens; norms = fieldnorm_reader; terms = map state_of terms.now }) e) }
+        ⊎ IsPartFault serializer.old.entries serializer.old.bodies (record { field = field; tokens = (state_of_kind writer.now).total_num_tokens; norms = fieldnorm_reader; terms = map state_of terms.now }) e) }
 {
+    let total_num_tokens = writer.total_num_tokens();
     let mut serializer = serializer.new_field(field, total_num_tokens, fieldnorm_reader)?;
-    for place in 0..terms.len() {
-        let term = terms[place];
-        serialize_one_term(term, keys, buffer_lender, &mut serializer)?;
-    }
+    writer.serialize(terms, keys, buffer_lender, &mut serializer)?;
     serializer.close()
 }
 
@@ -163,11 +96,11 @@ fn serialize_if_any<W: Write>(
     if terms.is_empty() {
         return Ok(());
     }
-    let total_num_tokens = writers.get_for_field(field).total_num_tokens();
+    let writer = writers.get_for_field(field);
     let fieldnorm_reader = norms.get_field(field)?;
     serialize_field(
         field,
-        total_num_tokens,
+        writer,
         fieldnorm_reader,
         terms,
         keys,

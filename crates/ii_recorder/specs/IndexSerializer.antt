@@ -1,7 +1,8 @@
 -- A serializer of the fields of an index, one after the other.
-use Rattle.std.specs.Prelude.{◌≡◌, ℕ, ◌^◌, ◌<◌, ◌⊎◌, Bool, IsTrue, List, Option, Result}
+use Rattle.std.specs.Prelude.{◌≡◌, ℕ, ◌^◌, ◌<◌, ◌⊎◌, ◌↔◌, Bool, false, IfErr, IsErrOf, IsTrue, List, [], Option, Result}
 use Rattle.ii_io.specs.declared.faults.Fault.{Fault}
-use Rattle.ii_io.specs.declared.faults.Fault.TheVariants.{Limit, Write}
+use Rattle.ii_io.specs.CountingWriter.{IsFull}
+use Rattle.ii_io.specs.declared.faults.Fault.TheVariants.{Limit, OutOfMemory, SerializerClosed, Write}
 use Rattle.ii_io.specs.declared.faults.LimitName.TheVariants as limit
 use Rattle.ii_base.specs.Schema.{SchemaEntry}
 use Rattle.ii_fieldnorm.specs.Readers.{Norms}
@@ -25,6 +26,27 @@ pub record IsWriting (initial : IndexBodiesState) (now : IndexSerializerState) (
   pub norms_are : now.field.term.norms ≡ norms
   pub bodies : AddsBodies initial now.bodies field (open_bodies now.field.term.mode tokens ts)
   pub terms : HasTerms now.field.term.mode now.field.places ts pending
+
+-- A field was started, and no key waits for its term.
+pub record IsInField (now : IndexSerializerState) : Type 0 where
+  pub initial : IndexBodiesState
+  pub field : ℕ
+  pub tokens : ℕ
+  pub norms : Option Norms
+  pub ts : List WrittenTerm
+  pub writing : IsWriting initial now field tokens norms ts []
+
+-- A field was started: the index is open and has the same entries, and no term is open.
+pub record IsStarted (old new : IndexSerializerState) : Type 0 where
+  pub between : new.field.term_open ≡ false
+  pub entries : new.entries ≡ old.entries
+  pub unclosed : new.closed ≡ false
+
+-- Which errors the start of a field returns, and when.
+pub record RefusesStart {A : Type 0} (old : IndexSerializerState) (result : Result A Fault) : Type 0 where
+  pub full : IsErrOf result (Limit limit.Offset) → IsFull old.bodies.postings.writer 8
+  pub closed : IsErrOf result SerializerClosed ↔ IsTrue old.closed
+  pub only : IfErr result (λ e. (e ≡ OutOfMemory) ⊎ (e ≡ Write) ⊎ (e ≡ Limit limit.Offset) ⊎ (e ≡ SerializerClosed))
 
 -- The errors of ending the open term of a field.
 abbrev pub IsTermFault : IndexSerializerState → Fault → Type 0

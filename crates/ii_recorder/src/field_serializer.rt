@@ -2,7 +2,6 @@ ghost use Rattle.std.specs.Prelude.{◌≡◌, ◌+◌, ◌^◌, ◌<◌, ◌⊎
 ghost use Rattle.std.specs.Borrow.{sem, RestsIfErr};
 ghost use Rattle.ii_base.specs.declared.schema.index_record_option.IndexRecordOption.TheVariants.{Basic};
 ghost use Rattle.ii_base.specs.Options.{has_freq, has_positions};
-ghost use Rattle.ii_io.specs.CountingWriter.{IsFull};
 ghost use Rattle.ii_io.specs.Faults.{OnlyMemoryOrClosed};
 ghost use Rattle.ii_base.specs.Entries.{are_documents};
 ghost use Rattle.ii_fieldnorm.specs.Readers.{Norms};
@@ -13,7 +12,7 @@ ghost use Rattle.ii_recorder.specs.Terms.{WrittenTerm, field_bodies};
 ghost use Rattle.ii_recorder.specs.HeldTerms.{HoldsTerms};
 ghost use Rattle.ii_recorder.specs.FieldTerms.{IsWithinLimits, term_under};
 ghost use Rattle.ii_recorder.specs.IndexBodies.{IndexBodiesState, AddsBodies, AllGrow, AreBegun, LacksField};
-ghost use Rattle.ii_recorder.specs.IndexSerializer.{EndsInMemory, EndsWriting, IsFieldFault, IsTermFault, IsWriting};
+ghost use Rattle.ii_recorder.specs.IndexSerializer.{EndsInMemory, EndsWriting, IsFieldFault, IsStarted, IsTermFault, IsWriting, RefusesStart};
 ghost use Rattle.ii_recorder.specs.contracts.serializer.InvertedIndexSerializer.{the_row};
 
 use super::serializer::InvertedIndexSerializer;
@@ -32,15 +31,7 @@ pub struct FieldSerializer<'a, W: Write> {
 }
 
 impl<W: Write> InvertedIndexSerializer<W> {
-    /// Starts a field of the schema that wasn't written yet, with the number of all its tokens. Its norms, if
-    /// it has some, give the bounds of full blocks.
-    ///
-    /// # Errors
-    ///
-    /// * `Write` if a writer fails.
-    /// * `Limit(Offset)` if a count of a writer would exceed `u64::MAX`.
-    /// * `OutOfMemory` if a table can't grow.
-    /// * `SerializerClosed` after an earlier error.
+    /// Starts a field of the schema that wasn't written yet, as `FieldSerializer::create` does.
     pub fn new_field(
         &mut self,
         field: Field,
@@ -51,23 +42,48 @@ impl<W: Write> InvertedIndexSerializer<W> {
         requires lacks { self.old.closed ≡ false → LacksField field self.old.bodies }
         ensures same_reference { IfOk result (λ f. f.index.ghost_name ≡ self.entry.ghost_name) }
         ensures begins { IfOk result (λ f. IsWriting self.old.bodies f.index.now field total_num_tokens fieldnorm_reader [] []) }
-        ensures between { IfOk result (λ f. f.index.now.field.term_open ≡ false) }
-        ensures entries { IfOk result (λ f. f.index.now.entries ≡ self.old.entries) }
-        ensures open { IfOk result (λ f. f.index.now.closed ≡ false) }
+        ensures started { IfOk result (λ f. IsStarted self.old f.index.now) }
 
         // Which errors it returns, and when.
-        ensures* refused { sem 𝓛 (RestsIfErr (the_row W.row W.Write) self.entry (λ f. f.index.ghost_name) result
+        ensures* rests { sem 𝓛 (RestsIfErr (the_row W.row W.Write) self.entry (λ f. f.index.ghost_name) result
             (λ n. EndsWriting self.old n result × AllGrow self.old.bodies n.bodies)) }
-        ensures full { IsErrOf result (Fault.Limit LimitName.Offset) → IsFull self.old.bodies.postings.writer 8 }
-        ensures closed { IsErrOf result Fault.SerializerClosed ↔ IsTrue self.old.closed }
-        ensures only { IfErr result (λ e. (e ≡ Fault.OutOfMemory) ⊎ (e ≡ Fault.Write) ⊎ (e ≡ Fault.Limit LimitName.Offset) ⊎ (e ≡ Fault.SerializerClosed)) }
+        ensures refused { RefusesStart self.old result }
     {
-        self.begin(field, total_num_tokens, fieldnorm_reader)?;
-        Ok(FieldSerializer { index: self })
+        FieldSerializer::create(self, field, total_num_tokens, fieldnorm_reader)
     }
 }
 
 impl<'a, W: Write> FieldSerializer<'a, W> {
+    /// Starts a field of the schema that wasn't written yet, with the number of all its tokens. Its norms, if
+    /// it has some, give the bounds of full blocks.
+    ///
+    /// # Errors
+    ///
+    /// * `Write` if a writer fails.
+    /// * `Limit(Offset)` if a count of a writer would exceed `u64::MAX`.
+    /// * `OutOfMemory` if a table can't grow.
+    /// * `SerializerClosed` after an earlier error.
+    pub fn create(
+        serializer: &'a mut InvertedIndexSerializer<W>,
+        field: Field,
+        total_num_tokens: u64,
+        fieldnorm_reader: Option<FieldNormReader>,
+    ) -> Result<FieldSerializer<'a, W>, Fault>
+        requires known { field < length serializer.old.entries }
+        requires lacks { serializer.old.closed ≡ false → LacksField field serializer.old.bodies }
+        ensures same_reference { IfOk result (λ f. f.index.ghost_name ≡ serializer.entry.ghost_name) }
+        ensures begins { IfOk result (λ f. IsWriting serializer.old.bodies f.index.now field total_num_tokens fieldnorm_reader [] []) }
+        ensures started { IfOk result (λ f. IsStarted serializer.old f.index.now) }
+
+        // Which errors it returns, and when.
+        ensures* rests { sem 𝓛 (RestsIfErr (the_row W.row W.Write) serializer.entry (λ f. f.index.ghost_name) result
+            (λ n. EndsWriting serializer.old n result × AllGrow serializer.old.bodies n.bodies)) }
+        ensures refused { RefusesStart serializer.old result }
+    {
+        serializer.begin(field, total_num_tokens, fieldnorm_reader)?;
+        Ok(FieldSerializer { index: serializer })
+    }
+
     /// Starts a term, as the field records it, or without term frequencies if `record_term_freq` is not set.
     /// Its key must be greater than the previous key by its bytes, and no term may be open. `term_doc_freq`
     /// is ignored.

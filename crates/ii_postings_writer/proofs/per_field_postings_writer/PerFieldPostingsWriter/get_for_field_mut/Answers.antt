@@ -1,0 +1,15 @@
+use Rattle.std.proofs.Common.{◌<◌, arith, refl, length, ap}
+use Rattle.std.proofs.lemmas.List.{length-map}
+use Rattle.ii_postings_writer.specs.PostingsWriterKind.{state_of_kind}
+use Rattle.ii_postings_writer.proofs.WriterLists.{writer_at, writer_set}
+use Rattle.ii_postings_writer.proofs.per_field_postings_writer.PerFieldPostingsWriter.get_for_field_mut.Goals as goal
+
+pub returns : goal.returns
+returns c =
+    let writers = c.self.inside.writers.items in
+    let at = c.field_id.ensures in
+    let low : c.field_id.result < length writers = omega (arith, at, c.requires, length-map writers state_of_kind, ap length c.self.view_is) in
+    rw (← at) (
+      (refl, writer_set writers c.args.self.now c.self.view_is c.field_id.result),
+      record { writes_back = tt; value = writer_at writers c.args.self.now c.self.view_is c.field_id.result c.index_mut.result.now low c.index_mut.ensures.value },
+    )
