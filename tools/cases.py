@@ -1,5 +1,5 @@
-"""Runs the program `iiq` on the cases of tests/iiq, on random queries and on a long path. Each part returns how
-many tests passed and how many failed."""
+"""Runs the program `iiq` on the cases of tests/iiq, with wrong arguments, on random queries and on a long path. Each
+part returns how many tests passed and how many failed."""
 import glob
 import os
 import re
@@ -27,13 +27,22 @@ def expected(case):
     return text, 1 if any(line.startswith(b'error') for line in text.split(b'\n')) else 0
 
 
+def arguments(case):
+    """Returns the arguments of the program for a case: the lines of its file .args, if it has one."""
+    try:
+        with open(case[:-3] + '.args', encoding='utf-8') as words:
+            return words.read().splitlines()
+    except FileNotFoundError:
+        return []
+
+
 def difference(case):
     """Returns how the program's answer to a case differs from the expected one, or None."""
     with open(case, 'rb') as given:
         text = given.read()
     output, status = expected(case)
     try:
-        run = subprocess.run([programs.program_of('iiq')], input=text, stdout=subprocess.PIPE, stderr=subprocess.PIPE, timeout=120)
+        run = subprocess.run([programs.program_of('iiq'), *arguments(case)], input=text, stdout=subprocess.PIPE, stderr=subprocess.PIPE, timeout=120)
     except subprocess.TimeoutExpired:
         return 'no end within 120 seconds'
     if run.stdout != output:
@@ -46,7 +55,8 @@ def difference(case):
 
 
 def proved_cases():
-    """Runs the program on each tests/iiq/FOLDER/NAME.in. The output must be NAME.out."""
+    """Runs the program on each tests/iiq/FOLDER/NAME.in, with the arguments of NAME.args. The output must be
+    NAME.out."""
     passed = failed = 0
     if not programs.build('iiq'):
         print('tests/iiq: the program was not built')
@@ -59,6 +69,23 @@ def proved_cases():
             failed += 1
             print(f'{os.path.relpath(case, TOP)}: {why}')
     print(f'tests/iiq: {passed} passed, {failed} failed')
+    return passed, failed
+
+
+def wrong_arguments():
+    """Runs the program with wrong arguments. It must print its usage alone, and end with status 2."""
+    passed = failed = 0
+    if not programs.build('iiq'):
+        print('wrong arguments of iiq: the program was not built')
+        return 0, 1
+    for words in ([''], ['--stric'], ['--strictly'], ['--strict' * 1000], ['--strict', ''], ['--strict', '--strict']):
+        run = subprocess.run([programs.program_of('iiq'), *words], input=b'ids 1\n', stdout=subprocess.PIPE, stderr=subprocess.PIPE)
+        if (run.stdout, run.stderr, run.returncode) == (b'', b'usage: iiq [--strict]\n', 2):
+            passed += 1
+        else:
+            failed += 1
+            print(f'{words}: status {run.returncode}, {run.stdout!r}, {run.stderr!r}')
+    print(f'wrong arguments of iiq: {passed} refused, {failed} taken')
     return passed, failed
 
 
@@ -82,9 +109,11 @@ def long_path():
 
 
 def chosen_cases():
-    """Returns up to three cases of each folder."""
+    """Returns up to three cases of each folder, of those without arguments."""
     folders = {}
     for case in inputs():
+        if arguments(case):
+            continue
         folders.setdefault(os.path.dirname(case), []).append(case)
     return [case for found in folders.values() for case in found[:: max(1, len(found) // 3)][:3]]
 
@@ -108,7 +137,7 @@ def unproved_command():
     """Runs `./iiq --unproved` on the last case. Returns whether its output and status are right, and prints them if not."""
     last = inputs()[-1]
     with open(last, 'rb') as given:
-        run = subprocess.run([os.path.join(TOP, 'iiq'), '--unproved'], stdin=given, stdout=subprocess.PIPE, stderr=subprocess.PIPE)
+        run = subprocess.run([os.path.join(TOP, 'iiq'), '--unproved', *arguments(last)], stdin=given, stdout=subprocess.PIPE, stderr=subprocess.PIPE)
     lines = run.stderr.decode().splitlines()
     if (run.stdout, run.returncode) == expected(last) and 1 <= len(lines) <= 2 and lines[-1].endswith(LAST_LINE):
         return True

@@ -6,6 +6,9 @@ import sys
 
 import programs
 
+# The arguments that the command itself takes.
+OWN = ('--help', '--prove', '--unproved')
+
 
 def has_kit(name):
     """Returns whether the kit's command `rt` is on the path. Prints an error for the command `name` if not."""
@@ -19,19 +22,19 @@ def run(name, crate, usage=None, first_words=(), first_input=b''):
     """Runs the command `name` with the program of a crate. If it succeeds, the program replaces this process;
     else returns the exit status.
 
-    `--prove` alone proves and builds the program. The program gets all other arguments, unless `usage` is given:
-    then it takes none, `--unproved` alone runs the unproved program, and any other argument prints `usage`. The
-    first unproved run compiles the program by running it on `first_words` and `first_input`."""
+    `--prove` alone proves and builds the program. The program gets all other arguments. If `usage` is given, a first
+    argument `--unproved` runs the unproved program, and `--help`, or `--prove` or `--unproved` elsewhere, prints
+    `usage`. The first unproved run compiles the program by running it on `first_words` and `first_input`."""
     words = sys.argv[1:]
-    if usage is not None and words not in ([], ['--prove'], ['--unproved']):
+    is_unproved = usage is not None and words[:1] == ['--unproved']
+    passed_on = words[1:] if is_unproved else words
+    if usage is not None and words != ['--prove'] and any(word in OWN for word in passed_on):
         print(usage, end='', file=sys.stderr)
         return 2
     if not has_kit(name):
         return 2
     if words == ['--prove']:
         return 0 if programs.build(crate) else 2
-    is_unproved = usage is not None and words == ['--unproved']
-    passed_on = [] if is_unproved else words
     if not is_unproved and programs.is_built(crate):
         os.execv(programs.program_of(crate), [programs.program_of(crate), *passed_on])
     return programs.run_unproved(name, crate, passed_on, first_words, first_input)

@@ -14,6 +14,7 @@ use Rattle.ii_layout.specs.TermList.{term_list}
 use Rattle.ii_layout.proofs.TermLemmas.{plain_list}
 use Rattle.ii_layout.specs.Written.{written_documents, written_postings, ReadsDocumentsBack}
 use Rattle.ii_definitions.specs.Tokens.{Call}
+use Rattle.iiq.specs.declared.commands.CommandSet.{CommandSet}
 use Rattle.iiq.specs.declared.commands.Opening.{Opening}
 use Rattle.iiq.specs.declared.commands.Query.{Query}
 use Rattle.iiq.specs.declared.session.Session.{Session as SessionKept}
@@ -26,23 +27,24 @@ not_utf8 : (line : List ℕ) (t : Bool) → is_utf8 line ≡ t → ¬ (IsUtf8 li
 not_utf8 line true e h = absurd (h (IsUtf8-from_is_utf8 line e))
 not_utf8 line false e h = refl
 
-no_command : (line : List ℕ) → ¬ (IsUtf8 line) → line_command line ≡ None
-no_command line h = rw (not_utf8 line (is_utf8 line) refl h) refl
+no_command : (commands : CommandSet) (line : List ℕ) → ¬ (IsUtf8 line) → line_command commands line ≡ None
+no_command commands line h = rw (not_utf8 line (is_utf8 line) refl h) refl
 
-the_command : (line : List ℕ) → IsUtf8 line → line_command line ≡ command_of line
-the_command line h = rw (is_utf8-from_IsUtf8 line h) refl
+the_command : (commands : CommandSet) (line : List ℕ) → IsUtf8 line → line_command commands line ≡ command_of commands line
+the_command commands line h = rw (is_utf8-from_IsUtf8 line h) refl
 
-answers_line : (old : Session) (line : List ℕ) (new : Session) (found : Option (List (List ℕ))) → false ≡ (eqb (length line) 0) → AnswersMaybe old (line_command line) new found → AnswersLine old line new (unwrap_or found error_line)
-answers_line old [] new found some answers = absurd (cc)
-answers_line old (c ∷ cs) new found some answers = (found, answers, refl)
+answers_line : (commands : CommandSet) (old : Session) (line : List ℕ) (new : Session) (found : Option (List (List ℕ))) → false ≡ (eqb (length line) 0) → AnswersMaybe old (line_command commands line) new found
+    → AnswersLine commands old line new (unwrap_or found error_line)
+answers_line commands old [] new found some answers = absurd (cc)
+answers_line commands old (c ∷ cs) new found some answers = (found, answers, refl)
 
 -- a line that is no text
-pub reply_no_text : (s : Session) (line text : List ℕ) (kept : SessionKept) → false ≡ (eqb (length line) 0) → ¬ (IsUtf8 line) → Knows kept s → text ≡ codes "error line\n" → IsReply s line kept text
-reply_no_text s line text kept some h knows e = record {
+pub reply_no_text : (commands : CommandSet) (s : Session) (line text : List ℕ) (kept : SessionKept) → false ≡ (eqb (length line) 0) → ¬ (IsUtf8 line) → Knows kept s → text ≡ codes "error line\n" → IsReply commands s line kept text
+reply_no_text commands s line text kept some h knows e = record {
   new = s;
   texts = error_line;
   knows = knows;
-  answers = answers_line s line s None some (subst (λ (o : Option Command). AnswersMaybe s o s None) (sym (no_command line h)) (refl, refl));
+  answers = answers_line commands s line s None some (subst (λ (o : Option Command). AnswersMaybe s o s None) (sym (no_command commands line h)) (refl, refl));
   text_is = e;
 }
 
@@ -51,12 +53,12 @@ some_text text None e = absurd (cc)
 some_text text (Some ts) e = cc
 
 -- a line that is answered
-pub reply_some : (s : Session) (line text : List ℕ) (kept : SessionKept) (reply : Option (List ℕ)) → false ≡ (eqb (length line) 0) → IsUtf8 line → Answers s (command_of line) kept reply → reply ≡ Some text → IsReply s line kept text
-reply_some s line text kept reply some h a e = record {
+pub reply_some : (commands : CommandSet) (s : Session) (line text : List ℕ) (kept : SessionKept) (reply : Option (List ℕ)) → false ≡ (eqb (length line) 0) → IsUtf8 line → Answers s (command_of commands line) kept reply → reply ≡ Some text → IsReply commands s line kept text
+reply_some commands s line text kept reply some h a e = record {
   new = a.new;
   texts = unwrap_or a.texts error_line;
   knows = a.knows;
-  answers = answers_line s line a.new a.texts some (subst (λ (o : Option Command). AnswersMaybe s o a.new a.texts) (sym (the_command line h)) a.answers);
+  answers = answers_line commands s line a.new a.texts some (subst (λ (o : Option Command). AnswersMaybe s o a.new a.texts) (sym (the_command commands line h)) a.answers);
   text_is = some_text text a.texts (sym e ∙ a.reply_is);
 }
 
@@ -65,12 +67,12 @@ no_texts text None none e = e
 no_texts text (Some ts) none e = absurd (cc)
 
 -- a line that is refused
-pub reply_none : (s : Session) (line text : List ℕ) (kept : SessionKept) (reply : Option (List ℕ)) → false ≡ (eqb (length line) 0) → IsUtf8 line → Answers s (command_of line) kept reply → reply ≡ None → text ≡ codes "error line\n" → IsReply s line kept text
-reply_none s line text kept reply some h a none e = record {
+pub reply_none : (commands : CommandSet) (s : Session) (line text : List ℕ) (kept : SessionKept) (reply : Option (List ℕ)) → false ≡ (eqb (length line) 0) → IsUtf8 line → Answers s (command_of commands line) kept reply → reply ≡ None → text ≡ codes "error line\n" → IsReply commands s line kept text
+reply_none commands s line text kept reply some h a none e = record {
   new = a.new;
   texts = unwrap_or a.texts error_line;
   knows = a.knows;
-  answers = answers_line s line a.new a.texts some (subst (λ (o : Option Command). AnswersMaybe s o a.new a.texts) (sym (the_command line h)) a.answers);
+  answers = answers_line commands s line a.new a.texts some (subst (λ (o : Option Command). AnswersMaybe s o a.new a.texts) (sym (the_command commands line h)) a.answers);
   text_is = no_texts text a.texts (sym none ∙ a.reply_is) e;
 }
 

@@ -9,6 +9,7 @@ use Rattle.std.proofs.lemmas.Result.{IfOk-weaker}
 use Rattle.std.proofs.lemmas.List.{append-nil, take-append-drop}
 use Rattle.std.proofs.lemmas.List.Folds.{list_all-append}
 use Rattle.iiq.specs.Words.{parts, lines_of}
+use Rattle.iiq.specs.declared.commands.CommandSet.{CommandSet}
 use Rattle.iiq.specs.declared.session.Session.{Session as SessionKept}
 use Rattle.iiq.specs.Known.{IsReply}
 use Rattle.iiq.specs.Output.{with_ends, Prints, has_no_error, PrintsAll, PrintsBeginning, PutsBeginning}
@@ -65,36 +66,36 @@ no_error_ends (t ∷ ts) more =
     ∙ ap (λ b. b && has_no_error more) (sym (ap has_no_error right ∙ no_error_append t (with_ends ts)))
 
 -- What a run knows that has answered some lines, and has these left for a session.
-pub record IsAnswering (old now : Option (List ℕ)) (text : List ℕ) (left : List (List ℕ)) (s : Session) (fine : Bool) : Type 0 where
+pub record IsAnswering (commands : CommandSet) (old now : Option (List ℕ)) (text : List ℕ) (left : List (List ℕ)) (s : Session) (fine : Bool) : Type 0 where
   pub written : List ℕ
   pub appends : Appends old now written
-  pub prints : (out : List ℕ) → Prints s left out → Prints (gathering []) (lines_of text) (written ++ out)
+  pub prints : (out : List ℕ) → Prints commands s left out → Prints commands (gathering []) (lines_of text) (written ++ out)
   pub fine_is : (more : List ℕ) → has_no_error (written ++ more) ≡ (fine && has_no_error more)
 
-pub answering_first : (old : Option (List ℕ)) (text : List ℕ) → Appends old old [] → IsAnswering old old text (lines_of text) (gathering []) true
-answering_first old text same = record { written = []; appends = same; prints = λ out p. p; fine_is = λ more. refl }
+pub answering_first : (commands : CommandSet) (old : Option (List ℕ)) (text : List ℕ) → Appends old old [] → IsAnswering commands old old text (lines_of text) (gathering []) true
+answering_first commands old text same = record { written = []; appends = same; prints = λ out p. p; fine_is = λ more. refl }
 
 -- one more line answered, before what is written for the others
-prints_line : (s : Session) (line answer : List ℕ) (left more : List (List ℕ)) (now : SessionKept) (r : IsReply s line now answer) (out : List ℕ) → left ≡ line ∷ more → Prints r.new more out → Prints s left (answer ++ out)
-prints_line s line answer left more now r out e later =
+prints_line : (commands : CommandSet) (s : Session) (line answer : List ℕ) (left more : List (List ℕ)) (now : SessionKept) (r : IsReply commands s line now answer) (out : List ℕ) → left ≡ line ∷ more → Prints commands r.new more out → Prints commands s left (answer ++ out)
+prints_line commands s line answer left more now r out e later =
     rw e (inl (record { new = r.new; texts = r.texts; rest = out; answers = r.answers; out_is = ap (λ (a : List ℕ). a ++ out) r.text_is; others = later }))
 
 -- some text is written for any lines
-pub prints_some : (s : Session) (lines : List (List ℕ)) → (out : List ℕ) × Prints s lines out
-prints_some s [] = ([], refl)
-prints_some s (line ∷ lines) = (codes "error 1\n", inr refl)
+pub prints_some : (commands : CommandSet) (s : Session) (lines : List (List ℕ)) → (out : List ℕ) × Prints commands s lines out
+prints_some commands s [] = ([], refl)
+prints_some commands s (line ∷ lines) = (codes "error 1\n", inr refl)
 
 -- What one who answers lines meets next: all that was written, and that these are left.
-module _ (old now new : Option (List ℕ)) (text : List ℕ) (left : List (List ℕ)) (s : Session) (fine : Bool) (a : IsAnswering old now text left s fine) where
+module _ (commands : CommandSet) (old now new : Option (List ℕ)) (text : List ℕ) (left : List (List ℕ)) (s : Session) (fine : Bool) (a : IsAnswering commands old now text left s fine) where
   -- one more line is answered
-  pub answering_next : (line answer : List ℕ) (more : List (List ℕ)) (kept : SessionKept) → left ≡ line ∷ more → (r : IsReply s line kept answer) → Appends now new answer → IsAnswering old new text more r.new (fine && has_no_error answer)
+  pub answering_next : (line answer : List ℕ) (more : List (List ℕ)) (kept : SessionKept) → left ≡ line ∷ more → (r : IsReply commands s line kept answer) → Appends now new answer → IsAnswering commands old new text more r.new (fine && has_no_error answer)
   answering_next line answer more kept e r appends =
       let known = a.fine_is in
       let prints = a.prints in
       record {
         written = a.written ++ answer;
         appends = Appends-trans old now new a.written answer a.appends appends;
-        prints = λ out p. rw append_assoc (prints (answer ++ out) (prints_line s line answer left more kept r out e p));
+        prints = λ out p. rw append_assoc (prints (answer ++ out) (prints_line commands s line answer left more kept r out e p));
         fine_is = λ rest.
             rw append_assoc (known (answer ++ rest)
             ∙ ap (λ b. fine && b) (rw r.text_is (no_error_ends r.texts rest))
@@ -102,7 +103,7 @@ module _ (old now new : Option (List ℕ)) (text : List ℕ) (left : List (List 
       }
 
   -- memory for a line was refused
-  pub answered_no_memory : (line : List ℕ) (more : List (List ℕ)) → left ≡ line ∷ more → Appends now new (codes "error 1\n") → PrintsAll old new text false
+  pub answered_no_memory : (line : List ℕ) (more : List (List ℕ)) → left ≡ line ∷ more → Appends now new (codes "error 1\n") → PrintsAll commands old new text false
   answered_no_memory line more e appends =
       let known = a.fine_is in
       let prints = a.prints in
@@ -114,7 +115,7 @@ module _ (old now new : Option (List ℕ)) (text : List ℕ) (left : List (List 
       }
 
   -- the writer failed within these bytes, after which the rest of the run would have been written
-  pub answered_beginning : (bytes rest : List ℕ) → Prints s left (bytes ++ rest) → PutsBeginning now new bytes → PrintsBeginning old new text
+  pub answered_beginning : (bytes rest : List ℕ) → Prints commands s left (bytes ++ rest) → PutsBeginning now new bytes → PrintsBeginning commands old new text
   answered_beginning bytes rest p (out, after, appends, e) =
       let prints = a.prints in
       let whole : a.written ++ (bytes ++ rest) ≡ (a.written ++ out) ++ (after ++ rest) = rw (e, append_assoc, append_assoc) refl in
@@ -126,18 +127,18 @@ module _ (old now new : Option (List ℕ)) (text : List ℕ) (left : List (List 
       }
 
   -- the writer failed within the answer to a line
-  pub answered_part : (line answer : List ℕ) (more : List (List ℕ)) (kept : SessionKept) → left ≡ line ∷ more → IsReply s line kept answer → PutsBeginning now new answer → PrintsBeginning old new text
+  pub answered_part : (line answer : List ℕ) (more : List (List ℕ)) (kept : SessionKept) → left ≡ line ∷ more → IsReply commands s line kept answer → PutsBeginning now new answer → PrintsBeginning commands old new text
   answered_part line answer more kept e r puts =
-      let later = prints_some r.new more in
-      answered_beginning answer later.0 (prints_line s line answer left more kept r later.0 e later.1) puts
+      let later = prints_some commands r.new more in
+      answered_beginning answer later.0 (prints_line commands s line answer left more kept r later.0 e later.1) puts
 
   -- the writer failed within the last line of a run that found no memory
-  pub answered_no_memory_part : (line : List ℕ) (more : List (List ℕ)) → left ≡ line ∷ more → PutsBeginning now new (codes "error 1\n") → PrintsBeginning old new text
+  pub answered_no_memory_part : (line : List ℕ) (more : List (List ℕ)) → left ≡ line ∷ more → PutsBeginning now new (codes "error 1\n") → PrintsBeginning commands old new text
   answered_no_memory_part line more e puts = answered_beginning (codes "error 1\n") [] (rw (e, append-nil) (inr refl)) puts
 
 -- no line is left
-pub answered : (old now : Option (List ℕ)) (text : List ℕ) (left : List (List ℕ)) (s : Session) (fine : Bool) → IsAnswering old now text left s fine → left ≡ [] → PrintsAll old now text fine
-answered old now text left s fine a e =
+pub answered : (commands : CommandSet) (old now : Option (List ℕ)) (text : List ℕ) (left : List (List ℕ)) (s : Session) (fine : Bool) → IsAnswering commands old now text left s fine → left ≡ [] → PrintsAll commands old now text fine
+answered commands old now text left s fine a e =
     let prints = a.prints in
     let known = a.fine_is in
     record {
@@ -151,18 +152,20 @@ answered old now text left s fine a e =
 lines_some : (text : List ℕ) → (line : List ℕ) × (lines : List (List ℕ)) × (lines_of text ≡ line ∷ lines)
 lines_some text = some_part 10 text
 
-pub nothing_answered : (old : Option (List ℕ)) (text : List ℕ) → Appends old old [] → PrintsBeginning old old text
-nothing_answered old text same = record { out = []; rest = (prints_some (gathering []) (lines_of text)).0; appends = same; prints = (prints_some (gathering []) (lines_of text)).1 }
+pub nothing_answered : (commands : CommandSet) (old : Option (List ℕ)) (text : List ℕ) → Appends old old [] → PrintsBeginning commands old old text
+nothing_answered commands old text same =
+    let some = prints_some commands (gathering []) (lines_of text) in
+    record { out = []; rest = some.0; appends = same; prints = some.1 }
 
-pub no_memory_answered : (old new : Option (List ℕ)) (text : List ℕ) → Appends old old [] → Appends old new (codes "error 1\n") → PrintsAll old new text false
-no_memory_answered old new text same appends =
+pub no_memory_answered : (commands : CommandSet) (old new : Option (List ℕ)) (text : List ℕ) → Appends old old [] → Appends old new (codes "error 1\n") → PrintsAll commands old new text false
+no_memory_answered commands old new text same appends =
     let some = lines_some text in
-    answered_no_memory old old new text (lines_of text) (gathering []) true (answering_first old text same) some.0 some.1 some.2 appends
+    answered_no_memory commands old old new text (lines_of text) (gathering []) true (answering_first commands old text same) some.0 some.1 some.2 appends
 
-pub no_memory_answered_part : (old new : Option (List ℕ)) (text : List ℕ) → Appends old old [] → PutsBeginning old new (codes "error 1\n") → PrintsBeginning old new text
-no_memory_answered_part old new text same puts =
+pub no_memory_answered_part : (commands : CommandSet) (old new : Option (List ℕ)) (text : List ℕ) → Appends old old [] → PutsBeginning old new (codes "error 1\n") → PrintsBeginning commands old new text
+no_memory_answered_part commands old new text same puts =
     let some = lines_some text in
-    answered_no_memory_part old old new text (lines_of text) (gathering []) true (answering_first old text same) some.0 some.1 some.2 puts
+    answered_no_memory_part commands old old new text (lines_of text) (gathering []) true (answering_first commands old text same) some.0 some.1 some.2 puts
 
 appends_kept : (a b c : Option (List ℕ)) (bs : List ℕ) → Appends a b bs → Keeps b c → Appends a c bs
 appends_kept None b c bs p q = tt
@@ -175,16 +178,16 @@ on_err_from (Ok x) q = tt
 on_err_from (Err e) q = q
 
 -- a flush at the end
-pub answered_kept : (old now new : Option (List ℕ)) (text : List ℕ) (left : List (List ℕ)) (s : Session) (fine : Bool) → IsAnswering old now text left s fine → Keeps now new → IsAnswering old new text left s fine
-answered_kept old now new text left s fine a kept = record { written = a.written; appends = appends_kept old now new a.written a.appends kept; prints = a.prints; fine_is = a.fine_is }
+pub answered_kept : (commands : CommandSet) (old now new : Option (List ℕ)) (text : List ℕ) (left : List (List ℕ)) (s : Session) (fine : Bool) → IsAnswering commands old now text left s fine → Keeps now new → IsAnswering commands old new text left s fine
+answered_kept commands old now new text left s fine a kept = record { written = a.written; appends = appends_kept old now new a.written a.appends kept; prints = a.prints; fine_is = a.fine_is }
 
-module _ {E : Type 0} (r : Result Bool E) (old now new : Option (List ℕ)) (text : List ℕ) (left : List (List ℕ)) (s : Session) (fine : Bool) (a : IsAnswering old now text left s fine) where
-  pub answered_all : left ≡ [] → Keeps now new → IfOk r (λ answer. answer ≡ fine) → IfOk r (λ answer. PrintsAll old new text answer)
-  answered_all e kept same = IfOk-weaker r _ _ (λ answer is. rw is (answered old new text left s fine (answered_kept old now new text left s fine a kept) e)) same
+module _ {E : Type 0} (r : Result Bool E) (commands : CommandSet) (old now new : Option (List ℕ)) (text : List ℕ) (left : List (List ℕ)) (s : Session) (fine : Bool) (a : IsAnswering commands old now text left s fine) where
+  pub answered_all : left ≡ [] → Keeps now new → IfOk r (λ answer. answer ≡ fine) → IfOk r (λ answer. PrintsAll commands old new text answer)
+  answered_all e kept same = IfOk-weaker r _ _ (λ answer is. rw is (answered commands old new text left s fine (answered_kept commands old now new text left s fine a kept) e)) same
 
-  pub answered_all_part : left ≡ [] → Keeps now new → OnErr r (PrintsBeginning old new text)
+  pub answered_all_part : left ≡ [] → Keeps now new → OnErr r (PrintsBeginning commands old new text)
   answered_all_part e kept =
-      let all = answered old new text left s fine (answered_kept old now new text left s fine a kept) e in
+      let all = answered commands old new text left s fine (answered_kept commands old now new text left s fine a kept) e in
       on_err_from r (record { out = all.out; rest = []; appends = all.appends; prints = rw append-nil all.prints })
 
 pub ended : {E : Type 0} (r : Result Bool E) (old now new : Option (List ℕ)) (bs : List ℕ) → Appends old now bs → Keeps now new → IfOk r (λ answer. answer ≡ false) → IfOk r (λ answer. (answer ≡ false) × Appends old new bs)
@@ -204,18 +207,18 @@ puts_nothing a b c bs i front none =
     (take i bs, drop i bs, rw append-nil at (Appends-trans a b c (take i bs) [] front none), sym (take-append-drop i bs))
 
 -- where nothing of the input was answered
-pub nothing_read : (o old : Option (List ℕ)) → IfSome o (λ input. PrintsBeginning old old input)
-nothing_read None old = tt
-nothing_read (Some input) old = nothing_answered old input (Appends-nil old)
+pub nothing_read : (commands : CommandSet) (o old : Option (List ℕ)) → IfSome o (λ input. PrintsBeginning commands old old input)
+nothing_read commands None old = tt
+nothing_read commands (Some input) old = nothing_answered commands old input (Appends-nil old)
 
-pub no_memory_read : {E : Type 0} (o old new : Option (List ℕ)) (r : Result Bool E) → IfOk r (λ fine. (fine ≡ false) × Appends old new (codes "error 1\n"))
-    → IfOk r (λ fine. IfSome o (λ input. PrintsAll old new input fine))
-no_memory_read None old new (Ok fine) h = tt
-no_memory_read (Some input) old new (Ok fine) h = rw h.0 (no_memory_answered old new input (Appends-nil old) h.1)
-no_memory_read o old new (Err e) h = tt
+pub no_memory_read : {E : Type 0} (commands : CommandSet) (o old new : Option (List ℕ)) (r : Result Bool E) → IfOk r (λ fine. (fine ≡ false) × Appends old new (codes "error 1\n"))
+    → IfOk r (λ fine. IfSome o (λ input. PrintsAll commands old new input fine))
+no_memory_read commands None old new (Ok fine) h = tt
+no_memory_read commands (Some input) old new (Ok fine) h = rw h.0 (no_memory_answered commands old new input (Appends-nil old) h.1)
+no_memory_read commands o old new (Err e) h = tt
 
-pub no_memory_read_part : {E : Type 0} (o old new : Option (List ℕ)) (r : Result Bool E) → OnErr r (PutsBeginning old new (codes "error 1\n"))
-    → OnErr r (IfSome o (λ input. PrintsBeginning old new input))
-no_memory_read_part o old new (Ok fine) h = tt
-no_memory_read_part None old new (Err e) h = tt
-no_memory_read_part (Some input) old new (Err e) h = no_memory_answered_part old new input (Appends-nil old) h
+pub no_memory_read_part : {E : Type 0} (commands : CommandSet) (o old new : Option (List ℕ)) (r : Result Bool E) → OnErr r (PutsBeginning old new (codes "error 1\n"))
+    → OnErr r (IfSome o (λ input. PrintsBeginning commands old new input))
+no_memory_read_part commands o old new (Ok fine) h = tt
+no_memory_read_part commands None old new (Err e) h = tt
+no_memory_read_part commands (Some input) old new (Err e) h = no_memory_answered_part commands old new input (Appends-nil old) h

@@ -15,6 +15,8 @@ use Rattle.ii_base.specs.Entries.{are_documents}
 use Rattle.ii_definitions.specs.Tokens.{Call, leaves, text, value}
 use Rattle.ii_base.specs.AsciiWords.{ascii_words}
 use Rattle.ii_query_parser.specs.QueryTexts.{QueryFields, text_refusal}
+use Rattle.iiq.specs.declared.commands.CommandSet.{CommandSet}
+use Rattle.iiq.specs.declared.commands.CommandSet.TheVariants.{Strict, WithQueries}
 use Rattle.iiq.specs.Session.{fields}
 use Rattle.iiq.specs.Words.{line_words, number_below, numbers_below, signed_number, truth_of_word, bytes_of_word}
 
@@ -193,23 +195,28 @@ look_up_command (word ∷ words) =
     else if bytes_eq word (codes "leaf") then leaf_query words
     else None
 
--- what a question mark asks for: the text of a query is all that follows its word's space
+-- what a question mark asks for where queries are known: the text of a query is all that follows its word's space
 abbrev pub query_command : List (List ℕ) → Option Command
 query_command [] = None
 query_command (word ∷ words) = if bytes_eq word (codes "query") then text_search (join_with_byte 32 words) else look_up_command (word ∷ words)
 
+-- what a question mark asks for, by the commands that are known: the text of a query or a lookup, or a lookup alone
+abbrev pub question_command : CommandSet → List (List ℕ) → Option Command
+question_command WithQueries words = query_command words
+question_command Strict words = look_up_command words
+
 -- a line of words, by its first word
-abbrev pub words_command : List (List ℕ) → Option Command
-words_command [] = None
-words_command (word ∷ words) =
+abbrev pub words_command : CommandSet → List (List ℕ) → Option Command
+words_command commands [] = None
+words_command commands (word ∷ words) =
     if bytes_eq word (codes "ids") then ids_command words
     else if bytes_eq word (codes "open") then open_command words
     else if bytes_eq word (codes "text") then text_command words
     else if bytes_eq word (codes "num") then num_command words
     else if bytes_eq word (codes "leaf") then leaf_command words
-    else if bytes_eq word (codes "?") then query_command words
+    else if bytes_eq word (codes "?") then question_command commands words
     else None
 
 -- what a line asks for, if it is well formed
-abbrev pub command_of : List ℕ → Option Command
-command_of line = words_command (line_words line)
+abbrev pub command_of : CommandSet → List ℕ → Option Command
+command_of commands line = words_command commands (line_words line)

@@ -14,6 +14,7 @@ use Rattle.ii_definitions.specs.Tokens.{Call, IndexToken}
 use Rattle.ii_definitions.specs.declared.index_call.IndexCall.{IndexCall}
 use Rattle.ii_definitions.specs.IndexCalls.{MayAllBeIndexed, Takes, call_of, doc_of, field_of, type_of}
 use Rattle.ii_reader.specs.OpenIndex.{IndexHolds, OpenIndexState}
+use Rattle.iiq.specs.declared.commands.CommandSet.{CommandSet}
 use Rattle.iiq.specs.declared.commands.Opening.{Opening}
 use Rattle.iiq.specs.declared.commands.Query.{Query}
 use Rattle.iiq.specs.declared.leaves.LeafValue.{LeafValue}
@@ -120,11 +121,11 @@ pub record Answers (old : Session) (command : Option Command) (now : SessionKept
   pub reply_is : reply ≡ option_map with_ends texts
 
 -- A line has this reply, and changes the program's session so.
-pub record IsReply (old : Session) (line : List ℕ) (now : SessionKept) (text : List ℕ) : Type 0 where
+pub record IsReply (commands : CommandSet) (old : Session) (line : List ℕ) (now : SessionKept) (text : List ℕ) : Type 0 where
   pub new : Session
   pub texts : List (List ℕ)
   pub knows : Knows now new
-  pub answers : AnswersLine old line new texts
+  pub answers : AnswersLine commands old line new texts
   pub text_is : text ≡ with_ends texts
 
 -- A query finds exactly its matches, once there is an index; if indexing failed, the reply is the fault.

@@ -19,6 +19,7 @@ use Rattle.ii_definitions.specs.Fields.{option_of}
 use Rattle.ii_definitions.specs.Postings.{key_postings, occurs}
 use Rattle.ii_definitions.specs.Tokens.{IndexToken}
 use Rattle.ii_query_parser.specs.QueryTexts.{text_matches}
+use Rattle.iiq.specs.declared.commands.CommandSet.{CommandSet}
 use Rattle.iiq.specs.Words.{lines_of, nothing, written_hex}
 use Rattle.iiq.specs.Commands.{Command, asked, show_ids, open_list, index_call, look_up, search_for, command_of}
 use Rattle.iiq.specs.Session.{Session, gathering, opened, refused, Indexes, fields, kept_with}
@@ -110,54 +111,54 @@ AnswersMaybe old None new texts = (new ≡ old) × (texts ≡ None)
 AnswersMaybe old (Some command) new texts = AnswersCommand old command new texts
 
 -- the command of a line that is text
-abbrev pub line_command : List ℕ → Option Command
-line_command line = if is_utf8 line then command_of line else None
+abbrev pub line_command : CommandSet → List ℕ → Option Command
+line_command commands line = if is_utf8 line then command_of commands line else None
 
 -- the reply to a line that is refused
 abbrev pub error_line : List (List ℕ)
 error_line = codes "error line" ∷ []
 
 -- A line has these replies, an empty one none, and leaves this session.
-abbrev pub AnswersLine : Session → List ℕ → Session → List (List ℕ) → Type 0
-AnswersLine old [] new texts = (new ≡ old) × (texts ≡ [])
-AnswersLine old (c ∷ cs) new texts =
-    (found : Option (List (List ℕ))) × AnswersMaybe old (line_command (c ∷ cs)) new found × (texts ≡ unwrap_or found error_line)
+abbrev pub AnswersLine : CommandSet → Session → List ℕ → Session → List (List ℕ) → Type 0
+AnswersLine commands old [] new texts = (new ≡ old) × (texts ≡ [])
+AnswersLine commands old (c ∷ cs) new texts =
+    (found : Option (List (List ℕ))) × AnswersMaybe old (line_command commands (c ∷ cs)) new found × (texts ≡ unwrap_or found error_line)
 
 -- each text with a line end
 abbrev pub with_ends : List (List ℕ) → List ℕ
 with_ends texts = flat_map (λ text. text ++ 10 ∷ []) texts
 
 -- A line is answered, and then the other lines.
-pub record PrintsLine (P : Session → List ℕ → Type 0) (old : Session) (line out : List ℕ) : Type 0 where
+pub record PrintsLine (commands : CommandSet) (P : Session → List ℕ → Type 0) (old : Session) (line out : List ℕ) : Type 0 where
   pub new : Session
   pub texts : List (List ℕ)
   pub rest : List ℕ
-  pub answers : AnswersLine old line new texts
+  pub answers : AnswersLine commands old line new texts
   pub out_is : out ≡ with_ends texts ++ rest
   pub others : P new rest
 
 -- What is written for these lines. If an allocation fails for a line, it prints `error 1` and ends the run.
-abbrev pub Prints : Session → List (List ℕ) → List ℕ → Type 0
-Prints old [] out = out ≡ []
-Prints old (line ∷ lines) out = PrintsLine (λ new rest. Prints new lines rest) old line out ⊎ (out ≡ codes "error 1\n")
+abbrev pub Prints : CommandSet → Session → List (List ℕ) → List ℕ → Type 0
+Prints commands old [] out = out ≡ []
+Prints commands old (line ∷ lines) out = PrintsLine commands (λ new rest. Prints commands new lines rest) old line out ⊎ (out ≡ codes "error 1\n")
 
 -- whether no line of the text begins with `error`
 abbrev pub has_no_error : List ℕ → Bool
 has_no_error text = list_all (λ line. not (starts_with nat_eq line (codes "error"))) (lines_of text)
 
 -- What is written for the input is appended to the output.
-pub record PrintsAll (old new : Option (List ℕ)) (input : List ℕ) (fine : Bool) : Type 0 where
+pub record PrintsAll (commands : CommandSet) (old new : Option (List ℕ)) (input : List ℕ) (fine : Bool) : Type 0 where
   pub out : List ℕ
   pub appends : Appends old new out
-  pub prints : Prints (gathering []) (lines_of input) out
+  pub prints : Prints commands (gathering []) (lines_of input) out
   pub fine_is : fine ≡ has_no_error out
 
 -- A prefix of what is written for the input is appended to the output.
-pub record PrintsBeginning (old new : Option (List ℕ)) (input : List ℕ) : Type 0 where
+pub record PrintsBeginning (commands : CommandSet) (old new : Option (List ℕ)) (input : List ℕ) : Type 0 where
   pub out : List ℕ
   pub rest : List ℕ
   pub appends : Appends old new out
-  pub prints : Prints (gathering []) (lines_of input) (out ++ rest)
+  pub prints : Prints commands (gathering []) (lines_of input) (out ++ rest)
 
 -- A prefix of these bytes is appended to the output.
 abbrev pub PutsBeginning : Option (List ℕ) → Option (List ℕ) → List ℕ → Type 0

@@ -16,6 +16,15 @@ use ii_docset::TERMINATED;
 use ii_indexing::IndexCall;
 use std::alloc::{AllocError, Global};
 
+/// The commands that are known.
+#[derive(Clone, Copy)]
+pub enum CommandSet {
+    /// All commands, including `? query`.
+    WithQueries,
+    /// All commands except `? query`.
+    Strict,
+}
+
 /// The arguments of a line that opens a list.
 #[derive(Drop)]
 pub struct Opening {

@@ -11,7 +11,8 @@ ghost use Rattle.iiq.specs.Session.{Session as SessionState};
 ghost use Rattle.iiq.specs.Words.{AreTexts, parts_left};
 
 use crate::commands::{
-    Opening, documents, leaf_call, list_to_open, num_call, term_to_look_up, text_call, text_of,
+    CommandSet, Opening, documents, leaf_call, list_to_open, num_call, term_to_look_up, text_call,
+    text_of,
 };
 use crate::output::{hex_text, name_of, push_list, written};
 use crate::parts::{Parts, cut};
@@ -25,9 +26,14 @@ use std::alloc::{AllocError, Global};
 
 /// Returns the reply to a line: nothing for an empty line, and `error line` for a malformed line or
 /// an index call that isn't kept.
-pub fn reply(alloc: Global, session: &mut Session, line: &[u8]) -> Result<String, AllocError>
+pub fn reply(
+    alloc: Global,
+    commands: CommandSet,
+    session: &mut Session,
+    line: &[u8],
+) -> Result<String, AllocError>
     requires { IsSession session.old }
-    ensures { (s : SessionState) → Knows session.old s → IfOk result (λ text. IsReply s line.now session.new (string_bytes text)) }
+    ensures { (s : SessionState) → Knows session.old s → IfOk result (λ text. IsReply commands s line.now session.new (string_bytes text)) }
 {
     if line.is_empty() {
         return Ok(String::new(alloc));
@@ -35,7 +41,7 @@ pub fn reply(alloc: Global, session: &mut Session, line: &[u8]) -> Result<String
     let Ok(_) = std::str::from_utf8(line) else {
         return String::from_str(alloc, "error line\n");
     };
-    match command_reply(alloc, session, line)? {
+    match command_reply(alloc, commands, session, line)? {
         Some(text) => Ok(text),
         None => String::from_str(alloc, "error line\n"),
     }
@@ -43,12 +49,13 @@ pub fn reply(alloc: Global, session: &mut Session, line: &[u8]) -> Result<String
 
 fn command_reply(
     alloc: Global,
+    commands: CommandSet,
     session: &mut Session,
     line: &[u8],
 ) -> Result<Option<String>, AllocError>
     requires session { IsSession session.old }
     requires text { IsUtf8 line.now }
-    ensures { (s : SessionState) → Knows session.old s → IfOk result (λ reply. Answers s (command_of line.now) session.new (option_map string_bytes reply)) }
+    ensures { (s : SessionState) → Knows session.old s → IfOk result (λ reply. Answers s (command_of commands line.now) session.new (option_map string_bytes reply)) }
 {
     let (word, rest) = cut(line, b' ');
     if word == b"text".as_slice() {
@@ -65,7 +72,10 @@ fn command_reply(
         return call_reply(alloc, session, call);
     }
     if word == b"?".as_slice() {
-        return question_reply(alloc, session, rest);
+        return match commands {
+            CommandSet::WithQueries => question_reply(alloc, session, rest),
+            CommandSet::Strict => query_reply(alloc, session, &mut words),
+        };
     }
     if word == b"ids".as_slice() {
         return ids_reply(alloc, &mut words);

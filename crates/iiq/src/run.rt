@@ -2,6 +2,7 @@ ghost use Rattle.std.specs.Prelude.{◌≡◌, ◌++◌, false, IfOk, OnOk, IfEr
 ghost use Rattle.std.specs.Io.KnownBytes.{Appends, Keeps};
 ghost use Rattle.iiq.specs.Output.{PrintsAll, PrintsBeginning, PutsBeginning, has_no_error as has_no_error_in};
 
+use crate::commands::CommandSet;
 use crate::parts::Parts;
 use crate::replies::reply;
 use crate::session::Session;
@@ -22,18 +23,19 @@ pub enum RunFault {
 /// `error 1`, which is the last. `Input` is returned before anything is written.
 pub fn run<R: Read, W: Write>(
     alloc: Global,
+    commands: CommandSet,
     reader: &mut R,
     writer: &mut W,
 ) -> Result<bool, RunFault>
     ensures ok { IfOk result (λ fine. IfSome (R.remaining reader.old)
-        (λ input. PrintsAll (W.contents writer.old) (W.contents writer.new) input fine)) }
+        (λ input. PrintsAll commands (W.contents writer.old) (W.contents writer.new) input fine)) }
     ensures err { OnErr result (IfSome (R.remaining reader.old)
-        (λ input. PrintsBeginning (W.contents writer.old) (W.contents writer.new) input)) }
+        (λ input. PrintsBeginning commands (W.contents writer.old) (W.contents writer.new) input)) }
     ensures input { IsErrOf result RunFault.Input → Keeps (W.contents writer.old) (W.contents writer.new) }
 {
     let mut text = Vec::new(alloc);
     match read_all(reader, &mut text) {
-        Ok(()) => answer_lines(alloc, &text, writer),
+        Ok(()) => answer_lines(alloc, commands, &text, writer),
         Err(ReadFault::Input) => Err(RunFault::Input),
         Err(ReadFault::Memory) => end_run(writer),
     }
@@ -66,16 +68,21 @@ fn read_all<R: Read>(reader: &mut R, text: &mut Vec<u8>) -> Result<(), ReadFault
 }
 
 // Replies to the lines of a text.
-fn answer_lines<W: Write>(alloc: Global, text: &[u8], writer: &mut W) -> Result<bool, RunFault>
-    ensures ok { IfOk result (λ fine. PrintsAll (W.contents writer.old) (W.contents writer.new) text.now fine) }
-    ensures err { OnErr result (PrintsBeginning (W.contents writer.old) (W.contents writer.new) text.now) }
+fn answer_lines<W: Write>(
+    alloc: Global,
+    commands: CommandSet,
+    text: &[u8],
+    writer: &mut W,
+) -> Result<bool, RunFault>
+    ensures ok { IfOk result (λ fine. PrintsAll commands (W.contents writer.old) (W.contents writer.new) text.now fine) }
+    ensures err { OnErr result (PrintsBeginning commands (W.contents writer.old) (W.contents writer.new) text.now) }
     ensures only { IfErr result (λ e. e ≡ RunFault.Output) }
 {
     let mut lines = Parts::of(text, b'\n');
     let mut session = Session::new(alloc);
     let mut fine = true;
     while let Some(line) = lines.next() {
-        let Ok(answer) = reply(alloc, &mut session, line) else {
+        let Ok(answer) = reply(alloc, commands, &mut session, line) else {
             return end_run(writer);
         };
         fine &= has_no_error(answer.as_bytes());
