@@ -82,7 +82,7 @@ take_one_more (y ∷ ys) zero x at = let same : y ≡ x = cc in ap (λ z. z ∷ 
 take_one_more (y ∷ ys) (suc k) x at = ap (λ zs. y ∷ zs) (take_one_more ys k x at)
 
 -- the borrowed terms of a map, and one more
-pub lent_more : {A : Type 0} (es : List (Vec ℕ A × AnyRecorder)) (k : ℕ) (e : Vec ℕ A × AnyRecorder) (ts new : List KeptTerm) (t : KeptTerm) → slice_get es k ≡ Some e → map kept_state ts ≡ map seen (take k es) → new ≡ ts ++ t ∷ [] → kept_state t ≡ seen e
+pub lent_more : (es : List (List ℕ × AnyRecorder)) (k : ℕ) (e : List ℕ × AnyRecorder) (ts new : List KeptTerm) (t : KeptTerm) → slice_get es k ≡ Some e → map kept_state ts ≡ map seen (take k es) → new ≡ ts ++ t ∷ [] → kept_state t ≡ seen e
     → map kept_state new ≡ map seen (take (k + 1) es)
 lent_more es k e ts new t at before new_is same =
     ap (map kept_state) new_is ∙ map-append kept_state ts (t ∷ []) ∙ (λ j. before j ++ same j ∷ [])

@@ -1,5 +1,5 @@
 -- Terms that were sorted by the ranks of their paths are in the order of their keys.
-use Rattle.std.proofs.Common.{◌≡◌, ℕ, ◌<◌, ◌^◌, Bool, true, false, List, [], ◌∷◌, ◌++◌, map, drop, Some, None, Option, Vec, refl, sym, ap, ◌∙◌, subst}
+use Rattle.std.proofs.Common.{◌≡◌, ℕ, ◌<◌, ◌^◌, Bool, true, false, List, [], ◌∷◌, ◌++◌, map, drop, Some, None, Option, refl, sym, ap, ◌∙◌, subst}
 use Rattle.std.specs.Prelude.{MatchOption, bytes_eq, ⊤}
 use Rattle.std.specs.Cmp.{IsStrictWeakOrder}
 use Rattle.std.specs.Cmp.Lexicographic.{slice_cmp}
@@ -53,18 +53,14 @@ held_each flags paths (t ∷ ts) distinct are ids =
     later field key small false other =
         subst (λ (o : Option RecorderState). MatchOption o ⊤ (λ r. is_json_field flags field ≡ true → HoldsId paths key)) (found_later (field_bytes field ++ key) t ts other) (ids field key small)
 
-abbrev Entry : Type 0 → Type 0
-Entry A = Vec ℕ A × AnyRecorder
+seen_apart : (e : List ℕ × AnyRecorder) (es : List (List ℕ × AnyRecorder)) → AllByRecursion (λ (k : List ℕ). bytes_eq e.0 k ≡ false) (keys_of es) → AllByRecursion (λ (k : List ℕ). bytes_eq e.0 k ≡ false) (keys_of (map seen es))
+seen_apart e [] apart = tt
+seen_apart e (f ∷ fs) apart = (apart.0, seen_apart e fs apart.1)
 
-module _ {A : Type 0} where
-  seen_apart : (e : Entry A) (es : List (Entry A)) → AllByRecursion (λ (k : Vec ℕ A). bytes_eq e.0.items k.items ≡ false) (keys_of es) → AllByRecursion (λ (k : List ℕ). bytes_eq e.0.items k ≡ false) (keys_of (map seen es))
-  seen_apart e [] apart = tt
-  seen_apart e (f ∷ fs) apart = (apart.0, seen_apart e fs apart.1)
-
-  pub seen_distinct : (es : List (Entry A)) → IsDistinct (λ (x y : Vec ℕ A). bytes_eq x.items y.items) (keys_of es) → IsDistinct bytes_eq (keys_of (map seen es))
-  unfolding IsDistinct
-  seen_distinct [] distinct = tt
-  seen_distinct (e ∷ es) distinct = (seen_apart e es distinct.0, seen_distinct es distinct.1)
+pub seen_distinct : (es : List (List ℕ × AnyRecorder)) → IsDistinct bytes_eq (keys_of es) → IsDistinct bytes_eq (keys_of (map seen es))
+unfolding IsDistinct
+seen_distinct [] distinct = tt
+seen_distinct (e ∷ es) distinct = (seen_apart e es distinct.0, seen_distinct es distinct.1)
 
 -- What holds of each key holds where terms change places.
 each_moved : (P : List ℕ → Type 0) (old new : TermIndex) → IsPermutation old new → AllByRecursion P (keys_of old) → AllByRecursion P (keys_of new)

@@ -121,9 +121,9 @@ terms_in_ascend field terms all sorted =
     subst (IsStrictlySortedBy (slice_cmp nat_cmp)) (sym (keys_in field terms))
     (dropped_ascends field (filter (lies_in field) (keys_of terms)) (all_in field (keys_of terms) all) (IsStrictlySortedBy-filter (slice_cmp nat_cmp) (lies_in field) (keys_of terms) sorted))
 
-pub each_key : {V : Type 0} (f : V → RecorderState) {A : Type 0} (es : List (Vec ℕ A × V)) → All (λ (k : Vec ℕ A). AreTermBytes k.items) (keys_of es) → AllByRecursion AreTermBytes (keys_of (map (λ (e : Vec ℕ A × V). (e.0.items, f e.1)) es))
+pub each_key : {V : Type 0} (f : V → RecorderState) (es : List (List ℕ × V)) → All AreTermBytes (keys_of es) → AllByRecursion AreTermBytes (keys_of (map (λ (e : List ℕ × V). (e.0, f e.1)) es))
 each_key f [] all = tt
-each_key f (e ∷ es) all = (all 0 e.0 (omega (arith)), each_key f es (All-tail (λ (k : Vec ℕ _). AreTermBytes k.items) e.0 (keys_of es) all))
+each_key f (e ∷ es) all = (all 0 e.0 (omega (arith)), each_key f es (All-tail AreTermBytes e.0 (keys_of es) all))
 
 pub lists_ascend : (first n : ℕ) (terms : TermIndex) → AllByRecursion AreTermBytes (keys_of terms) → IsStrictlySortedBy (slice_cmp nat_cmp) (keys_of terms)
     → AllByRecursion (λ (ts : List SortedTerm). IsStrictlySortedBy (slice_cmp nat_cmp) (map (λ (t : SortedTerm). t.key) ts)) (map (λ (field : ℕ). terms_in field terms) (range_with_len first n))

@@ -14,20 +14,20 @@ use Rattle.ii_postings_writer.proofs.ByteKeys.{Key, is_key, lookup_seen, updated
 use Rattle.ii_postings_writer.specs.IndexingContext.{AllEndBy, EndsBy, IsRecorded, TermIndex, new_recorder, recorded_at, recorder_of, recorder_or_new}
 
 abbrev pub stored : List (Key × AnyRecorder) → TermIndex
-stored es = map (λ (e : Key × AnyRecorder). (e.0.items, any_state e.1)) es
+stored es = map (λ (e : Key × AnyRecorder). (e.0, any_state e.1)) es
 
 pub recorder_of-stored : (es : List (Key × AnyRecorder)) (bytes : List ℕ) → recorder_of (stored es) bytes ≡ option_map any_state (lookup (is_key bytes) es)
 recorder_of-stored es bytes = lookup_seen any_state es bytes
 
-whole_entries : (es : List (Key × AnyRecorder)) (k : Key) (v : AnyRecorder) → All (λ (j : Key). AreTermBytes j.items) (keys_of es) → AreTermBytes k.items
-    → All (λ (j : Key). AreTermBytes j.items) (keys_of (insert_entry (λ (x : Key) (y : Key). bytes_eq x.items y.items) es k v))
-whole_entries [] k v h long = All-cons (λ (j : Key). AreTermBytes j.items) k [] long h
-whole_entries (e ∷ es) k v h long = by (bytes_eq k.items e.0.items) (whole_entries es k v (All-tail (λ (j : Key). AreTermBytes j.items) e.0 (keys_of es) h) long)
+whole_entries : (es : List (Key × AnyRecorder)) (k : Key) (v : AnyRecorder) → All AreTermBytes (keys_of es) → AreTermBytes k
+    → All AreTermBytes (keys_of (insert_entry bytes_eq es k v))
+whole_entries [] k v h long = All-cons AreTermBytes k [] long h
+whole_entries (e ∷ es) k v h long = by (bytes_eq k e.0) (whole_entries es k v (All-tail AreTermBytes e.0 (keys_of es) h) long)
   where
-    by : (b : Bool) → All (λ (j : Key). AreTermBytes j.items) (keys_of (insert_entry (λ (x : Key) (y : Key). bytes_eq x.items y.items) es k v))
-        → All (λ (j : Key). AreTermBytes j.items) (keys_of (cond b ((e.0, v) ∷ es) (e ∷ insert_entry (λ (x : Key) (y : Key). bytes_eq x.items y.items) es k v)))
+    by : (b : Bool) → All AreTermBytes (keys_of (insert_entry bytes_eq es k v))
+        → All AreTermBytes (keys_of (cond b ((e.0, v) ∷ es) (e ∷ insert_entry bytes_eq es k v)))
     by true rest = h
-    by false rest = All-cons (λ (j : Key). AreTermBytes j.items) e.0 (keys_of (insert_entry (λ (x : Key) (y : Key). bytes_eq x.items y.items) es k v)) (All-head (λ (j : Key). AreTermBytes j.items) e.0 (keys_of es) h) rest
+    by false rest = All-cons AreTermBytes e.0 (keys_of (insert_entry bytes_eq es k v)) (All-head AreTermBytes e.0 (keys_of es) h) rest
 
 module _ {S : Type 0} where
   pub recorder_under : (m : IndexMap Key AnyRecorder S) (terms : TermIndex) (bytes : List ℕ) (found : Option AnyRecorder) → stored m.entries ≡ terms → found ≡ get_by (is_key bytes) m → recorder_of terms bytes ≡ option_map any_state found
@@ -35,7 +35,7 @@ module _ {S : Type 0} where
 
   -- a position was recorded where the recorder of the term was
   pub is_recorded : (option : IndexRecordOption) (doc position : ℕ) (term : List ℕ) (m n : IndexMap Key AnyRecorder S) (w : AnyRecorder) (terms : TermIndex)
-      → UpdatesBy (λ (x : Key) (y : Key). bytes_eq x.items y.items) (is_key term) m n (Some w) → stored m.entries ≡ terms
+      → UpdatesBy bytes_eq (is_key term) m n (Some w) → stored m.entries ≡ terms
       → any_state w ≡ recorded_at doc position (recorder_or_new option terms term) → IsRecorded option doc position term terms (stored n.entries)
   is_recorded option doc position term m n w terms h is state bytes = recorder_of-stored n.entries bytes ∙ ap (option_map any_state) (updated term m n (Some w) h bytes) ∙ by (bytes_eq term bytes)
     where
@@ -51,13 +51,13 @@ pub found_or_new : (option : IndexRecordOption) (terms : TermIndex) (bytes : Lis
 found_or_new option terms bytes found is = ap (λ (o : Option RecorderState). unwrap_or o (new_recorder option)) is
 
 -- keys that are long enough, with one more
-pub whole_keys : {S : Type 0} (m n : IndexMap Key AnyRecorder S) (k : Key) (v : AnyRecorder) → n.entries ≡ insert_entry (λ (x : Key) (y : Key). bytes_eq x.items y.items) m.entries k v
-    → All (λ (j : Key). AreTermBytes j.items) (keys m) → AreTermBytes k.items → All (λ (j : Key). AreTermBytes j.items) (keys n)
-whole_keys m n k v is h long = subst (λ (es : List (Key × AnyRecorder)). All (λ (j : Key). AreTermBytes j.items) (keys_of es)) (sym is) (whole_entries m.entries k v h long)
+pub whole_keys : {S : Type 0} (m n : IndexMap Key AnyRecorder S) (k : Key) (v : AnyRecorder) → n.entries ≡ insert_entry bytes_eq m.entries k v
+    → All AreTermBytes (keys m) → AreTermBytes k → All AreTermBytes (keys n)
+whole_keys m n k v is h long = subst (λ (es : List (Key × AnyRecorder)). All AreTermBytes (keys_of es)) (sym is) (whole_entries m.entries k v h long)
 
 -- a position was recorded in a recorder of its own
 pub is_inserted : {S : Type 0} (option : IndexRecordOption) (doc position : ℕ) (term : List ℕ) (m n : IndexMap Key AnyRecorder S) (k : Key) (w : AnyRecorder) (terms : TermIndex)
-    → Updates (λ (x : Key) (y : Key). bytes_eq x.items y.items) m n k (Some w) → k.items ≡ term → stored m.entries ≡ terms → recorder_of terms term ≡ None
+    → Updates bytes_eq m n k (Some w) → k ≡ term → stored m.entries ≡ terms → recorder_of terms term ≡ None
     → any_state w ≡ recorded_at doc position (new_recorder option) → IsRecorded option doc position term terms (stored n.entries)
 is_inserted option doc position term m n k w terms h key is absent state =
     is_recorded option doc position term m n w terms (updates_at k term key m n (Some w) h) is (state ∙ ap (recorded_at doc position) (sym (found_or_new option terms term None absent)))

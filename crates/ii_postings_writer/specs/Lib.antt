@@ -9,6 +9,7 @@ pub mod PostingsWriterKind
 pub mod Records
 pub mod ResolvedTerms
 pub mod SortedTerms
+pub mod TermKeys
 pub mod TermLimits
 pub mod TokenFiles
 pub mod WordRefusals

@@ -1,5 +1,5 @@
 -- The terms of an index, field by field.
-use Rattle.std.specs.Prelude.{MatchOption, ⊤, ◌^◌, if◌then◌else◌, IsTrue, [], ℕ, ◌==◌, ◌<◌, ◌≤◌, List, ◌++◌, drop, filter, length, map, Vec, Option, None, Some}
+use Rattle.std.specs.Prelude.{MatchOption, ⊤, ◌^◌, if◌then◌else◌, IsTrue, [], ℕ, ◌==◌, ◌<◌, ◌≤◌, List, ◌++◌, drop, filter, length, map, Option, None, Some}
 use Rattle.std.specs.Borrow.{Bor}
 use Rattle.ii_base.specs.Values.{json_key}
 use Rattle.ii_recorder.specs.AnyRecorder.{any_state}
@@ -44,8 +44,8 @@ abbrev pub terms_in : ℕ → TermIndex → List SortedTerm
 terms_in field terms = map term_of (filter (λ (t : List ℕ × RecorderState). field_in t.0 == field) terms)
 
 -- an entry of a term map: its bytes and its recorder
-abbrev pub seen : {A : Type 0} → Vec ℕ A × AnyRecorder → List ℕ × RecorderState
-seen e = (e.0.items, any_state e.1)
+abbrev pub seen : List ℕ × AnyRecorder → List ℕ × RecorderState
+seen e = (e.0, any_state e.1)
 
 -- a borrowed term: its bytes and its recorder
 abbrev pub kept_state : KeptTerm → List ℕ × RecorderState

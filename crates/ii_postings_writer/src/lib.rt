@@ -12,6 +12,7 @@ pub mod postings_writer_kind;
 pub mod serialize_postings;
 mod serialize_term;
 pub mod sorted_terms;
+mod term_key;
 pub mod term_recorders;
 
 pub use indexing_context::IndexingContext;

@@ -10,6 +10,7 @@ ghost use Rattle.ii_postings_writer.specs.IndexingTerm.{field_in};
 ghost use Rattle.ii_postings_writer.specs.ResolvedTerms.{AreClean, AreSorted, HoldIds, front_of, held_cmp, is_json_field, path_id_in, rank_of, resolved, resolved_terms, value_place};
 ghost use Rattle.ii_postings_writer.specs.SortedTerms.{IsTermBelow, SortedTerm, kept_state, seen, state_of, terms_in};
 
+use crate::term_key::TermKey;
 use crate::term_recorders::TermRecorders;
 use ii_base::Fault;
 use ii_json::{OrderedPathId, PathToUnorderedId};
@@ -75,10 +76,10 @@ impl TermRecorders {
 // Borrows the terms of a map, in its order.
 fn lent_terms<'a>(
     alloc: Global,
-    recorders: &'a IndexMap<Vec<u8>, AnyRecorder>,
+    recorders: &'a IndexMap<TermKey, AnyRecorder>,
 ) -> Result<Vec<KeptTerm<'a>>, Fault>
     ensures ok { IfOk result (λ terms. map kept_state terms.items ≡ map seen recorders.entry.now.entries) }
-    ensures distinct { IsDistinct (λ x y. bytes_eq x.items y.items) (keys_of recorders.entry.now.entries) }
+    ensures distinct { IsDistinct bytes_eq (keys_of recorders.entry.now.entries) }
     ensures only { OnlyMemory result }
 {
     let mut terms = Vec::with_capacity(alloc, recorders.len())?;
@@ -86,7 +87,10 @@ fn lent_terms<'a>(
         let Some((term, recorder)) = recorders.get_index(place) else {
             return Ok(terms);
         };
-        terms.push(KeptTerm { term, recorder })?;
+        terms.push(KeptTerm {
+            term: term.as_slice(),
+            recorder,
+        })?;
     }
     Ok(terms)
 }

@@ -6,6 +6,7 @@ ghost use Rattle.ii_postings_writer.specs.IndexingContext.{AllEndBy, EndsBy, IsR
 ghost use Rattle.ii_postings_writer.specs.IndexingTerm.{AreTermBytes};
 ghost use Rattle.ii_json.specs.LeafVisit.{IsRefusedBy};
 
+use crate::term_key::{TermBytes, TermKey};
 use ii_base::{DocId, Fault, IndexRecordOption};
 use ii_recorder::{AnyRecorder, Recorder};
 use indexmap::IndexMap;
@@ -15,7 +16,7 @@ use std::marker::Model;
 /// The recorder of each term that occurred, by the term's bytes.
 #[derive(Drop)]
 pub struct TermRecorders {
-    pub(crate) recorders: IndexMap<Vec<u8>, AnyRecorder>,
+    pub(crate) recorders: IndexMap<TermKey, AnyRecorder>,
     alloc: Global,
 }
 
@@ -28,9 +29,9 @@ impl Model for TermRecorders {
 
     ghost Value = { TermIndex };
 
-    ghost view = { λ c. map (λ e. (e.0.items, any_state e.1)) c.recorders.entries };
+    ghost view = { λ c. map (λ e. (e.0, any_state e.1)) c.recorders.entries };
 
-    ghost invariant = { λ c. All (λ k. AreTermBytes k.items) (keys c.recorders) };
+    ghost invariant = { λ c. All AreTermBytes (keys c.recorders) };
 }
 
 impl TermRecorders {
@@ -58,12 +59,12 @@ impl TermRecorders {
         ensures ok { OnOk result (IsRecorded option doc position term.now self.old self.new) }
         ensures refused { IsRefusedBy (record_fault doc position (recorder_or_new option self.old term.now)) result }
     {
-        match self.recorders.get_mut(term) {
+        match self.recorders.get_mut(TermBytes { bytes: term }) {
             Some(recorder) => record_in(recorder, doc, position),
             None => {
                 let recorder = recorder_with(self.alloc, option, doc, position)?;
-                let bytes = Vec::from_slice(self.alloc, term)?;
-                self.recorders.insert(bytes, recorder)?;
+                let key = TermKey::new(self.alloc, term)?;
+                self.recorders.insert(key, recorder)?;
                 Ok(())
             }
         }

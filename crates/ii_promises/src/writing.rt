@@ -10,8 +10,8 @@ ghost use Rattle.ii_indexing.specs.Refusals.{call_fault, calls_fault, leaf_fault
 ghost use Rattle.ii_promises.specs.DeepValues.{in_arrays};
 
 use nequllpa::{
-    DocId, Fault, Field, IndexCall, IndexWriters, Indexer, JsonValue, Schema,
-    TextAnalyzer, ValueType, write_index,
+    DocId, Fault, Field, IndexCall, IndexWriters, Indexer, JsonValue, Schema, TextAnalyzer,
+    ValueType, write_index,
 };
 use std::alloc::Global;
 use std::io::Write;

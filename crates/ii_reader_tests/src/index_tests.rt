@@ -4,7 +4,8 @@ use bytes::Bytes;
 use ii_base::{Fault, Field, FieldEntry, IndexRecordOption, Part, Schema, Term, ValueType};
 use ii_docset::{DocId, DocSet, TERMINATED};
 use ii_reader::{
-    BlockSegmentPostings, DamagedTerm, InvertedIndexReader, OpenIndex, SegmentPostings, open_index_with_norms,
+    BlockSegmentPostings, DamagedTerm, InvertedIndexReader, OpenIndex, SegmentPostings,
+    open_index_with_norms,
 };
 use ii_termdict::{TermDictionary, TermInfo};
 use std::alloc::Global;

@@ -21,7 +21,8 @@ pub use crate::ram::index_in_ram;
 pub use ii_base::{CountingWriter, HasLen};
 pub use ii_indexing::{IndexWriters, Indexer, write_index};
 pub use ii_reader::{
-    DamagedTerm, InvertedIndexFieldSpace, InvertedIndexReader, OpenIndex, open_index, open_index_with_norms,
+    DamagedTerm, InvertedIndexFieldSpace, InvertedIndexReader, OpenIndex, open_index,
+    open_index_with_norms,
 };
 
 // cursors over documents and postings

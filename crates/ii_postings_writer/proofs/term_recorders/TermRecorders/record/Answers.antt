@@ -18,7 +18,7 @@ returns-in_err-recorder-in-None-clause-refused c =
 
 pub invariant_of-self-in-None : goal.invariant_of-self-in-None
 invariant_of-self-in-None c =
-    whole_keys c.get_mut.follows.lender-at-none c.insert.new.self c.in_ok-bytes-in-None.bytes c.in_ok-recorder-in-None.recorder c.in_ok-insert-in-None.ensures.entries (rw c.get_mut.follows.holds-at-none c.self.invariant) (rw c.in_ok-bytes-in-None.ensures.items c.requires.term)
+    whole_keys c.get_mut.follows.lender-at-none c.insert.new.self c.in_ok-key-in-None.key c.in_ok-recorder-in-None.recorder c.in_ok-insert-in-None.ensures.entries (rw c.get_mut.follows.holds-at-none c.self.invariant) (rw c.in_ok-key-in-None.ensures.ok c.requires.term)
 
 pub returns-in-Some-clause-ok : goal.returns-in-Some-clause-ok
 returns-in-Some-clause-ok c =
@@ -38,8 +38,8 @@ returns-in-Some-clause-refused c =
 pub returns-in_ok-insert-in-None-clause-ok : goal.returns-in_ok-insert-in-None-clause-ok
 returns-in_ok-insert-in-None-clause-ok c =
     let absent = recorder_under c.self.inside.recorders c.args.self.now c.args.term.now None c.self.view_is c.in-None.ensures.value in
-    is_inserted c.args.option c.args.doc c.args.position c.args.term.now c.get_mut.follows.lender-at-none c.insert.new.self c.in_ok-bytes-in-None.bytes c.in_ok-recorder-in-None.recorder c.args.self.now
-    c.in_ok-insert-in-None.ensures.updates c.in_ok-bytes-in-None.ensures.items (rw c.get_mut.follows.holds-at-none c.self.view_is) absent c.in_ok-recorder-in-None.ensures.ok
+    is_inserted c.args.option c.args.doc c.args.position c.args.term.now c.get_mut.follows.lender-at-none c.insert.new.self c.in_ok-key-in-None.key c.in_ok-recorder-in-None.recorder c.args.self.now
+    c.in_ok-insert-in-None.ensures.updates c.in_ok-key-in-None.ensures.ok (rw c.get_mut.follows.holds-at-none c.self.view_is) absent c.in_ok-recorder-in-None.ensures.ok
 
 pub returns-in_ok-insert-in-None-clause-refused : goal.returns-in_ok-insert-in-None-clause-refused
 returns-in_ok-insert-in-None-clause-refused c =
