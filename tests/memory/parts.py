@@ -10,7 +10,8 @@ sys.path.insert(0, os.path.dirname(os.path.dirname(os.path.abspath(__file__))))
 import refusing
 
 REFUSALS = (b'out of memory', b'the writer failed')
-WITHOUT_WRITER = (b'index', b'walk', b'loaded', b'placed', b'deletes', b'reset')
+WITHOUT_WRITER = (b'walk', b'loaded', b'located', b'placed', b'shifted', b'deletes', b'grown', b'terms', b'paths', b'index', b'gaps',
+                  b'options', b'values', b'json', b'reset')
 
 
 def may_say(name, line):

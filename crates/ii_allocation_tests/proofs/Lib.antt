@@ -1,2 +1,4 @@
+mod CheckedCalls
 pub mod EvenDocuments
+mod Recorders
 pub mod ThreeKeys

@@ -8,7 +8,7 @@ use ii_base::{
 };
 use ii_docset::{DocSet, Postings, TERMINATED};
 use ii_indexing::{IndexCall, JsonTermSerializer};
-use ii_reader::{InvertedIndexReader, OpenIndex, SegmentPostings};
+use ii_reader::{InvertedIndexReader, OpenIndex};
 use nequllpa::index_in_ram;
 use std::alloc::Global;
 
@@ -120,8 +120,8 @@ pub fn word(alloc: Global, word: &str) -> Result<Term, Fault> {
     Term::from_field_text(alloc, Field::from_field_id(0), word)
 }
 
-// Appends each document of a term with its count and positions.
-fn push_postings(
+/// Appends each document of a term with its count and positions.
+pub fn push_postings(
     alloc: Global,
     text: &mut String,
     reader: &InvertedIndexReader,
@@ -138,7 +138,13 @@ fn push_postings(
     Ok(text.push_str(" ends")?)
 }
 
-fn push_doc(alloc: Global, text: &mut String, cursor: &mut SegmentPostings) -> Result<(), Fault> {
+/// Appends the current document with its count and positions. If the positions can't be read, there must be
+/// none, and the cursor must be at the same document.
+pub fn push_doc<P: Postings>(
+    alloc: Global,
+    text: &mut String,
+    cursor: &mut P,
+) -> Result<(), Fault> {
     let doc = cursor.doc();
     if doc >= TERMINATED {
         return Ok(());
@@ -146,7 +152,11 @@ fn push_doc(alloc: Global, text: &mut String, cursor: &mut SegmentPostings) -> R
     let count = cursor.term_freq();
     write!(text, " {count} in {doc}")?;
     let mut positions = Vec::new(alloc);
-    cursor.positions(&mut positions)?;
+    let step = cursor.positions(&mut positions);
+    if step.is_err() && (!positions.is_empty() || cursor.doc() != doc) {
+        return Err(Fault::SerializerClosed);
+    }
+    step?;
     for position in positions.as_slice() {
         write!(text, " at {position}")?;
     }

@@ -2,6 +2,7 @@
 //! The tests of memory run it once for each allocation, which then fails.
 #![tactic(auto)]
 
+mod calls;
 mod composite;
 mod deletes;
 mod dictionary;
@@ -11,8 +12,12 @@ mod loaded;
 mod norms;
 mod placed;
 mod postings;
+mod recorders;
 mod reset;
+mod rows;
 mod schema;
+mod unchanged;
+mod unchanged_paths;
 mod walked;
 
 use ii_io::Fault;
@@ -34,11 +39,21 @@ fn report_all(rt: &HostRuntime) -> io::Result<()> {
     report(rt, "postings", postings::read_back(rt.alloc()))?;
     report(rt, "walk", walked::read_back(rt.alloc()))?;
     report(rt, "loaded", loaded::read_back(rt.alloc()))?;
+    report(rt, "located", loaded::read_back_positions(rt.alloc()))?;
     report(rt, "placed", placed::read_back(rt.alloc()))?;
+    report(rt, "shifted", placed::read_back_with_offset(rt.alloc()))?;
     report(rt, "deletes", deletes::read_back(rt.alloc()))?;
     report(rt, "grown", grown::read_back(rt.alloc()))?;
+    report(rt, "terms", unchanged::read_back(rt.alloc()))?;
+    report(rt, "paths", unchanged_paths::read_back(rt.alloc()))?;
+    report(rt, "ids", unchanged_paths::read_back_norms(rt.alloc()))?;
+    report(rt, "recorders", recorders::read_back(rt.alloc()))?;
     report(rt, "dictionary", dictionary::read_back(rt.alloc()))?;
     report(rt, "index", index::read_back(rt.alloc()))?;
+    report(rt, "gaps", rows::read_back(rt.alloc(), &rows::GAPS))?;
+    report(rt, "options", rows::read_back(rt.alloc(), &rows::OPTIONS))?;
+    report(rt, "values", rows::read_back(rt.alloc(), &rows::VALUES))?;
+    report(rt, "json", rows::read_back_paths(rt.alloc()))?;
     report(rt, "reset", reset::read_back(rt.alloc()))
 }
 

@@ -45,3 +45,21 @@ pub fn read_back(alloc: Global) -> Result<String, Fault> {
     step?;
     Ok(format!(in alloc; " {added:?} {filled:?}")?)
 }
+
+/// Replaces a list with positions, each plus an offset. After an allocation failure the list must be empty, and a
+/// second call must read the positions of the same document.
+pub fn read_back_with_offset(alloc: Global) -> Result<String, Fault> {
+    let mut cursor = two_positions()?;
+    let mut filled = Vec::with_capacity(alloc, 1)?;
+    filled.push(7)?;
+    let step = cursor.positions_with_offset(10, &mut filled);
+    if step.is_err() {
+        let stays = filled.is_empty() && cursor.doc() == 0 && cursor.term_freq() == 2;
+        cursor.positions_with_offset(10, &mut filled)?;
+        if !stays || filled.as_slice() != [10, 14].as_slice() {
+            return Ok(String::from_str(alloc, " changed")?);
+        }
+    }
+    step?;
+    Ok(format!(in alloc; " {filled:?}")?)
+}

@@ -1,12 +1,14 @@
 ghost use Rattle.std.specs.Prelude.{◌≡◌, length, IfOk};
 
 use crate::compare::{DifferenceCounts, MODES, goes_over, names, option_of, shared};
-use ii_base::{CompositeFile, Fault, Field, FieldEntry, IndexRecordOption, Schema};
+use ii_base::{
+    CompositeFile, Fault, Field, FieldEntry, IndexRecordOption, Part, Schema, ValueType,
+};
 use ii_fieldnorm::FieldNormReader;
-use ii_reader::{InvertedIndexReader, OpenIndex, open_index_with_norms};
+use ii_reader::{InvertedIndexFieldSpace, InvertedIndexReader, OpenIndex, open_index_with_norms};
 use ii_slow_reader::{
-    Body, Damage, Entry, FieldFiles, Files, Info, Mode, body_of, bytes_in, read_composite,
-    read_dictionary, read_index, read_store, read_term,
+    Body, Damage, Entry, FieldFiles, Files, Info, Mode, Space, body_of, bytes_in, read_composite,
+    read_dictionary, read_index, read_spaces, read_store, read_term,
 };
 use ii_termdict::TermDictionary;
 use ii_termstore::{TermInfo, TermInfoStore};
@@ -112,31 +114,46 @@ fn has_entries(terms: &TermDictionary, entries: &[Entry<'_>]) -> bool {
     same
 }
 
-/// Opens an index of one field with each option and counts the results.
+/// Opens an index of one field with each option and counts the results. The field has JSON values, or texts
+/// and norms.
 pub fn judge_index(
     alloc: Global,
     files: Files<'_>,
+    value_type: ValueType,
     counts: &mut DifferenceCounts,
 ) -> Result<(), Fault> {
     for recorded in MODES {
-        counts.add(same_index(alloc, files, recorded)?);
+        counts.add(same_index(alloc, files, value_type, recorded)?);
     }
     Ok(())
 }
 
-// Builds a schema of one text field with norms.
-fn one_text(alloc: Global, option: IndexRecordOption) -> Result<Schema, Fault>
+// Builds a schema of one JSON field, or of one text field with norms.
+fn one_field(
+    alloc: Global,
+    value_type: ValueType,
+    option: IndexRecordOption,
+) -> Result<Schema, Fault>
     ensures { IfOk result (λ schema. length schema ≡ 1) }
 {
     let mut entries = Vec::new(alloc);
-    let name = String::from_str(alloc, "text")?;
-    entries.push(FieldEntry::text(name, option, true))?;
+    let name = String::from_str(alloc, "field")?;
+    let entry = match value_type {
+        ValueType::Json => FieldEntry::json(name, option, false),
+        _ => FieldEntry::text(name, option, true),
+    };
+    entries.push(entry)?;
     Ok(Schema::new(entries))
 }
 
 // Returns whether both readers find the same terms, lists and norms in an index.
-fn same_index(alloc: Global, files: Files<'_>, recorded: Mode) -> Result<bool, Fault> {
-    let schema = one_text(alloc, option_of(recorded))?;
+fn same_index(
+    alloc: Global,
+    files: Files<'_>,
+    value_type: ValueType,
+    recorded: Mode,
+) -> Result<bool, Fault> {
+    let schema = one_field(alloc, value_type, option_of(recorded))?;
     let opened = open_index_with_norms(
         alloc,
         shared(alloc, files.terms)?,
@@ -146,7 +163,7 @@ fn same_index(alloc: Global, files: Files<'_>, recorded: Mode) -> Result<bool, F
         &schema,
     );
     match (opened, read_index(alloc, files, 0)?) {
-        (Ok(index), Ok(field)) => same_field(alloc, &index, &field, recorded),
+        (Ok(index), Ok(field)) => same_field(alloc, &index, &field, value_type, recorded),
         (Err(fault), Err(damage)) => Ok(names(fault, damage)),
         _ => Ok(false),
     }
@@ -157,6 +174,7 @@ fn same_field(
     alloc: Global,
     index: &OpenIndex,
     field: &FieldFiles<'_>,
+    value_type: ValueType,
     recorded: Mode,
 ) -> Result<bool, Fault>
     requires { length index.now.readers ≡ 1 }
@@ -170,11 +188,42 @@ fn same_field(
             same &= same_term(alloc, reader, field, entry, recorded, requested)?;
         }
     }
+    if value_type == ValueType::Json {
+        same &= same_spaces(alloc, reader, field.entries.as_slice())?;
+    }
     same &= match index.get_fieldnorms_reader(first)? {
         Some(norms) => has_norms(&norms, field.norms),
         None => field.norms.is_none(),
     };
     Ok(same)
+}
+
+// Returns whether both readers list the same paths of a JSON field, or report a corrupt key.
+fn same_spaces(
+    alloc: Global,
+    reader: &InvertedIndexReader,
+    entries: &[Entry<'_>],
+) -> Result<bool, Fault> {
+    match (
+        reader.list_encoded_json_fields(alloc),
+        read_spaces(alloc, entries)?,
+    ) {
+        (Ok(found), Some(spaces)) => Ok(are_spaces(found.as_slice(), spaces.as_slice())),
+        (Err(fault), None) => Ok(fault == Fault::Damaged(Part::JsonKey)),
+        _ => Ok(false),
+    }
+}
+
+fn are_spaces(found: &[InvertedIndexFieldSpace], spaces: &[Space<'_>]) -> bool {
+    let mut same = found.len() == spaces.len();
+    for (listed, space) in found.iter().zip(spaces.iter()) {
+        same &= listed.field_name.as_slice() == space.path
+            && listed.field_type.to_code() == space.letter
+            && listed.num_terms == space.terms
+            && listed.postings_size == u128::from(space.postings)
+            && listed.positions_size == u128::from(space.positions);
+    }
+    same
 }
 
 // Returns whether both readers find the same list of a term, or report the same corrupt part.

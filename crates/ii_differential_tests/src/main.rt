@@ -1,7 +1,6 @@
 //! Opens damaged lists, stores, dictionaries, composite files and indexes with the readers and with the slow
-//! reader, and counts where they differ. It tries each cut and each change of one byte; in subjects of more
-//! than 100 bytes (or the number given) each change of one bit. With two numbers, a count and a seed, the
-//! damage is random.
+//! reader, and counts where they differ. It tries each cut, and each change of one byte to each other value.
+//! With two numbers, a count and a seed, the damage is random.
 #![tactic(auto)]
 
 mod compare;
@@ -12,9 +11,6 @@ mod subjects;
 use anyhow::{Context, Result};
 use std::env;
 
-// Up to this number of bytes, each change of a byte is tried.
-const LONGEST: u64 = 100;
-
 fn main(rt: HostRuntime) -> Result<()> {
     let mut numbers = Vec::new(rt.alloc());
     for word in env::args(&rt)?.skip(1) {
@@ -23,8 +19,7 @@ fn main(rt: HostRuntime) -> Result<()> {
     }
     let counts = match numbers.as_slice() {
         [count, seed] => mutate::at_random(rt.alloc(), *count, *seed)?,
-        [longest] => mutate::each_change(rt.alloc(), *longest)?,
-        _ => mutate::each_change(rt.alloc(), LONGEST)?,
+        _ => mutate::each_change(rt.alloc())?,
     };
     println!(rt;
         "{} cases, {} differences",

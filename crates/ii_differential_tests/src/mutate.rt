@@ -31,7 +31,7 @@ fn judge(
         Kind::Composite => counts.add(same_composite(alloc, first)?),
         Kind::Store => counts.add(same_store(alloc, first)?),
         Kind::Dictionary => counts.add(same_dictionary(alloc, first)?),
-        Kind::Index => judge_index(
+        Kind::Index(value_type) => judge_index(
             alloc,
             Files {
                 terms: first,
@@ -39,6 +39,7 @@ fn judge(
                 positions: part_of(parts, 2),
                 norms: part_of(parts, 3),
             },
+            value_type,
             counts,
         )?,
     }
@@ -54,41 +55,34 @@ fn copied(alloc: Global, subject: &Subject) -> Result<Vec<Vec<u8>>, Fault> {
     Ok(parts)
 }
 
-/// Judges each subject unchanged, with each cut of a part, and with each change of one byte. In a subject of
-/// more than `longest` bytes it changes single bits instead of bytes.
-pub fn each_change(alloc: Global, longest: u64) -> Result<DifferenceCounts, Fault> {
+/// Judges each subject unchanged, with each cut of a part, and with each change of one byte to each other
+/// value.
+pub fn each_change(alloc: Global) -> Result<DifferenceCounts, Fault> {
     let mut counts = NONE;
     for subject in &SUBJECTS {
-        let mut len = 0u64;
-        for part in subject.parts.as_slice() {
-            len = len.saturating_add(part.len() as u64);
-        }
         let whole = copied(alloc, subject)?;
         judge(alloc, subject.kind, whole.as_slice(), &mut counts)?;
         for at in 0..4 {
-            changed(alloc, subject, at, len <= longest, &mut counts)?;
+            changed(alloc, subject, at, &mut counts)?;
             cut(alloc, subject, at, &mut counts)?;
         }
     }
     Ok(counts)
 }
 
-// Judges each change of a byte of one part, or of a bit.
+// Judges each change of a byte of one part to each other value.
 fn changed(
     alloc: Global,
     subject: &Subject,
     at: usize,
-    all: bool,
     counts: &mut DifferenceCounts,
 ) -> Result<(), Fault> {
     let mut parts = copied(alloc, subject)?;
     for place in 0..part_of(parts.as_slice(), at).len() {
         for change in 1..=u8::MAX {
-            if all || change.is_power_of_two() {
-                alter_in(&mut parts, at, place, change);
-                judge(alloc, subject.kind, parts.as_slice(), counts)?;
-                alter_in(&mut parts, at, place, change);
-            }
+            alter_in(&mut parts, at, place, change);
+            judge(alloc, subject.kind, parts.as_slice(), counts)?;
+            alter_in(&mut parts, at, place, change);
         }
     }
     Ok(())

@@ -1,3 +1,5 @@
+use ii_base::ValueType;
+
 /// The format that bytes are read as.
 #[derive(Clone, Copy)]
 pub enum Kind {
@@ -9,8 +11,8 @@ pub enum Kind {
     Store,
     /// A dictionary.
     Dictionary,
-    /// An index of one field: the files of terms, postings, positions and norms.
-    Index,
+    /// An index of one field with values of this type: the files of terms, postings, positions and norms.
+    Index(ValueType),
 }
 
 /// Bytes to be damaged in many ways.
@@ -23,7 +25,7 @@ pub struct Subject {
 }
 
 /// All subjects: lists of docs/FORMATS.md and of the worked rows, and other bytes.
-pub static SUBJECTS: [Subject; 24] = [
+pub static SUBJECTS: [Subject; 26] = [
     // Documents 0, 2 and 10.
     Subject {
         kind: Kind::List(3),
@@ -283,7 +285,7 @@ pub static SUBJECTS: [Subject; 24] = [
     },
     // The index of two texts, of docs/FORMATS.md: terms, postings, positions and norms.
     Subject {
-        kind: Kind::Index,
+        kind: Kind::Index(ValueType::Str),
         parts: [
             &[
                 2, 0, 0, 0, 0, 0, 0, 0, 1, 0, 0, 0, 0, 0, 0, 0, 2, 0, 0, 0, 0, 0, 0, 0, 0x61, 0x62,
@@ -307,7 +309,7 @@ pub static SUBJECTS: [Subject; 24] = [
     },
     // The index of the number 5 in document 0: one key and no positions.
     Subject {
-        kind: Kind::Index,
+        kind: Kind::Index(ValueType::Str),
         parts: [
             &[
                 1, 0, 0, 0, 0, 0, 0, 0, 8, 0, 0, 0, 0, 0, 0, 0, 0, 0, 0, 0, 0, 0, 0, 5, 0x27, 0, 0,
@@ -323,6 +325,60 @@ pub static SUBJECTS: [Subject; 24] = [
                 0, 0, 0, 0, 0, 0, 0, 0, 0, 0, 0, 0, 0, 0, 0, 0, 0, 0, 0, 0, 1, 0, 0, 0,
             ],
             &[0; 4],
+        ],
+    },
+    // The index of the JSON values `{"a": "x y"}` in document 0 and `{"a": "x", "a": {"b": 1}}` in document 1,
+    // with positions: the texts `x` and `y` at the path `a`, and the number 1 at the path `a`, `b`.
+    Subject {
+        kind: Kind::Index(ValueType::Json),
+        parts: [
+            &[
+                3, 0, 0, 0, 0, 0, 0, 0, 4, 0, 0, 0, 0, 0, 0, 0, 8, 0, 0, 0, 0, 0, 0, 0, 0x15, 0, 0,
+                0, 0, 0, 0, 0, 0x61, 0, 0x73, 0x78, 0x61, 0, 0x73, 0x79, 0x61, 1, 0x62, 0, 0x69,
+                0x80, 0, 0, 0, 0, 0, 0, 1, 0x27, 0, 0, 0, 0, 0, 0, 0, 3, 0, 0, 0, 0, 0, 0, 0, 0, 0,
+                0, 0, 0, 0, 0, 0, 2, 0, 0, 0, 0, 0, 0, 0, 0, 0, 0, 0, 4, 0, 0, 0, 0, 0, 0, 0, 0, 0,
+                0, 0, 3, 0, 0, 0, 1, 3, 3, 0x5C, 0xF7, 0x0D, 0, 0, 0, 0, 0, 0, 0, 0, 0, 0, 0, 0,
+                0x6F, 0, 0, 0, 0, 0, 0, 0, 1, 0, 0, 0,
+            ],
+            &[
+                4, 0, 0, 0, 0, 0, 0, 0, 0x80, 0x81, 0x81, 0x81, 0x80, 0x81, 0x81, 0, 0, 0, 0, 0, 0,
+                0, 0, 0, 0, 0, 0, 0x0F, 0, 0, 0, 0, 0, 0, 0, 1, 0, 0, 0,
+            ],
+            &[
+                0x80, 0x80, 0x80, 0x80, 0x81, 0x80, 0, 0, 0, 0, 0, 0, 0, 0, 0, 0, 0, 0, 6, 0, 0, 0,
+                0, 0, 0, 0, 1, 0, 0, 0,
+            ],
+            &[0; 4],
+        ],
+    },
+    // The index of the text `a` in each of documents 0 to 129, but `a a` in document 5 and none in document
+    // 128. The bounds of its block are the norm id 1 and the count 2.
+    Subject {
+        kind: Kind::Index(ValueType::Str),
+        parts: [
+            &[
+                1, 0, 0, 0, 0, 0, 0, 0, 1, 0, 0, 0, 0, 0, 0, 0, 0x61, 0x27, 0, 0, 0, 0, 0, 0, 0, 1,
+                0, 0, 0, 0, 0, 0, 0, 0, 0, 0, 0, 0, 0, 0, 0, 0x81, 0, 0, 0, 0, 0, 0, 0, 0, 0, 0, 0,
+                0x1F, 0, 0, 0, 0, 0, 0, 0, 0, 0, 0, 0, 0x14, 0, 0, 0, 0, 0, 0, 0, 0, 0, 0, 0, 0, 0,
+                0, 0, 0, 0, 0, 0x48, 0, 0, 0, 0, 0, 0, 0, 1, 0, 0, 0,
+            ],
+            &[
+                0x82, 0, 0, 0, 0, 0, 0, 0, 0x8C, 0x7F, 0, 0, 0, 0x40, 1, 0x81, 0, 0, 0, 1, 2, 0x20,
+                0, 0, 0, 0, 0, 0, 0, 0, 0, 0, 0, 0, 0, 0, 0, 0x82, 0x81, 0, 0, 0, 0, 0, 0, 0, 0, 0,
+                0, 0, 0, 0x27, 0, 0, 0, 0, 0, 0, 0, 1, 0, 0, 0,
+            ],
+            &[
+                0x81, 1, 0x40, 0, 0, 0, 0, 0, 0, 0, 0, 0, 0, 0, 0, 0, 0, 0, 0x80, 0x80, 0, 0, 0, 0,
+                0, 0, 0, 0, 0, 0, 0, 0, 0x14, 0, 0, 0, 0, 0, 0, 0, 1, 0, 0, 0,
+            ],
+            &[
+                1, 1, 1, 1, 1, 2, 1, 1, 1, 1, 1, 1, 1, 1, 1, 1, 1, 1, 1, 1, 1, 1, 1, 1, 1, 1, 1, 1,
+                1, 1, 1, 1, 1, 1, 1, 1, 1, 1, 1, 1, 1, 1, 1, 1, 1, 1, 1, 1, 1, 1, 1, 1, 1, 1, 1, 1,
+                1, 1, 1, 1, 1, 1, 1, 1, 1, 1, 1, 1, 1, 1, 1, 1, 1, 1, 1, 1, 1, 1, 1, 1, 1, 1, 1, 1,
+                1, 1, 1, 1, 1, 1, 1, 1, 1, 1, 1, 1, 1, 1, 1, 1, 1, 1, 1, 1, 1, 1, 1, 1, 1, 1, 1, 1,
+                1, 1, 1, 1, 1, 1, 1, 1, 1, 1, 1, 1, 1, 1, 1, 1, 0, 1, 0, 0, 0, 0, 0, 0, 0, 0, 0, 0,
+                0, 0, 0x82, 0, 0, 0, 0, 0, 0, 0, 1, 0, 0, 0,
+            ],
         ],
     },
 ];

@@ -30,7 +30,7 @@ use std::alloc::Global;
 use std::marker::Model;
 
 /// The terms of all fields of a schema, and the open document of each field.
-pub(crate) struct IndexedFields {
+pub struct IndexedFields {
     terms: IndexedTerms,
     documents: OpenDocuments,
     paths: OpenPaths,
@@ -56,8 +56,9 @@ impl Model for IndexedFields {
 }
 
 impl IndexedFields {
-    // Creates a state without terms.
-    pub(crate) fn new(alloc: Global, schema: &Schema) -> Result<IndexedFields, Fault>
+    /// Creates a state without terms for the fields of a schema. Returns `OutOfMemory` if an
+    /// allocation fails.
+    pub fn new(alloc: Global, schema: &Schema) -> Result<IndexedFields, Fault>
         ensures stored { IfOk result (λ f. StoresAll schema.now f []) }
         ensures ends { IfOk result (EndsAt 0) }
         ensures none { IfOk result (λ f. f.indexed.terms ≡ []) }

@@ -74,8 +74,17 @@ impl<A: TextAnalyzer> LeafSink for LeafIndexer<'_, A> {
     }
 }
 
-// Indexes the leaves of a value. `expand_dots` says whether the dots of keys are expanded.
-pub(crate) fn index_json_value<A: TextAnalyzer>(
+/// Indexes the leaves of a JSON value in a document of a JSON field, each under its path. `analyzer`
+/// splits a text into tokens, and any other leaf is one term. `expand_dots` says whether dots in keys
+/// separate the segments of a path.
+///
+/// `doc` must not be less than the documents that were indexed before.
+///
+/// # Errors
+///
+/// Returns the first fault, leaf by leaf and word by word, as `Indexer::index` does. Returns
+/// `OutOfMemory` if an allocation fails. After a fault the content of `fields` is unspecified.
+pub fn index_json_value<A: TextAnalyzer>(
     alloc: Global,
     fields: &mut IndexedFields,
     doc: DocId,

@@ -6,12 +6,12 @@
 mod finished_fields;
 pub mod index_writers;
 mod indexed_calls;
-mod indexed_fields;
+pub mod indexed_fields;
 mod indexed_terms;
 pub mod indexer;
 pub mod indexing_positions_per_path;
 mod json_keys;
-mod json_utils;
+pub mod json_utils;
 mod open_documents;
 mod open_paths;
 
@@ -23,13 +23,16 @@ pub use ii_json::{
 };
 pub use ii_postings_writer::serialize_postings::serialize_postings;
 pub use ii_postings_writer::{
-    IndexingContext, IndexingPosition, IndexingTerm, IndexingTermRef, PerFieldPostingsWriter,
-    PostingsWriter, SpecializedPostingsWriter, TermRecorders,
+    IndexingContext, IndexingPosition, IndexingTerm, IndexingTermRef, JsonPostingsWriter,
+    PerFieldPostingsWriter, PostingsWriter, PostingsWriterKind, SpecializedPostingsWriter,
+    TermOfField, TermRecorders,
 };
 pub use ii_recorder::{
     AnyRecorder, BufferLender, DocIdRecorder, FieldSerializer, InvertedIndexSerializer, Recorder,
-    TermFrequencyRecorder, TfAndPositionRecorder,
+    TermFrequencyRecorder, TfAndPositionRecorder, VInt32Reader,
 };
 pub use index_writers::{IndexWriters, write_index};
+pub use indexed_fields::IndexedFields;
 pub use indexer::Indexer;
 pub use indexing_positions_per_path::IndexingPositionsPerPath;
+pub use json_utils::index_json_value;

@@ -56,13 +56,14 @@ ascend_taken c zero ks sorted = tt
 ascend_taken c (suc n) [] sorted = tt
 ascend_taken c (suc n) (k ∷ ks) sorted = (all_taken (λ y. c k y ≡ Less) n ks sorted.0, ascend_taken c n ks sorted.1)
 
+-- the key of a borrowed term
+abbrev pub key_of : TermOfField → List ℕ
+key_of t = (state_of t).key
+
 module _ (norms : Option Norms) (mode : IndexRecordOption) where
   -- terms as they are written
   abbrev pub all_written : List TermOfField → List WrittenTerm
   all_written terms = map (written_term norms mode) (map state_of terms)
-
-  abbrev pub key_of : TermOfField → List ℕ
-  key_of t = (state_of t).key
 
   pub written_keys : (terms : List TermOfField) → map (λ (t : WrittenTerm). t.key) (all_written terms) ≡ map key_of terms
   written_keys [] = refl
@@ -74,17 +75,17 @@ module _ (norms : Option Norms) (mode : IndexRecordOption) where
       ∙ ap (map (written_term norms mode)) (map-append state_of (take k terms) (get_or terms k d ∷ []))
       ∙ map-append (written_term norms mode) (map state_of (take k terms)) (state_of (get_or terms k d) ∷ [])
 
-  -- the next key is above the ones before it
-  pub next_above : (terms : List TermOfField) (k : ℕ) (d : TermOfField) (before keys : List (List ℕ)) → k < length terms → AreAscending (before ++ map key_of terms)
-      → keys ≡ before ++ map key_of (take k terms) → AreAscending (keys ++ key_of (get_or terms k d) ∷ [])
-  next_above terms k d before keys inside ascending known =
-      let next : map key_of (take (k + 1) terms) ≡ map key_of (take k terms) ++ key_of (get_or terms k d) ∷ [] = ap (map key_of) (take_more terms k d inside) ∙ map-append key_of (take k terms) (get_or terms k d ∷ []) in
-      let all : take (length before + (k + 1)) (before ++ map key_of terms) ≡ keys ++ key_of (get_or terms k d) ∷ [] =
-      take-append-add before (map key_of terms) (k + 1)
-      ∙ ap (λ (ks : List (List ℕ)). before ++ ks) (take-map key_of (k + 1) terms ∙ next)
-      ∙ sym (append_assoc before (map key_of (take k terms)) (key_of (get_or terms k d) ∷ []))
-      ∙ ap (λ (ks : List (List ℕ)). ks ++ key_of (get_or terms k d) ∷ []) (sym known) in
-      subst AreAscending all (ascend_taken (slice_cmp nat_cmp) (length before + (k + 1)) (before ++ map key_of terms) ascending)
+-- the next key is above the ones before it
+pub next_above : (terms : List TermOfField) (k : ℕ) (d : TermOfField) (before keys : List (List ℕ)) → k < length terms → AreAscending (before ++ map key_of terms)
+    → keys ≡ before ++ map key_of (take k terms) → AreAscending (keys ++ key_of (get_or terms k d) ∷ [])
+next_above terms k d before keys inside ascending known =
+    let next : map key_of (take (k + 1) terms) ≡ map key_of (take k terms) ++ key_of (get_or terms k d) ∷ [] = ap (map key_of) (take_more terms k d inside) ∙ map-append key_of (take k terms) (get_or terms k d ∷ []) in
+    let all : take (length before + (k + 1)) (before ++ map key_of terms) ≡ keys ++ key_of (get_or terms k d) ∷ [] =
+    take-append-add before (map key_of terms) (k + 1)
+    ∙ ap (λ (ks : List (List ℕ)). before ++ ks) (take-map key_of (k + 1) terms ∙ next)
+    ∙ sym (append_assoc before (map key_of (take k terms)) (key_of (get_or terms k d) ∷ []))
+    ∙ ap (λ (ks : List (List ℕ)). ks ++ key_of (get_or terms k d) ∷ []) (sym known) in
+    subst AreAscending all (ascend_taken (slice_cmp nat_cmp) (length before + (k + 1)) (before ++ map key_of terms) ascending)
 
 pub writable_at : (norms : Option Norms) (terms : List TermOfField) (k : ℕ) (d : TermOfField) → k < length terms → AllByRecursion (IsWritable norms) (map state_of terms) → IsWritable norms (state_of (get_or terms k d))
 writable_at norms [] k d inside all = absurd (omega (arith, inside))

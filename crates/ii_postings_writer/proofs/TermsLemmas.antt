@@ -117,7 +117,7 @@ module _ (terms : List TermOfField) (k : ℕ) (old now : IndexSerializerState) (
     same_mode = written.mode ∙ ap (λ (es : List SchemaEntry). option_of es known.field) s.ends.entries ∙ sym known.writing.mode
 
     -- the keys so far
-    keys_now : now.field.places.keys ≡ old.field.places.keys ++ map (key_of known.norms (option_of old.entries known.field)) (take k terms)
+    keys_now : now.field.places.keys ≡ old.field.places.keys ++ map key_of (take k terms)
     keys_now =
         let mode = option_of old.entries known.field in
         let us = all_written known.norms mode (take k terms) in
@@ -133,7 +133,7 @@ module _ (terms : List TermOfField) (k : ℕ) (old now : IndexSerializerState) (
       pub key_above : AreAscending (old.field.places.keys ++ map (λ (u : TermOfField). (state_of u).key) terms) → AreAscending (now.field.places.keys ++ (state_of t).key ∷ [])
       key_above ascending =
           subst (λ (u : TermOfField). AreAscending (now.field.places.keys ++ (state_of u).key ∷ [])) (sym is)
-          (next_above known.norms (option_of old.entries known.field) terms k t old.field.places.keys now.field.places.keys low ascending keys_now)
+          (next_above terms k t old.field.places.keys now.field.places.keys low ascending keys_now)
 
       pub may_write : AllByRecursion (IsWritable old.field.term.norms) (map state_of terms) → IsWritable now.field.term.norms (state_of t)
       may_write all =

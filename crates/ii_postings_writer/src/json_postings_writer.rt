@@ -11,6 +11,7 @@ use std::marker::Model;
 /// A writer of a JSON field, which keeps only the documents of a value's terms.
 #[derive(Drop)]
 pub struct JsonPostingsWriter {
+    // Counts all terms, and records a value's under `Basic`.
     str_posting_writer: SpecializedPostingsWriter,
 }
 

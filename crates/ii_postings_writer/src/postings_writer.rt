@@ -162,7 +162,7 @@ pub trait PostingsWriter: Drop {
         ensures { result ≡ (state self.now).total_num_tokens };
 }
 
-/// A writer that keeps the same of all terms.
+/// A writer that keeps what one option says of each term.
 #[derive(Drop)]
 pub struct SpecializedPostingsWriter {
     option: IndexRecordOption,

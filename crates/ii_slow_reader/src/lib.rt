@@ -8,6 +8,7 @@ mod dictionaries;
 mod indexes;
 mod lists;
 mod positions;
+mod spaces;
 mod stores;
 mod vints;
 
@@ -15,4 +16,5 @@ pub use composites::{Body, body_of, bytes_in, read_composite};
 pub use dictionaries::{Entry, read_dictionary};
 pub use indexes::{FieldFiles, Files, read_index, read_term};
 pub use lists::{Damage, Listed, Mode, read_list};
+pub use spaces::{Space, read_spaces};
 pub use stores::{Info, read_store};

@@ -19,9 +19,9 @@ returns g c =
     let pushed = still_writing _ _ _ _ _ _ _ _ entries opened in
     let inside = ap (λ (s : IndexSerializerState). s.field.term_open) entries ∙ c.in_ok-new_term.ensures.inside in
     let written = c.in_ok-close_term.ensures.writing _ _ _ _ _ (97 ∷ []) inside pushed in
-    let same = c.in_ok-close_term.ensures.ends.entries ∙ c.in_ok-serialize.ensures.pushes.ends.entries ∙ c.in_ok-new_term.ensures.ends.entries ∙ c.in_ok-field.ensures.entries in
+    let same = c.in_ok-close_term.ensures.ends.entries ∙ c.in_ok-serialize.ensures.pushes.ends.entries ∙ c.in_ok-new_term.ensures.ends.entries ∙ c.in_ok-field.ensures.started.entries in
     let field = c.from_field_id.ensures in
-    let mode = begun.mode ∙ ap (λ (es : List SchemaEntry). option_of es c.from_field_id.result) c.in_ok-field.ensures.entries ∙ ap (option_of c.args.index.now.entries) field in
+    let mode = begun.mode ∙ ap (λ (es : List SchemaEntry). option_of es c.from_field_id.result) c.in_ok-field.ensures.started.entries ∙ ap (option_of c.args.index.now.entries) field in
     let last = written.mode ∙ ap (λ (es : List SchemaEntry). option_of es c.from_field_id.result) same ∙ ap (option_of c.args.index.now.entries) field in
     held_as c.close.result _ _ _ _ last (term_is c.in_ok-field.field.index.now.field.term _ _ r _ _ begun.norms_are c.in_ok-new_term.ensures.term c.has_term_freq.ensures mode entries) (c.close.ensures.holds _ _ _ _ _ c.in_ok-close_term.ensures.between written)
 

@@ -4,6 +4,7 @@ use Rattle.ii_indexing.specs.IndexedTerms.{IndexedTermsState, StoresTokens, Take
 use Rattle.ii_postings_writer.specs.IndexingContext.{AllEndBy}
 use Rattle.ii_postings_writer.specs.IndexingTerm.{IndexingTermState}
 use Rattle.ii_postings_writer.specs.PostingsWriter.{HasTokens, text_fault, text_piece}
+use Rattle.ii_postings_writer.specs.PostingsWriterKind.{state_of_kind}
 use Rattle.ii_json.specs.LeafVisit.{IsRefusedBy, first_fault}
 use Rattle.ii_io.specs.declared.faults.Fault.{Fault}
 use Rattle.ii_base.specs.declared.schema.index_record_option.IndexRecordOption.{IndexRecordOption}
@@ -24,7 +25,7 @@ returns-clause-stored g c =
     let begin = c.args.position.now.end_position in
     let held = c.args.held.now in
     let s : IndexedTermsState = record { terms = c.self.inside.ctx.term_index; paths = c.self.inside.ctx.path_to_unordered_id; writers = c.self.inside.writers } in
-    let w = c.get_for_field_mut-writer.result.now in
+    let w = state_of_kind c.get_for_field_mut-writer.result.now in
     let term : c.set_bytes.new.self ≡ record { field = c.args.field; value = held } = c.in_ok-set_bytes.ensures.ok ∙ ap (λ (t : IndexingTermState). record t { value = held }) c.clear_with_field.ensures in
     on_both c.index_text.result _ _ _
     (λ h counted entries ts prefix takes stored.
@@ -32,10 +33,10 @@ returns-clause-stored g c =
     let taken = subst (λ (q : IndexedTermsState). TakesTexts entries q.paths c.args.field held prefix) (sym c.self.view_is) takes in
     let us = map (held_token (json_fields entries) s.paths) ts in
     let tokens = subst (λ (t : IndexingTermState). HasTokens (held_kept_at entries) (text_piece c.args.doc t words) s.terms w us
-    → HasTokens (held_kept_at entries) (text_piece c.args.doc t words) c.index_text.new.ctx.term_index c.index_text.new.self (us ++ map (word_token (text_piece c.args.doc t words) begin) (kept_words words))) term (h (held_kept_at entries) us) in
-    subst (λ (ps : List (List ℕ)). StoresTokens entries (record { terms = c.index_text.new.ctx.term_index; paths = ps; writers = slice_set c.self.inside.writers c.args.field c.index_text.new.self }) (ts ++ map (word_token (text_at c.args.doc c.args.field prefix words) begin) (kept_words words)))
+    → HasTokens (held_kept_at entries) (text_piece c.args.doc t words) c.index_text.new.ctx.term_index (state_of_kind c.index_text.new.self) (us ++ map (word_token (text_piece c.args.doc t words) begin) (kept_words words))) term (h (held_kept_at entries) us) in
+    subst (λ (ps : List (List ℕ)). StoresTokens entries (record { terms = c.index_text.new.ctx.term_index; paths = ps; writers = slice_set c.self.inside.writers c.args.field (state_of_kind c.index_text.new.self) }) (ts ++ map (word_token (text_at c.args.doc c.args.field prefix words) begin) (kept_words words)))
     (sym c.index_text.ensures.paths)
-    (text_stored entries ts s c.args.doc c.args.field held prefix words begin w c.index_text.new.ctx.term_index c.index_text.new.self taken old c.get_for_field_mut-writer.ensures.value counted tokens))
+    (text_stored entries ts s c.args.doc c.args.field held prefix words begin w c.index_text.new.ctx.term_index (state_of_kind c.index_text.new.self) taken old c.get_for_field_mut-writer.ensures.value counted tokens))
     c.index_text.ensures.tokens c.index_text.ensures.counted
 
 pub returns-clause-refused : goal.returns-clause-refused
@@ -43,7 +44,7 @@ returns-clause-refused g c entries ts prefix takes stored =
     let words = g.S.TokenStream.to_come c.args.token_stream.now in
     let held = c.args.held.now in
     let s : IndexedTermsState = record { terms = c.self.inside.ctx.term_index; paths = c.self.inside.ctx.path_to_unordered_id; writers = c.self.inside.writers } in
-    let w = c.get_for_field_mut-writer.result.now in
+    let w = state_of_kind c.get_for_field_mut-writer.result.now in
     let at = c.args.position.now in
     let term : c.set_bytes.new.self ≡ record { field = c.args.field; value = held } = c.in_ok-set_bytes.ensures.ok ∙ ap (λ (t : IndexingTermState). record t { value = held }) c.clear_with_field.ensures in
     let old = subst (λ (q : IndexedTermsState). StoresTokens entries q ts) (sym c.self.view_is) stored in
