@@ -1,17 +1,17 @@
-"""Rules for the sources that the prover doesn't check: none fabricates an allocation failure, and the moves of a
-cursor use one counted decoder. Each part returns how many tests passed and how many failed."""
+"""The search for a second decoder.
+
+A clause bounds what a cursor decodes by the counter of its decoder. The counter can't see another decoder, so a body
+that decodes by one of its own, copies one, or starts its list again would meet every clause. This search closes that
+gap for the crates that read lists: COUNTED says, for each way around the counter, which functions may use it; no move
+of a cursor is among them. `tests/rules/program.py` plants each way, and the search must report it.
+
+`allocation_rules.py` searches for fabricated allocation failures."""
 import glob
 import os
 import re
 
 import programs
 
-# The only files that may name `Fault::OutOfMemory`: there a refused allocation becomes that fault.
-FAULTS = tuple(os.path.join('crates', *name) for name in (
-    ('ii_io', 'src', 'faults.rt'), ('ii_store', 'src', 'faults.rt'), ('ii_store', 'src', 'memory_directory.rt'),
-    ('ii_schema_text', 'src', 'faults.rt'), ('ii_term_text', 'src', 'terms.rt'), ('ii_documents', 'src', 'faults.rt'),
-    ('nequllpa_folder', 'src', 'faults.rt'),
-    ('nequllpa_indexing', 'src', 'faults.rt')))
 # What only the named functions of a crate may contain; no move of a cursor is among them. A rule applies to the
 # crates that it lists. The prover counts the decodes and reads of the calls that take a counter. This table says
 # which functions create counters and decoders, and which read without such a call.
@@ -97,21 +97,6 @@ def sources_of(crate):
 def name_of(source):
     """Returns the path of a source in the repository."""
     return os.path.relpath(source, programs.TOP)
-
-
-def allocation_failures():
-    """Checks that no source fabricates an allocation failure: only the files of FAULTS, and tests, name that fault."""
-    found = 0
-    for source in sources_of('*'):
-        if name_of(source) in FAULTS or os.path.basename(source) == 'tests.rt':
-            continue
-        with open(source, encoding='utf-8') as lines:
-            for number, line in enumerate(lines, 1):
-                if 'Fault::OutOfMemory' in line.split('//')[0]:
-                    found += 1
-                    print(f'{name_of(source)}:{number}: fabricates an allocation failure')
-    print(f'sources: {"none of them fabricates" if found == 0 else f"{found} of their lines fabricate"} an allocation failure')
-    return (0, 1) if found else (1, 0)
 
 
 def is_test(source):
