@@ -19,8 +19,16 @@ pub enum Kind {
     Text(IndexRecordOption),
     /// JSON values with positions. Dots in keys are expanded.
     Json,
-    /// Values of this type, without norms.
-    Value(ValueType),
+    /// Unsigned numbers without norms.
+    U64,
+    /// Signed numbers without norms.
+    I64,
+    /// Booleans without norms.
+    Bool,
+    /// Bytes without norms.
+    Bytes,
+    /// Addresses without norms.
+    Ip,
 }
 
 /// A value of a JSON object.
@@ -66,7 +74,11 @@ fn entry_of(alloc: Global, kind: &Kind) -> Result<FieldEntry, Fault> {
     Ok(match kind {
         Kind::Text(option) => FieldEntry::text(name, *option, true),
         Kind::Json => FieldEntry::json(name, IndexRecordOption::WithFreqsAndPositions, true),
-        Kind::Value(value_type) => FieldEntry::value(name, *value_type, false),
+        Kind::U64 => FieldEntry::value(name, ValueType::U64, false),
+        Kind::I64 => FieldEntry::value(name, ValueType::I64, false),
+        Kind::Bool => FieldEntry::value(name, ValueType::Bool, false),
+        Kind::Bytes => FieldEntry::value(name, ValueType::Bytes, false),
+        Kind::Ip => FieldEntry::value(name, ValueType::IpAddr, false),
     })
 }
 

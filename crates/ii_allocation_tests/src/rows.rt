@@ -2,7 +2,7 @@ ghost use Rattle.std.specs.Prelude.{◌≡◌, length};
 
 use crate::calls::{Call, Kind, Leaf, Said, indexed};
 use crate::index::push_postings;
-use ii_base::{Fault, Field, IndexRecordOption, Term, ValueType};
+use ii_base::{Fault, Field, IndexRecordOption, Term};
 use ii_docset::DocId;
 use ii_reader::OpenIndex;
 use std::alloc::Global;
@@ -64,13 +64,7 @@ pub static OPTIONS: Row = Row {
 
 /// A value of each other type.
 pub static VALUES: Row = Row {
-    kinds: &[
-        Kind::Value(ValueType::U64),
-        Kind::Value(ValueType::I64),
-        Kind::Value(ValueType::Bool),
-        Kind::Value(ValueType::IpAddr),
-        Kind::Value(ValueType::Bytes),
-    ],
+    kinds: &[Kind::U64, Kind::I64, Kind::Bool, Kind::Ip, Kind::Bytes],
     num_docs: 2,
     calls: &[
         (0, 0, Said::U64(5)),

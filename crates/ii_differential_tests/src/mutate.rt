@@ -55,33 +55,59 @@ fn copied(alloc: Global, subject: &Subject) -> Result<Vec<Vec<u8>>, Fault> {
     Ok(parts)
 }
 
-/// Judges each subject unchanged, with each cut of a part, and with each change of one byte to each other
-/// value.
-pub fn each_change(alloc: Global) -> Result<DifferenceCounts, Fault> {
-    let mut counts = NONE;
+/// A share of all cases: those whose number leaves the remainder `part` when divided by `parts`.
+#[derive(Clone, Copy)]
+pub struct Share {
+    pub part: u64,
+    pub parts: u64,
+}
+
+// The cases that were passed, and what was found in those of a share.
+#[derive(Drop)]
+struct Run {
+    share: Share,
+    passed: u64,
+    counts: DifferenceCounts,
+}
+
+impl Run {
+    // Judges the next case, if it belongs to the share.
+    fn judge_next(&mut self, alloc: Global, kind: Kind, parts: &[Vec<u8>]) -> Result<(), Fault> {
+        let is_mine = self.passed.checked_rem(self.share.parts) == Some(self.share.part);
+        self.passed = self.passed.saturating_add(1);
+        if !is_mine {
+            return Ok(());
+        }
+        judge(alloc, kind, parts, &mut self.counts)
+    }
+}
+
+/// Judges a share of these cases: each subject unchanged, with each cut of a part, and with each change of one
+/// byte to each other value.
+pub fn each_change(alloc: Global, share: Share) -> Result<DifferenceCounts, Fault> {
+    let mut run = Run {
+        share,
+        passed: 0,
+        counts: NONE,
+    };
     for subject in &SUBJECTS {
         let whole = copied(alloc, subject)?;
-        judge(alloc, subject.kind, whole.as_slice(), &mut counts)?;
+        run.judge_next(alloc, subject.kind, whole.as_slice())?;
         for at in 0..4 {
-            changed(alloc, subject, at, &mut counts)?;
-            cut(alloc, subject, at, &mut counts)?;
+            changed(alloc, subject, at, &mut run)?;
+            cut(alloc, subject, at, &mut run)?;
         }
     }
-    Ok(counts)
+    Ok(run.counts)
 }
 
 // Judges each change of a byte of one part to each other value.
-fn changed(
-    alloc: Global,
-    subject: &Subject,
-    at: usize,
-    counts: &mut DifferenceCounts,
-) -> Result<(), Fault> {
+fn changed(alloc: Global, subject: &Subject, at: usize, run: &mut Run) -> Result<(), Fault> {
     let mut parts = copied(alloc, subject)?;
     for place in 0..part_of(parts.as_slice(), at).len() {
         for change in 1..=u8::MAX {
             alter_in(&mut parts, at, place, change);
-            judge(alloc, subject.kind, parts.as_slice(), counts)?;
+            run.judge_next(alloc, subject.kind, parts.as_slice())?;
             alter_in(&mut parts, at, place, change);
         }
     }
@@ -89,18 +115,13 @@ fn changed(
 }
 
 // Judges each cut of one part.
-fn cut(
-    alloc: Global,
-    subject: &Subject,
-    at: usize,
-    counts: &mut DifferenceCounts,
-) -> Result<(), Fault> {
+fn cut(alloc: Global, subject: &Subject, at: usize, run: &mut Run) -> Result<(), Fault> {
     let mut parts = copied(alloc, subject)?;
     for _ in 0..part_of(parts.as_slice(), at).len() {
         if let Some(part) = parts.as_mut_slice().get_mut(at) {
             let _last = part.pop();
         }
-        judge(alloc, subject.kind, parts.as_slice(), counts)?;
+        run.judge_next(alloc, subject.kind, parts.as_slice())?;
     }
     Ok(())
 }
