@@ -1,4 +1,4 @@
 mod CheckedCalls
 pub mod EvenDocuments
-mod Recorders
+mod ReadingBack
 pub mod ThreeKeys

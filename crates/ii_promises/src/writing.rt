@@ -124,9 +124,9 @@ pub fn deep_values_are_indexed<A: TextAnalyzer>(
     requires order { indexer.old.last_doc ≤ doc }
     requires below { doc < indexer.old.num_docs }
     requires takes { Takes indexer.old.schema field ValueType.Json }
-    ensures stored { OnOk result ((levels : ℕ) (l : Leaf) (ps : List Piece) → json_of value.entry ≡ in_arrays levels l → Stores indexer.old ps
+    ensures stored { OnOk result ((levels : ℕ) (l : Leaf) (ps : List Piece) → json_of value ≡ in_arrays levels l → Stores indexer.old ps
         → Stores indexer.new (ps ++ leaf_pieces (A.words analyzer.now) doc field ([], l))) }
-    ensures fault { (levels : ℕ) (l : Leaf) (ps : List Piece) → json_of value.entry ≡ in_arrays levels l → Stores indexer.old ps
+    ensures fault { (levels : ℕ) (l : Leaf) (ps : List Piece) → json_of value ≡ in_arrays levels l → Stores indexer.old ps
         → IfErr result (λ e. (e ≡ Fault.OutOfMemory) ⊎ (leaf_fault (A.words analyzer.now) (option_of indexer.old.schema field) ps doc field ([], l) ≡ Some e)) }
 {
     indexer.index(IndexCall::Json(doc, field, value), analyzer)

@@ -366,7 +366,7 @@ fn deltas_are_packed(rt: HostRuntime) -> Result<(), Fail> {
 }
 
 // A field, calls of two documents, and the result.
-static ENDS: [(&[Kind], &[Call], Result<(), Fault>); 7] = [
+static ENDS: [(&[Kind], &[Call], Result<(), Fault>); 6] = [
     // a float that is reached, and one under a key with byte 0
     (
         &[Kind::Json(false)],

@@ -1,7 +1,7 @@
 use Rattle.std.proofs.Common.{ap, ◌∙◌, rules}
 use Rattle.ii_recorder.specs.OpenTerm.{OpenTermState}
 use Rattle.ii_termdict.proofs.FirstKey.{first_ascends}
-use Rattle.ii_allocation_tests.proofs.Recorders.{none_lacking}
+use Rattle.ii_allocation_tests.proofs.ReadingBack.{none_lacking}
 use Rattle.ii_allocation_tests.proofs.recorders.write_recorder.Goals as goal
 
 pub new_term-requires-clause-ascending : goal.new_term-requires-clause-ascending
