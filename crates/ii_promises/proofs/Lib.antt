@@ -2,6 +2,7 @@ mod CheckingLaws
 mod IndexingLaws
 pub mod BoundLaws
 mod DeepLaws
+mod OpeningLaws
 pub mod DecodesLaws
 pub mod SearchingLaws
 pub mod TextLaws

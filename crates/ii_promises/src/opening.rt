@@ -1,5 +1,5 @@
 // Opening any four files, and checking an open index once.
-ghost use Rattle.std.specs.Prelude.{◌≡◌, ◌↔◌, ◌⊎◌, ◌<◌, ℕ, List, length, slice_get, None, Some, Ok, Err, IfErr, IfOk, IfSome, IsOk, IsSomeAnd};
+ghost use Rattle.std.specs.Prelude.{◌≡◌, ◌↔◌, ◌⊎◌, ◌<◌, ℕ, List, [], length, slice_get, None, Some, Ok, Err, IfErr, IfOk, IfSome, IsOk, IsSomeAnd};
 ghost use Rattle.std.specs.List.{All};
 ghost use Rattle.ii_io.specs.declared.faults.Part.{Part};
 ghost use Rattle.ii_definitions.specs.Fields.{option_of};
@@ -8,12 +8,12 @@ ghost use Rattle.ii_definitions.specs.Norms.{HoldNorms};
 ghost use Rattle.ii_definitions.specs.Tokens.{IndexToken};
 ghost use Rattle.ii_termdict.specs.Dictionary.{TermEntry, info_under};
 ghost use Rattle.ii_reader.specs.InvertedIndexReader.{AllOpen, InvertedIndexReaderState, term_of_file};
-ghost use Rattle.ii_reader.specs.OpenIndex.{IndexHolds, OpenIndexState, index_of_files};
+ghost use Rattle.ii_reader.specs.OpenIndex.{IndexHolds, OpenIndexState, ReadersHold, index_of_files};
 
 use bytes::Bytes;
 use nequllpa::{
     DamagedTerm, Fault, Field, IndexRecordOption, InvertedIndexReader, OpenIndex, Schema,
-    SegmentPostings, Term, open_index_with_norms,
+    SegmentPostings, Term, open_index, open_index_with_norms,
 };
 use std::alloc::Global;
 
@@ -50,6 +50,22 @@ pub fn files_of_tokens_are_opened(
         → IfErr result (λ fault. fault ≡ Fault.OutOfMemory) }
 {
     open_index_with_norms(alloc, terms, postings, positions, fieldnorms, schema)
+}
+
+/// Files that hold tokens open without a file of norms. No field then has norms. Opening fails only with
+/// `OutOfMemory`.
+pub fn norms_are_not_needed(
+    alloc: Global,
+    terms: Bytes,
+    postings: Bytes,
+    positions: Bytes,
+    schema: &Schema,
+) -> Result<OpenIndex, Fault>
+    ensures holds { (tokens : List IndexToken) → HoldTokens (option_of schema.now) terms postings positions tokens → IfOk result (λ index. ReadersHold schema.now index.readers tokens) }
+    ensures norms { IfOk result (λ index. index.fieldnorms ≡ []) }
+    ensures memory { (tokens : List IndexToken) → HoldTokens (option_of schema.now) terms postings positions tokens → IfErr result (λ fault. fault ≡ Fault.OutOfMemory) }
+{
+    open_index(alloc, terms, postings, positions, schema)
 }
 
 /// A term is read completely: all its documents remain, as many as its entry in the dictionary says.

@@ -4,7 +4,7 @@ use bytes::Bytes;
 use ii_base::{Fault, Field, FieldEntry, IndexRecordOption, Part, Schema, Term, ValueType};
 use ii_docset::{DocId, DocSet, TERMINATED};
 use ii_reader::{
-    BlockSegmentPostings, DamagedTerm, InvertedIndexReader, OpenIndex, SegmentPostings,
+    BlockSegmentPostings, DamagedTerm, InvertedIndexReader, OpenIndex, SegmentPostings, open_index,
     open_index_with_norms,
 };
 use ii_termdict::{TermDictionary, TermInfo};
@@ -183,6 +183,49 @@ fn damaged_files_are_told(rt: HostRuntime) -> Result<(), Fail> {
             named(fieldnorms),
         ];
         assert!(rt; damage_of(rt.alloc(), files) == row.part);
+    }
+    Ok(())
+}
+
+// Returns the corrupt part of the files of terms, postings and positions, opened without norms, or whether the
+// number 5 is in document 0 alone, and has no norms.
+fn without_norms(alloc: Global, letters: &[u8; 4]) -> Result<(Option<Part>, bool), Fault> {
+    let schema = numbers(alloc)?;
+    let [terms, postings, positions, _] = *letters;
+    let opened = open_index(
+        alloc,
+        Bytes::from_static(named(terms)),
+        Bytes::from_static(named(postings)),
+        Bytes::from_static(named(positions)),
+        &schema,
+    );
+    let index = match opened {
+        Ok(index) => index,
+        Err(Fault::Damaged(part)) => return Ok((Some(part), false)),
+        Err(fault) => return Err(fault),
+    };
+    let field = Field::from_field_id(0);
+    let term = Term::from_field_u64(alloc, field, 5)?;
+    let is_found = walked(index.reader(field), &term, BASIC)? == [0, TERMINATED];
+    Ok((
+        None,
+        is_found & index.get_fieldnorms_reader(field)?.is_none(),
+    ))
+}
+
+#[test]
+fn norms_are_not_needed(rt: HostRuntime) -> Result<(), Fail> {
+    let rows = [
+        // good files beside a good file of norms, and beside a bad one
+        (b"tpqn", (None, true)),
+        (b"tpqN", (None, true)),
+        (b"TpqN", (Some(Part::Composite), false)),
+        (b"ssqN", (Some(Part::Dictionary), false)),
+        (b"tsqN", (Some(Part::TokenCount), false)),
+        (b"nnnN", (None, false)),
+    ];
+    for (letters, expected) in rows {
+        assert!(rt; without_norms(rt.alloc(), letters)? == expected);
     }
     Ok(())
 }
