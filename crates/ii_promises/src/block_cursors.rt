@@ -7,8 +7,9 @@ use bytes::Bytes;
 use nequllpa::{BlockSegmentPostings, DocId, IndexRecordOption, LayoutFault};
 
 /// Any bytes open as the documents and term frequencies that the layout relation gives. If it gives
-/// none, the first corrupt part is returned. Opening decodes one block of documents if there is one,
-/// and at most one of term frequencies. It reads one skip entry if there is one.
+/// none, the first corrupt part is returned. After the validation, which isn't counted, one block of
+/// documents is decoded if there is one, at most one of term frequencies, and one skip entry is read if
+/// there is one.
 pub fn any_bytes_open_as_their_documents(
     doc_freq: u32,
     bytes: Bytes,

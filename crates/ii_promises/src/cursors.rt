@@ -4,7 +4,7 @@ ghost use Rattle.std.specs.List.{All};
 ghost use Rattle.ii_io.specs.Faults.{OnlyMemory};
 ghost use Rattle.ii_io.specs.Parts.{part_of};
 ghost use Rattle.ii_docset.specs.Calls.{IsLawful, answers_in, answers_to, counts_asked, num_asked, rest_after};
-ghost use Rattle.ii_docset.specs.Cursor.{IsDangerAnswer, IsTarget, doc_at, from_doc, positions_at, term_freq_at};
+ghost use Rattle.ii_docset.specs.Cursor.{IsCurrent, IsDangerAnswer, IsTarget, doc_at, from_doc, positions_at, term_freq_at};
 ghost use Rattle.ii_layout.specs.TermList.{term_list};
 ghost use Rattle.ii_check.specs.CheckedPostings.{is_read};
 
@@ -16,8 +16,8 @@ use nequllpa::{
 use std::alloc::Global;
 
 /// Any bytes open as the list that the layout relation gives. If it gives none, the first corrupt part
-/// is returned. All documents remain. Opening decodes at most one block each of documents, term
-/// frequencies and positions, and reads at most one skip entry.
+/// is returned. All documents remain. After the validation, which isn't counted, at most one block each
+/// of documents, term frequencies and positions is decoded, and at most one skip entry read.
 pub fn any_bytes_open_as_their_list(
     doc_freq: u32,
     postings: Bytes,
@@ -294,4 +294,31 @@ pub fn calls_are_answered_as_over_the_list(
     ensures positions { cursor.new.position_decodes ≤ cursor.old.position_decodes + counts_asked calls.now (not (is_read cursor.old.freq_reading)) cursor.old.rest / 128 + 2 * num_asked calls.now }
 {
     walk(alloc, cursor, calls)
+}
+
+/// A document has at most as many positions as its term frequency.
+pub fn positions_are_few<P: Postings>(cursor: &P) -> u32
+    requires { IsCurrent (P.rest cursor.now) }
+    ensures { length (positions_at (P.rest cursor.now)) ≤ result }
+{
+    cursor.term_freq()
+}
+
+/// As many positions of the current document as fit are copied, from the first on. What follows them is
+/// unchanged, and the cursor doesn't move.
+pub fn first_positions_are_copied<P: Postings>(cursor: &mut P, output: &mut [u32]) -> usize
+    requires { IsCurrent (P.rest cursor.old) }
+    ensures count { result ≡ min (length output.old) (length (positions_at (P.rest cursor.old))) }
+    ensures copied { output.new ≡ take (length output.old) (positions_at (P.rest cursor.old)) ++ drop (length (positions_at (P.rest cursor.old))) output.old }
+    ensures stays { P.rest cursor.new ≡ P.rest cursor.old }
+{
+    cursor.read_positions(0, 0, output)
+}
+
+/// A clone is the same cursor. Only an allocation can fail.
+pub fn clones_are_the_same(cursor: &SegmentPostings) -> Result<SegmentPostings, Fault>
+    ensures same { IfOk result (λ copy. (copy.rest ≡ cursor.now.rest) × (copy.doc_decodes ≡ cursor.now.doc_decodes)) }
+    ensures only { IfErr result (λ fault. fault ≡ Fault.OutOfMemory) }
+{
+    cursor.clone()
 }
