@@ -1,4 +1,5 @@
 mod FindingLemmas
+mod IdsLemmas
 mod QueryLemmas
 mod StoredLaws
 mod WantedLemmas

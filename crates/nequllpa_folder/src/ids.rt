@@ -1,5 +1,10 @@
 //! Reads the values of the field `id`.
-ghost use Rattle.std.specs.Prelude.{◌≡◌, ◌<◌, IfOk, Ok, length};
+ghost use Rattle.std.specs.Prelude.{◌≡◌, ◌⊎◌, ◌<◌, IfErr, IfOk, Ok, length};
+ghost use Rattle.std.specs.Option.{option_map};
+ghost use Rattle.ii_io.specs.Composite.{body_of};
+ghost use Rattle.ii_io.specs.declared.faults.Part.{Part};
+ghost use Rattle.ii_fieldnorm.specs.Readers.{norms_of_ids};
+ghost use Rattle.nequllpa_folder.specs.Ids.{first_above_one as the_first_above_one, first_of_several as the_first_of_several, id_field_of};
 
 use crate::faults::AnswerFault;
 use crate::opened::Opened;
@@ -39,7 +44,9 @@ pub enum NoIds {
 ///
 /// `Damaged` if the field's norms don't open; `OutOfMemory`.
 pub fn id_field(opened: &Opened) -> Result<Result<Field, NoIds>, Fault>
-    ensures { IfOk result (λ found. IfOk found (λ field. field < length opened.now.schema)) }
+    ensures found { IfOk result (λ found. found ≡ id_field_of opened.now.schema opened.now.index.fieldnorms) }
+    ensures inside { IfOk result (λ found. IfOk found (λ field. field < length opened.now.schema)) }
+    ensures only { IfErr result (λ fault. (fault ≡ Fault.OutOfMemory) ⊎ (fault ≡ Fault.Damaged Part.FieldNorms)) }
 {
     let Some(field) = opened.field_named(ID_FIELD) else {
         return Ok(Err(NoIds::NoField));
@@ -60,7 +67,10 @@ pub fn id_field(opened: &Opened) -> Result<Result<Field, NoIds>, Fault>
 }
 
 // Returns the first document with several words in a text field.
-fn first_of_several(opened: &Opened, field: Field) -> Result<Result<Option<DocId>, NoIds>, Fault> {
+fn first_of_several(opened: &Opened, field: Field) -> Result<Result<Option<DocId>, NoIds>, Fault>
+    ensures found { IfOk result (λ found. found ≡ the_first_of_several (option_map norms_of_ids (body_of field opened.now.index.fieldnorms))) }
+    ensures only { IfErr result (λ fault. (fault ≡ Fault.OutOfMemory) ⊎ (fault ≡ Fault.Damaged Part.FieldNorms)) }
+{
     match opened.index().get_fieldnorms_reader(field)? {
         Some(norms) => {
             let first = first_above_one(&norms);
@@ -72,7 +82,9 @@ fn first_of_several(opened: &Opened, field: Field) -> Result<Result<Option<DocId
 }
 
 // Returns the first document whose norm is above that of one token.
-fn first_above_one(norms: &FieldNormReader) -> Option<DocId> {
+fn first_above_one(norms: &FieldNormReader) -> Option<DocId>
+    ensures { result ≡ the_first_above_one norms.now }
+{
     for doc in 0..norms.num_docs() {
         if norms.fieldnorm_id(doc) > 1 {
             return Some(doc);
