@@ -2,6 +2,7 @@ mod CheckingLaws
 mod IndexingLaws
 pub mod BoundLaws
 mod DeepLaws
+mod LoadedLaws
 mod OpeningLaws
 pub mod DecodesLaws
 pub mod SearchingLaws

@@ -1,5 +1,5 @@
 -- What a search returns for the tokens that an index has.
-use Rattle.std.proofs.Common.{inl, ◌≡◌, ◌∙◌, ℕ, true, List, Result, Ok, Err, ap}
+use Rattle.std.proofs.Common.{inl, ◌≡◌, ◌∙◌, ℕ, true, List, length, Result, Ok, Err, ap}
 use Rattle.std.specs.Prelude.{◌⊎◌, IfErr, IfOk}
 use Rattle.ii_io.specs.declared.faults.Fault.{Fault}
 use Rattle.ii_io.specs.declared.faults.Fault.TheVariants.{OutOfMemory}
@@ -9,7 +9,8 @@ use Rattle.ii_docset.specs.Intersection.{has_doc}
 use Rattle.ii_query.specs.Combined.{QueryCursorState}
 use Rattle.ii_definitions.specs.Tokens.{IndexToken}
 use Rattle.ii_query_parser.specs.declared.query.Query.{Query}
-use Rattle.ii_search.specs.Found.{GivesMatches}
+use Rattle.ii_base.specs.Entries.{Entry}
+use Rattle.ii_search.specs.Found.{GivesCount, GivesMatches}
 use Rattle.ii_query_parser.specs.Queries.{has_fields, matches}
 use Rattle.ii_indexing.specs.RamFiles.{IsRamFault}
 
@@ -36,3 +37,13 @@ same_fields m n query same fields = ap (λ (k : ℕ). has_fields k query) same �
 pub found_ascend : {T : Type 0} (answer : Result (QueryCursorState T) Fault) → IfOk answer (λ cursor. IsSound cursor.rest) → IfOk answer (λ cursor. IsAscending cursor.rest)
 found_ascend (Ok cursor) sound = sound.ascending
 found_ascend (Err fault) sound = tt
+
+-- the number of documents that match
+pub matches_are_counted : (query : Query) (ts : List IndexToken) (answer : Result ℕ Fault) → GivesCount query ts answer
+    → (found : List Entry) → IsAscending found → ((doc : ℕ) → has_doc found doc ≡ matches query ts doc) → IfOk answer (λ count. count ≡ length found)
+matches_are_counted query ts (Ok n) gives found ascending exact = gives found (record { ascending = ascending; exact = exact })
+matches_are_counted query ts (Err fault) gives found ascending exact = tt
+
+pub memory_of_counting : (query : Query) (ts : List IndexToken) (answer : Result ℕ Fault) → GivesCount query ts answer → IfErr answer (λ fault. fault ≡ OutOfMemory)
+memory_of_counting query ts (Ok n) gives = tt
+memory_of_counting query ts (Err fault) gives = gives

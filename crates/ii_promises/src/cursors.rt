@@ -1,12 +1,14 @@
 // A cursor over a term: its answers, and how often it decodes.
-ghost use Rattle.std.specs.Prelude.{◌≡◌, ◌+◌, ◌*◌, ◌/◌, ◌^◌, ◌<◌, ◌≤◌, ◌++◌, ◌↔◌, [], drop, length, map, min, not, take, Ok, Err, IfOk, IfErr, IsOk, IsTrue, OnOk, OnErr};
+ghost use Rattle.std.specs.Prelude.{◌≡◌, ◌+◌, ◌*◌, ◌/◌, ◌^◌, ◌<◌, ◌≤◌, ◌++◌, ◌↔◌, ◌⊎◌, [], drop, length, map, min, not, take, Ok, Err, IfOk, IfErr, IsOk, IsTrue, OnOk, OnErr};
 ghost use Rattle.std.specs.List.{All};
 ghost use Rattle.ii_io.specs.Faults.{OnlyMemory};
 ghost use Rattle.ii_io.specs.Parts.{part_of};
+ghost use Rattle.ii_base.specs.Entries.{Entry, docs_of};
 ghost use Rattle.ii_docset.specs.Calls.{IsLawful, answers_in, answers_to, counts_asked, num_asked, rest_after};
 ghost use Rattle.ii_docset.specs.Cursor.{IsCurrent, IsDangerAnswer, IsTarget, doc_at, from_doc, positions_at, term_freq_at};
 ghost use Rattle.ii_layout.specs.TermList.{term_list};
 ghost use Rattle.ii_check.specs.CheckedPostings.{is_read};
+ghost use Rattle.ii_reader.specs.LoadedPostings.{num_positions};
 
 use bytes::Bytes;
 use nequllpa::{
@@ -50,6 +52,26 @@ pub fn known_lists_are_never_refused(
     ensures decodes { (result.doc_decodes ≤ 1) × (result.freq_decodes ≤ 1) × (result.position_decodes ≤ 1) }
 {
     SegmentPostings::open_known(doc_freq, postings, positions, recorded, requested)
+}
+
+/// `reset` opens other bytes as `open` does. If they are corrupt, the cursor has no documents, and can be
+/// reset again.
+pub fn reset_opens_anew(
+    cursor: &mut SegmentPostings,
+    doc_freq: u32,
+    postings: Bytes,
+    positions: Option<Bytes>,
+    recorded: IndexRecordOption,
+    requested: IndexRecordOption,
+) -> Result<(), LayoutFault>
+    ensures list { OnOk result (term_list recorded requested doc_freq postings positions ≡ Ok cursor.new.rest) }
+    ensures fault { IfErr result (λ fault. term_list recorded requested doc_freq postings positions ≡ Err (part_of fault)) }
+    ensures emptied { OnErr result (cursor.new.rest ≡ []) }
+    ensures first { cursor.new.block ≡ 0 }
+    ensures decodes { (cursor.new.doc_decodes ≤ 1) × (cursor.new.freq_decodes ≤ 1) × (cursor.new.position_decodes ≤ 1) }
+    ensures entries { cursor.new.entries_read ≤ 1 }
+{
+    cursor.reset(doc_freq, postings, positions, recorded, requested)
 }
 
 /// Documents and term frequencies have been decoded at most once for each block up to the current
@@ -321,4 +343,19 @@ pub fn clones_are_the_same(cursor: &SegmentPostings) -> Result<SegmentPostings, 
     ensures only { IfErr result (λ fault. fault ≡ Fault.OutOfMemory) }
 {
     cursor.clone()
+}
+
+/// What remains of a cursor is loaded: each document with its positions, whose number is its term
+/// frequency. The cursor is then at its end. Without memory, or with 2^32 positions and more, nothing is loaded.
+pub fn what_remains_is_loaded(
+    alloc: Global,
+    cursor: &mut SegmentPostings,
+) -> Result<LoadedPostings, Fault>
+    ensures docs { IfOk result (λ loaded. docs_of loaded.rest ≡ docs_of cursor.old.rest) }
+    ensures counts { IfOk result (λ loaded. map (λ (e : Entry). e.term_freq) loaded.rest ≡ map (λ (e : Entry). length e.positions) cursor.old.rest) }
+    ensures positions { IfOk result (λ loaded. map (λ (e : Entry). e.positions) loaded.rest ≡ map (λ (e : Entry). e.positions) cursor.old.rest) }
+    ensures ends { OnOk result (cursor.new.rest ≡ []) }
+    ensures fault { IfErr result (λ fault. (fault ≡ Fault.OutOfMemory) ⊎ (2 ^ 32 ≤ num_positions cursor.old.rest)) }
+{
+    LoadedPostings::load(alloc, cursor)
 }

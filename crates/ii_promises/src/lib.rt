@@ -8,6 +8,7 @@ pub mod bounds;
 pub mod cursors;
 pub mod damage;
 pub mod faults;
+pub mod folder;
 pub mod indexing;
 pub mod json_fields;
 pub mod keys;

@@ -1,5 +1,5 @@
 // Opening any four files, and checking an open index once.
-ghost use Rattle.std.specs.Prelude.{◌≡◌, ◌↔◌, ◌⊎◌, ◌<◌, ℕ, List, [], length, slice_get, None, Some, Ok, Err, IfErr, IfOk, IfSome, IsOk, IsSomeAnd};
+ghost use Rattle.std.specs.Prelude.{◌≡◌, ◌↔◌, ◌⊎◌, ◌<◌, ℕ, List, [], length, slice_get, None, Some, Ok, Err, IfErr, IfOk, IfSome, IsErrOf, IsOk, IsSomeAnd, OnErr, OnOk};
 ghost use Rattle.std.specs.List.{All};
 ghost use Rattle.ii_io.specs.declared.faults.Part.{Part};
 ghost use Rattle.ii_definitions.specs.Fields.{option_of};
@@ -11,6 +11,7 @@ ghost use Rattle.ii_reader.specs.InvertedIndexReader.{AllOpen, InvertedIndexRead
 ghost use Rattle.ii_reader.specs.OpenIndex.{IndexHolds, OpenIndexState, ReadersHold, index_of_files};
 
 use bytes::Bytes;
+use ii_termdict::TermInfo;
 use nequllpa::{
     DamagedTerm, Fault, Field, IndexRecordOption, InvertedIndexReader, OpenIndex, Schema,
     SegmentPostings, Term, open_index, open_index_with_norms,
@@ -80,6 +81,35 @@ pub fn terms_are_read_whole(
         ⊎ ((part : Part) × (fault ≡ Fault.Damaged part) × (term_of_file reader.now requested info ≡ Err part)))) }
 {
     reader.read_postings(term, requested)
+}
+
+/// A cursor that is reset to a term gives what a lookup gives. After an error it has no documents.
+pub fn cursors_are_reset_to_terms(
+    reader: &InvertedIndexReader,
+    info: &TermInfo,
+    requested: IndexRecordOption,
+    cursor: &mut SegmentPostings,
+) -> Result<(), Fault>
+    ensures list { OnOk result (term_of_file reader.now requested info.now ≡ Ok cursor.new.rest) }
+    ensures fault { IfErr result (λ fault. (fault ≡ Fault.OutOfMemory)
+        ⊎ ((part : Part) × (fault ≡ Fault.Damaged part) × (term_of_file reader.now requested info.now ≡ Err part))) }
+    ensures emptied { OnErr result (cursor.new.rest ≡ []) }
+{
+    reader.reset_postings_from_terminfo(info, requested, cursor)
+}
+
+/// Where documents alone are requested, `Damaged(Range)` is returned exactly if the range of postings ends
+/// before it begins or after the field's bytes.
+pub fn ranges_outside_are_refused(
+    reader: &InvertedIndexReader,
+    info: &TermInfo,
+) -> Result<SegmentPostings, Fault>
+    ensures outside { (info.now.postings_range.end < info.now.postings_range.start) ⊎ (length reader.now.postings < info.now.postings_range.end)
+        → IsErrOf result (Fault.Damaged Part.Range) }
+    ensures within { IsErrOf result (Fault.Damaged Part.Range)
+        → (info.now.postings_range.end < info.now.postings_range.start) ⊎ (length reader.now.postings < info.now.postings_range.end) }
+{
+    reader.read_postings_from_terminfo(info, IndexRecordOption::Basic)
 }
 
 /// A check of an open index reports nothing exactly if each term of each field opens, however much of

@@ -1,6 +1,7 @@
 // What queries find.
 ghost use Rattle.std.specs.Prelude.{◌≡◌, ◌≤◌, ◌⊎◌, ℕ, [], List, true, length, map, None, IfErr, IfOk};
 ghost use Rattle.std.specs.List.{AllByRecursion};
+ghost use Rattle.ii_base.specs.Entries.{Entry};
 ghost use Rattle.ii_docset.specs.Cursor.{IsAscending, IsTarget};
 ghost use Rattle.ii_docset.specs.Intersection.{has_doc};
 ghost use Rattle.ii_definitions.specs.Fields.{option_of};
@@ -16,7 +17,7 @@ ghost use Rattle.ii_promises.specs.Decodes.{HaveDecodedFew};
 use bytes::Bytes;
 use nequllpa::{
     DocId, DocSet, Fault, IndexCall, OpenIndex, Query, QueryCursor, Schema, SegmentPostings,
-    TermOrPhrase, TextAnalyzer, index_in_ram, open_index_with_norms, search,
+    TermOrPhrase, TextAnalyzer, count, index_in_ram, open_index_with_norms, search,
 };
 use std::alloc::Global;
 
@@ -68,6 +69,30 @@ pub fn queries_of_files_find_what_matches(
 {
     match open_index_with_norms(alloc, terms, postings, positions, fieldnorms, schema) {
         Ok(index) => search(alloc, &index, query),
+        Err(fault) => Err(fault),
+    }
+}
+
+/// The number of documents that a query finds is that of any list of exactly the matching documents.
+#[tactic(auto, using(crate::proofs::SearchingLaws::matches_are_counted, crate::proofs::SearchingLaws::memory_of_counting, crate::proofs::SearchingLaws::same_fields))]
+pub fn matches_are_counted(
+    alloc: Global,
+    terms: Bytes,
+    postings: Bytes,
+    positions: Bytes,
+    fieldnorms: Bytes,
+    schema: &Schema,
+    query: &Query,
+) -> Result<u32, Fault>
+    requires fields { has_fields (length schema.now) query.now ≡ true }
+    requires positions { keeps_positions schema.now query.now ≡ true }
+    ensures counted { (tokens : List IndexToken) (num_docs : ℕ) (found : List Entry) → HoldTokens (option_of schema.now) terms postings positions tokens → HoldNorms schema.now num_docs fieldnorms tokens
+        → IsAscending found → ((doc : ℕ) → has_doc found doc ≡ matches query.now tokens doc) → IfOk result (λ count. count ≡ length found) }
+    ensures memory { (tokens : List IndexToken) → (num_docs : ℕ) → HoldTokens (option_of schema.now) terms postings positions tokens → HoldNorms schema.now num_docs fieldnorms tokens
+        → IfErr result (λ fault. fault ≡ Fault.OutOfMemory) }
+{
+    match open_index_with_norms(alloc, terms, postings, positions, fieldnorms, schema) {
+        Ok(index) => count(alloc, &index, query),
         Err(fault) => Err(fault),
     }
 }
