@@ -4,6 +4,8 @@ pub mod BoundLaws
 mod DeepLaws
 mod LoadedLaws
 mod OpeningLaws
+mod PhraseLaws
 pub mod DecodesLaws
 pub mod SearchingLaws
 pub mod TextLaws
+mod TopLaws

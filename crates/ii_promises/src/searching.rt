@@ -1,6 +1,6 @@
 // What queries find.
-ghost use Rattle.std.specs.Prelude.{◌≡◌, ◌≤◌, ◌⊎◌, ℕ, [], List, true, length, map, None, IfErr, IfOk};
-ghost use Rattle.std.specs.List.{AllByRecursion};
+ghost use Rattle.std.specs.Prelude.{◌≡◌, ◌≤◌, ◌⊎◌, ℕ, [], List, true, length, map, min, None, IfErr, IfOk, OnOk};
+ghost use Rattle.std.specs.List.{AllByRecursion, Contains};
 ghost use Rattle.ii_base.specs.Entries.{Entry};
 ghost use Rattle.ii_docset.specs.Cursor.{IsAscending, IsTarget};
 ghost use Rattle.ii_docset.specs.Intersection.{has_doc};
@@ -17,7 +17,7 @@ ghost use Rattle.ii_promises.specs.Decodes.{HaveDecodedFew};
 use bytes::Bytes;
 use nequllpa::{
     DocId, DocSet, Fault, IndexCall, OpenIndex, Query, QueryCursor, Schema, SegmentPostings,
-    TermOrPhrase, TextAnalyzer, count, index_in_ram, open_index_with_norms, search,
+    TermOrPhrase, TextAnalyzer, count, index_in_ram, open_index_with_norms, search, top_by_count,
 };
 use std::alloc::Global;
 
@@ -132,4 +132,21 @@ pub fn sought_matches_decode_no_block_twice(
     ensures few { AllByRecursion HaveDecodedFew cursor.new.cursors }
 {
     cursor.seek(target)
+}
+
+/// The `n` documents with the greatest counts: fewer if fewer remain. Each is a remaining document with its
+/// count, and no other remaining document has a greater count than one of them. The cursor is then at its end.
+pub fn most_frequent_documents_are_found(
+    alloc: Global,
+    cursor: &mut SegmentPostings,
+    n: usize,
+) -> Result<Vec<(DocId, u32)>, Fault>
+    ensures many { IfOk result (λ best. length best.items ≡ min n (length cursor.old.rest)) }
+    ensures remained { IfOk result (λ best. AllByRecursion (λ (b : ℕ × ℕ). (e : Entry) × Contains cursor.old.rest e × ((e.doc, e.term_freq) ≡ b)) best.items) }
+    ensures greatest { IfOk result (λ best. (e : Entry) → Contains cursor.old.rest e → Contains best.items (e.doc, e.term_freq) ⊎ AllByRecursion (λ (b : ℕ × ℕ). e.term_freq ≤ b.1) best.items) }
+    ensures ends { OnOk result (cursor.new.rest ≡ []) }
+    ensures memory { IfErr result (λ fault. fault ≡ Fault.OutOfMemory) }
+{
+    let best = top_by_count(alloc, cursor, n)?;
+    Ok(best)
 }
