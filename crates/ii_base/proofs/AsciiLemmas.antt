@@ -1,8 +1,7 @@
 -- The offsets of the runs of a text.
-use Rattle.std.proofs.Common.{◌≡◌, ℕ, zero, suc, ◌+◌, ◌-◌, ◌<◌, ◌≤◌, Bool, true, false, not, ◌&&◌, ◌||◌, List, [], ◌∷◌, ◌++◌, length, length-drop, drop, get_or, nat_eq, nat_le, refl, ap, arith, ◌∙◌, Some, None, rules}
+use Rattle.std.proofs.Common.{◌≡◌, ℕ, zero, suc, ◌+◌, ◌-◌, ◌<◌, ◌≤◌, Bool, true, false, not, ◌&&◌, ◌||◌, List, [], ◌∷◌, ◌++◌, length, length-drop, drop, get_or, nat_eq, nat_le, refl, ap, arith, ◌∙◌}
 use Rattle.std.proofs.Math.Bool.{and-false}
 use Rattle.std.specs.List.{prefix_len, range_with_len, slice_index}
-use Rattle.std.specs.Prelude.{IsSome, if◌then◌else◌}
 use Rattle.std.specs.Str.{IsUtf8, IsCharBoundary}
 use Rattle.std.proofs.lemmas.List.{get_or-drop}
 use Rattle.std.proofs.lemmas.List.Sums.{prefix_len-le-length, prefix_len_passes, prefix_len_stops}
@@ -130,13 +129,6 @@ words_after_run text p i begins within =
     let n = length (run_at text i) - 1 in
     let end : i + length (run_at text i) ≡ (i + 1) + n = omega (arith, some) in
     ap (words_from text p) end ∙ skip_run text p (i + 1) n (omega (arith, some, within)) (λ j low high. inside_run text i j (omega (arith, low)) (omega (arith, high, some)))
-
-by_some : {X : Type 0} (b : Bool) (x : X) → IsSome (if b then Some x else None) → b ≡ true
-by_some true x some = refl
-by_some false x some = absurd (search rules)
-
-pub some_run : {X : Type 0} (text : List ℕ) (start end : ℕ) (x : X) → IsSome (if is_run text start end then Some x else None) → is_run text start end ≡ true
-some_run text start end x some = by_some (is_run text start end) x some
 
 -- the bytes between the start of a run and its end are a run
 pub is_run_here : (text : List ℕ) (i n : ℕ) → begins_run text i ≡ true → n ≡ length (run_at text i) → is_run text i (i + n) ≡ true

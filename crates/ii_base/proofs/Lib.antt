@@ -2,9 +2,12 @@ mod AliveLemmas
 pub mod AscentLemmas
 pub mod AsciiLemmas
 pub mod CharLemmas
+pub mod CleanLemmas
 mod JsonRows
+pub mod OptionLemmas
 mod PathLemmas
 mod PathRows
+pub mod ResultLemmas
 mod SplitLemmas
 mod WeightLemmas
 mod WorkedRows

@@ -14,6 +14,7 @@ use Rattle.ii_base.specs.declared.json_value.JsonValue.{JsonValue, map-JsonValue
 use Rattle.ii_base.specs.declared.json_value.JsonValue.TheOpen.{JsonValue-F}
 use Rattle.ii_base.specs.declared.json_value.JsonValue.TheFolds.{fold-roll-JsonValue, ind-JsonValue}
 use Rattle.ii_base.specs.declared.schema.value_type.ValueType.TheVariants as types
+use Rattle.ii_base.proofs.CleanLemmas.{clean_segment}
 use Rattle.ii_definitions.proofs.ListLaws.{all_both}
 
 -- A leaf is no value with the type of texts.
@@ -91,21 +92,6 @@ clean_joined : (ss : List (List ℕ)) → AreCleanSegments ss → has_zero (join
 clean_joined [] clean = refl
 clean_joined (s ∷ []) clean = clean.0
 clean_joined (s ∷ t ∷ ss) clean = both_without s (1 ∷ joined_segments (t ∷ ss)) clean.0 (clean_joined (t ∷ ss) clean.1)
-
-clean_expanded : (k : List ℕ) → has_zero (map (λ c. if c == 46 then 1 else c) k) ≡ has_zero k
-clean_expanded [] = refl
-clean_expanded (c ∷ cs) = by (c == 46) refl (clean_expanded cs)
-  where
-    by : (b : Bool) → (c == 46) ≡ b → has_zero (map (λ d. if d == 46 then 1 else d) cs) ≡ has_zero cs → has_zero (map (λ d. if d == 46 then 1 else d) (c ∷ cs)) ≡ has_zero (c ∷ cs)
-    by true is others =
-        let at : c ≡ 46 = eqb-true c 46 is in
-        let none : (c == 0) ≡ false = rw at refl in
-        rw (is, none) others
-    by false is others = rw is (ap (λ (b : Bool). (c == 0) || b) others)
-
-clean_segment : (expand_dots : Bool) (k : List ℕ) → has_zero k ≡ false → has_zero (segment_bytes expand_dots k) ≡ false
-clean_segment false k none = none
-clean_segment true k none = clean_expanded k ∙ none
 
 clean_more : (ss : List (List ℕ)) (s : List ℕ) → AreCleanSegments ss → has_zero s ≡ false → AreCleanSegments (ss ++ s ∷ [])
 clean_more [] s clean none = (none, tt)

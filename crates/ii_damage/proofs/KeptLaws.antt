@@ -12,11 +12,6 @@ use Rattle.ii_definitions.specs.Cut.{cut_entry}
 use Rattle.ii_definitions.specs.Postings.{grouped, is_at, kind_of, occurs, tokens_at, with_token}
 use Rattle.ii_definitions.specs.Tokens.{IndexToken}
 
-pub downgrade_same : (option : IndexRecordOption) → downgrade option option ≡ option
-downgrade_same Basic = refl
-downgrade_same WithFreqs = refl
-downgrade_same WithFreqsAndPositions = refl
-
 -- of a key whose tokens are of texts the field's option is kept
 pub kind_kept : (option : IndexRecordOption) (field : ℕ) (key : List ℕ) (ts : List IndexToken) → AllByRecursion (λ (t : IndexToken). is_at field key t ≡ true → t.of_text ≡ true) ts → kind_of option (tokens_at field key ts) ≡ option
 kind_kept option field key [] texts = refl

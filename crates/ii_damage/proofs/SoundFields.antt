@@ -22,7 +22,8 @@ use Rattle.ii_reader.specs.InvertedIndexReader.{InvertedIndexReaderState, Reader
 use Rattle.ii_reader.proofs.ReaderLemmas.{list_held}
 use Rattle.ii_damage.specs.declared.damage.FieldPlaces.{FieldPlaces}
 use Rattle.ii_damage.specs.Damages.{all_keep_counts, field_entries, freqs_where, is_key_of_text, keeps_counts, list_damage, may_have, stray_in, term_damage, term_damages, term_entries, num_occurrences, tokens_of_doc}
-use Rattle.ii_damage.proofs.KeptLaws.{at_parts, cut_below, downgrade_same, filter_below, grouped_below, kind_kept, none_stray, occurs_at}
+use Rattle.ii_base.proofs.OptionLemmas.{downgrade_same}
+use Rattle.ii_damage.proofs.KeptLaws.{at_parts, cut_below, filter_below, grouped_below, kind_kept, none_stray, occurs_at}
 use Rattle.ii_reader.proofs.DamageLemmas.{none_above}
 use Rattle.ii_damage.proofs.SumLaws.{HaveKeys, cut_less, cut_same, doc_weight, grouped_weight, keys_weight, sum_equal, sum_less, sum_parts, token_weight, weight, weight_in}
 

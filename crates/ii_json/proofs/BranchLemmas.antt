@@ -1,13 +1,12 @@
 -- Branches that are opened and left.
-use Rattle.std.proofs.Common.{◌≡◌, ◌∙◌, ℕ, ◌+◌, ◌≤◌, true, false, List, [], ◌∷◌, ◌++◌, append_assoc, reverse, Option, Some, None, is_some, ap, sym, refl, subst, arith}
+use Rattle.std.proofs.Common.{◌≡◌, ◌∙◌, ℕ, ◌+◌, true, false, List, [], ◌∷◌, ◌++◌, append_assoc, reverse, Option, Some, None, is_some, ap, sym, refl, subst}
 use Rattle.std.specs.Prelude.{if◌then◌else◌}
 use mathlib.Core.List.{reverse-append}
-use Rattle.ii_base.specs.Json.{Json, array, leaf, null, object}
 use Rattle.ii_base.specs.Paths.{PathState, has_zero, joined_segments}
 use Rattle.ii_json.specs.declared.branch.Branch.{Branch}
 use Rattle.ii_json.specs.declared.branch.OuterBranch.{OuterBranch}
 use Rattle.ii_json.specs.declared.branch.Part.{Part}
-use Rattle.ii_json.specs.Branches.{branch_leaves, branch_nodes, key_bytes, key_has_zero, leaves_outside, nodes, part_leaves, path_around, path_at, path_outside, without_last}
+use Rattle.ii_json.specs.Branches.{branch_leaves, branch_nodes, key_bytes, key_has_zero, leaves_outside, part_leaves, path_around, path_at, path_outside, without_last}
 use Rattle.ii_json.specs.LeafVisit.{leaves_at}
 use Rattle.ii_json.proofs.LeafVisitLemmas.{AtPath, key_popped}
 
@@ -24,12 +23,6 @@ innermost_clean at (b ∷ outer) clean = clean.0
 abbrev pub outer_nodes : List OuterBranch → ℕ
 outer_nodes [] = 0
 outer_nodes (b ∷ outer) = 1 + branch_nodes b.branch + outer_nodes outer
-
-pub some_nodes : (j : Json) → 1 ≤ nodes j
-some_nodes null = omega arith
-some_nodes (leaf l) = omega arith
-some_nodes (array is) = omega arith
-some_nodes (object ms) = omega arith
 
 -- the branch opened last is the innermost
 pub opened_last : (new old : List OuterBranch) (b : OuterBranch) → new ≡ old ++ b ∷ [] → reverse new ≡ b ∷ reverse old
@@ -56,9 +49,6 @@ below_opened start at new part b outer is path keyed clean =
       path = subst (λ (p : PathState). path_outside p outer ≡ start) around is.path;
       clean = (clean, subst (λ (p : PathState). AllClean p outer) around is.clean);
     }
-
-pub below_left : (start at : PathState) (b : OuterBranch) (outer : List OuterBranch) → IsBelow start at (b ∷ outer) → IsBelow start (path_around at b) outer
-below_left start at b outer is = record { path = is.path; clean = is.clean.1 }
 
 -- A part of a branch was taken out of it.
 pub record IsSplit (current rest : Branch) (part : Part) : Type 0 where

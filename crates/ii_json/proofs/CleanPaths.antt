@@ -1,7 +1,7 @@
 -- A path of segments without byte 0 has no byte 0.
 use Rattle.std.proofs.Common.{◌≡◌, ℕ, Bool, true, false, ◌||◌, ◌==◌, List, [], ◌∷◌, ◌++◌, refl, sym, ◌∙◌}
-use Rattle.std.specs.Prelude.{if◌then◌else◌}
 use Rattle.std.proofs.lemmas.List.Folds.{list_any-append}
+use Rattle.ii_base.proofs.CleanLemmas.{clean_segment}
 use Rattle.ii_base.specs.Paths.{PathState, has_zero, joined_segments, segment_bytes}
 
 neither : (a b : Bool) → a ≡ false → b ≡ false → (a || b) ≡ false
@@ -14,19 +14,6 @@ or_left true b none = absurd (cc)
 pub or_right : (a b : Bool) → (a || b) ≡ false → b ≡ false
 or_right false b none = none
 or_right true b none = absurd (cc)
-
-none_parted : (c : ℕ) → (c == 0) ≡ false → ((if c == 46 then 1 else c) == 0) ≡ false
-none_parted c none = by (c == 46)
-  where
-    by : (b : Bool) → ((if b then 1 else c) == 0) ≡ false
-    by true = refl
-    by false = none
-
-clean_segment : (expand_dots : Bool) (key : List ℕ) → has_zero key ≡ false → has_zero (segment_bytes expand_dots key) ≡ false
-clean_segment false key none = none
-clean_segment true [] none = refl
-clean_segment true (c ∷ cs) none =
-    neither ((if c == 46 then 1 else c) == 0) (has_zero (segment_bytes true cs)) (none_parted c (or_left (c == 0) (has_zero cs) none)) (clean_segment true cs (or_right (c == 0) (has_zero cs) none))
 
 -- two parts with byte 1 between them
 none_held : (x s : List ℕ) → has_zero (x ++ 1 ∷ s) ≡ (has_zero x || has_zero s)

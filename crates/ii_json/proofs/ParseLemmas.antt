@@ -1,5 +1,5 @@
 -- The result of `parse`, as an option.
-use Rattle.std.proofs.Common.{◌≡◌, ◌∙◌, ap, sym, suc, decimal, ℕ, ◌<◌, ◌^◌, Bool, true, false, ◌&&◌, cond, ℤ, pos, negsuc, nat_lt, List, length, None, Some, Result, Ok, Err, refl, arith, w64, FitsSigned}
+use Rattle.std.proofs.Common.{◌≡◌, ◌∙◌, ap, sym, suc, decimal, ℕ, ◌<◌, ◌^◌, Bool, true, false, ◌&&◌, ℤ, pos, negsuc, nat_lt, List, length, Some, Result, Ok, Err, refl, arith, w64, FitsSigned}
 use Rattle.std.specs.Result.{OkIff, result_ok}
 use Rattle.std.specs.Str.{all_ascii_digits}
 use Rattle.std.specs.Str.Parse.{IsNumeral, ParsesSigned, ParsesUnsigned, digits_value, signed_digits_value, without_leading_plus, without_leading_sign}
@@ -7,15 +7,11 @@ use Rattle.std.specs.Fmt.{signed_decimal}
 use Rattle.std.proofs.lemmas.Bool.{lt-ltb, ltb-true}
 use Rattle.std.proofs.lemmas.Fmt.{decimal_is_IsNumeral, parse-decimal, parse-signed_decimal}
 use Rattle.std.proofs.lemmas.Str.Parse.{IsNumeralModel, numerals_by_value, tells_all_ascii_digits}
+use Rattle.ii_base.proofs.ResultLemmas.{ok_where}
 use Rattle.ii_json.specs.FastValues.{i64_in, is_i64, is_numeral, u64_in}
 
 digits : IsNumeralModel (λ (ds : List ℕ). all_ascii_digits ds ≡ true) (digits_value 10)
 digits = numerals_by_value (λ (ds : List ℕ). all_ascii_digits ds ≡ true) tells_all_ascii_digits
-
-ok_is : {T E : Type 0} (r : Result T E) (P : Type 0) (t : Bool) (v : T) → (P → t ≡ true) → (t ≡ true → P) → OkIff r P v → result_ok r ≡ cond t (Some v) None
-ok_is (Ok x) P t v to from h = rw (to h.0, h.1) refl
-ok_is (Err e) P true v to from h = absurd (h (from refl))
-ok_is (Err e) P false v to from h = refl
 
 both : (a b : Bool) → a ≡ true → b ≡ true → (a && b) ≡ true
 both a b p q = rw (p, q) refl
@@ -43,14 +39,14 @@ pub parsed_signed : {E : Type 0} (text : List ℕ) (r : Result ℤ E) → Parses
 parsed_signed text r =
     let ds = without_leading_sign text in
     let z = signed_digits_value 10 text in
-    ok_is r (IsNumeral 10 ds × FitsSigned w64 z) (is_numeral ds && is_i64 z) z (λ p. both (is_numeral ds) (is_i64 z) (numeral ds p.0) (fits z p.1))
+    ok_where r (IsNumeral 10 ds × FitsSigned w64 z) (is_numeral ds && is_i64 z) z (λ p. both (is_numeral ds) (is_i64 z) (numeral ds p.0) (fits z p.1))
     (λ t. let p = parts (is_numeral ds) (is_i64 z) t in (from_numeral ds p.0, from_fits z p.1))
 
 pub parsed_unsigned : {E : Type 0} (text : List ℕ) (r : Result ℕ E) → ParsesUnsigned 64 10 text r → result_ok r ≡ u64_in text
 parsed_unsigned text r =
     let ds = without_leading_plus text in
     let n = digits_value 10 ds in
-    ok_is r (IsNumeral 10 ds × (n < 2 ^ 64)) (is_numeral ds && nat_lt n (2 ^ 64)) n (λ p. both (is_numeral ds) (nat_lt n (2 ^ 64)) (numeral ds p.0) (lt-ltb n (2 ^ 64) p.1))
+    ok_where r (IsNumeral 10 ds × (n < 2 ^ 64)) (is_numeral ds && nat_lt n (2 ^ 64)) n (λ p. both (is_numeral ds) (nat_lt n (2 ^ 64)) (numeral ds p.0) (lt-ltb n (2 ^ 64) p.1))
     (λ t. let p = parts (is_numeral ds) (nat_lt n (2 ^ 64)) t in (from_numeral ds p.0, ltb-true n (2 ^ 64) p.1))
 
 -- a result of `parse` for a text

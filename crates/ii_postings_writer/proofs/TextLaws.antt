@@ -11,6 +11,7 @@ use Rattle.ii_io.specs.declared.faults.Fault.TheVariants.{Limit, OutOfMemory}
 use Rattle.ii_io.specs.declared.faults.LimitName.TheVariants as limit
 use Rattle.ii_base.specs.declared.schema.index_record_option.IndexRecordOption.{IndexRecordOption}
 use Rattle.ii_base.specs.declared.schema.index_record_option.IndexRecordOption.TheVariants.{Basic, WithFreqs, WithFreqsAndPositions}
+use Rattle.ii_base.proofs.OptionLemmas.{downgrade_same}
 use Rattle.ii_base.specs.Options.{downgrade}
 use Rattle.ii_base.specs.Entries.{Entry, ascend_from, docs_of}
 use Rattle.ii_base.specs.Words.{Word}
@@ -78,11 +79,6 @@ entry_found doc r h =
     entry_at_open doc r o.entry (o.entry.doc == doc) o.pending refl
     ∙ sym (found_last doc r.closed o.entry (begun r.option doc) (o.entry.doc == doc) before refl)
     ∙ ap (λ (es : List Entry). unwrap_or (find (λ (e : Entry). e.doc == doc) es) (begun r.option doc)) (sym o.entries)
-
-downgrade_same : (option : IndexRecordOption) → downgrade option option ≡ option
-downgrade_same Basic = refl
-downgrade_same WithFreqs = refl
-downgrade_same WithFreqsAndPositions = refl
 
 -- the recorder of a key, or a new one
 pub key_recorder : (option : IndexRecordOption) (ts : List IndexToken) (found : Option RecorderState) → HasKey option ts found → (unwrap_or found (new_recorder option)).option ≡ option

@@ -61,12 +61,7 @@ norm_is entries n field doc id ts answer norms below is gives id_is =
     let known = subst (λ (o : Option Norms). GivesNorms entries n field ts (Ok o)) is gives in
     (known.0, id_is ∙ known.1.each doc below)
 
--- what opening files of tokens gives
-pub index_holds : (entries : List SchemaEntry) (n : ℕ) (ts : List IndexToken) (answer : Result OpenIndexState Fault) → GivesReaders entries ts answer → IfOk answer (λ index. NormsHold entries n index.fieldnorms ts)
-    → IfOk answer (λ index. IndexHolds entries n index ts)
-index_holds entries n ts (Ok index) readers norms = record { readers = readers; norms = norms }
-index_holds entries n ts (Err fault) readers norms = tt
-
+-- opening files of tokens is refused for memory alone
 pub memory_alone : (entries : List SchemaEntry) (ts : List IndexToken) (answer : Result OpenIndexState Fault) → GivesReaders entries ts answer → IfErr answer (λ fault. fault ≡ OutOfMemory)
 memory_alone entries ts (Ok index) readers = tt
 memory_alone entries ts (Err fault) readers = readers

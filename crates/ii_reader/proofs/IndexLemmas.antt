@@ -23,7 +23,7 @@ use Rattle.ii_definitions.specs.Norms.{HoldNorms, has_norms, norm_file, norm_ids
 use Rattle.ii_fieldnorm.specs.Norms.{id_of_norm}
 use Rattle.ii_fieldnorm.specs.Readers.{Norms, norms_of_ids}
 use Rattle.ii_reader.specs.InvertedIndexReader.{InvertedIndexReaderState, IsRefusal, ReaderHolds, reader_of_none}
-use Rattle.ii_reader.specs.OpenIndex.{AnswersNorms, FieldReaderHolds, GivesNorms, IndexBodies, NormsHold, ReadersHold, all_or_first, field_readers, OpenIndexState, index_bodies, index_of_files, index_of_terms, reader_if, reader_of_field}
+use Rattle.ii_reader.specs.OpenIndex.{AnswersNorms, FieldReaderHolds, GivesNorms, GivesReaders, IndexBodies, IndexHolds, NormsHold, ReadersHold, all_or_first, field_readers, OpenIndexState, index_bodies, index_of_files, index_of_terms, reader_if, reader_of_field}
 use Rattle.ii_definitions.proofs.GroupedLaws.{no_field}
 
 -- a list before what others give
@@ -300,3 +300,9 @@ no_bodies = refl
 -- a file of norms without bodies gives an index without norms
 pub without_norms : (terms postings positions fieldnorms : List ℕ) (entries : List SchemaEntry) → composite fieldnorms ≡ Some [] → index_of_files terms postings positions fieldnorms entries ≡ index_of_terms terms postings positions entries
 without_norms terms postings positions fieldnorms entries none = ap (λ (n : Option (List Body)). with_parts (index_bodies terms postings positions) (ok_or n Composite) (λ bodies. field_readers bodies entries)) none
+
+-- readers and norms are an index
+pub index_holds : (entries : List SchemaEntry) (n : ℕ) (ts : List IndexToken) (r : Result OpenIndexState Fault) → GivesReaders entries ts r → IfOk r (λ index. NormsHold entries n index.fieldnorms ts)
+    → IfOk r (λ index. IndexHolds entries n index ts)
+index_holds entries n ts (Ok index) readers norms = record { readers = readers; norms = norms }
+index_holds entries n ts (Err e) readers norms = tt

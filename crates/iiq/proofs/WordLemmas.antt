@@ -13,6 +13,7 @@ use Rattle.std.specs.Result.{result_ok, OkIff}
 use Rattle.std.specs.Char.{is_ascii_digit}
 use Rattle.std.specs.Str.{all_ascii_digits, IsUtf8}
 use Rattle.ii_io.specs.Steps.{◌>>=◌, needs}
+use Rattle.ii_base.proofs.ResultLemmas.{ok_where}
 use Rattle.ii_query_parser.proofs.TermLemmas.{some_if}
 use Rattle.iiq.specs.Words.{parts, parts_left, number_on, number_below, signed_number}
 
@@ -119,11 +120,6 @@ needed_by : {A : Type 0} (f : ℕ → A) (n : ℕ) (t : Bool) → option_map f (
 needed_by f n true = refl
 needed_by f n false = refl
 
-ok_by : {A E : Type 0} (r : Result A E) (P : Type 0) (t : Bool) (v : A) → (P → t ≡ true) → (t ≡ true → P) → OkIff r P v → result_ok r ≡ cond t (Some v) None
-ok_by (Ok x) P t v to from h = rw (to h.0, h.1) refl
-ok_by (Err e) P true v to from h = absurd (h (from refl))
-ok_by (Err e) P false v to from h = refl
-
 -- the condition of a number below a limit
 abbrev IsBelow : ℕ → List ℕ → Type 0
 IsBelow limit word = (all_ascii_digits word ≡ true) × (0 < length word) × (number_on 0 word < limit)
@@ -133,7 +129,7 @@ below_read f limit word r h =
     let some = nat_lt 0 (length word) in
     let digits = all_ascii_digits word in
     let fits = nat_lt (number_on 0 word) limit in
-    ok_by r (IsBelow limit word) (some && digits && fits) (f (number_on 0 word))
+    ok_where r (IsBelow limit word) (some && digits && fits) (f (number_on 0 word))
     (λ p. rw (lt-ltb 0 (length word) p.1, p.0, lt-ltb (number_on 0 word) limit p.2) refl)
     (λ t. (and_right some digits (and_left (some && digits) fits t), ltb-true 0 (length word) (and_left some digits (and_left (some && digits) fits t)), ltb-true (number_on 0 word) limit (and_right (some && digits) fits t))) h
     ∙ sym (needed_by f (number_on 0 word) (some && digits && fits))

@@ -1,5 +1,4 @@
 mod FindingLemmas
 mod IdsLemmas
 mod QueryLemmas
-mod StoredLaws
 mod WantedLemmas

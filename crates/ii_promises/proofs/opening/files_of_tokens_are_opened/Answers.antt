@@ -1,5 +1,6 @@
 use Rattle.std.proofs.Common.{refl}
-use Rattle.ii_promises.proofs.IndexingLaws.{index_holds, memory_alone}
+use Rattle.ii_reader.proofs.IndexLemmas.{index_holds}
+use Rattle.ii_promises.proofs.IndexingLaws.{memory_alone}
 use Rattle.ii_promises.proofs.opening.files_of_tokens_are_opened.Goals as goal
 
 pub returns-clause-holds : goal.returns-clause-holds

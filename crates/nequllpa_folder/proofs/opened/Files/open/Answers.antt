@@ -2,7 +2,7 @@ use Rattle.std.proofs.Common.{List, ℕ, refl, subst, sym}
 use Rattle.ii_definitions.specs.Fields.{option_of}
 use Rattle.ii_definitions.specs.Files.{HoldTokens}
 use Rattle.ii_definitions.specs.Norms.{HoldNorms}
-use Rattle.nequllpa_folder.proofs.StoredLaws.{index_holds}
+use Rattle.ii_reader.proofs.IndexLemmas.{index_holds}
 use Rattle.nequllpa_folder.proofs.opened.Files.open.Goals as goal
 
 pub returns-clause-holds : goal.returns-clause-holds
