@@ -155,7 +155,6 @@ impl IndexedFields {
     // Indexes the remaining words of a stream, as a text at the path with this id.
     fn index_words_at<S: TokenStream>(
         &mut self,
-        alloc: Global,
         doc: DocId,
         field: Field,
         path_id: u32,
@@ -177,7 +176,7 @@ impl IndexedFields {
         ensures refused { (entries : List SchemaEntry) (ps : List Piece) (path : List ℕ) → Takes entries field Json → IsKnownBy self.old.indexed.paths path path_id → StoresPieces entries self.old ps
             → IsRefusedBy (piece_fault (option_of entries field) ps (text_at doc field (text_prefix path) (S.to_come tokens.old))) result }
     {
-        let held = held_text(alloc, path_id)?;
+        let held = held_text(path_id);
         let open = self.documents.open(doc, field)?;
         let mut position = self.paths.open(doc, field, path_id);
         let num_tokens = position.num_tokens;
@@ -196,7 +195,6 @@ impl IndexedFields {
     // Indexes the words of a text at a path of a JSON field. The path holds no byte 0.
     pub(crate) fn index_text_at<S: TokenStream>(
         &mut self,
-        alloc: Global,
         doc: DocId,
         field: Field,
         path: &str,
@@ -219,13 +217,12 @@ impl IndexedFields {
             → IsRefusedBy (piece_fault (option_of entries field) ps (at_path path.now (text_at doc field (text_prefix path.now) (S.to_come tokens.old)))) result }
     {
         let path_id = self.terms.path_id(path)?;
-        self.index_words_at(alloc, doc, field, path_id, tokens)
+        self.index_words_at(doc, field, path_id, tokens)
     }
 
     // Indexes a number at a path of a JSON field. The path holds no byte 0.
     pub(crate) fn index_number_at(
         &mut self,
-        alloc: Global,
         doc: DocId,
         field: Field,
         path: &str,
@@ -250,7 +247,7 @@ impl IndexedFields {
             → IsRefusedBy (piece_fault (option_of entries field) ps (at_path path.now (value_at doc field (json_key path.now (typed_key value_type number))))) result }
     {
         let path_id = self.terms.path_id(path)?;
-        let held = held_number(alloc, path_id, value_type, number)?;
+        let held = held_number(path_id, value_type, number);
         self.index_value(doc, field, &held)
     }
 

@@ -64,11 +64,11 @@ impl<A: TextAnalyzer> LeafSink for LeafIndexer<'_, A> {
             JsonLeaf::Text(text) => {
                 let mut tokens = self.analyzer.token_stream(self.alloc, text)?;
                 self.fields
-                    .index_text_at(self.alloc, self.doc, self.field, path, &mut tokens)
+                    .index_text_at(self.doc, self.field, path, &mut tokens)
             }
             JsonLeaf::Value(value_type, number) => self
                 .fields
-                .index_number_at(self.alloc, self.doc, self.field, path, value_type, number),
+                .index_number_at(self.doc, self.field, path, value_type, number),
             JsonLeaf::Unsupported(kind) => Err(Fault::UnsupportedLeaf(kind)),
         }
     }

@@ -19,6 +19,7 @@ pub mod ResolvedParts
 pub mod ResolvedRecords
 pub mod SchemaItems
 pub mod SerializeLemmas
+pub mod SortKeyLemmas
 pub mod SortedLemmas
 pub mod TermIndexLemmas
 pub mod TermLemmas

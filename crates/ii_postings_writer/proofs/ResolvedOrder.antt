@@ -1,19 +1,17 @@
 -- Terms that were sorted by the ranks of their paths are in the order of their keys.
 use Rattle.std.proofs.Common.{◌≡◌, ℕ, ◌<◌, ◌^◌, Bool, true, false, List, [], ◌∷◌, ◌++◌, map, drop, Some, None, Option, refl, sym, ap, ◌∙◌, subst}
 use Rattle.std.specs.Prelude.{MatchOption, bytes_eq, ⊤}
-use Rattle.std.specs.Cmp.{IsStrictWeakOrder}
 use Rattle.std.specs.Cmp.Lexicographic.{slice_cmp}
 use Rattle.std.specs.List.{AllByRecursion, IsDistinct}
 use Rattle.std.specs.List.Sorted.{IsPermutation, IsSorted, IsStrictlySortedBy}
 use Rattle.std.specs.Map.{keys_of, lookup}
-use Rattle.std.specs.Ordering.{is_lt, nat_cmp}
-use Rattle.std.proofs.lemmas.Cmp.{nat_cmp_total, nat_list_cmp_total, nat_list_eq_equiv, on_total, then_total}
+use Rattle.std.specs.Ordering.{nat_cmp}
+use Rattle.std.proofs.lemmas.Cmp.{nat_list_eq_equiv}
 use Rattle.std.proofs.lemmas.List.Sorted.{IsPermutation-map}
 use Rattle.std.proofs.lemmas.List.Elements.{All-from_recursion, recursion_from_All}
 use Rattle.std.proofs.lemmas.Map.Keys.{IsDistinct-IsPermutation}
 use Rattle.std.proofs.lemmas.Map.Views.{All-map-IsPermutation}
 use Rattle.indexmap.proofs.MapLemmas.{lookup_permutation}
-use Rattle.std.proofs.lemmas.List.MinMax.{ranks_by}
 use Rattle.std.proofs.lemmas.Slice.Eq.{bytes_eq-Decides}
 use Rattle.ii_json.specs.PathRank.{path_ranks}
 use Rattle.ii_json.specs.Paths.{AreDistinct}
@@ -22,7 +20,7 @@ use Rattle.ii_recorder.specs.Recorded.{RecorderState}
 use Rattle.ii_recorder.specs.declared.recorder.any_recorder.AnyRecorder.{AnyRecorder}
 use Rattle.ii_postings_writer.specs.IndexingContext.{TermIndex, recorder_of}
 use Rattle.ii_postings_writer.specs.IndexingTerm.{AreTermBytes, field_bytes}
-use Rattle.ii_postings_writer.specs.ResolvedTerms.{AreClean, AreSorted, HoldIds, HoldsId, IsHeldTerm, behind_id, front_of, held_cmp, is_json_field, path_id_in, rank_of, resolved, resolved_terms}
+use Rattle.ii_postings_writer.specs.ResolvedTerms.{AreClean, AreSorted, HoldIds, HoldsId, IsHeldTerm, held_cmp, is_json_field, resolved, resolved_terms}
 use Rattle.ii_postings_writer.specs.SortedTerms.{seen}
 use Rattle.ii_postings_writer.proofs.ResolvedLaws.{held_as_keys, resolved_alike}
 use Rattle.ii_postings_writer.proofs.SortedLemmas.{found_first, found_later, sorted_distinct}
@@ -75,13 +73,6 @@ held_moved flags paths old new moved distinct are ids =
     (held_each flags paths new apart (each_moved AreTermBytes old new moved are) (λ field key small. subst (λ (o : Option RecorderState). MatchOption o ⊤ (λ r. is_json_field flags field ≡ true → HoldsId paths key)) (sym (same (field_bytes field ++ key))) (ids field key small)), apart)
 
 module _ {E : Type 0} (state : E → List ℕ × RecorderState) where
-  -- the order of terms that is asked of a sort
-  pub held_order : (flags : List Bool) (ranks : List ℕ) → IsStrictWeakOrder (λ (e f : E). is_lt (held_cmp flags ranks (state e).0 (state f).0))
-  held_order flags ranks =
-      ranks_by
-      (then_total (then_total (on_total front_of nat_list_cmp_total) (on_total (λ (t : List ℕ). rank_of ranks (path_id_in flags t)) nat_cmp_total)) (on_total (behind_id flags) nat_list_cmp_total))
-      (λ (e : E). (state e).0)
-
   module _ (flags : List Bool) (paths : List (List ℕ)) (unlike : AreDistinct paths) (clean : AreClean paths) where
     resolved_apart : (e : E) (es : List E) → IsHeldTerm flags paths (state e).0 → AllByRecursion (λ (t : List ℕ × RecorderState). IsHeldTerm flags paths t.0) (map state es)
         → AllByRecursion (λ (k : List ℕ). bytes_eq (state e).0 k ≡ false) (keys_of (map state es)) → AllByRecursion (λ (f : E). bytes_eq (resolved flags paths (state e).0) (resolved flags paths (state f).0) ≡ false) es

@@ -8,6 +8,7 @@ pub mod PostingsWriter
 pub mod PostingsWriterKind
 pub mod Records
 pub mod ResolvedTerms
+pub mod SortKeys
 pub mod SortedTerms
 pub mod TermKeys
 pub mod TermLimits

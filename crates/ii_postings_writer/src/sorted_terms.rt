@@ -1,4 +1,4 @@
-ghost use Rattle.std.specs.Prelude.{◌≡◌, ◌≤◌, ◌<◌, ◌++◌, ◌∷◌, ℕ, List, [], drop, length, map, replicate, slice_index_or, slice_set, bytes_eq, OnOk, IfOk};
+ghost use Rattle.std.specs.Prelude.{All, ◌≡◌, ◌≤◌, ◌<◌, ◌++◌, ◌∷◌, ℕ, List, [], drop, length, map, replicate, slice_index_or, slice_set, bytes_eq, OnOk, IfOk};
 ghost use Rattle.std.specs.List.{AllByRecursion, IsDistinct, range_with_len};
 ghost use Rattle.std.specs.List.Sorted.{IsPermutation};
 ghost use Rattle.std.specs.Map.{keys_of};
@@ -6,8 +6,10 @@ ghost use Rattle.ii_io.specs.Faults.{OnlyMemory};
 ghost use Rattle.ii_json.specs.PathRank.{path_ranks};
 ghost use Rattle.ii_json.specs.Paths.{AreDistinct};
 ghost use Rattle.ii_recorder.specs.AnyRecorder.{any_state};
-ghost use Rattle.ii_postings_writer.specs.IndexingTerm.{field_in};
-ghost use Rattle.ii_postings_writer.specs.ResolvedTerms.{AreClean, AreSorted, HoldIds, front_of, held_cmp, is_json_field, path_id_in, rank_of, resolved, resolved_terms, value_place};
+ghost use Rattle.indexmap.specs.IndexMap.{keys};
+ghost use Rattle.ii_postings_writer.specs.IndexingTerm.{AreTermBytes, field_in};
+ghost use Rattle.ii_postings_writer.specs.SortKeys.{IsKept, kept_cmp, padded_number};
+ghost use Rattle.ii_postings_writer.specs.ResolvedTerms.{AreClean, AreSorted, HoldIds, behind_id, is_json_field, path_id_in, rank_of, resolved, resolved_terms, value_place};
 ghost use Rattle.ii_postings_writer.specs.SortedTerms.{IsTermBelow, SortedTerm, kept_state, seen, state_of, terms_in};
 
 use crate::term_key::TermKey;
@@ -32,6 +34,12 @@ pub struct KeptTerm<'a> {
     pub term: &'a [u8],
     /// The recorder of its postings.
     pub recorder: &'a AnyRecorder,
+    /// Its field.
+    pub field: u32,
+    /// The rank of its path, or 0 if it has none.
+    pub rank: u32,
+    /// The first 8 bytes of its value as a big-endian number, with 0 for each byte that is missing.
+    pub start: u64,
 }
 
 /// The borrowed terms of a context, in an order of their own.
@@ -63,11 +71,11 @@ impl TermRecorders {
         ensures sorted { (paths : List (List ℕ)) → AreDistinct paths → AreClean paths → ranks.entry.now ≡ path_ranks paths → HoldIds flags.entry.now paths self.entry.now → IfOk result (AreSorted flags.entry.now paths) }
         ensures only { OnlyMemory result }
     {
-        let mut terms = lent_terms(alloc, &self.recorders)?;
+        let mut terms = lent_terms(alloc, &self.recorders, flags, ranks)?;
         terms.sort_unstable_by(
             |left: &KeptTerm, right: &KeptTerm| -> Ordering
-                ensures { result ≡ held_cmp flags.entry.now ranks.entry.now left.now.term.now right.now.term.now }
-            { compare(flags, ranks, left.term, right.term) },
+                ensures { result ≡ kept_cmp flags.entry.now left.now right.now }
+            { compare(flags, left, right) },
         );
         Ok(LentTerms { terms })
     }
@@ -77,8 +85,12 @@ impl TermRecorders {
 fn lent_terms<'a>(
     alloc: Global,
     recorders: &'a IndexMap<TermKey, AnyRecorder>,
+    flags: &[bool],
+    ranks: &[OrderedPathId],
 ) -> Result<Vec<KeptTerm<'a>>, Fault>
+    requires terms { All AreTermBytes (keys recorders.now) }
     ensures ok { IfOk result (λ terms. map kept_state terms.items ≡ map seen recorders.entry.now.entries) }
+    ensures kept { IfOk result (λ terms. AllByRecursion (IsKept flags.entry.now ranks.entry.now) terms.items) }
     ensures distinct { IsDistinct bytes_eq (keys_of recorders.entry.now.entries) }
     ensures only { OnlyMemory result }
 {
@@ -87,35 +99,62 @@ fn lent_terms<'a>(
         let Some((term, recorder)) = recorders.get_index(place) else {
             return Ok(terms);
         };
-        terms.push(KeptTerm {
-            term: term.as_slice(),
-            recorder,
-        })?;
+        terms.push(kept(flags, ranks, term.as_slice(), recorder))?;
     }
     Ok(terms)
 }
 
-// Compares two terms in the order in which they are written.
-fn compare(flags: &[bool], ranks: &[OrderedPathId], left: &[u8], right: &[u8]) -> Ordering
-    ensures { result ≡ held_cmp flags.now ranks.now left.now right.now }
+// Returns a term with the numbers that are compared first.
+fn kept<'a>(
+    flags: &[bool],
+    ranks: &[OrderedPathId],
+    term: &'a [u8],
+    recorder: &'a AnyRecorder,
+) -> KeptTerm<'a>
+    requires long { 4 ≤ length term.now }
+    ensures same { kept_state result ≡ (term.entry.now, any_state recorder.entry.now) }
+    ensures kept { IsKept flags.now ranks.now result }
 {
-    let fields = front_of(left).cmp(front_of(right));
-    if fields.is_ne() {
-        return fields;
+    let id = path_id_in(flags, term);
+    KeptTerm {
+        term,
+        recorder,
+        field: number_in(term),
+        rank: rank_of(ranks, id),
+        start: padded_number(behind_id(id, term)),
     }
-    let (left_id, right_id) = (path_id_in(flags, left), path_id_in(flags, right));
-    let paths = rank_of(ranks, left_id).cmp(&rank_of(ranks, right_id));
-    if paths.is_ne() {
-        return paths;
-    }
-    behind_id(left_id, left).cmp(behind_id(right_id, right))
 }
 
-// Returns the bytes of a term's field.
-fn front_of(term: &[u8]) -> &[u8]
-    ensures { result.now ≡ front_of term.now }
+// Returns the first 8 bytes as a big-endian number, with 0 for each byte that is missing.
+fn padded_number(bytes: &[u8]) -> u64
+    ensures { result ≡ padded_number 8 bytes.now }
 {
-    &term[..term.len().min(FIELD_LEN)]
+    let mut padded = [0; 8];
+    let len = bytes.len().min(8);
+    padded[..len].copy_from_slice(&bytes[..len]);
+    u64::from_be_bytes(padded)
+}
+
+// Compares two terms by their numbers, then by the bytes of their values.
+fn compare(flags: &[bool], left: &KeptTerm<'_>, right: &KeptTerm<'_>) -> Ordering
+    ensures { result ≡ kept_cmp flags.now left.now right.now }
+{
+    let by_path = left
+        .field
+        .cmp(&right.field)
+        .then(left.rank.cmp(&right.rank));
+    let by_numbers = by_path.then(left.start.cmp(&right.start));
+    if by_numbers.is_ne() {
+        return by_numbers;
+    }
+    value_of(flags, left.term).cmp(value_of(flags, right.term))
+}
+
+// Returns the bytes of a term's value.
+fn value_of<'a>(flags: &[bool], term: &'a [u8]) -> &'a [u8]
+    ensures { result.now ≡ behind_id flags.now term.now }
+{
+    behind_id(path_id_in(flags, term), term)
 }
 
 // Returns the bytes of a term after the field, and after the path id if there is one.

@@ -1,4 +1,6 @@
-ghost use Rattle.std.specs.Prelude.{◌≡◌, [], ◌∷◌, None, false, map};
+ghost use Rattle.std.specs.Prelude.{◌≡◌, [], ◌∷◌, ◌++◌, None, false, map, OnOk, OnErr};
+ghost use Rattle.ii_io.specs.Faults.{OnlyMemory};
+ghost use Rattle.ii_io.specs.Vints.{vint_u32};
 ghost use Rattle.ii_base.specs.Entries.{document};
 ghost use Rattle.ii_recorder.specs.Pushed.{MayPush, Pushes};
 ghost use Rattle.ii_base.specs.declared.schema.index_record_option.IndexRecordOption.TheVariants.{Basic};
@@ -8,7 +10,9 @@ use super::sum_reader::SumReader;
 use super::vint32_reader::VInt32Reader;
 use crate::buffer_lender::BufferLender;
 use crate::field_serializer::FieldSerializer;
-use ii_base::{DocId, Fault, write_u32_vint};
+use ii_base::{DocId, Fault};
+use ii_io::vint::{MAX_VINT_SIZE, write_u32};
+use smallvec::SmallVec;
 use std::alloc::Global;
 use std::io::Write;
 use std::marker::Model;
@@ -16,8 +20,9 @@ use std::marker::Model;
 /// Keeps only documents.
 #[derive(Drop)]
 pub struct DocIdRecorder {
-    // The distance of each document from the previous one, the first from 0, as vints.
-    deltas: Vec<u8>,
+    // The distance of each document from the previous one, the first from 0, as vints. Most values have few
+    // documents, so that 22 bytes are inline.
+    deltas: SmallVec<u8, 22>,
     // The last document, or 0 if there is none.
     last: DocId,
     // Whether the last document is open.
@@ -42,11 +47,23 @@ impl DocIdRecorder {
         ensures { result ≡ record { option = Basic; closed = []; pending = None } }
     {
         DocIdRecorder {
-            deltas: Vec::new(alloc),
+            deltas: SmallVec::new(alloc),
             last: 0,
             is_open: false,
         }
     }
+}
+
+// Appends the shortest encoding of a number.
+fn push_vint(value: u32, output: &mut SmallVec<u8, 22>) -> Result<(), Fault>
+    ensures ok { OnOk result (output.new.items ≡ output.old.items ++ vint_u32 value) }
+    ensures err { OnErr result (output.new ≡ output.old) }
+    ensures only { OnlyMemory result }
+{
+    let mut bytes = [0; MAX_VINT_SIZE];
+    let end = write_u32(value, &mut bytes, 0);
+    output.extend_from_slice(&bytes[..end])?;
+    Ok(())
 }
 
 // Adds a document.
@@ -91,7 +108,7 @@ impl Recorder for DocIdRecorder {
     }
 
     fn new_doc(&mut self, doc: DocId) -> Result<(), Fault> {
-        write_u32_vint(doc.saturating_sub(self.last), &mut self.deltas)?;
+        push_vint(doc.saturating_sub(self.last), &mut self.deltas)?;
         self.last = doc;
         self.is_open = true;
         Ok(())
@@ -113,7 +130,7 @@ impl Recorder for DocIdRecorder {
         _buffer_lender: &mut BufferLender,
         serializer: &mut FieldSerializer<'_, W>,
     ) -> Result<(), Fault> {
-        let mut docs = SumReader::new(VInt32Reader::new(&self.deltas));
+        let mut docs = SumReader::new(VInt32Reader::new(self.deltas.as_slice()));
         push_docs(&mut docs, serializer)
     }
 

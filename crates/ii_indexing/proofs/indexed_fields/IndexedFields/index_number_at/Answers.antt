@@ -28,7 +28,7 @@ returns-clause-stored c =
     let typed = typed_key c.args.value_type c.args.number in
     let key = json_key path typed in
     let value = value_at c.args.doc c.args.field key in
-    let held = c.deref.ensures.value ∙ c.in_ok-held.ensures.ok ∙ ap (λ (id : ℕ). held_value id typed) c.in_ok-path_id.ensures.ok in
+    let held = c.held_number-held.ensures ∙ ap (λ (id : ℕ). held_value id typed) c.in_ok-path_id.ensures.ok in
     let told = subst (λ (l : List ℕ). OnOk c.index_value.result (ValueHeld mid new c.args.doc c.args.field l)) held c.index_value.ensures.stored in
     on_both c.index_value.result _ _ _
     (λ h same entries ps takes stored.
@@ -51,7 +51,7 @@ returns-clause-refused c entries ps takes stored =
     let path = c.args.path.now in
     let typed = typed_key c.args.value_type c.args.number in
     let key = json_key path typed in
-    let held = c.deref.ensures.value ∙ c.in_ok-held.ensures.ok ∙ ap (λ (id : ℕ). held_value id typed) c.in_ok-path_id.ensures.ok in
+    let held = c.held_number-held.ensures ∙ ap (λ (id : ℕ). held_value id typed) c.in_ok-path_id.ensures.ok in
     let st = subst (λ (q : IndexedFieldsState). StoresAll entries q ps) (sym c.self.view_is) stored in
     let told = subst (λ (l : List ℕ). HeldRefused mid c.index_value.result c.args.doc c.args.field l) held c.index_value.ensures.refused in
     value_leaf_cause (option_of entries c.args.field) ps s.indexed.paths path c.args.doc c.args.field key c.index_value.result st.known c.in_ok-path_id.ensures.refused

@@ -11,7 +11,11 @@ use Rattle.ii_postings_writer.specs.IndexingContext.{TermIndex}
 use Rattle.ii_postings_writer.specs.IndexingTerm.{AreTermBytes}
 use Rattle.ii_postings_writer.specs.ResolvedTerms.{held_cmp}
 use Rattle.ii_postings_writer.specs.SortedTerms.{kept_state}
-use Rattle.ii_postings_writer.proofs.ResolvedOrder.{are_sorted, held_moved, held_order, seen_distinct}
+use Rattle.ii_json.proofs.KeyOrder.{sorted_alike}
+use Rattle.ii_postings_writer.specs.declared.sorted_terms.KeptTerm.{KeptTerm}
+use Rattle.ii_postings_writer.specs.SortKeys.{IsKept, kept_cmp}
+use Rattle.ii_postings_writer.proofs.ResolvedOrder.{are_sorted, held_moved, seen_distinct}
+use Rattle.ii_postings_writer.proofs.SortKeyLemmas.{kept_as_held, kept_moved, kept_order}
 use Rattle.ii_postings_writer.proofs.SortedLemmas.{each_key}
 use Rattle.ii_postings_writer.proofs.term_recorders.TermRecorders.sorted.Goals as goal
 
@@ -29,5 +33,7 @@ returns-clause-sorted c paths unlike clean ranks ids =
     let distinct : IsDistinct bytes_eq (keys_of old) = subst (λ (ts : TermIndex). IsDistinct bytes_eq (keys_of ts)) c.self.view_is (seen_distinct entries c.lent_terms.ensures.distinct) in
     let are : AllByRecursion AreTermBytes (keys_of old) = subst (λ (ts : TermIndex). AllByRecursion AreTermBytes (keys_of ts)) c.self.view_is (each_key any_state entries c.self.invariant) in
     let held = held_moved flags paths old (map kept_state terms) (returns-clause-moved c) distinct are ids in
-    let sorted = c.sort_unstable_by.ensures.sorted (λ e f. is_lt (held_cmp flags c.args.ranks.now (kept_state e).0 (kept_state f).0)) (held_order kept_state flags c.args.ranks.now) (always_returns_same _ _ _ (λ a r next called. (ap is_lt (search rules), search rules))) in
+    let kept = kept_moved (IsKept flags c.args.ranks.now) c.in_ok-terms.terms.items terms c.sort_unstable_by.ensures.permutation c.in_ok-terms.ensures.kept in
+    let by_numbers = c.sort_unstable_by.ensures.sorted (λ e f. is_lt (kept_cmp flags e f)) (kept_order flags) (always_returns_same _ _ _ (λ a r next called. (ap is_lt (search rules), search rules))) in
+    let sorted = sorted_alike (IsKept flags c.args.ranks.now) (kept_cmp flags) (λ (e f : KeptTerm). held_cmp flags c.args.ranks.now e.term.now f.term.now) (kept_as_held flags c.args.ranks.now) terms kept by_numbers in
     are_sorted kept_state flags paths unlike clean terms held.0 held.1 (rw (← ranks) sorted)

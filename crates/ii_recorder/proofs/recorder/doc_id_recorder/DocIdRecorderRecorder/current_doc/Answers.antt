@@ -8,5 +8,5 @@ use Rattle.ii_recorder.proofs.recorder.doc_id_recorder.DocIdRecorderRecorder.cur
 pub returns : goal.returns
 returns c =
     let bytes = c.self.inside.deltas.items in
-    let some : 0 < length bytes = some_bytes (length bytes) (sym c.if-is_empty.false ∙ c.is_empty.ensures ∙ ap (λ (bs : List ℕ). length bs == 0) c.as_slice.ensures.value) in
+    let some : 0 < length bytes = some_bytes (length bytes) (sym c.if-is_empty.false ∙ c.is_empty.ensures ∙ ap (λ (bs : List ℕ). length bs == 0) c.as_slice.ensures) in
     docs_current bytes c.self.inside.last c.self.inside.is_open c.self.invariant some ∙ ap current_doc c.self.view_is
