@@ -20,7 +20,7 @@ COUNTED = (
         'ii_codes': {'default'},
         'ii_reader': {'empty_by', 'clear_by', 'fill'},
         'ii_layout': {'open', 'has_small_sum'},
-        'ii_check': {'first_block', 'open_positions', 'are_positions'}}),
+        'ii_check': {'first_block', 'validate_positions', 'are_positions'}}),
     ('a copy', r'\bclone\(', {
         'ii_codes': set(),
         'ii_reader': {'clone', 'doc_freq_given_deletes'},
@@ -29,38 +29,38 @@ COUNTED = (
     ('a cursor that starts again',
      r'\b(\w+Reader|\w+Postings|PositionBlocks|Self)\s*>?\s*::\s*(open|open_known|empty|empty_by|new|reset)\b'
      r'|\.(reset|skip_reader|anew)\(|\breopened\(', {
-         'ii_reader': {'open', 'open_known', 'empty', 'empty_by', 'reset', 'clear_by', 'fill', 'fill_known', 'read_postings_from_terminfo',
-                       'read_block_postings_from_terminfo', 'read_known_postings_from_terminfo', 'read_known_block_postings_from_terminfo',
+         'ii_reader': {'open', 'open_known', 'empty', 'empty_by', 'reset', 'clear_by', 'fill', 'open_postings', 'open_block_postings',
                        'reset_block_postings_from_terminfo', 'reset_postings_from_terminfo', 'open_bodies', 'open_field'},
          'ii_layout': {'open', 'reset', 'anew', 'reopened'},
-         'ii_check': {'skip_reader', 'first_block', 'open_positions', 'open_counted_positions', 'open_known_positions', 'are_positions',
+         'ii_check': {'skip_reader', 'first_block', 'validate_positions', 'open_counted_positions', 'known_positions', 'are_positions',
                       'num_positions', 'after_documents',
                       'has_freqs'}}),
     ('a cursor, a reader or a decoder built from its fields',
      r'(?<!-> )(?<!impl )(?<!for )(?<!struct )(?<!let )'
      r'\b(BlockDecoder|SkipReader|PositionBlocks|PositionReader|CheckedPostings|BlockSegmentPostings|SegmentPostings|Self)\s*\{', {
          'ii_codes': {'with_val', 'clone'},
-         'ii_reader': {'open', 'open_known', 'empty_by', 'from_block_postings', 'clone'},
+         'ii_reader': {'empty_by', 'from_block_postings', 'clone'},
          'ii_layout': {'open', 'new', 'anew', 'clone'},
-         'ii_check': {'open', 'open_known', 'empty', 'clone'}}),
-    ('the complete validation', r'\bcheck_postings\(|\bCheckedPostings::open\b|\.(has_small_sum|num_positions|open_counted_positions)\(', {
+         'ii_check': {'open', 'empty', 'clone'}}),
+    ('the complete validation', r'\bcheck_postings\(|\bCheckedPostings::open\b|\.(has_small_sum|num_positions|validate_positions|open_counted_positions)\(', {
         'ii_reader': {'fill', 'open_positions'},
         'ii_layout': {'has_small_sum'},
-        'ii_check': {'open', 'open_positions', 'open_counted_positions', 'known_postings'}}),
+        'ii_check': {'open', 'open_positions', 'validate_positions', 'open_counted_positions', 'find_postings', 'known_postings'}}),
     ('a replaced value', r'\bdefault\(|\bmem\b|\b(swap|replace|take)\(', {
         'ii_codes': {'default'},
         'ii_reader': set(),
         'ii_layout': set(),
         'ii_check': set()}),
-    ('a new counter', r'\bGhostCounter\s*>?\s*(::|\{)', {
+    ('a new counter', r'\bGhostCounter\s*>?\s*(::|\{)|\bCheckedBlocks\s*>?\s*::', {
         'ii_codes': {'with_val'},
-        'ii_reader': set(),
+        'ii_reader': {'empty_by', 'clear_by', 'fill'},
         'ii_layout': {'new', 'counts_are_narrow'},
-        'ii_check': set()}),
+        'ii_check': {'none'}}),
     ('a counter that is incremented or copied', r'\.\s*(next|same)\(\)|\.\s*(decodes|entries_read)\s*=(?!=)', {
         'ii_codes': {'unpack_sorted', 'unpack_unsorted', 'count', 'clone'},
         'ii_layout': {'read_entry', 'clone'},
-        'ii_check': set()}),
+        'ii_reader': {'clone', 'list_encoded_json_fields', 'list_further'},
+        'ii_check': {'after_documents', 'has_freqs', 'count_last', 'same'}}),
     ('an unpacked block',
      r'\b(unpack|unpack_from|unpack_width|unpack_narrow|unpack_wide|sorted_values|sorted_from|sorted_width|sorted_narrow|sorted_wide)\b', {
          'ii_codes': {'unpack', 'unpack_from', 'unpack_sorted', 'unpack_unsorted', 'sum_of', 'sorted_values', 'sorted_from'}}),
@@ -76,12 +76,13 @@ COUNTED = (
         'ii_layout': {'new', 'advance', 'read_entry_at', 'counts_are_narrow'}}),
     ('a decoded field of a skip entry', r'::\s*read_u(16|24|32|64)\b|\bdecode_(bitwidth|block_wand_max_tf)\b', {
         'ii_layout': {'read_entry', 'split', 'split_into_skips_and_postings'},
-        'ii_check': {'known_places'},
+        'ii_check': {'skip_places'},
         'ii_reader': set()}),
     ('bits read without a counter',
      r'\bextract_bits\b|\blast_of_sorted_block\b|\bii_codes::(vint|packed)\b|(?<![.\w])(try_)?uncompress_|\bunpack', {
          'ii_reader': set(),
-         'ii_layout': set()}),
+         'ii_layout': set(),
+         'ii_check': {'is_strict_block'}}),
 )
 # An import; the contract of a function.
 IMPORT = r'(?m)^\s*(?:pub(?:\(crate\))? )?use\b[^;]*;'

@@ -1,3 +1,4 @@
+pub mod CheckedBlocksLemmas
 pub mod CheckLemmas
 pub mod FrequencyLemmas
 pub mod LoadLemmas
@@ -6,4 +7,5 @@ pub mod KnownLemmas
 pub mod PartLemmas
 pub mod SeekLemmas
 pub mod StrictLemmas
+pub mod WorkedRows
 pub mod PositionLemmas

@@ -1,4 +1,4 @@
-ghost use Rattle.std.specs.Prelude.{◌≡◌, ◌*◌, ◌/◌, ◌%◌, ◌^◌, ◌&&◌, ◌||◌, ◌==◌, ◌<◌, ◌≤◌, ℕ, true, drop, length, slice_index, nat_le, nat_lt, is_some, IsTrue, IfOk, IfErr, IfSome, Err};
+ghost use Rattle.std.specs.Prelude.{◌≡◌, ◌+◌, ◌*◌, ◌/◌, ◌%◌, ◌^◌, ◌&&◌, ◌||◌, ◌==◌, ◌<◌, ◌≤◌, ℕ, true, drop, length, slice_index, nat_le, nat_lt, is_some, IsTrue, IfOk, IfErr, IfSome, OnOk, Err};
 ghost use Rattle.std.specs.List.{sum};
 ghost use Rattle.std.specs.Option.{option_map};
 ghost use Rattle.ii_io.specs.Parts.{part_of};
@@ -6,6 +6,7 @@ ghost use Rattle.ii_io.specs.Vints.{u32s_at};
 ghost use Rattle.ii_base.specs.Options.{has_freq};
 ghost use Rattle.ii_base.specs.declared.doc_id.TheConstants.{TERMINATED};
 ghost use Rattle.ii_base.specs.Entries.{ascend_from};
+ghost use Rattle.ii_codes.specs.BlockDecoder.{decodes_of};
 ghost use Rattle.ii_codes.specs.Blocks.{least_first, sorted_block_at};
 ghost use Rattle.ii_codes.specs.SortedVints.{sorted_vints_at};
 ghost use Rattle.ii_layout.specs.Documents.{documents_at};
@@ -14,12 +15,16 @@ ghost use Rattle.ii_layout.specs.Postings.{postings};
 ghost use Rattle.ii_layout.specs.SkipList.{entry_size};
 ghost use Rattle.ii_check.specs.Check.{HoldsRow, after_rest, block_fits, block_freqs_in, fits_by, skip_list_of};
 ghost use Rattle.ii_check.specs.CheckedPostings.{IsChecked, LoadsBlock, given};
+ghost use Rattle.ii_check.specs.CheckedBlocks.{blocks_checked, freqs_checked, num_blocks};
 ghost use Rattle.ii_check.specs.FreqReading.{reading_by};
 
+use super::checked_blocks::CheckedBlocks;
 use super::freq_reading_option::FreqReadingOption;
 use super::load::NO_FREQ;
+use super::validation::Validation;
 use ii_base::{DocId, IndexRecordOption, LayoutFault, Part, TERMINATED};
 use ii_codes::{BlockDecoder, COMPRESSION_BLOCK_SIZE, compressed_block_size, last_of_sorted_block};
+use ii_io::GhostCounter;
 use ii_layout::{
     BlockInfo, SkipPlaces, SkipReader, bytes_from, split_into_skips_and_postings, sum_of,
 };
@@ -34,18 +39,31 @@ pub(crate) fn check_postings(
     requested_option: IndexRecordOption,
     doc_decoder: &mut BlockDecoder,
     freq_decoder: &mut BlockDecoder,
+    checked: &mut CheckedBlocks,
 ) -> Result<(SkipPlaces, FreqReadingOption), LayoutFault>
     ensures ok { IfOk result (λ found. IsChecked record_option requested_option doc_freq bytes.now found.0.skip_info found.0.entries found.0.body found.1) }
     ensures short { doc_freq < 128 → IfOk result (λ found. LoadsBlock (given record_option requested_option doc_freq bytes.now) 0 doc_decoder.old doc_decoder.new freq_decoder.old freq_decoder.new) }
     ensures err { IfErr result (λ fault. postings record_option requested_option doc_freq bytes.now ≡ Err (part_of fault)) }
+
+    // Each block was decoded at most once, and counted.
+    ensures doc_decodes { OnOk result (doc_decoder.new.decodes ≤ doc_decoder.old.decodes + num_blocks doc_freq) }
+    ensures freq_decodes { OnOk result (freq_decoder.new.decodes ≤ freq_decoder.old.decodes + num_blocks doc_freq) }
+    ensures docs_checked { OnOk result (checked.new.docs.value ≡ checked.old.docs.value + blocks_checked Validation.Complete doc_freq) }
+    ensures freqs_checked { IfOk result (λ found. checked.new.freqs.value ≡ checked.old.freqs.value + freqs_checked Validation.Complete found.1 doc_freq) }
 {
     let Some(places) = split_into_skips_and_postings(doc_freq, bytes, record_option) else {
         return Err(LayoutFault::Damaged(Part::Skip));
     };
     let skip_data = bytes_from(bytes, places.entries);
     let body = bytes_from(bytes, places.body);
-    let Some(after) = after_documents(doc_decoder, doc_freq, places.skip_info, skip_data, body)
-    else {
+    let Some(after) = after_documents(
+        doc_decoder,
+        doc_freq,
+        places.skip_info,
+        skip_data,
+        body,
+        &mut checked.docs,
+    ) else {
         return Err(LayoutFault::Damaged(Part::Documents));
     };
     let reading = freq_reading_option(places.skip_info, requested_option, doc_freq, after);
@@ -59,6 +77,7 @@ pub(crate) fn check_postings(
         skip_data,
         body,
         after,
+        &mut checked.freqs,
     ) {
         return Err(LayoutFault::Damaged(Part::Frequencies));
     }
@@ -74,11 +93,14 @@ fn after_documents<'a>(
     skip_info: IndexRecordOption,
     skip_data: &[u8],
     body: &'a [u8],
+    checked: &mut GhostCounter,
 ) -> Option<&'a [u8]>
     requires { entry_size skip_info * (doc_freq / 128) ≤ length skip_data.now }
     ensures after { option_map (λ rest. rest.now) result
         ≡ option_map (λ found. found.1) (documents_at (skip_list_of skip_info (doc_freq / 128) skip_data.now body.now) (doc_freq % 128)) }
     ensures short { doc_freq < 128 → IfSome result (λ rest. HoldsRow (sorted_vints_at 0 doc_freq body.now) TERMINATED decoder.old decoder.new) }
+    ensures decodes { IfSome result (λ rest. decoder.new.decodes ≤ decoder.old.decodes + num_blocks doc_freq) }
+    ensures checked { IfSome result (λ rest. checked.new.value ≡ checked.old.value + blocks_checked Validation.Complete doc_freq) }
 {
     let mut skip = SkipReader::new(skip_data, doc_freq, skip_info);
     let mut least = 0;
@@ -88,6 +110,7 @@ fn after_documents<'a>(
         }
         least = skip.last_doc_in_block() + 1;
         skip.advance(skip_data);
+        *checked = checked.next();
     }
     let bytes = bytes_from(body, skip.byte_offset());
     let Some(used) = end_of_rest(
@@ -99,13 +122,28 @@ fn after_documents<'a>(
     ) else {
         return None;
     };
+    count_last(doc_freq, checked);
     Some(bytes_from(bytes, used))
+}
+
+// Counts the block after the full ones, if there are both: a list of one block is decoded once in all.
+fn count_last(doc_freq: u32, checked: &mut GhostCounter)
+    ensures { checked.new.value + doc_freq / 128 ≡ checked.old.value + blocks_checked Validation.Complete doc_freq }
+{
+    if doc_freq < COMPRESSION_BLOCK_SIZE as u32 {
+        return;
+    }
+    if doc_freq % COMPRESSION_BLOCK_SIZE as u32 == 0 {
+        return;
+    }
+    *checked = checked.next();
 }
 
 // Returns whether bytes begin with the skip reader's full block: one that ends with its entry's last document
 // and ascends from `least` on. Strict deltas ascend, so the last document of such a block suffices.
 fn is_block(decoder: &mut BlockDecoder, skip: &SkipReader, least: DocId, bytes: &[u8]) -> bool
-    ensures { result
+    ensures decodes { decoder.new.decodes ≤ decoder.old.decodes + 1 }
+    ensures fits { result
         ≡ block_fits skip.now.block_info skip.now.last_doc_in_previous_block skip.now.last_doc_in_block least bytes.now }
 {
     let BlockInfo::BitPacked {
@@ -174,6 +212,7 @@ fn end_of_rest(
     requires { num_docs < 128 }
     ensures after { option_map (λ used. drop used bytes.now) result ≡ after_rest before num_docs least bytes.now }
     ensures holds { IfSome result (λ used. HoldsRow (sorted_vints_at before num_docs bytes.now) TERMINATED decoder.old decoder.new) }
+    ensures decodes { IfSome result (λ used. decoder.new.decodes ≡ decoder.old.decodes + decodes_of num_docs) }
 {
     let Ok(used) = decoder.try_uncompress_vint_sorted(bytes, before, num_docs as usize, TERMINATED)
     else {
@@ -234,11 +273,14 @@ fn has_freqs(
     skip_data: &[u8],
     body: &[u8],
     after: &[u8],
+    checked: &mut GhostCounter,
 ) -> bool
     requires { entry_size skip_info * (doc_freq / 128) ≤ length skip_data.now }
     ensures has { result
         ≡ is_some (freqs_at (skip_list_of skip_info (doc_freq / 128) skip_data.now body.now) (doc_freq % 128) after.now) }
     ensures short { doc_freq < 128 → IsTrue result → HoldsRow (u32s_at doc_freq after.now) 1 decoder.old decoder.new }
+    ensures decodes { IsTrue result → decoder.new.decodes ≤ decoder.old.decodes + num_blocks doc_freq }
+    ensures checked { IsTrue result → checked.new.value ≡ checked.old.value + blocks_checked Validation.Complete doc_freq }
 {
     let mut skip = SkipReader::new(skip_data, doc_freq, skip_info);
     for _block in 0..doc_freq / COMPRESSION_BLOCK_SIZE as u32 {
@@ -247,7 +289,9 @@ fn has_freqs(
             return false;
         }
         skip.advance(skip_data);
+        *checked = checked.next();
     }
+    count_last(doc_freq, checked);
     are_rest_freqs(decoder, doc_freq % COMPRESSION_BLOCK_SIZE as u32, after)
 }
 
@@ -259,7 +303,8 @@ fn are_block_freqs(
     block_info: BlockInfo,
     bytes: &[u8],
 ) -> bool
-    ensures { result ≡ is_some (block_freqs_in skip_info block_info bytes.now) }
+    ensures decodes { decoder.new.decodes ≤ decoder.old.decodes + 1 }
+    ensures has { result ≡ is_some (block_freqs_in skip_info block_info bytes.now) }
 {
     let BlockInfo::BitPacked {
         doc_num_bits,
@@ -316,6 +361,7 @@ fn are_rest_freqs(decoder: &mut BlockDecoder, num_docs: u32, bytes: &[u8]) -> bo
     requires { num_docs < 128 }
     ensures has { result ≡ is_some (u32s_at num_docs bytes.now) }
     ensures holds { IsTrue result → HoldsRow (u32s_at num_docs bytes.now) 1 decoder.old decoder.new }
+    ensures decodes { IsTrue result → decoder.new.decodes ≡ decoder.old.decodes + decodes_of num_docs }
 {
     let Ok(_) = decoder.try_uncompress_vint_unsorted(bytes, num_docs as usize, NO_FREQ) else {
         return false;

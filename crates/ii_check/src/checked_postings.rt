@@ -1,4 +1,4 @@
-ghost use Rattle.std.specs.Prelude.{◌≡◌, ◌+◌, ◌/◌, ◌<◌, ◌≤◌, ◌&&◌, ◌==◌, ⊤, [], length, min, nat_lt, true, is_some, None, Some, Ok, Err, IfOk, IfErr, OnErr, IfSome, IsOk, IsSome, MatchOption};
+ghost use Rattle.std.specs.Prelude.{◌≡◌, ◌+◌, ◌/◌, ◌<◌, ◌≤◌, ◌&&◌, ◌==◌, ⊤, [], length, min, nat_lt, true, is_some, None, Some, Ok, Err, IfOk, IfErr, OnErr, OnOk, IfSome, IsOk, IsSome, MatchOption};
 ghost use Rattle.std.specs.List.{sum, list_all};
 ghost use Rattle.ii_io.specs.Faults.{OnlyMemory};
 ghost use Rattle.ii_io.specs.Parts.{part_of};
@@ -9,14 +9,17 @@ ghost use Rattle.ii_layout.specs.Positions.{positions_of};
 ghost use Rattle.ii_layout.specs.Postings.{postings};
 ghost use Rattle.ii_layout.specs.TermList.{deltas_if};
 ghost use Rattle.ii_check.specs.Positions.{deltas_read};
+ghost use Rattle.ii_check.specs.CheckedBlocks.{blocks_checked, freqs_checked};
 ghost use Rattle.ii_check.specs.CheckedPostings.{AreGiven, AreLastFreqs, HasDocuments, IsAtBlock, IsSkipData, LoadsBlock, SeeksBlock, SeeksFreq, new_decoder};
 ghost use Rattle.ii_check.specs.FreqReading.{freq_reading_of, reading_of_none};
 
-use super::check::{check_postings, freq_reading_option};
+use super::check::freq_reading_option;
+use super::checked_blocks::CheckedBlocks;
 use super::freq_reading_option::FreqReadingOption;
-use super::known::known_postings;
 use super::load::{NO_FREQ, decode_docs, decode_freqs, is_passed};
+use super::places::find_postings;
 use super::positions::end_of_positions;
+use super::validation::Validation;
 use bytes::Bytes;
 use ii_base::{DocId, Fault, IndexRecordOption, LayoutFault, Part, TERMINATED};
 use ii_codes::{BlockDecoder, COMPRESSION_BLOCK_SIZE};
@@ -65,20 +68,26 @@ impl Model for CheckedPostings {
 }
 
 impl CheckedPostings {
-    /// Validates the postings at the front of `bytes`, of a term in `doc_freq` documents, by the recorded and
-    /// the requested option. Returns the first corrupt part.
+    /// Opens the postings at the front of `bytes`, of a term in `doc_freq` documents, by the recorded and the
+    /// requested option. Returns the first corrupt part.
+    ///
+    /// Validates the complete list, term frequencies only if they are read. If validation is skipped, the
+    /// postings must be valid, and only the first block is decoded, however long the list is.
     ///
     /// Borrows two new decoders, which then hold the documents and the term frequencies of the first block.
-    /// After an error they hold anything. Validates the complete list, term frequencies only if they are
-    /// read. Never allocates, and ignores the bytes after what is read.
+    /// After an error they hold anything. Counts the blocks that were decoded to validate the list. Never
+    /// allocates, and ignores the bytes after what is read.
     pub fn open(
         doc_freq: u32,
         bytes: Bytes,
         record_option: IndexRecordOption,
         requested_option: IndexRecordOption,
+        validation: Validation,
         doc_decoder: &mut BlockDecoder,
         freq_decoder: &mut BlockDecoder,
+        checked_blocks: &mut CheckedBlocks,
     ) -> Result<CheckedPostings, LayoutFault>
+        requires known { validation ≡ Validation.Skipped → IsOk (postings record_option requested_option doc_freq bytes) }
         requires new_docs { doc_decoder.old ≡ new_decoder TERMINATED }
         requires new_freqs { freq_decoder.old ≡ new_decoder 1 }
         ensures ok { IfOk result (λ checked. postings record_option requested_option doc_freq bytes ≡ Ok checked.postings) }
@@ -89,15 +98,20 @@ impl CheckedPostings {
         // What the skip entries hold, and the first block, which is decoded.
         ensures documents { IfOk result (λ checked. HasDocuments checked) }
         ensures first { IfOk result (λ checked. LoadsBlock checked.postings 0 (new_decoder TERMINATED) doc_decoder.new (new_decoder 1) freq_decoder.new) }
+        // What was decoded to validate the list.
+        ensures docs_checked { OnOk result (checked_blocks.new.docs.value ≡ checked_blocks.old.docs.value + blocks_checked validation doc_freq) }
+        ensures freqs_checked { IfOk result (λ checked. checked_blocks.new.freqs.value ≡ checked_blocks.old.freqs.value + freqs_checked validation checked.freq_reading doc_freq) }
         ensures err { IfErr result (λ fault. postings record_option requested_option doc_freq bytes ≡ Err (part_of fault)) }
     {
-        let (places, freq_reading_option) = match check_postings(
+        let (places, freq_reading_option) = match find_postings(
             doc_freq,
             bytes.as_slice(),
             record_option,
             requested_option,
+            validation,
             doc_decoder,
             freq_decoder,
+            checked_blocks,
         ) {
             Ok(found) => found,
             Err(fault) => return Err(fault),
@@ -112,51 +126,6 @@ impl CheckedPostings {
         };
         checked.first_block(doc_decoder, freq_decoder);
         Ok(checked)
-    }
-
-    /// Opens the postings that `bytes` are known to begin with, of a term in `doc_freq` documents, by the
-    /// recorded and the requested option.
-    ///
-    /// Borrows two new decoders, which then hold the documents and the term frequencies of the first block.
-    /// Reads no other block, however long the list is, and never allocates.
-    pub fn open_known(
-        doc_freq: u32,
-        bytes: Bytes,
-        record_option: IndexRecordOption,
-        requested_option: IndexRecordOption,
-        doc_decoder: &mut BlockDecoder,
-        freq_decoder: &mut BlockDecoder,
-    ) -> CheckedPostings
-        requires known { IsOk (postings record_option requested_option doc_freq bytes) }
-        requires new_docs { doc_decoder.old ≡ new_decoder TERMINATED }
-        requires new_freqs { freq_decoder.old ≡ new_decoder 1 }
-        ensures ok { postings record_option requested_option doc_freq bytes ≡ Ok result.postings }
-        ensures options { (result.recorded ≡ record_option) × (result.requested ≡ requested_option) }
-        ensures doc_freq { result.doc_freq ≡ doc_freq }
-        ensures reading { result.freq_reading ≡ freq_reading_of requested_option result.postings }
-
-        // What the skip entries hold, and the first block, which is decoded.
-        ensures documents { HasDocuments result }
-        ensures first { LoadsBlock result.postings 0 (new_decoder TERMINATED) doc_decoder.new (new_decoder 1) freq_decoder.new }
-    {
-        let (places, freq_reading_option) = known_postings(
-            doc_freq,
-            bytes.as_slice(),
-            record_option,
-            requested_option,
-            doc_decoder,
-            freq_decoder,
-        );
-        let checked = CheckedPostings {
-            bytes,
-            record_option,
-            requested_option,
-            doc_freq,
-            places,
-            freq_reading_option,
-        };
-        checked.first_block(doc_decoder, freq_decoder);
-        checked
     }
 
     /// Creates the postings of a term in no documents, by the recorded and the requested option. It has no
@@ -300,10 +269,31 @@ impl CheckedPostings {
     }
 
     /// Opens the positions in `bytes`, if both options have positions, term frequencies are read and bytes
-    /// are given. Else the bytes are ignored. Validates all positions, and never allocates.
+    /// are given. Else the bytes are ignored. Never allocates.
     ///
-    /// Returns `Positions` if they are not as many as the term frequencies say, or one exceeds `u32::MAX`.
+    /// Validates all positions. Returns `Positions` if they are not as many as the term frequencies say, or
+    /// one exceeds `u32::MAX`. If validation is skipped, the positions must be valid, and only the width of
+    /// each block and the last positions are read.
     pub fn open_positions(
+        &self,
+        bytes: Option<Bytes>,
+        validation: Validation,
+    ) -> Result<Option<PositionReader>, LayoutFault>
+        requires { validation ≡ Validation.Skipped → IsSome (deltas_if (has_positions (downgrade self.now.recorded self.now.requested)) self.now.postings.freqs bytes) }
+        ensures ok { IfOk result (λ opened. deltas_if (has_positions (downgrade self.now.recorded self.now.requested)) self.now.postings.freqs bytes
+            ≡ Some (deltas_read opened)) }
+        ensures decodes { IfOk result (λ opened. MatchOption opened ⊤ (λ reader. reader.decodes ≤ 1)) }
+        ensures refused { OnErr result (deltas_if (has_positions (downgrade self.now.recorded self.now.requested)) self.now.postings.freqs bytes ≡ None) }
+        ensures err { IfErr result (λ fault. fault ≡ LayoutFault.Damaged Part.Positions) }
+    {
+        match validation {
+            Validation::Complete => self.validate_positions(bytes),
+            Validation::Skipped => Ok(self.known_positions(bytes)),
+        }
+    }
+
+    // Opens positions, and validates them.
+    fn validate_positions(
         &self,
         bytes: Option<Bytes>,
     ) -> Result<Option<PositionReader>, LayoutFault>
@@ -326,8 +316,8 @@ impl CheckedPostings {
         self.open_counted_positions(bytes, freq_decoder.output_array())
     }
 
-    /// Opens the positions in `bytes` as `open_positions` does, given the term frequencies of the last block,
-    /// which are fewer than 128.
+    /// Opens and validates the positions in `bytes` as `open_positions` does, given the term frequencies of
+    /// the last block, which are fewer than 128.
     pub fn open_counted_positions(
         &self,
         bytes: Option<Bytes>,
@@ -363,10 +353,8 @@ impl CheckedPostings {
         Ok(Some(reader.anew()))
     }
 
-    /// Opens the positions that `bytes` are known to hold, if both options have positions, term frequencies
-    /// are read and bytes are given. Else the bytes are ignored. Reads the width of each block and the last
-    /// positions only. Never allocates.
-    pub fn open_known_positions(&self, bytes: Option<Bytes>) -> Option<PositionReader>
+    // Opens positions that are known to be valid.
+    fn known_positions(&self, bytes: Option<Bytes>) -> Option<PositionReader>
         requires { IsSome (deltas_if (has_positions (downgrade self.now.recorded self.now.requested)) self.now.postings.freqs bytes) }
         ensures ok { deltas_if (has_positions (downgrade self.now.recorded self.now.requested)) self.now.postings.freqs bytes
             ≡ Some (deltas_read result) }

@@ -2,12 +2,16 @@
 #![tactic(auto)]
 
 mod check;
+pub mod checked_blocks;
 pub mod checked_postings;
 pub mod freq_reading_option;
-mod known;
 mod load;
+mod places;
 mod positions;
+pub mod validation;
 
+pub use checked_blocks::CheckedBlocks;
 pub use checked_postings::CheckedPostings;
 pub use freq_reading_option::FreqReadingOption;
 pub use load::NO_FREQ;
+pub use validation::Validation;

@@ -124,7 +124,7 @@ sound_bodies num_docs field entry ts (Some t) None q below texts has_t has_p has
 sound_bodies num_docs field entry ts (Some t) (Some p) None below texts has_t has_p has_q held = absurd (let e = has_t ∙ sym has_q in cc)
 sound_bodies num_docs field entry ts (Some t) (Some p) (Some q) below texts has_t has_p has_q held =
     let holds = held t p q refl refl refl in
-    let reader : InvertedIndexReaderState = record { terms = holds.entries; postings = holds.postings_body; positions = q; option = entry.option; num_tokens = field_count field ts } in
+    let reader : InvertedIndexReaderState = record (reader_of_none entry.option) { terms = holds.entries; postings = holds.postings_body; positions = q; num_tokens = field_count field ts } in
     let found : reader_in entry.option (Some t) (Some p) (Some q) ≡ Ok reader = rw (holds.sorted, holds.counted) refl in
     (reader, found, record { option_is = refl; holds = record { counted = refl; exact = holds.exact }; ascending = ascending t holds.entries holds.sorted; below = below; texts = texts })
 

@@ -17,7 +17,7 @@ use Rattle.ii_docset.proofs.CursorLemmas.{nothing_left}
 use Rattle.ii_termstore.specs.declared.term_info.TermInfo.{TermInfo}
 use Rattle.ii_termdict.specs.Dictionary.{TermEntry, entry_infos, entry_keys}
 use Rattle.ii_termdict.specs.TermStreamer.{TermStreamerState}
-use Rattle.ii_reader.specs.InvertedIndexReader.{InvertedIndexReaderState, OpensTerm, term_of_file}
+use Rattle.ii_reader.specs.InvertedIndexReader.{InvertedIndexReaderState, term_of_file}
 use Rattle.ii_reader.specs.SegmentPostings.{SegmentPostingsState}
 use Rattle.ii_base.specs.declared.schema.index_record_option.IndexRecordOption.{IndexRecordOption}
 use Rattle.ii_reader.proofs.JsonLemmas.{entry_at, none_past}
@@ -215,8 +215,8 @@ terms_over num_docs places reader terms ord found old now end h =
     drop-end (suc i) (e ∷ es) h = drop-end i es (omega (arith, h))
 
 -- a list that opens is that of its term
-pub walked_by : (reader : InvertedIndexReaderState) (option : IndexRecordOption) (info : TermInfo) (cursor : SegmentPostingsState) (old now : TermWalk) → option ≡ reader.option → OpensTerm reader option info cursor
+pub walked_by : (reader : InvertedIndexReaderState) (option : IndexRecordOption) (info : TermInfo) (cursor : SegmentPostingsState) (old now : TermWalk) → option ≡ reader.option → term_of_file reader option info ≡ Ok cursor.rest
     → ((n : ℕ) (es : List Entry) → HasWalked n es old → HasWalked n (es ++ cursor.rest) now) → (n : ℕ) (es : List Entry) → HasWalked n es old → HasWalked n (es ++ entries_read (term_of_file reader reader.option info)) now
 walked_by reader option info cursor old now option_is opens counts n es walked =
-    let list : term_of_file reader reader.option info ≡ Ok cursor.rest = rw option_is at opens.list in
+    let list : term_of_file reader reader.option info ≡ Ok cursor.rest = rw option_is at opens in
     subst (λ (found : Result (List Entry) Part). HasWalked n (es ++ entries_read found) now) (sym list) (counts n es walked)

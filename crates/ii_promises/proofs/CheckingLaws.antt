@@ -12,8 +12,9 @@ use Rattle.ii_base.specs.Entries.{Entry}
 use Rattle.ii_base.specs.declared.schema.index_record_option.IndexRecordOption.{IndexRecordOption}
 use Rattle.ii_termdict.specs.Dictionary.{TermEntry, info_under}
 use Rattle.ii_reader.specs.declared.damage.DamagedTerm.{DamagedTerm}
-use Rattle.ii_reader.specs.Damage.{damage_of, damage_of_field, damaged_term, first_damaged_field, first_damaged_term}
+use Rattle.ii_reader.specs.Damage.{damage_of, damage_of_field, damaged_term, first_damaged_field, first_damaged_term, index_after}
 use Rattle.ii_reader.specs.InvertedIndexReader.{AllOpen, InvertedIndexReaderState, IsRefusal, term_of_file}
+use Rattle.ii_reader.specs.OpenIndex.{OpenIndexState, trusted_index}
 
 -- An element at a place is the first that gives something, and gives this.
 record IsFirst {X Y : Type 0} (f : ℕ × X → Option Y) (n : ℕ) (xs : List X) (y : Y) : Type 0 where
@@ -156,11 +157,25 @@ look_up_opens reader key requested answer all none err = by_case (term_of_file r
     by_case list None (Err fault) opens none err = absurd (cc)
     by_case list (Some info) (Err fault) opens none err = not_refused (list info) fault opens err
 
--- the reader of a field, of readers each of which opens its terms
-pub field_opens : (readers : List InvertedIndexReaderState) (field : ℕ) (reader : InvertedIndexReaderState) → All AllOpen readers → slice_get readers field ≡ Some reader → AllOpen reader
-field_opens readers field reader all at = subst AllOpen (get_or_from_slice_get readers field reader reader at) (all field reader (below readers field reader at))
+-- the reader of a field, of readers for each of which something holds
+pub field_is : (P : InvertedIndexReaderState → Type 0) (readers : List InvertedIndexReaderState) (field : ℕ) (reader : InvertedIndexReaderState) → All P readers → slice_get readers field ≡ Some reader → P reader
+field_is P readers field reader all at = subst P (get_or_from_slice_get readers field reader reader at) (all field reader (below readers field reader at))
   where
     below : (rs : List InvertedIndexReaderState) (k : ℕ) (r : InvertedIndexReaderState) → slice_get rs k ≡ Some r → k < length rs
     below [] k r at = absurd (cc)
     below (x ∷ rs) zero r at = omega arith
     below (x ∷ rs) (suc k) r at = let low = below rs k r at in omega (arith, low)
+
+pub field_opens : (readers : List InvertedIndexReaderState) (field : ℕ) (reader : InvertedIndexReaderState) → All AllOpen readers → slice_get readers field ≡ Some reader → AllOpen reader
+field_opens readers field reader all at = field_is AllOpen readers field reader all at
+
+-- an index after a check
+pub trusted_after : (old new : OpenIndexState) (r : Result (Option (ℕ × DamagedTerm)) Fault) → IfOk r (λ damage. new ≡ index_after damage old) → IfOk r (λ damage. damage ≡ None → new ≡ trusted_index old)
+trusted_after old new (Ok None) is = λ none. is
+trusted_after old new (Ok (Some damage)) is = λ none. absurd (cc)
+trusted_after old new (Err fault) is = tt
+
+pub kept_after : (old new : OpenIndexState) (r : Result (Option (ℕ × DamagedTerm)) Fault) → IfOk r (λ damage. new ≡ index_after damage old) → IfOk r (λ damage. IfSome damage (λ d. new ≡ old))
+kept_after old new (Ok None) is = tt
+kept_after old new (Ok (Some damage)) is = is
+kept_after old new (Err fault) is = tt

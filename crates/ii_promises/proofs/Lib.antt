@@ -3,6 +3,7 @@ mod IndexingLaws
 pub mod BoundLaws
 mod DeepLaws
 mod LoadedLaws
+mod OpenedLaws
 mod OpeningLaws
 mod PhraseLaws
 pub mod DecodesLaws

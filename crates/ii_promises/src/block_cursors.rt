@@ -7,9 +7,9 @@ use bytes::Bytes;
 use nequllpa::{BlockSegmentPostings, DocId, IndexRecordOption, LayoutFault};
 
 /// Any bytes open as the documents and term frequencies that the layout relation gives. If it gives
-/// none, the first corrupt part is returned. After the validation, which isn't counted, one block of
-/// documents is decoded if there is one, at most one of term frequencies, and one skip entry is read if
-/// there is one.
+/// none, the first corrupt part is returned. To validate the list, each block of it is decoded at most
+/// once. After that, one block of documents is decoded if there is one, at most one of term frequencies,
+/// and one skip entry is read if there is one.
 pub fn any_bytes_open_as_their_documents(
     doc_freq: u32,
     bytes: Bytes,
@@ -22,6 +22,7 @@ pub fn any_bytes_open_as_their_documents(
     ensures first { IfOk result (λ cursor. cursor.block ≡ 0) }
     ensures docs { IfOk result (λ cursor. cursor.doc_decodes ≤ 1) }
     ensures entries { IfOk result (λ cursor. cursor.entries_read ≤ 1) }
+    ensures validation { IfOk result (λ cursor. (cursor.checked.docs ≤ (doc_freq + 127) / 128) × (cursor.checked.freqs ≤ (doc_freq + 127) / 128)) }
 {
     BlockSegmentPostings::open(doc_freq, bytes, recorded, requested)
 }

@@ -18,8 +18,9 @@ use nequllpa::{
 use std::alloc::Global;
 
 /// Any bytes open as the list that the layout relation gives. If it gives none, the first corrupt part
-/// is returned. All documents remain. After the validation, which isn't counted, at most one block each
-/// of documents, term frequencies and positions is decoded, and at most one skip entry read.
+/// is returned. All documents remain. To validate documents and term frequencies, each block of them is
+/// decoded at most once. After that, at most one block each of documents, term frequencies and positions is
+/// decoded, and at most one skip entry read. A list of one block is decoded once for both.
 pub fn any_bytes_open_as_their_list(
     doc_freq: u32,
     postings: Bytes,
@@ -33,12 +34,16 @@ pub fn any_bytes_open_as_their_list(
     ensures at_front { IfOk result (λ cursor. (cursor.doc_freq ≡ doc_freq) × (cursor.block ≡ 0)) }
     ensures decodes { IfOk result (λ cursor. (cursor.doc_decodes ≤ 1) × (cursor.freq_decodes ≤ 1) × (cursor.position_decodes ≤ 1)) }
     ensures entries { IfOk result (λ cursor. cursor.entries_read ≤ 1) }
+    // What is decoded to validate it.
+    ensures validation { IfOk result (λ cursor. (cursor.checked.docs ≤ (doc_freq + 127) / 128) × (cursor.checked.freqs ≤ (doc_freq + 127) / 128)) }
+    ensures short { doc_freq < 128 → IfOk result (λ cursor. (cursor.checked.docs ≡ 0) × (cursor.checked.freqs ≡ 0)) }
 {
     SegmentPostings::open(doc_freq, postings, positions, recorded, requested)
 }
 
 /// Bytes that are known to give a list open as that list, and never fail. All documents remain.
-/// Opening decodes at most one block each of documents, term frequencies and positions.
+/// Opening decodes at most one block each of documents, term frequencies and positions, and no block to
+/// validate them.
 pub fn known_lists_are_never_refused(
     doc_freq: u32,
     postings: Bytes,
@@ -50,6 +55,7 @@ pub fn known_lists_are_never_refused(
     ensures list { term_list recorded requested doc_freq postings positions ≡ Ok result.rest }
     ensures many { length result.rest ≡ doc_freq }
     ensures decodes { (result.doc_decodes ≤ 1) × (result.freq_decodes ≤ 1) × (result.position_decodes ≤ 1) }
+    ensures no_validation { (result.checked.docs ≡ 0) × (result.checked.freqs ≡ 0) }
 {
     SegmentPostings::open_known(doc_freq, postings, positions, recorded, requested)
 }
@@ -70,6 +76,7 @@ pub fn reset_opens_anew(
     ensures first { cursor.new.block ≡ 0 }
     ensures decodes { (cursor.new.doc_decodes ≤ 1) × (cursor.new.freq_decodes ≤ 1) × (cursor.new.position_decodes ≤ 1) }
     ensures entries { cursor.new.entries_read ≤ 1 }
+    ensures validation { (cursor.new.checked.docs ≤ (doc_freq + 127) / 128) × (cursor.new.checked.freqs ≤ (doc_freq + 127) / 128) }
 {
     cursor.reset(doc_freq, postings, positions, recorded, requested)
 }
@@ -98,6 +105,7 @@ pub fn advance_decodes_one_block(cursor: &mut SegmentPostings) -> DocId
     ensures docs { cursor.new.doc_decodes ≤ cursor.old.doc_decodes + 1 }
     ensures counts { cursor.new.freq_decodes ≤ cursor.old.freq_decodes + 1 }
     ensures positions { cursor.new.position_decodes ≡ cursor.old.position_decodes }
+    ensures validation { cursor.new.checked ≡ cursor.old.checked }
     // Totals at the new block.
     ensures all_docs { cursor.new.doc_decodes ≤ cursor.new.block + 1 }
     ensures all_counts { cursor.new.freq_decodes ≤ cursor.new.block + 1 }
@@ -117,6 +125,7 @@ pub fn seek_decodes_one_block(cursor: &mut SegmentPostings, target: DocId) -> Do
     ensures docs { cursor.new.doc_decodes ≤ cursor.old.doc_decodes + 1 }
     ensures counts { cursor.new.freq_decodes ≤ cursor.old.freq_decodes + 1 }
     ensures positions { cursor.new.position_decodes ≡ cursor.old.position_decodes }
+    ensures validation { cursor.new.checked ≡ cursor.old.checked }
     // Totals at the new block.
     ensures all_docs { cursor.new.doc_decodes ≤ cursor.new.block + 1 }
     ensures all_counts { cursor.new.freq_decodes ≤ cursor.new.block + 1 }

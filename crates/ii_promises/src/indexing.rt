@@ -63,6 +63,27 @@ pub fn what_is_indexed_is_never_damaged<A: TextAnalyzer>(
     Ok(index.reader(term.field()).read_postings(term, requested))
 }
 
+/// A lookup in an index that was just written decodes no block to validate the list that it opens: at
+/// most the first one of its documents and of its term frequencies, and one of its positions.
+pub fn what_is_indexed_opens_without_validation<A: TextAnalyzer>(
+    alloc: Global,
+    schema: Schema,
+    num_docs: DocId,
+    calls: Vec<IndexCall>,
+    analyzer: &A,
+    term: &Term,
+    requested: IndexRecordOption,
+) -> Result<Option<SegmentPostings>, Fault>
+    requires docs { num_docs ≤ 2147483647 }
+    requires calls { MayAllBeIndexed schema num_docs calls.items }
+    requires field { term.now.field < length schema }
+    ensures no_validation { IfOk result (λ found. IfSome found (λ cursor. (cursor.checked.docs ≡ 0) × (cursor.checked.freqs ≡ 0))) }
+    ensures decodes { IfOk result (λ found. IfSome found (λ cursor. (cursor.doc_decodes ≤ 1) × (cursor.freq_decodes ≤ 1) × (cursor.position_decodes ≤ 1))) }
+{
+    let index = index_in_ram(alloc, schema, num_docs, calls, analyzer)?;
+    index.reader(term.field()).read_postings(term, requested)
+}
+
 /// Returns the number of a field's tokens, and the number of documents with a key.
 pub fn what_is_indexed_is_counted<A: TextAnalyzer>(
     alloc: Global,

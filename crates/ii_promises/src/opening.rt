@@ -7,8 +7,8 @@ ghost use Rattle.ii_definitions.specs.Files.{HoldTokens};
 ghost use Rattle.ii_definitions.specs.Norms.{HoldNorms};
 ghost use Rattle.ii_definitions.specs.Tokens.{IndexToken};
 ghost use Rattle.ii_termdict.specs.Dictionary.{TermEntry, info_under};
-ghost use Rattle.ii_reader.specs.InvertedIndexReader.{AllOpen, InvertedIndexReaderState, term_of_file};
-ghost use Rattle.ii_reader.specs.OpenIndex.{IndexHolds, OpenIndexState, ReadersHold, index_of_files};
+ghost use Rattle.ii_reader.specs.InvertedIndexReader.{AllOpen, InvertedIndexReaderState, term_of_file, trusted_reader};
+ghost use Rattle.ii_reader.specs.OpenIndex.{IndexHolds, OpenIndexState, ReadersHold, index_of_files, trusted_index};
 
 use bytes::Bytes;
 use ii_termdict::TermInfo;
@@ -115,7 +115,7 @@ pub fn ranges_outside_are_refused(
 /// A check of an open index reports nothing exactly if each term of each field opens, however much of
 /// its list is requested. Otherwise it reports a field, a term by its ordinal, and the first corrupt
 /// part of the term's list. Each term before it opens, in this field and in earlier fields. The index
-/// is unchanged.
+/// is then trusted if nothing is reported, and else unchanged.
 pub fn a_check_tells_the_first_damage(
     index: &mut OpenIndex,
 ) -> Result<Option<(Field, DamagedTerm)>, Fault>
@@ -126,14 +126,16 @@ pub fn a_check_tells_the_first_damage(
     ensures first { IfOk result (λ damage. IfSome damage (λ d. (field : ℕ) (reader : InvertedIndexReaderState) (ord : ℕ) (term : TermEntry)
         → slice_get index.old.readers field ≡ Some reader → slice_get reader.terms ord ≡ Some term → (field < d.0) ⊎ ((field ≡ d.0) × (ord < d.1.ord))
         → IsOk (term_of_file reader reader.option term.1))) }
-    ensures same { index.new ≡ index.old }
+    ensures trusted { IfOk result (λ damage. damage ≡ None → index.new ≡ trusted_index index.old) }
+    ensures same { IfOk result (λ damage. IfSome damage (λ d. index.new ≡ index.old)) }
+    ensures stays { OnErr result (index.new ≡ index.old) }
     ensures memory { IfErr result (λ fault. fault ≡ Fault.OutOfMemory) }
 {
     index.check()
 }
 
 /// A reader whose terms all open becomes trusted, and is otherwise unchanged. A lookup returns the
-/// list of its term, and fails only with `OutOfMemory`.
+/// list of its term, decodes no block to validate it, and fails only with `OutOfMemory`.
 pub fn trusted_readers_open_every_term(
     reader: &mut InvertedIndexReader,
     term: &Term,
@@ -141,7 +143,8 @@ pub fn trusted_readers_open_every_term(
 ) -> Result<Option<SegmentPostings>, Fault>
     requires { AllOpen reader.old }
     ensures list { IfSome (info_under term.now.value reader.old.terms) (λ info. IfOk result (λ found. IsSomeAnd found (λ cursor. term_of_file reader.old requested info ≡ Ok cursor.rest))) }
-    ensures same { reader.new ≡ reader.old }
+    ensures no_validation { IfSome (info_under term.now.value reader.old.terms) (λ info. IfOk result (λ found. IsSomeAnd found (λ cursor. (cursor.checked.docs ≡ 0) × (cursor.checked.freqs ≡ 0)))) }
+    ensures same { reader.new ≡ trusted_reader reader.old }
     ensures memory { IfErr result (λ fault. fault ≡ Fault.OutOfMemory) }
 {
     reader.trust();

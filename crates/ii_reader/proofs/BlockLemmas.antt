@@ -11,6 +11,8 @@ use Rattle.ii_layout.specs.Postings.{Postings, postings}
 use Rattle.ii_layout.specs.TermList.{docs_and_freqs}
 use Rattle.ii_layout.specs.SkipReader.{SkipReaderState}
 use Rattle.ii_check.specs.declared.freq_reading_option.FreqReadingOption.{FreqReadingOption}
+use Rattle.ii_check.specs.declared.validation.Validation.{Validation}
+use Rattle.ii_check.specs.CheckedBlocks.{BlockCounts, blocks_checked, counts_checked, freqs_checked, no_blocks}
 use Rattle.ii_check.specs.FreqReading.{freq_reading, freq_reading_of}
 use Rattle.ii_check.specs.CheckedPostings.{AreReadFreqs, AreLastFreqs, CheckedPostingsState, HasDocuments, HoldsBlock, HoldsFreqs, IsAtBlock, LoadsBlock, LoadsFreqs, new_decoder}
 use Rattle.ii_reader.specs.Bounds.{bounds_of, bounds_read}
@@ -170,9 +172,9 @@ pub record Moves (p : CheckedPostingsState) (skip skip' : SkipReaderState) (docs
   pub next : skip'.block ≡ min (skip.block + 1) (p.doc_freq / 128 + 1)
   pub loads : LoadsBlock p.postings skip'.block docs docs' freqs freqs'
 
-abbrev pub state_of : CheckedPostingsState → SkipReaderState → BlockDecoderState → BlockDecoderState → BlockSegmentPostingsState
-state_of p skip docs freqs =
-    record { recorded = p.recorded; requested = p.requested; docs = p.postings.docs; freqs = p.postings.freqs; freq_reading = p.freq_reading; bounds = bounds_of p.postings.skip; block = skip.block; doc_decodes = docs.decodes; freq_decodes = freqs.decodes; entries_read = skip.entries_read }
+abbrev pub state_of : BlockCounts → CheckedPostingsState → SkipReaderState → BlockDecoderState → BlockDecoderState → BlockSegmentPostingsState
+state_of checked p skip docs freqs =
+    record { recorded = p.recorded; requested = p.requested; docs = p.postings.docs; freqs = p.postings.freqs; freq_reading = p.freq_reading; bounds = bounds_of p.postings.skip; block = skip.block; doc_decodes = docs.decodes; freq_decodes = freqs.decodes; entries_read = skip.entries_read; checked = checked }
 
 doc_count : (p : CheckedPostingsState) (skip skip' : SkipReaderState) (docs docs' freqs freqs' : BlockDecoderState) → Moves p skip skip' docs docs' freqs freqs' → docs'.decodes ≤ docs.decodes + min 1 (skip'.block - skip.block)
 doc_count p skip skip' docs docs' freqs freqs' m = decodes_next p.postings.docs p.doc_freq skip.block skip'.block docs.decodes docs'.decodes m.was.has.many m.next m.was.at.within m.loads.docs_are.decodes
@@ -197,14 +199,14 @@ moved_loaded p skip skip' docs docs' freqs freqs' m =
       freq_decodes = omega arith;
     }
 
-pub moved_goes : (p : CheckedPostingsState) (skip skip' : SkipReaderState) (docs docs' freqs freqs' : BlockDecoderState) → Moves p skip skip' docs docs' freqs freqs'
-    → GoesTo (state_of p skip docs freqs) (state_of p skip' docs' freqs') (min (skip.block + 1) (length p.postings.docs / 128 + 1))
-moved_goes p skip skip' docs docs' freqs freqs' m =
+pub moved_goes : (checked : BlockCounts) (p : CheckedPostingsState) (skip skip' : SkipReaderState) (docs docs' freqs freqs' : BlockDecoderState) → Moves p skip skip' docs docs' freqs freqs'
+    → GoesTo (state_of checked p skip docs freqs) (state_of checked p skip' docs' freqs') (min (skip.block + 1) (length p.postings.docs / 128 + 1))
+moved_goes checked p skip skip' docs docs' freqs freqs' m =
     let next = m.next in
     let many = m.was.has.many in
     let count = doc_count p skip skip' docs docs' freqs freqs' m in
     let counts = freq_count p skip skip' docs docs' freqs freqs' m in
-    record { recorded = refl; requested = refl; docs = refl; freqs = refl; freq_reading = refl; bounds = refl; block = omega arith; doc_decodes = omega arith; freq_decodes = omega arith }
+    record { recorded = refl; requested = refl; docs = refl; freqs = refl; freq_reading = refl; bounds = refl; checked = refl; block = omega arith; doc_decodes = omega arith; freq_decodes = omega arith }
 
 -- a cursor that went on to a later block
 pub record GoesOn (p : CheckedPostingsState) (skip skip' : SkipReaderState) (docs docs' freqs freqs' : BlockDecoderState) : Type 0 where
@@ -249,8 +251,8 @@ on_loaded p skip skip' docs docs' freqs freqs' g =
       freq_decodes = omega arith;
     }
 
-pub on_goes : (p : CheckedPostingsState) (skip skip' : SkipReaderState) (docs docs' freqs freqs' : BlockDecoderState) → GoesOn p skip skip' docs docs' freqs freqs' → GoesTo (state_of p skip docs freqs) (state_of p skip' docs' freqs') skip'.block
-on_goes p skip skip' docs docs' freqs freqs' g =
+pub on_goes : (checked : BlockCounts) (p : CheckedPostingsState) (skip skip' : SkipReaderState) (docs docs' freqs freqs' : BlockDecoderState) → GoesOn p skip skip' docs docs' freqs freqs' → GoesTo (state_of checked p skip docs freqs) (state_of checked p skip' docs' freqs') skip'.block
+on_goes checked p skip skip' docs docs' freqs freqs' g =
     record {
       recorded = refl;
       requested = refl;
@@ -258,19 +260,33 @@ on_goes p skip skip' docs docs' freqs freqs' g =
       freqs = refl;
       freq_reading = refl;
       bounds = refl;
+      checked = refl;
       block = refl;
       doc_decodes = docs_later p skip skip' docs docs' freqs freqs' g;
       freq_decodes = freqs_later p skip skip' docs docs' freqs freqs' g;
     }
 
-pub loaded_lazy : (p : CheckedPostingsState) (skip : SkipReaderState) (docs freqs : BlockDecoderState) → IsLoaded p skip docs freqs → IsLazy (state_of p skip docs freqs)
-loaded_lazy p skip docs freqs l =
+pub loaded_lazy : (checked : BlockCounts) (p : CheckedPostingsState) (skip : SkipReaderState) (docs freqs : BlockDecoderState) → IsLoaded p skip docs freqs → IsLazy (state_of checked p skip docs freqs)
+loaded_lazy checked p skip docs freqs l =
     let many = l.has.many in
     let within = l.at.within in
     let had = l.doc_decodes in
     let freq_had = l.freq_decodes in
     let entries = ap (λ (r : SkipReaderState). r.entries_read) l.at.reader in
     record { within = omega arith; doc_decodes = omega arith; freq_decodes = omega arith; entries_read = omega arith }
+
+-- what was counted from nothing to validate a list
+pub counted : (validation : Validation) (reading : FreqReadingOption) (n : ℕ) (old new : BlockCounts) → old ≡ no_blocks → new.docs ≡ old.docs + blocks_checked validation n → new.freqs ≡ old.freqs + freqs_checked validation reading n
+    → new ≡ counts_checked validation reading n
+counted validation reading n old new none docs freqs =
+    let no_docs : old.docs ≡ 0 = ap (λ (k : BlockCounts). k.docs) none in
+    let no_freqs : old.freqs ≡ 0 = ap (λ (k : BlockCounts). k.freqs) none in
+    let docs_are : new.docs ≡ blocks_checked validation n = docs ∙ from_none old.docs (blocks_checked validation n) no_docs in
+    let freqs_are : new.freqs ≡ freqs_checked validation reading n = freqs ∙ from_none old.freqs (freqs_checked validation reading n) no_freqs in
+    λ j. record { docs = docs_are j; freqs = freqs_are j }
+  where
+    from_none : (k m : ℕ) → k ≡ 0 → k + m ≡ m
+    from_none k m e = omega (arith, e)
 
 -- A block that has as many counts as the term has documents, fewer than a full one has, is the last.
 last_at : (fs : List ℕ) (n block : ℕ) (row : List ℕ) → length fs ≡ n → row ≡ block_of fs block → length row < 128 → length row ≡ n → row ≡ block_of fs (n / 128)

@@ -266,6 +266,7 @@ looks_on least old now next was goes later lands =
       freqs = goes.freqs ∙ was.freqs;
       freq_reading = goes.freq_reading ∙ was.freq_reading;
       bounds = goes.bounds ∙ was.bounds;
+      checked = goes.checked ∙ was.checked;
       forward = omega arith;
       doc_decodes = omega arith;
       freq_decodes = omega arith;
@@ -433,8 +434,8 @@ looking_on target least from old_place place old now next l all goes later lands
 
 -- what a cursor over entries did
 pub went_with_freq : (least : ℕ) (old new : BlockSegmentPostingsState) (rest rest' : List Entry) (decodes : ℕ) → LooksFor least old new
-    → WentLazily (record { rest = rest; doc_freq = length old.docs; freq_reading = old.freq_reading; bounds = trusted old.freq_reading old.bounds; block = old.block; doc_decodes = old.doc_decodes; freq_decodes = old.freq_decodes; entries_read = old.entries_read; position_decodes = decodes })
-    (record { rest = rest'; doc_freq = length new.docs; freq_reading = new.freq_reading; bounds = trusted new.freq_reading new.bounds; block = new.block; doc_decodes = new.doc_decodes; freq_decodes = new.freq_decodes; entries_read = new.entries_read; position_decodes = decodes })
+    → WentLazily (record { rest = rest; doc_freq = length old.docs; freq_reading = old.freq_reading; bounds = trusted old.freq_reading old.bounds; block = old.block; doc_decodes = old.doc_decodes; freq_decodes = old.freq_decodes; entries_read = old.entries_read; position_decodes = decodes; checked = old.checked })
+    (record { rest = rest'; doc_freq = length new.docs; freq_reading = new.freq_reading; bounds = trusted new.freq_reading new.bounds; block = new.block; doc_decodes = new.doc_decodes; freq_decodes = new.freq_decodes; entries_read = new.entries_read; position_decodes = decodes; checked = new.checked })
 went_with_freq least old new rest rest' decodes l =
     let few = few_blocks least old.block new.block old.bounds in
     let forward = l.forward in
@@ -444,6 +445,7 @@ went_with_freq least old new rest rest' decodes l =
       doc_freq = ap length l.docs;
       freq_reading = l.freq_reading;
       bounds = λ j. trusted (l.freq_reading j) (l.bounds j);
+      checked = l.checked;
       forward = forward;
       doc_decodes = omega arith;
       freq_decodes = omega arith;

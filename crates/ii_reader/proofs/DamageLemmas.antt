@@ -32,6 +32,7 @@ use Rattle.ii_termdict.specs.Dictionary.{TermEntry, entry_infos, entry_keys, inf
 use Rattle.ii_termdict.specs.ReadBack.{AreAscending}
 use Rattle.ii_termdict.specs.TermStreamer.{TermStreamerState}
 use Rattle.ii_definitions.specs.Files.{bytes_in}
+use Rattle.ii_check.specs.declared.validation.Validation.TheVariants.{Complete}
 use Rattle.ii_reader.specs.declared.damage.DamagedTerm.{DamagedTerm}
 use Rattle.ii_reader.specs.Damage.{damage_of, damage_of_field, damaged_term, first_damaged_field, first_damaged_term}
 use Rattle.ii_reader.specs.InvertedIndexReader.{AllOpen, InvertedIndexReaderState, IsRefusal, OpensTerm, lies_in, ranges_lie, reads_positions, term_of_file}
@@ -259,7 +260,7 @@ read_at reader terms ord info is at =
 
 -- the next term opens
 pub checking_next : (reader : InvertedIndexReaderState) (option : IndexRecordOption) (terms now : TermStreamerState) (ord : ℕ) (info : TermInfo) (cursor : SegmentPostingsState) → option ≡ reader.option → IsChecking reader terms ord
-    → now ≡ record { entries = reader.terms; passed = ord + 1 } → slice_get (entry_infos now.entries) (now.passed - 1) ≡ Some info → OpensTerm reader option info cursor → IsChecking reader now (ord + 1)
+    → now ≡ record { entries = reader.terms; passed = ord + 1 } → slice_get (entry_infos now.entries) (now.passed - 1) ≡ Some info → OpensTerm Complete reader option info cursor → IsChecking reader now (ord + 1)
 checking_next reader option terms now ord info cursor option_is checking now_is at opens =
     let found : term_of_file reader reader.option info ≡ Ok cursor.rest = ap (λ (o : IndexRecordOption). term_of_file reader o info) (sym option_is) ∙ opens.list in
     record { terms_are = now_is; left = step_at reader terms ord info (Ok cursor.rest) checking (read_at reader now ord info now_is at) found }

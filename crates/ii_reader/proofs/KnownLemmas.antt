@@ -1,8 +1,12 @@
 -- Terms that are known to open.
-use Rattle.std.proofs.Common.{◌≡◌, ◌<◌, ℕ, zero, suc, subst, Bool, true, false, List, [], ◌∷◌, length, Option, None, Some, Ok, Err, refl, sym, ap, arith}
-use Rattle.std.specs.Prelude.{Result, IfSome, IsOk, IsSome, IsSomeAnd, MatchOption, is_ok, ok_or, slice_get, slice_index_or}
+use Rattle.std.proofs.Common.{◌≡◌, ◌<◌, ◌≤◌, ◌+◌, ◌++◌, ◌∙◌, ℕ, zero, suc, subst, take, drop, Bool, true, false, List, [], ◌∷◌, length, map, Option, None, Some, Ok, Err, refl, sym, ap, arith}
+use Rattle.std.specs.Prelude.{Result, IfSome, IsOk, IsSome, IsSomeAnd, MatchOption, is_ok, ok_or, slice_get, slice_index_or, slice_set}
 use Rattle.std.specs.List.{All}
+use Rattle.std.specs.Option.{option_map}
 use Rattle.std.proofs.lemmas.Bool.{and_parts}
+use Rattle.std.proofs.lemmas.List.{append-nil, drop_all, take_all}
+use Rattle.std.proofs.lemmas.List.Elements.{All-map}
+use Rattle.std.proofs.lemmas.Option.{slice_get-map}
 use Rattle.ii_io.specs.declared.faults.Part.{Part}
 use Rattle.ii_io.specs.declared.faults.Part.TheVariants.{Positions}
 use Rattle.ii_io.specs.Parts.{◌>>=◌}
@@ -16,7 +20,7 @@ use Rattle.ii_termdict.specs.Dictionary.{info_under}
 use Rattle.ii_definitions.specs.Tokens.{IndexToken}
 use Rattle.ii_definitions.specs.Postings.{occurs}
 use Rattle.ii_definitions.specs.Files.{HoldsTerm, bytes_in}
-use Rattle.ii_reader.specs.InvertedIndexReader.{AllOpen, InvertedIndexReaderState, ReaderHolds, docs_of_file, given_if, if_they_lie, lies_in, ranges_lie, reads_positions, term_of_file}
+use Rattle.ii_reader.specs.InvertedIndexReader.{AllOpen, InvertedIndexReaderState, IsTrusted, ReaderHolds, docs_of_file, given_if, if_they_lie, lies_in, ranges_lie, reads_positions, term_of_file, trusted_reader}
 use Rattle.ii_base.specs.Schema.{SchemaEntry}
 use Rattle.ii_reader.specs.OpenIndex.{FieldReaderHolds, ReadersHold}
 use Rattle.ii_reader.proofs.ReaderLemmas.{list_held, term_list_given}
@@ -108,3 +112,39 @@ held_reader entries field ts (Some reader) held = held_open reader field ts held
 pub readers_open : (entries : List SchemaEntry) (readers : List InvertedIndexReaderState) (ts : List IndexToken) → ReadersHold entries readers ts → length readers ≡ length entries → All AllOpen readers
 readers_open entries readers ts holds many k d within =
     at_place AllOpen readers k d within (held_reader entries k ts (slice_get readers k) (holds k (omega (arith, many, within))))
+
+-- readers that hold tokens hold them when they are trusted
+trusted_holds : (entries : List SchemaEntry) (field : ℕ) (ts : List IndexToken) (o : Option InvertedIndexReaderState) → IsSomeAnd o (λ reader. FieldReaderHolds entries field reader ts)
+    → IsSomeAnd (option_map trusted_reader o) (λ reader. FieldReaderHolds entries field reader ts)
+trusted_holds entries field ts None held = absurd held
+trusted_holds entries field ts (Some reader) held = record { option_is = held.option_is; holds = record { counted = held.holds.counted; exact = held.holds.exact } }
+
+pub readers_trusted : (entries : List SchemaEntry) (readers : List InvertedIndexReaderState) (ts : List IndexToken) → ReadersHold entries readers ts → ReadersHold entries (map trusted_reader readers) ts
+readers_trusted entries readers ts holds = λ field within.
+    rw (slice_get-map trusted_reader readers field) (trusted_holds entries field ts (slice_get readers field) (holds field within))
+
+pub all_trusted : (readers : List InvertedIndexReaderState) → All IsTrusted (map trusted_reader readers)
+all_trusted readers = All-map IsTrusted trusted_reader readers (λ k d within. refl)
+
+-- readers of which the first k are trusted, one after the other
+abbrev pub trusted_to : ℕ → List InvertedIndexReaderState → List InvertedIndexReaderState
+trusted_to k readers = map trusted_reader (take k readers) ++ drop k readers
+
+pub next_is : (k : ℕ) (readers : List InvertedIndexReaderState) (d : InvertedIndexReaderState) → k < length readers → slice_index_or (trusted_to k readers) k d ≡ slice_index_or readers k d
+next_is k [] d within = absurd (omega arith)
+next_is zero (r ∷ rs) d within = refl
+next_is (suc k) (r ∷ rs) d within = next_is k rs d (omega arith)
+
+set_next : (k : ℕ) (readers : List InvertedIndexReaderState) (d : InvertedIndexReaderState) → k < length readers → slice_set (trusted_to k readers) k (trusted_reader (slice_index_or readers k d)) ≡ trusted_to (suc k) readers
+set_next k [] d within = absurd (omega arith)
+set_next zero (r ∷ rs) d within = refl
+set_next (suc k) (r ∷ rs) d within = ap (λ (l : List InvertedIndexReaderState). trusted_reader r ∷ l) (set_next k rs d (omega arith))
+
+pub trusted_next : (k : ℕ) (readers items : List InvertedIndexReaderState) (d new : InvertedIndexReaderState) → k < length readers → items ≡ trusted_to k readers → new ≡ trusted_reader (slice_index_or items k d) → slice_set items k new ≡ trusted_to (k + 1) readers
+trusted_next k readers items d new within is trusted =
+    let item : slice_index_or items k d ≡ slice_index_or readers k d = ap (λ (l : List InvertedIndexReaderState). slice_index_or l k d) is ∙ next_is k readers d within in
+    let one : suc k ≡ k + 1 = omega arith in
+    (λ j. slice_set (is j) k ((trusted ∙ ap trusted_reader item) j)) ∙ set_next k readers d within ∙ ap (λ (n : ℕ). trusted_to n readers) one
+
+pub trusted_end : (k : ℕ) (readers : List InvertedIndexReaderState) → length readers ≤ k → trusted_to k readers ≡ map trusted_reader readers
+trusted_end k readers past = rw (take_all k readers past, drop_all k readers past) (append-nil (map trusted_reader readers))

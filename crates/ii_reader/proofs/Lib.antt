@@ -8,6 +8,7 @@ pub mod JsonLemmas
 pub mod JsonOrderLemmas
 pub mod KnownLemmas
 pub mod LoadedLemmas
+pub mod OpenLemmas
 pub mod PieceLemmas
 pub mod PositionLemmas
 pub mod ReaderLemmas

@@ -1,5 +1,5 @@
 -- Laws of lists that are loaded into memory.
-use Rattle.std.proofs.Common.{◌≡◌, ℕ, zero, suc, ◌+◌, ◌-◌, ◌<◌, ◌≤◌, ◌^◌, Bool, true, false, List, [], ◌∷◌, ◌++◌, length, take, drop, map, get_or, nat_lt, refl, sym, ap, ◌∙◌, arith, inl, inr, length-drop, length-append, append-nil, append_assoc}
+use Rattle.std.proofs.Common.{◌≡◌, ℕ, zero, suc, ◌+◌, ◌-◌, ◌<◌, ◌≤◌, ◌^◌, Bool, true, false, List, [], ◌∷◌, ◌++◌, length, take, drop, get_or, nat_lt, refl, sym, ap, ◌∙◌, arith, inl, inr, length-drop, length-append, append-nil, append_assoc}
 use Rattle.std.specs.List.{All}
 use Rattle.std.proofs.Math.Seq.{drop-cons, drop-append_seam, drop-length}
 use Rattle.std.proofs.lemmas.Bool.{ltb-true, ltb-false}

@@ -24,10 +24,12 @@ use Rattle.std.specs.Option.{option_map}
 use Rattle.std.specs.Result.{result_unwrap_or}
 use Rattle.ii_base.specs.Entries.{Entry}
 use Rattle.ii_termstore.specs.declared.term_info.TermInfo.{TermInfo}
+use Rattle.ii_check.specs.declared.validation.Validation.{Validation}
 use Rattle.ii_definitions.specs.Files.{HoldsTerm, bytes_in}
 use Rattle.ii_io.specs.declared.faults.Fault.TheVariants.{Damaged, OutOfMemory}
 use Rattle.std.proofs.lemmas.Bool.{le-leb}
-use Rattle.ii_reader.specs.InvertedIndexReader.{InvertedIndexReaderState, IsRefusal, given_if, ranges_lie, reads_positions, term_of_file}
+use Rattle.ii_reader.specs.InvertedIndexReader.{InvertedIndexReaderState, IsRefusal, OpensTerm, given_if, ranges_lie, reads_positions, term_of_file}
+use Rattle.ii_reader.specs.SegmentPostings.{OpensList, SegmentPostingsState}
 use Rattle.std.proofs.Math.Bool.{or-true}
 
 front : (bytes : List ℕ) (n : ℕ) (rest : List ℕ) (b : Bool) → nat_le 8 (length bytes) ≡ b → number_at 8 bytes ≡ Some (n, rest) → (rest ≡ drop 8 bytes) × (8 ≤ length bytes)
@@ -129,6 +131,24 @@ ranges_held reader field key requested ts info holds =
 pub list_held : (reader : InvertedIndexReaderState) (field : ℕ) (key : List ℕ) (requested : IndexRecordOption) (ts : List IndexToken) (info : TermInfo)
     → HoldsTerm reader.option field key reader.postings reader.positions ts info → term_of_file reader requested info ≡ Ok (key_postings reader.option field key requested ts)
 list_held reader field key requested ts info holds = rw (ranges_held reader field key requested ts info holds) (holds.lists requested)
+
+-- a term is opened by the list of its bytes
+pub opens_term : (validation : Validation) (reader : InvertedIndexReaderState) (requested : IndexRecordOption) (info : TermInfo) (cursor : SegmentPostingsState) → ranges_lie reader requested info ≡ true
+    → OpensList validation reader.option requested info.doc_freq (bytes_in reader.postings info.postings_range) (given_if (reads_positions reader requested) (bytes_in reader.positions info.positions_range)) cursor → OpensTerm validation reader requested info cursor
+opens_term validation reader requested info cursor lie opened =
+    record {
+      list = file_list reader requested info _ lie opened.list;
+      doc_freq = opened.doc_freq_is;
+      many = opened.many;
+      reading = opened.reading;
+      bounds = opened.bounds;
+      first = opened.first;
+      doc_decodes = opened.doc_decodes;
+      freq_decodes = opened.freq_decodes;
+      entries_read = opened.entries_read;
+      position_decodes = opened.position_decodes;
+      checked = opened.checked;
+    }
 
 pub list_is : (reader : InvertedIndexReaderState) (field : ℕ) (key : List ℕ) (requested : IndexRecordOption) (ts : List IndexToken) (info : TermInfo) (rest : List Entry)
     → HoldsTerm reader.option field key reader.postings reader.positions ts info → term_of_file reader requested info ≡ Ok rest → rest ≡ key_postings reader.option field key requested ts

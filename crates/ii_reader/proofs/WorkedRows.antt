@@ -10,6 +10,7 @@ use Rattle.ii_termstore.specs.declared.term_info.TermInfo.{TermInfo}
 use Rattle.ii_termstore.specs.TermInfos.{term_info_from}
 use Rattle.ii_termstore.specs.TermStore.{store_parts, term_store}
 use Rattle.ii_termdict.specs.Dictionary.{dictionary, end_of, key_parts, keys_at}
+use Rattle.ii_check.specs.declared.validation.Validation.TheVariants.{Complete}
 use Rattle.ii_reader.specs.Damage.{damaged_term, damaged_terms, first_damaged_field}
 use Rattle.ii_reader.specs.InvertedIndexReader.{InvertedIndexReaderState, docs_of_file, reader_of_none, reader_over, term_of_file}
 use Rattle.ii_reader.specs.OpenIndex.{all_or_first, index_of_files, reader_if, reader_of_bodies}
@@ -60,7 +61,7 @@ abbrev plain_info : TermInfo
 plain_info = term_info_from 2 1 3 9 1
 
 abbrev plain_reader : InvertedIndexReaderState
-plain_reader = record { terms = []; postings = 0xFF ∷ 0x80 ∷ 0x82 ∷ []; positions = []; option = Basic; num_tokens = 2 }
+plain_reader = record { terms = []; postings = 0xFF ∷ 0x80 ∷ 0x82 ∷ []; positions = []; option = Basic; num_tokens = 2; validation = Complete }
 
 pub row_file_list : term_of_file plain_reader WithFreqsAndPositions plain_info ≡ Ok (document 0 ∷ document 2 ∷ [])
 unfolding u32_at
@@ -82,7 +83,7 @@ unfolding u32_at
 row_positions_unread = refl
 
 -- the bodies of a field with one token in document 0, and a body that is too short
-pub row_tokens : reader_over [] (1 ∷ replicate 7 0 ++ 0x80 ∷ []) [] Basic ≡ Some (record { terms = []; postings = 0x80 ∷ []; positions = []; option = Basic; num_tokens = 1 })
+pub row_tokens : reader_over [] (1 ∷ replicate 7 0 ++ 0x80 ∷ []) [] Basic ≡ Some (record { terms = []; postings = 0x80 ∷ []; positions = []; option = Basic; num_tokens = 1; validation = Complete })
 unfolding number_at
 row_tokens = refl
 

@@ -1,18 +1,21 @@
 -- A cursor over the blocks of a term's postings.
-use Rattle.std.specs.Prelude.{◌≡◌, ℕ, ◌+◌, ◌-◌, ◌*◌, ◌/◌, ◌<◌, ◌≤◌, max, true, List, [], length, take, min, ⊤, Option, None, Some, slice_index}
+use Rattle.std.specs.Prelude.{◌≡◌, ℕ, ◌+◌, ◌-◌, ◌*◌, ◌/◌, ◌<◌, ◌≤◌, max, true, List, [], length, take, min, ⊤, Option, None, Some, Ok, is_some, slice_index}
 use Rattle.std.specs.List.{slice_index_or, sum}
 use Rattle.ii_base.specs.declared.schema.index_record_option.IndexRecordOption.{IndexRecordOption}
 use Rattle.ii_base.specs.declared.doc_id.TheConstants.{TERMINATED}
 use Rattle.ii_base.specs.Entries.{are_documents}
 use Rattle.ii_codes.specs.BlockDecoder.{BlockDecoderState}
 use Rattle.ii_layout.specs.SkipReader.{SkipReaderState}
+use Rattle.ii_layout.specs.TermList.{docs_and_freqs}
 use Rattle.ii_layout.specs.Written.{block_of}
 use Rattle.ii_check.specs.declared.freq_reading_option.FreqReadingOption.{FreqReadingOption}
-use Rattle.ii_check.specs.FreqReading.{reading_of_none}
-use Rattle.ii_reader.specs.Bounds.{blocks_with_freq}
-use Rattle.ii_check.specs.CheckedPostings.{AreReadFreqs, CheckedPostingsState, HasDocuments, HoldsBlock, HoldsFreqs, IsAtBlock}
+use Rattle.ii_check.specs.declared.validation.Validation.{Validation}
+use Rattle.ii_check.specs.CheckedBlocks.{BlockCounts, counts_checked, no_blocks}
+use Rattle.ii_check.specs.FreqReading.{freq_reading, reading_of_none}
+use Rattle.ii_reader.specs.Bounds.{blocks_with_freq, bounds_read}
+use Rattle.ii_check.specs.CheckedPostings.{AreReadFreqs, CheckedPostingsState, HasDocuments, HoldsBlock, HoldsFreqs, IsAtBlock, is_read}
 
--- a cursor: options, documents, frequencies, bounds of full blocks, block, and what was decoded and read
+-- a cursor: options, documents, frequencies, bounds of full blocks, block, what it decoded and read, and what was decoded to validate the list
 pub record BlockSegmentPostingsState : Type 0 where
   pub recorded : IndexRecordOption
   pub requested : IndexRecordOption
@@ -24,10 +27,11 @@ pub record BlockSegmentPostingsState : Type 0 where
   pub doc_decodes : ℕ
   pub freq_decodes : ℕ
   pub entries_read : ℕ
+  pub checked : BlockCounts
 
 -- a cursor over no documents, by the recorded and the requested option
 abbrev pub cursor_of_none : IndexRecordOption → IndexRecordOption → BlockSegmentPostingsState
-cursor_of_none recorded requested = record { recorded = recorded; requested = requested; docs = []; freqs = None; freq_reading = reading_of_none recorded requested; bounds = []; block = 0; doc_decodes = 0; freq_decodes = 0; entries_read = 0 }
+cursor_of_none recorded requested = record { recorded = recorded; requested = requested; docs = []; freqs = None; freq_reading = reading_of_none recorded requested; bounds = []; block = 0; doc_decodes = 0; freq_decodes = 0; entries_read = 0; checked = no_blocks }
 
 -- the document at a place of a block, or `TERMINATED` after its documents
 abbrev pub doc_in_block : List ℕ → ℕ → ℕ → ℕ
@@ -59,6 +63,21 @@ abbrev pub ComeBefore : Option (List ℕ) → ℕ → ℕ → Type 0
 ComeBefore None place offset = ⊤
 ComeBefore (Some freqs) place offset = offset ≡ sum (take place freqs)
 
+-- A cursor was opened at the first block of the documents at the front of bytes. Besides validation, it decoded no other block.
+pub record OpensDocs (validation : Validation) (recorded requested : IndexRecordOption) (doc_freq : ℕ) (bytes : List ℕ) (cursor : BlockSegmentPostingsState) : Type 0 where
+  pub docs : docs_and_freqs recorded requested doc_freq bytes ≡ Ok (cursor.docs, cursor.freqs)
+  pub recorded_is : cursor.recorded ≡ recorded
+  pub requested_is : cursor.requested ≡ requested
+  pub reading : freq_reading recorded requested doc_freq bytes ≡ Ok cursor.freq_reading
+  pub bounds : bounds_read recorded requested doc_freq bytes ≡ Ok cursor.bounds
+  pub entries : AreEntries doc_freq cursor.docs cursor.freqs
+  pub read : is_some cursor.freqs ≡ is_read cursor.freq_reading
+  pub first : cursor.block ≡ 0
+  pub doc_decodes : cursor.doc_decodes ≡ min 1 doc_freq
+  pub freq_decodes : cursor.freq_decodes ≡ first_decodes cursor.freqs doc_freq
+  pub entries_read : cursor.entries_read ≡ min 1 (doc_freq / 128)
+  pub checked : cursor.checked ≡ counts_checked validation cursor.freq_reading doc_freq
+
 -- Each block and each skip entry up to here was decoded or read at most once; the empty block is the end.
 pub record IsLazy (c : BlockSegmentPostingsState) : Type 0 where
   pub within : c.block ≤ length c.docs / 128 + 1
@@ -74,6 +93,7 @@ pub record GoesTo (old new : BlockSegmentPostingsState) (to : ℕ) : Type 0 wher
   pub freqs : new.freqs ≡ old.freqs
   pub freq_reading : new.freq_reading ≡ old.freq_reading
   pub bounds : new.bounds ≡ old.bounds
+  pub checked : new.checked ≡ old.checked
   pub block : new.block ≡ to
   pub doc_decodes : new.doc_decodes ≤ old.doc_decodes + min 1 (to - old.block)
   pub freq_decodes : new.freq_decodes ≤ old.freq_decodes + min 1 (to - old.block)
@@ -86,6 +106,7 @@ pub record LooksFor (least : ℕ) (old new : BlockSegmentPostingsState) : Type 0
   pub freqs : new.freqs ≡ old.freqs
   pub freq_reading : new.freq_reading ≡ old.freq_reading
   pub bounds : new.bounds ≡ old.bounds
+  pub checked : new.checked ≡ old.checked
   pub forward : old.block ≤ new.block
   pub doc_decodes : new.doc_decodes ≤ old.doc_decodes + blocks_with_freq least old.bounds old.block new.block
   pub freq_decodes : new.freq_decodes ≤ old.freq_decodes + blocks_with_freq least old.bounds old.block new.block

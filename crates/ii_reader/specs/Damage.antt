@@ -1,12 +1,13 @@
 -- Which terms of an index are corrupt.
-use Rattle.std.specs.Prelude.{ℕ, List, Option, slice_get}
+use Rattle.std.specs.Prelude.{ℕ, List, Option, None, Some, slice_get}
 use Rattle.std.specs.List.{enumerate_from, filter_map}
 use Rattle.std.specs.Option.{option_map}
 use Rattle.std.specs.Result.{result_err}
 use Rattle.ii_io.specs.declared.faults.Part.{Part}
 use Rattle.ii_termdict.specs.Dictionary.{TermEntry}
 use Rattle.ii_reader.specs.declared.damage.DamagedTerm.{DamagedTerm}
-use Rattle.ii_reader.specs.InvertedIndexReader.{InvertedIndexReaderState, term_of_file}
+use Rattle.ii_reader.specs.InvertedIndexReader.{InvertedIndexReaderState, term_of_file, trusted_reader}
+use Rattle.ii_reader.specs.OpenIndex.{OpenIndexState, trusted_index}
 
 -- a corrupt term
 abbrev pub damaged_term : ℕ → Part → DamagedTerm
@@ -35,3 +36,13 @@ damaged_fields readers = filter_map damage_of_field (enumerate_from 0 readers)
 -- the first field with a corrupt term
 abbrev pub first_damaged_field : List InvertedIndexReaderState → Option (ℕ × DamagedTerm)
 first_damaged_field readers = slice_get (damaged_fields readers) 0
+
+-- a reader after a check: it is trusted if no damage was found
+abbrev pub reader_after : Option DamagedTerm → InvertedIndexReaderState → InvertedIndexReaderState
+reader_after None reader = trusted_reader reader
+reader_after (Some term) reader = reader
+
+-- an index after a check: it is trusted if no damage was found
+abbrev pub index_after : Option (ℕ × DamagedTerm) → OpenIndexState → OpenIndexState
+index_after None index = trusted_index index
+index_after (Some damage) index = index

@@ -13,6 +13,9 @@ use Rattle.ii_base.specs.Entries.{Entry}
 use Rattle.ii_layout.specs.TermList.{docs_and_freqs, term_list}
 use Rattle.ii_termstore.specs.declared.term_info.TermInfo.{TermInfo}
 use Rattle.ii_termdict.specs.Dictionary.{info_under}
+use Rattle.ii_check.specs.declared.validation.Validation.{Validation}
+use Rattle.ii_check.specs.declared.validation.Validation.TheVariants.{Complete, Skipped}
+use Rattle.ii_check.specs.CheckedBlocks.{counts_checked}
 use Rattle.ii_check.specs.FreqReading.{freq_reading}
 use Rattle.ii_definitions.specs.Tokens.{IndexToken}
 use Rattle.ii_definitions.specs.Postings.{field_count, key_postings, occurs}
@@ -21,22 +24,31 @@ use Rattle.ii_reader.specs.Bounds.{bounds_read, bounds_trusted}
 use Rattle.ii_reader.specs.BlockSegmentPostings.{AreEntries, BlockSegmentPostingsState, first_decodes}
 use Rattle.ii_reader.specs.SegmentPostings.{SegmentPostingsState}
 
--- a reader: dictionary entries, bytes of postings and positions, option of the field, and number of tokens
+-- a reader: dictionary entries, bytes of postings and positions, option of the field, number of tokens, and whether lookups validate postings
 pub record InvertedIndexReaderState : Type 0 where
   pub terms : List (List ℕ × TermInfo)
   pub postings : List ℕ
   pub positions : List ℕ
   pub option : IndexRecordOption
   pub num_tokens : ℕ
+  pub validation : Validation
 
 -- a reader over no terms
 abbrev pub reader_of_none : IndexRecordOption → InvertedIndexReaderState
-reader_of_none option = record { terms = []; postings = []; positions = []; option = option; num_tokens = 0 }
+reader_of_none option = record { terms = []; postings = []; positions = []; option = option; num_tokens = 0; validation = Complete }
 
 -- a reader over a dictionary and two bodies, or nothing if the number of tokens is missing
 abbrev pub reader_over : List (List ℕ × TermInfo) → List ℕ → List ℕ → IndexRecordOption → Option InvertedIndexReaderState
 reader_over terms postings positions option =
-    option_map (λ (counted : ℕ × List ℕ). record { terms = terms; postings = counted.1; positions = positions; option = option; num_tokens = counted.0 }) (number_at 8 postings)
+    option_map (λ (counted : ℕ × List ℕ). record { terms = terms; postings = counted.1; positions = positions; option = option; num_tokens = counted.0; validation = Complete }) (number_at 8 postings)
+
+-- a reader whose lookups open cursors without validation
+abbrev pub trusted_reader : InvertedIndexReaderState → InvertedIndexReaderState
+trusted_reader reader = record reader { validation = Skipped }
+
+-- Lookups by this reader open cursors without validation.
+abbrev pub IsTrusted : InvertedIndexReaderState → Type 0
+IsTrusted reader = reader.validation ≡ Skipped
 
 -- whether a range is within bytes
 abbrev pub lies_in : List ℕ → Range ℕ → Bool
@@ -80,8 +92,8 @@ AllOpen reader = (key : List ℕ) (requested : IndexRecordOption) → IfSome (in
 abbrev pub IsRefusal : {A : Type 0} → Result A Part → Fault → Type 0
 IsRefusal found fault = (fault ≡ OutOfMemory) ⊎ ((part : Part) × (fault ≡ Damaged part) × (found ≡ Err part))
 
--- A cursor was opened at the start of a term's list, and decoded no block but the first.
-pub record OpensTerm (reader : InvertedIndexReaderState) (requested : IndexRecordOption) (info : TermInfo) (cursor : SegmentPostingsState) : Type 0 where
+-- A cursor was opened at the start of a term's list. Besides validation, it decoded no block but the first.
+pub record OpensTerm (validation : Validation) (reader : InvertedIndexReaderState) (requested : IndexRecordOption) (info : TermInfo) (cursor : SegmentPostingsState) : Type 0 where
   pub list : term_of_file reader requested info ≡ Ok cursor.rest
   pub doc_freq : cursor.doc_freq ≡ info.doc_freq
   pub many : length cursor.rest ≡ info.doc_freq
@@ -92,9 +104,10 @@ pub record OpensTerm (reader : InvertedIndexReaderState) (requested : IndexRecor
   pub freq_decodes : cursor.freq_decodes ≤ 1
   pub entries_read : cursor.entries_read ≤ 1
   pub position_decodes : cursor.position_decodes ≤ 1
+  pub checked : cursor.checked ≡ counts_checked validation cursor.freq_reading info.doc_freq
 
--- A block cursor was opened at the first block of a term's documents, and decoded no other.
-pub record OpensBlocks (postings : List ℕ) (recorded requested : IndexRecordOption) (info : TermInfo) (cursor : BlockSegmentPostingsState) : Type 0 where
+-- A block cursor was opened at the first block of a term's documents. Besides validation, it decoded no other.
+pub record OpensBlocks (validation : Validation) (postings : List ℕ) (recorded requested : IndexRecordOption) (info : TermInfo) (cursor : BlockSegmentPostingsState) : Type 0 where
   pub docs : docs_of_file postings recorded requested info ≡ Ok (cursor.docs, cursor.freqs)
   pub recorded_is : cursor.recorded ≡ recorded
   pub requested_is : cursor.requested ≡ requested
@@ -105,6 +118,7 @@ pub record OpensBlocks (postings : List ℕ) (recorded requested : IndexRecordOp
   pub doc_decodes : cursor.doc_decodes ≡ min 1 info.doc_freq
   pub freq_decodes : cursor.freq_decodes ≡ first_decodes cursor.freqs info.doc_freq
   pub entries_read : cursor.entries_read ≡ min 1 (info.doc_freq / 128)
+  pub checked : cursor.checked ≡ counts_checked validation cursor.freq_reading info.doc_freq
 
 -- A reader holds the tokens of a field: their number, exactly the keys that occurred, and their postings.
 pub record ReaderHolds (field : ℕ) (reader : InvertedIndexReaderState) (ts : List IndexToken) : Type 0 where

@@ -16,7 +16,7 @@ use Rattle.ii_definitions.specs.Fields.{option_of}
 use Rattle.ii_definitions.specs.Norms.{has_norms, norm_ids}
 use Rattle.ii_definitions.specs.Postings.{doc_count}
 use Rattle.ii_definitions.specs.Tokens.{IndexToken}
-use Rattle.ii_reader.specs.InvertedIndexReader.{InvertedIndexReaderState, ReaderHolds, reader_of_none, reader_over}
+use Rattle.ii_reader.specs.InvertedIndexReader.{InvertedIndexReaderState, ReaderHolds, reader_of_none, reader_over, trusted_reader}
 
 -- the bodies of the three files of an index
 pub record IndexBodies : Type 0 where
@@ -65,6 +65,10 @@ field_readers bodies entries = all_or_first (map (λ (f : ℕ × SchemaEntry). r
 pub record OpenIndexState : Type 0 where
   pub readers : List InvertedIndexReaderState
   pub fieldnorms : List Body
+
+-- an index whose lookups open cursors without validation
+abbrev pub trusted_index : OpenIndexState → OpenIndexState
+trusted_index index = record { readers = map trusted_reader index.readers; fieldnorms = index.fieldnorms }
 
 -- the index in four files, or the first corrupt part; the tables come before the fields
 abbrev pub index_of_files : List ℕ → List ℕ → List ℕ → List ℕ → List SchemaEntry → Result OpenIndexState Part

@@ -1,17 +1,22 @@
 -- A cursor over the documents of a term, with their term frequencies and positions.
-use Rattle.std.specs.Prelude.{◌≡◌, ℕ, ◌+◌, ◌*◌, ◌/◌, ◌≤◌, true, List, [], Option, None, Some, length, min, ⊤}
+use Rattle.std.specs.Prelude.{◌≡◌, ℕ, ◌+◌, ◌*◌, ◌/◌, ◌≤◌, true, List, [], Option, None, Some, Ok, drop, length, min, ⊤}
 use Rattle.std.specs.List.{sum, list_all}
 use Rattle.ii_base.specs.Options.{downgrade, has_positions}
 use Rattle.ii_codes.specs.Sums.{fit_u32}
 use Rattle.ii_base.specs.Entries.{Entry}
 use Rattle.ii_layout.specs.Positions.{positions_of}
 use Rattle.ii_layout.specs.PositionReader.{PositionReaderState}
+use Rattle.ii_layout.specs.TermList.{deltas_if, list_of, term_list}
 use Rattle.ii_base.specs.declared.schema.index_record_option.IndexRecordOption.{IndexRecordOption}
-use Rattle.ii_check.specs.FreqReading.{reading_of_none}
+use Rattle.ii_check.specs.declared.validation.Validation.{Validation}
+use Rattle.ii_check.specs.CheckedBlocks.{BlockCounts, counts_checked, no_blocks}
+use Rattle.ii_check.specs.FreqReading.{freq_reading, reading_of_none}
+use Rattle.ii_check.specs.Positions.{deltas_read}
 use Rattle.ii_check.specs.declared.freq_reading_option.FreqReadingOption.{FreqReadingOption}
-use Rattle.ii_reader.specs.BlockSegmentPostings.{BlockSegmentPostingsState}
+use Rattle.ii_reader.specs.Bounds.{bounds_trusted, trusted}
+use Rattle.ii_reader.specs.BlockSegmentPostings.{BlockSegmentPostingsState, OpensDocs}
 
--- a cursor: remaining documents, `doc_freq`, validated bounds, current block, and what was decoded and read
+-- a cursor: remaining documents, `doc_freq`, validated bounds, current block, what it decoded and read, and what was decoded to validate the list
 pub record SegmentPostingsState : Type 0 where
   pub rest : List Entry
   pub doc_freq : ℕ
@@ -22,15 +27,34 @@ pub record SegmentPostingsState : Type 0 where
   pub freq_decodes : ℕ
   pub entries_read : ℕ
   pub position_decodes : ℕ
+  pub checked : BlockCounts
 
 -- a cursor over no documents, by the recorded and the requested option
 abbrev pub postings_of_none : IndexRecordOption → IndexRecordOption → SegmentPostingsState
-postings_of_none recorded requested = record { rest = []; doc_freq = 0; freq_reading = reading_of_none recorded requested; bounds = []; block = 0; doc_decodes = 0; freq_decodes = 0; entries_read = 0; position_decodes = 0 }
+postings_of_none recorded requested = record { rest = []; doc_freq = 0; freq_reading = reading_of_none recorded requested; bounds = []; block = 0; doc_decodes = 0; freq_decodes = 0; entries_read = 0; position_decodes = 0; checked = no_blocks }
 
 -- how often positions were decoded
 abbrev pub decodes_read : Option PositionReaderState → ℕ
 decodes_read None = 0
 decodes_read (Some reader) = reader.decodes
+
+-- the cursor over the documents of a block cursor from a place on, with the positions of a reader
+abbrev pub postings_from : ℕ → BlockSegmentPostingsState → Option PositionReaderState → SegmentPostingsState
+postings_from place cursor reader = record { rest = drop place (list_of cursor.docs cursor.freqs (deltas_read reader)); doc_freq = length cursor.docs; freq_reading = cursor.freq_reading; bounds = trusted cursor.freq_reading cursor.bounds; block = cursor.block; doc_decodes = cursor.doc_decodes; freq_decodes = cursor.freq_decodes; entries_read = cursor.entries_read; position_decodes = decodes_read reader; checked = cursor.checked }
+
+-- A cursor was opened at the first document of a list, given by its bytes. Besides validation, it decoded no block but the first.
+pub record OpensList (validation : Validation) (recorded requested : IndexRecordOption) (doc_freq : ℕ) (postings : List ℕ) (positions : Option (List ℕ)) (cursor : SegmentPostingsState) : Type 0 where
+  pub list : term_list recorded requested doc_freq postings positions ≡ Ok cursor.rest
+  pub doc_freq_is : cursor.doc_freq ≡ doc_freq
+  pub many : length cursor.rest ≡ doc_freq
+  pub reading : freq_reading recorded requested doc_freq postings ≡ Ok cursor.freq_reading
+  pub bounds : bounds_trusted recorded requested doc_freq postings ≡ Ok cursor.bounds
+  pub first : cursor.block ≡ 0
+  pub doc_decodes : cursor.doc_decodes ≤ 1
+  pub freq_decodes : cursor.freq_decodes ≤ 1
+  pub entries_read : cursor.entries_read ≤ 1
+  pub position_decodes : cursor.position_decodes ≤ 1
+  pub checked : cursor.checked ≡ counts_checked validation cursor.freq_reading doc_freq
 
 -- Deltas are the positions of documents with these frequencies: matching in number, and of 32 bits each.
 pub record HasDeltas (freqs deltas : List ℕ) : Type 0 where
@@ -48,11 +72,18 @@ abbrev pub FitCursor : BlockSegmentPostingsState → Option (List ℕ) → Type 
 FitCursor cursor None = ⊤
 FitCursor cursor (Some deltas) = (has_positions (downgrade cursor.recorded cursor.requested) ≡ true) × AreGivenDeltas cursor.freqs (Some deltas)
 
+-- A block cursor and a reader of positions were opened over a list, given by its bytes.
+pub record OpensParts (validation : Validation) (recorded requested : IndexRecordOption) (doc_freq : ℕ) (postings : List ℕ) (positions : Option (List ℕ)) (cursor : BlockSegmentPostingsState) (reader : Option PositionReaderState) : Type 0 where
+  pub docs : OpensDocs validation recorded requested doc_freq postings cursor
+  pub deltas : deltas_if (has_positions (downgrade recorded requested)) cursor.freqs positions ≡ Some (deltas_read reader)
+  pub decodes : decodes_read reader ≤ 1
+
 -- The cursor moved forward, by at least as many blocks as it decoded, and decoded no positions.
 pub record WentLazily (old new : SegmentPostingsState) : Type 0 where
   pub doc_freq : new.doc_freq ≡ old.doc_freq
   pub freq_reading : new.freq_reading ≡ old.freq_reading
   pub bounds : new.bounds ≡ old.bounds
+  pub checked : new.checked ≡ old.checked
   pub forward : old.block ≤ new.block
   pub doc_decodes : new.doc_decodes + old.block ≤ old.doc_decodes + new.block
   pub freq_decodes : new.freq_decodes + old.block ≤ old.freq_decodes + new.block
@@ -63,6 +94,7 @@ pub record SpentLazily (asked counts : ℕ) (old new : SegmentPostingsState) : T
   pub doc_freq : new.doc_freq ≡ old.doc_freq
   pub freq_reading : new.freq_reading ≡ old.freq_reading
   pub bounds : new.bounds ≡ old.bounds
+  pub checked : new.checked ≡ old.checked
   pub forward : old.block ≤ new.block
   pub doc_decodes : new.doc_decodes + old.block ≤ old.doc_decodes + new.block
   pub freq_decodes : new.freq_decodes + old.block ≤ old.freq_decodes + new.block

@@ -10,11 +10,12 @@ ghost use Rattle.ii_check.specs.CheckedPostings.{SeeksBlock, excludes, is_read};
 ghost use Rattle.ii_check.specs.FreqReading.{freq_reading};
 ghost use Rattle.ii_check.specs.Positions.{deltas_read};
 ghost use Rattle.ii_reader.specs.Bounds.{IsFirstWanted, IsPlaced, PassesBlocks, stored_bounds, bounds_read, freq_bound, is_wanted_at};
-ghost use Rattle.ii_reader.specs.BlockSegmentPostings.{AreEntries, ComeBefore, GoesTo, IsBelow, IsLazy, IsSought, LooksFor, cursor_of_none, doc_in_block, first_decodes, freq_in_block, freqs_of_block};
+ghost use Rattle.ii_reader.specs.BlockSegmentPostings.{AreEntries, ComeBefore, GoesTo, IsBelow, IsLazy, IsSought, LooksFor, OpensDocs, cursor_of_none, doc_in_block, first_decodes, freq_in_block, freqs_of_block};
+ghost use Rattle.ii_reader.specs.SegmentPostings.{decodes_read};
 
 use bytes::Bytes;
 use ii_base::{Fault, IndexRecordOption, LayoutFault, Part};
-use ii_check::{CheckedPostings, FreqReadingOption, NO_FREQ};
+use ii_check::{CheckedBlocks, CheckedPostings, FreqReadingOption, NO_FREQ, Validation};
 use ii_codes::{BlockDecoder, COMPRESSION_BLOCK_SIZE};
 use ii_docset::{DocId, TERMINATED};
 use ii_layout::skip::encode_block_wand_max_tf;
@@ -30,6 +31,7 @@ pub struct BlockSegmentPostings {
     skip: SkipReader,
     doc_decoder: BlockDecoder,
     freq_decoder: BlockDecoder,
+    checked_blocks: CheckedBlocks,
 }
 
 // A drop has to be a call.
@@ -40,6 +42,7 @@ impl Drop for BlockSegmentPostings {
             skip: _,
             doc_decoder: _,
             freq_decoder: _,
+            checked_blocks: _,
         } = self;
     }
 }
@@ -61,6 +64,7 @@ impl Model for BlockSegmentPostings {
       doc_decodes = c.doc_decoder.decodes;
       freq_decodes = c.freq_decoder.decodes;
       entries_read = c.skip.entries_read;
+      checked = record { docs = c.checked_blocks.docs.value; freqs = c.checked_blocks.freqs.value };
     } };
 
     ghost invariant = { λ c. IsLoaded c.checked c.skip c.doc_decoder c.freq_decoder };
@@ -70,30 +74,19 @@ impl BlockSegmentPostings {
     /// Validates the list of `doc_freq` documents at the front of `bytes`, by the recorded and the requested
     /// option, and opens a cursor at its first block. Returns the first corrupt part.
     ///
-    /// Validates all documents and then, if they are read, all term frequencies. Ignores the bytes after
-    /// them. Never allocates.
+    /// Validates all documents and then, if they are read, all term frequencies. Each block is decoded once for
+    /// that. Ignores the bytes after them. Never allocates.
     pub fn open(
         doc_freq: u32,
         bytes: Bytes,
         record_option: IndexRecordOption,
         requested_option: IndexRecordOption,
     ) -> Result<BlockSegmentPostings, LayoutFault>
-        ensures ok { IfOk result (λ cursor. docs_and_freqs record_option requested_option doc_freq bytes ≡ Ok (cursor.docs, cursor.freqs)) }
-        ensures options { IfOk result (λ cursor. (cursor.recorded ≡ record_option) × (cursor.requested ≡ requested_option)) }
-        ensures reading { IfOk result (λ cursor. (freq_reading record_option requested_option doc_freq bytes ≡ Ok cursor.freq_reading)
-            × (bounds_read record_option requested_option doc_freq bytes ≡ Ok cursor.bounds)) }
-        ensures entries { IfOk result (λ cursor. AreEntries doc_freq cursor.docs cursor.freqs) }
-
-        // The cursor is at its first block.
-        ensures first { IfOk result (λ cursor. cursor.block ≡ 0) }
-        // What was decoded and read for it.
-        ensures doc_decodes { IfOk result (λ cursor. cursor.doc_decodes ≡ min 1 doc_freq) }
-        ensures freq_decodes { IfOk result (λ cursor. cursor.freq_decodes ≡ first_decodes cursor.freqs doc_freq) }
-        ensures entries_read { IfOk result (λ cursor. cursor.entries_read ≡ min 1 (doc_freq / 128)) }
+        ensures opened { IfOk result (OpensDocs Validation.Complete record_option requested_option doc_freq bytes) }
         ensures err { IfErr result (λ fault. docs_and_freqs record_option requested_option doc_freq bytes ≡ Err (part_of fault)) }
     {
         let mut cursor = BlockSegmentPostings::empty_by(record_option, requested_option);
-        if let Err(fault) = cursor.fill(doc_freq, bytes) {
+        if let Err(fault) = cursor.fill(doc_freq, bytes, Validation::Complete) {
             return Err(fault);
         }
         Ok(cursor)
@@ -121,6 +114,7 @@ impl BlockSegmentPostings {
             skip,
             doc_decoder: BlockDecoder::with_val(TERMINATED),
             freq_decoder: BlockDecoder::with_val(NO_FREQ),
+            checked_blocks: CheckedBlocks::none(),
         }
     }
 
@@ -128,42 +122,24 @@ impl BlockSegmentPostings {
     /// the front of `bytes`. Returns the first corrupt part; the cursor is then over no documents, and can be
     /// reset again. Never allocates.
     pub fn reset(&mut self, doc_freq: u32, bytes: Bytes) -> Result<(), LayoutFault>
-        ensures ok { OnOk result (docs_and_freqs self.old.recorded self.old.requested doc_freq bytes ≡ Ok (self.new.docs, self.new.freqs)) }
-        ensures options { (self.new.recorded ≡ self.old.recorded) × (self.new.requested ≡ self.old.requested) }
-        ensures reading { OnOk result ((freq_reading self.old.recorded self.old.requested doc_freq bytes ≡ Ok self.new.freq_reading)
-            × (bounds_read self.old.recorded self.old.requested doc_freq bytes ≡ Ok self.new.bounds)) }
-        ensures entries { OnOk result (AreEntries doc_freq self.new.docs self.new.freqs) }
-
-        // The cursor is at its first block.
-        ensures first { self.new.block ≡ 0 }
-        // What was decoded and read for it.
-        ensures doc_decodes { OnOk result (self.new.doc_decodes ≡ min 1 doc_freq) }
-        ensures freq_decodes { OnOk result (self.new.freq_decodes ≡ first_decodes self.new.freqs doc_freq) }
-        ensures entries_read { OnOk result (self.new.entries_read ≡ min 1 (doc_freq / 128)) }
-        // The error, and what it leaves.
+        ensures opened { OnOk result (OpensDocs Validation.Complete self.old.recorded self.old.requested doc_freq bytes self.new) }
         ensures err { IfErr result (λ fault. docs_and_freqs self.old.recorded self.old.requested doc_freq bytes ≡ Err (part_of fault)) }
         ensures emptied { OnErr result (self.new ≡ cursor_of_none self.old.recorded self.old.requested) }
     {
         self.clear();
-        self.fill(doc_freq, bytes)
+        self.fill(doc_freq, bytes, Validation::Complete)
     }
 
-    // Opens a list in a cursor over no documents, as `reset` does.
-    pub(crate) fn fill(&mut self, doc_freq: u32, bytes: Bytes) -> Result<(), LayoutFault>
-        requires { self.old ≡ cursor_of_none self.old.recorded self.old.requested }
-        ensures ok { OnOk result (docs_and_freqs self.old.recorded self.old.requested doc_freq bytes ≡ Ok (self.new.docs, self.new.freqs)) }
-        ensures options { (self.new.recorded ≡ self.old.recorded) × (self.new.requested ≡ self.old.requested) }
-        ensures reading { OnOk result ((freq_reading self.old.recorded self.old.requested doc_freq bytes ≡ Ok self.new.freq_reading)
-            × (bounds_read self.old.recorded self.old.requested doc_freq bytes ≡ Ok self.new.bounds)) }
-        ensures entries { OnOk result (AreEntries doc_freq self.new.docs self.new.freqs) }
-
-        // The cursor is at its first block.
-        ensures first { self.new.block ≡ 0 }
-        // What was decoded and read for it.
-        ensures doc_decodes { OnOk result (self.new.doc_decodes ≡ min 1 doc_freq) }
-        ensures freq_decodes { OnOk result (self.new.freq_decodes ≡ first_decodes self.new.freqs doc_freq) }
-        ensures entries_read { OnOk result (self.new.entries_read ≡ min 1 (doc_freq / 128)) }
-        // The error, and what it leaves.
+    // Opens a list in a cursor over no documents, as `reset` does. It must be valid if validation is skipped.
+    pub(crate) fn fill(
+        &mut self,
+        doc_freq: u32,
+        bytes: Bytes,
+        validation: Validation,
+    ) -> Result<(), LayoutFault>
+        requires none { self.old ≡ cursor_of_none self.old.recorded self.old.requested }
+        requires known { validation ≡ Validation.Skipped → IsOk (docs_and_freqs self.old.recorded self.old.requested doc_freq bytes) }
+        ensures opened { OnOk result (OpensDocs validation self.old.recorded self.old.requested doc_freq bytes self.new) }
         ensures err { IfErr result (λ fault. docs_and_freqs self.old.recorded self.old.requested doc_freq bytes ≡ Err (part_of fault)) }
         ensures emptied { OnErr result (self.new ≡ cursor_of_none self.old.recorded self.old.requested) }
     {
@@ -172,8 +148,10 @@ impl BlockSegmentPostings {
             bytes,
             self.checked.record_option(),
             self.checked.requested_option(),
+            validation,
             &mut self.doc_decoder,
             &mut self.freq_decoder,
+            &mut self.checked_blocks,
         );
         match opened {
             Ok(checked) => {
@@ -184,6 +162,7 @@ impl BlockSegmentPostings {
             Err(fault) => {
                 self.doc_decoder = BlockDecoder::with_val(TERMINATED);
                 self.freq_decoder = BlockDecoder::with_val(NO_FREQ);
+                self.checked_blocks = CheckedBlocks::none();
                 Err(fault)
             }
         }
@@ -198,51 +177,13 @@ impl BlockSegmentPostings {
         requested_option: IndexRecordOption,
     ) -> BlockSegmentPostings
         requires { IsOk (docs_and_freqs record_option requested_option doc_freq bytes) }
-        ensures ok { docs_and_freqs record_option requested_option doc_freq bytes ≡ Ok (result.docs, result.freqs) }
-        ensures options { (result.recorded ≡ record_option) × (result.requested ≡ requested_option) }
-        ensures reading { (freq_reading record_option requested_option doc_freq bytes ≡ Ok result.freq_reading)
-            × (bounds_read record_option requested_option doc_freq bytes ≡ Ok result.bounds) }
-        ensures entries { AreEntries doc_freq result.docs result.freqs }
-
-        // The cursor is at its first block.
-        ensures first { result.block ≡ 0 }
-        // What was decoded and read for it.
-        ensures doc_decodes { result.doc_decodes ≡ min 1 doc_freq }
-        ensures freq_decodes { result.freq_decodes ≡ first_decodes result.freqs doc_freq }
-        ensures entries_read { result.entries_read ≡ min 1 (doc_freq / 128) }
+        ensures { OpensDocs Validation.Skipped record_option requested_option doc_freq bytes result }
     {
         let mut cursor = BlockSegmentPostings::empty_by(record_option, requested_option);
-        cursor.fill_known(doc_freq, bytes);
+        let Ok(()) = cursor.fill(doc_freq, bytes, Validation::Skipped) else {
+            unreachable!()
+        };
         cursor
-    }
-
-    // Opens a list that bytes are known to begin with, in a cursor over no documents.
-    #[tactic(auto, using(crate::proofs::KnownLemmas::postings_known))]
-    pub(crate) fn fill_known(&mut self, doc_freq: u32, bytes: Bytes)
-        requires none { self.old ≡ cursor_of_none self.old.recorded self.old.requested }
-        requires known { IsOk (docs_and_freqs self.old.recorded self.old.requested doc_freq bytes) }
-        ensures ok { docs_and_freqs self.old.recorded self.old.requested doc_freq bytes ≡ Ok (self.new.docs, self.new.freqs) }
-        ensures options { (self.new.recorded ≡ self.old.recorded) × (self.new.requested ≡ self.old.requested) }
-        ensures reading { (freq_reading self.old.recorded self.old.requested doc_freq bytes ≡ Ok self.new.freq_reading)
-            × (bounds_read self.old.recorded self.old.requested doc_freq bytes ≡ Ok self.new.bounds) }
-        ensures entries { AreEntries doc_freq self.new.docs self.new.freqs }
-
-        // The cursor is at its first block.
-        ensures first { self.new.block ≡ 0 }
-        // What was decoded and read for it.
-        ensures doc_decodes { self.new.doc_decodes ≡ min 1 doc_freq }
-        ensures freq_decodes { self.new.freq_decodes ≡ first_decodes self.new.freqs doc_freq }
-        ensures entries_read { self.new.entries_read ≡ min 1 (doc_freq / 128) }
-    {
-        let recorded = self.checked.record_option();
-        let requested = self.checked.requested_option();
-        let docs = &mut self.doc_decoder;
-        let freqs = &mut self.freq_decoder;
-        let checked = CheckedPostings::open_known(
-            doc_freq, bytes, recorded, requested, docs, freqs,
-        );
-        self.skip = checked.skip_reader();
-        self.checked = checked;
     }
 
     // Removes the list, and keeps the two options.
@@ -266,6 +207,7 @@ impl BlockSegmentPostings {
         self.skip = self.checked.skip_reader();
         self.doc_decoder = BlockDecoder::with_val(TERMINATED);
         self.freq_decoder = BlockDecoder::with_val(NO_FREQ);
+        self.checked_blocks = CheckedBlocks::none();
     }
 
     /// Clones the cursor with its block and its numbers of decodes and reads. The bytes are shared. Returns
@@ -283,6 +225,7 @@ impl BlockSegmentPostings {
             skip,
             doc_decoder,
             freq_decoder,
+            checked_blocks: self.checked_blocks.same(),
         })
     }
 
@@ -387,34 +330,29 @@ impl BlockSegmentPostings {
         offset
     }
 
-    // Opens the positions that bytes hold, if they are read, or returns `Positions`.
+    // Opens the positions that bytes hold, if they are read, or returns `Positions`. They must be valid if
+    // validation is skipped.
     pub(crate) fn open_positions(
         &self,
         bytes: Option<Bytes>,
+        validation: Validation,
     ) -> Result<Option<PositionReader>, LayoutFault>
+        requires { validation ≡ Validation.Skipped → IsSome (deltas_if (has_positions (downgrade self.now.recorded self.now.requested)) self.now.freqs bytes) }
         ensures ok { IfOk result (λ opened. deltas_if (has_positions (downgrade self.now.recorded self.now.requested)) self.now.freqs bytes
             ≡ Some (deltas_read opened)) }
-        ensures decodes { IfOk result (λ opened. MatchOption opened ⊤ (λ reader. reader.decodes ≤ 1)) }
+        ensures decodes { IfOk result (λ opened. decodes_read opened ≤ 1) }
         ensures refused { OnErr result (deltas_if (has_positions (downgrade self.now.recorded self.now.requested)) self.now.freqs bytes ≡ None) }
         ensures err { IfErr result (λ fault. fault ≡ LayoutFault.Damaged Part.Positions) }
     {
-        let freqs = self.freq_decoder.output_array();
-        if freqs.len() < COMPRESSION_BLOCK_SIZE {
-            if freqs.len() == self.checked.doc_freq() as usize {
-                return self.checked.open_counted_positions(bytes, freqs);
+        if let Validation::Complete = validation {
+            let freqs = self.freq_decoder.output_array();
+            if freqs.len() < COMPRESSION_BLOCK_SIZE {
+                if freqs.len() == self.checked.doc_freq() as usize {
+                    return self.checked.open_counted_positions(bytes, freqs);
+                }
             }
         }
-        self.checked.open_positions(bytes)
-    }
-
-    // Opens the positions that bytes are known to hold, if they are read.
-    pub(crate) fn open_known_positions(&self, bytes: Option<Bytes>) -> Option<PositionReader>
-        requires { IsSome (deltas_if (has_positions (downgrade self.now.recorded self.now.requested)) self.now.freqs bytes) }
-        ensures ok { deltas_if (has_positions (downgrade self.now.recorded self.now.requested)) self.now.freqs bytes
-            ≡ Some (deltas_read result) }
-        ensures decodes { MatchOption result ⊤ (λ reader. reader.decodes ≤ 1) }
-    {
-        self.checked.open_known_positions(bytes)
+        self.checked.open_positions(bytes, validation)
     }
 
     /// Moves to the first block, from the current one on, whose last document is at least `target`, or else

@@ -1,6 +1,6 @@
-ghost use Rattle.std.specs.Prelude.{◌≡◌, ◌↔◌, None, IfOk};
+ghost use Rattle.std.specs.Prelude.{◌≡◌, ◌↔◌, None, IfOk, OnErr};
 ghost use Rattle.ii_io.specs.Faults.{OnlyMemory};
-ghost use Rattle.ii_reader.specs.Damage.{first_damaged_term};
+ghost use Rattle.ii_reader.specs.Damage.{first_damaged_term, reader_after};
 ghost use Rattle.ii_reader.specs.InvertedIndexReader.{AllOpen};
 
 use super::inverted_index_reader::InvertedIndexReader;
@@ -24,7 +24,8 @@ impl InvertedIndexReader {
     pub fn check(&mut self) -> Result<Option<DamagedTerm>, Fault>
         ensures found { IfOk result (λ damage. damage ≡ first_damaged_term self.old) }
         ensures opens { IfOk result (λ damage. (damage ≡ None) ↔ AllOpen self.old) }
-        ensures same { self.new ≡ self.old }
+        ensures after { IfOk result (λ damage. self.new ≡ reader_after damage self.old) }
+        ensures same { OnErr result (self.new ≡ self.old) }
         ensures only { OnlyMemory result }
     {
         let damage = self.first_damaged_term()?;
@@ -36,7 +37,7 @@ impl InvertedIndexReader {
     }
 
     // Returns the first corrupt term.
-    fn first_damaged_term(&self) -> Result<Option<DamagedTerm>, Fault>
+    pub(crate) fn first_damaged_term(&self) -> Result<Option<DamagedTerm>, Fault>
         ensures found { IfOk result (λ damage. damage ≡ first_damaged_term self.now) }
         ensures opens { IfOk result (λ damage. (damage ≡ None) ↔ AllOpen self.now) }
         ensures only { OnlyMemory result }

@@ -1,4 +1,4 @@
-ghost use Rattle.std.specs.Prelude.{◌≡◌, ◌↔◌, ◌⊎◌, ◌<◌, ◌≤◌, ◌^◌, ℕ, List, length, None, Some, IfOk, IfErr, IsErrOf, IsOkAnd, IsSome, IsSomeAnd, ok_or, slice_get};
+ghost use Rattle.std.specs.Prelude.{◌≡◌, ◌↔◌, ◌⊎◌, ◌<◌, ◌≤◌, ◌^◌, ℕ, List, length, None, Some, IfOk, IfErr, IsErrOf, IsOkAnd, IsSome, IsSomeAnd, OnErr, map, ok_or, slice_get};
 ghost use Rattle.std.specs.List.{All};
 ghost use Rattle.std.specs.Option.{option_map};
 ghost use Rattle.ii_io.specs.Composite.{body_of, composite};
@@ -10,9 +10,9 @@ ghost use Rattle.ii_definitions.specs.Fields.{option_of};
 ghost use Rattle.ii_definitions.specs.Files.{HoldTokens};
 ghost use Rattle.ii_definitions.specs.Norms.{HoldNorms};
 ghost use Rattle.ii_io.specs.Faults.{OnlyMemory};
-ghost use Rattle.ii_reader.specs.Damage.{first_damaged_field};
-ghost use Rattle.ii_reader.specs.InvertedIndexReader.{AllOpen, IsRefusal};
-ghost use Rattle.ii_reader.specs.OpenIndex.{GivesNorms, GivesReaders, NormsHold, field_readers, index_bodies, index_of_files, index_of_terms, reader_of_bodies, reader_of_field};
+ghost use Rattle.ii_reader.specs.Damage.{first_damaged_field, index_after};
+ghost use Rattle.ii_reader.specs.InvertedIndexReader.{AllOpen, IsRefusal, trusted_reader};
+ghost use Rattle.ii_reader.specs.OpenIndex.{GivesNorms, GivesReaders, NormsHold, field_readers, index_bodies, index_of_files, index_of_terms, reader_of_bodies, reader_of_field, trusted_index};
 
 use super::damage::DamagedTerm;
 use super::inverted_index_reader::InvertedIndexReader;
@@ -66,7 +66,7 @@ impl OpenIndex {
     /// Makes later lookups of terms open cursors without validation. Each term must be known to open.
     pub fn trust(&mut self)
         requires { All AllOpen self.old.readers }
-        ensures { self.new ≡ self.old }
+        ensures { self.new ≡ trusted_index self.old }
     {
         trust_all(&mut self.readers);
     }
@@ -79,10 +79,16 @@ impl OpenIndex {
     pub fn check(&mut self) -> Result<Option<(Field, DamagedTerm)>, Fault>
         ensures found { IfOk result (λ damage. damage ≡ first_damaged_field self.old.readers) }
         ensures opens { IfOk result (λ damage. (damage ≡ None) ↔ All AllOpen self.old.readers) }
-        ensures same { self.new ≡ self.old }
+        ensures after { IfOk result (λ damage. self.new ≡ index_after damage self.old) }
+        ensures same { OnErr result (self.new ≡ self.old) }
         ensures only { OnlyMemory result }
     {
-        check_all(&mut self.readers)
+        let damage = first_damaged_field(&self.readers)?;
+        if damage.is_some() {
+            return Ok(damage);
+        }
+        trust_all(&mut self.readers);
+        Ok(None)
     }
 
     /// Opens the norms of a field, or returns `None` if the file of norms has none for it.
@@ -105,24 +111,25 @@ impl OpenIndex {
 // Trusts each of these readers, all of whose terms are known to open.
 fn trust_all(readers: &mut [InvertedIndexReader])
     requires { All AllOpen readers.old }
-    ensures { readers.new ≡ readers.old }
+    ensures { readers.new ≡ map trusted_reader readers.old }
 {
     for reader in readers {
         reader.trust();
     }
 }
 
-// Returns the first field with a corrupt term, and trusts the fields before it.
-fn check_all(readers: &mut [InvertedIndexReader]) -> Result<Option<(Field, DamagedTerm)>, Fault>
-    requires { length readers.old < 2 ^ 32 }
-    ensures found { IfOk result (λ damage. damage ≡ first_damaged_field readers.old) }
-    ensures opens { IfOk result (λ damage. (damage ≡ None) ↔ All AllOpen readers.old) }
-    ensures same { readers.new ≡ readers.old }
+// Returns the first field with a corrupt term.
+fn first_damaged_field(
+    readers: &[InvertedIndexReader],
+) -> Result<Option<(Field, DamagedTerm)>, Fault>
+    requires { length readers.now < 2 ^ 32 }
+    ensures found { IfOk result (λ damage. damage ≡ first_damaged_field readers.now) }
+    ensures opens { IfOk result (λ damage. (damage ≡ None) ↔ All AllOpen readers.now) }
     ensures only { OnlyMemory result }
 {
     let mut field_id = 0;
     for reader in readers {
-        if let Some(term) = reader.check()? {
+        if let Some(term) = reader.first_damaged_term()? {
             return Ok(Some((Field::from_field_id(field_id), term)));
         }
         field_id += 1;

@@ -9,12 +9,13 @@ ghost use Rattle.ii_definitions.specs.Postings.{field_count, key_postings, occur
 ghost use Rattle.ii_definitions.specs.Files.{HoldsTerm, bytes_in};
 ghost use Rattle.ii_reader.specs.BlockSegmentPostings.{cursor_of_none};
 ghost use Rattle.ii_reader.specs.SegmentPostings.{postings_of_none};
-ghost use Rattle.ii_reader.specs.InvertedIndexReader.{AllOpen, GivesList, GivesPostings, IsRefusal, OpensBlocks, OpensTerm, PutsList, ReaderHolds, docs_of_file, given_if, lies_in, ranges_lie, reader_of_none, reader_over, reads_positions, term_of_file};
+ghost use Rattle.ii_reader.specs.InvertedIndexReader.{AllOpen, GivesList, GivesPostings, IsRefusal, OpensBlocks, OpensTerm, PutsList, ReaderHolds, docs_of_file, given_if, lies_in, ranges_lie, reader_of_none, reader_over, reads_positions, term_of_file, trusted_reader};
 
 use super::block_segment_postings::BlockSegmentPostings;
 use super::segment_postings::SegmentPostings;
 use bytes::Bytes;
 use ii_base::{BinarySerializable, Fault, FixedSize, IndexRecordOption, Part, Term};
+use ii_check::Validation;
 use ii_termdict::{TermDictionary, TermInfo};
 use std::marker::Model;
 use std::ops::Range;
@@ -26,8 +27,8 @@ pub struct InvertedIndexReader {
     positions: Bytes,
     option: IndexRecordOption,
     num_tokens: u64,
-    // Whether each term is known to open.
-    is_known: bool,
+    // Whether lookups validate postings; if not, each term is known to open.
+    validation: Validation,
 }
 
 // A drop has to be a call.
@@ -39,13 +40,14 @@ impl Drop for InvertedIndexReader {
             positions: _,
             option: _,
             num_tokens: _,
-            is_known: _,
+            validation: _,
         } = self;
     }
 }
 
 impl Model for InvertedIndexReader {
-    ghost use Rattle.std.specs.Prelude.{◌≡◌, true};
+    ghost use Rattle.std.specs.Prelude.{◌≡◌};
+    ghost use Rattle.ii_check.specs.declared.validation.Validation.TheVariants.{Skipped};
     ghost use Rattle.ii_reader.specs.InvertedIndexReader.{AllOpen, InvertedIndexReaderState};
 
     ghost Value = { InvertedIndexReaderState };
@@ -56,14 +58,16 @@ impl Model for InvertedIndexReader {
       positions = r.positions;
       option = r.option;
       num_tokens = r.num_tokens;
+      validation = r.validation;
     } };
 
-    ghost invariant = { λ r. r.is_known ≡ true → AllOpen (record {
+    ghost invariant = { λ r. r.validation ≡ Skipped → AllOpen (record {
       terms = r.terms;
       postings = r.postings;
       positions = r.positions;
       option = r.option;
       num_tokens = r.num_tokens;
+      validation = r.validation;
     }) };
 }
 
@@ -93,7 +97,7 @@ impl InvertedIndexReader {
             positions,
             option,
             num_tokens,
-            is_known: false,
+            validation: Validation::Complete,
         })
     }
 
@@ -107,7 +111,7 @@ impl InvertedIndexReader {
             positions: Bytes::new(),
             option,
             num_tokens: 0,
-            is_known: false,
+            validation: Validation::Complete,
         }
     }
 
@@ -115,9 +119,9 @@ impl InvertedIndexReader {
     /// term must be known to open.
     pub fn trust(&mut self)
         requires { AllOpen self.old }
-        ensures { self.new ≡ self.old }
+        ensures { self.new ≡ trusted_reader self.old }
     {
-        self.is_known = true;
+        self.validation = Validation::Skipped;
     }
 
     /// Returns the dictionary of the field.
@@ -181,7 +185,7 @@ impl InvertedIndexReader {
         option: IndexRecordOption,
     ) -> Result<Option<SegmentPostings>, Fault>
         ensures none { IfNone (info_under term.now.value self.now.terms) (result ≡ Ok None) }
-        ensures ok { IfSome (info_under term.now.value self.now.terms) (λ info. IfOk result (λ found. IsSomeAnd found (OpensTerm self.now option info))) }
+        ensures ok { IfSome (info_under term.now.value self.now.terms) (λ info. IfOk result (λ found. IsSomeAnd found (OpensTerm self.now.validation self.now option info))) }
         ensures err { IfSome (info_under term.now.value self.now.terms) (λ info. IfErr result (IsRefusal (term_of_file self.now option info))) }
         ensures range { IfSome (info_under term.now.value self.now.terms) (λ info. IsErrOf result (Fault.Damaged Part.Range) ↔ (ranges_lie self.now option info ≡ false)) }
         // If the files hold tokens.
@@ -191,13 +195,7 @@ impl InvertedIndexReader {
         let Some(term_info) = self.get_term_info(term) else {
             return Ok(None);
         };
-        if self.is_known {
-            return match self.read_known_postings_from_terminfo(&term_info, option) {
-                Ok(cursor) => Ok(Some(cursor)),
-                Err(fault) => Err(fault),
-            };
-        }
-        match self.read_postings_from_terminfo(&term_info, option) {
+        match self.open_postings(&term_info, option, self.validation) {
             Ok(cursor) => Ok(Some(cursor)),
             Err(fault) => Err(fault),
         }
@@ -210,49 +208,52 @@ impl InvertedIndexReader {
         term_info: &TermInfo,
         option: IndexRecordOption,
     ) -> Result<SegmentPostings, Fault>
-        ensures ok { IfOk result (OpensTerm self.now option term_info.now) }
+        ensures ok { IfOk result (OpensTerm Validation.Complete self.now option term_info.now) }
         ensures err { IfErr result (IsRefusal (term_of_file self.now option term_info.now)) }
         ensures range { IsErrOf result (Fault.Damaged Part.Range) ↔ (ranges_lie self.now option term_info.now ≡ false) }
         // If the files hold tokens.
         ensures holds { (field : ℕ) (key : List ℕ) (tokens : List IndexToken) → HoldsTerm self.now.option field key self.now.postings self.now.positions tokens term_info.now
             → GivesList (key_postings self.now.option field key option tokens) result }
     {
-        if !self.do_ranges_lie(term_info, option) {
-            return Err(Fault::Damaged(Part::Range));
-        }
-        let postings = self.postings_of(term_info)?;
-        let positions = self.positions_of(term_info, option)?;
-        let record_option = self.record_option();
-        let doc_freq = term_info.doc_freq;
-        match SegmentPostings::open(doc_freq, postings, positions, record_option, option) {
-            Ok(cursor) => Ok(cursor),
-            Err(fault) => Err(Fault::from(fault)),
-        }
+        self.open_postings(term_info, option, Validation::Complete)
     }
 
-    /// Opens a cursor without validation (`SegmentPostings::open_known`) over the postings that `term_info`
-    /// describes, as far as they are requested. The term must be known to open.
-    ///
-    /// Returns `OutOfMemory` if the files' buffer can't be shared again.
-    #[tactic(auto, using(crate::proofs::KnownLemmas::ranges_known, crate::proofs::KnownLemmas::list_known))]
-    pub fn read_known_postings_from_terminfo(
+    // Opens a cursor over the postings that `term_info` describes. They must open if validation is skipped.
+    fn open_postings(
         &self,
         term_info: &TermInfo,
         option: IndexRecordOption,
+        validation: Validation,
     ) -> Result<SegmentPostings, Fault>
-        requires { IsOk (term_of_file self.now option term_info.now) }
-        ensures ok { IfOk result (OpensTerm self.now option term_info.now) }
-        ensures lie { ranges_lie self.now option term_info.now ≡ true }
-        ensures only { OnlyMemory result }
+        requires { validation ≡ Validation.Skipped → IsOk (term_of_file self.now option term_info.now) }
+        ensures ok { IfOk result (OpensTerm validation self.now option term_info.now) }
+        ensures err { IfErr result (IsRefusal (term_of_file self.now option term_info.now)) }
+        ensures range { IsErrOf result (Fault.Damaged Part.Range) ↔ (ranges_lie self.now option term_info.now ≡ false) }
         // If the files hold tokens.
         ensures holds { (field : ℕ) (key : List ℕ) (tokens : List IndexToken) → HoldsTerm self.now.option field key self.now.postings self.now.positions tokens term_info.now
             → GivesList (key_postings self.now.option field key option tokens) result }
     {
-        let postings = self.postings_of(term_info)?;
-        let positions = self.positions_of(term_info, option)?;
         let record_option = self.record_option();
         let doc_freq = term_info.doc_freq;
-        Ok(SegmentPostings::open_known(doc_freq, postings, positions, record_option, option))
+        let (postings, positions) = match self.checked_bytes_of(term_info, option) {
+            Ok(found) => found,
+            Err(fault) => return Err(fault),
+        };
+        match validation {
+            Validation::Skipped => Ok(SegmentPostings::open_known(
+                doc_freq,
+                postings,
+                positions,
+                record_option,
+                option,
+            )),
+            Validation::Complete => {
+                match SegmentPostings::open(doc_freq, postings, positions, record_option, option) {
+                    Ok(cursor) => Ok(cursor),
+                    Err(fault) => Err(Fault::from(fault)),
+                }
+            }
+        }
     }
 
     /// Opens a block cursor over the postings of a term, as far as they are requested. Returns `None` if the
@@ -269,20 +270,14 @@ impl InvertedIndexReader {
         option: IndexRecordOption,
     ) -> Result<Option<BlockSegmentPostings>, Fault>
         ensures none { IfNone (info_under term.now.value self.now.terms) (result ≡ Ok None) }
-        ensures ok { IfSome (info_under term.now.value self.now.terms) (λ info. IfOk result (λ found. IsSomeAnd found (OpensBlocks self.now.postings self.now.option option info))) }
+        ensures ok { IfSome (info_under term.now.value self.now.terms) (λ info. IfOk result (λ found. IsSomeAnd found (OpensBlocks self.now.validation self.now.postings self.now.option option info))) }
         ensures err { IfSome (info_under term.now.value self.now.terms) (λ info. IfErr result (IsRefusal (docs_of_file self.now.postings self.now.option option info))) }
         ensures range { IfSome (info_under term.now.value self.now.terms) (λ info. IsErrOf result (Fault.Damaged Part.Range) ↔ (lies_in self.now.postings info.postings_range ≡ false)) }
     {
         let Some(term_info) = self.get_term_info(term) else {
             return Ok(None);
         };
-        if self.is_known {
-            return match self.read_known_block_postings_from_terminfo(&term_info, option) {
-                Ok(cursor) => Ok(Some(cursor)),
-                Err(fault) => Err(fault),
-            };
-        }
-        match self.read_block_postings_from_terminfo(&term_info, option) {
+        match self.open_block_postings(&term_info, option, self.validation) {
             Ok(cursor) => Ok(Some(cursor)),
             Err(fault) => Err(fault),
         }
@@ -290,42 +285,46 @@ impl InvertedIndexReader {
 
     /// Opens a block cursor over the postings that `term_info` describes, as far as they are requested.
     /// Returns the errors of `read_block_postings`.
-    #[tactic(auto, using(crate::proofs::ReaderLemmas::docs_no_range, crate::proofs::ReaderLemmas::refused_by))]
     pub fn read_block_postings_from_terminfo(
         &self,
         term_info: &TermInfo,
         option: IndexRecordOption,
     ) -> Result<BlockSegmentPostings, Fault>
-        ensures ok { IfOk result (OpensBlocks self.now.postings self.now.option option term_info.now) }
+        ensures ok { IfOk result (OpensBlocks Validation.Complete self.now.postings self.now.option option term_info.now) }
+        ensures err { IfErr result (IsRefusal (docs_of_file self.now.postings self.now.option option term_info.now)) }
+        ensures range { IsErrOf result (Fault.Damaged Part.Range) ↔ (lies_in self.now.postings term_info.now.postings_range ≡ false) }
+    {
+        self.open_block_postings(term_info, option, Validation::Complete)
+    }
+
+    // Opens a block cursor over the postings that `term_info` describes. They must open if validation is
+    // skipped.
+    #[tactic(auto, using(crate::proofs::ReaderLemmas::docs_no_range, crate::proofs::ReaderLemmas::refused_by, crate::proofs::KnownLemmas::docs_lie))]
+    fn open_block_postings(
+        &self,
+        term_info: &TermInfo,
+        option: IndexRecordOption,
+        validation: Validation,
+    ) -> Result<BlockSegmentPostings, Fault>
+        requires { validation ≡ Validation.Skipped → IsOk (docs_of_file self.now.postings self.now.option option term_info.now) }
+        ensures ok { IfOk result (OpensBlocks validation self.now.postings self.now.option option term_info.now) }
         ensures err { IfErr result (IsRefusal (docs_of_file self.now.postings self.now.option option term_info.now)) }
         ensures range { IsErrOf result (Fault.Damaged Part.Range) ↔ (lies_in self.now.postings term_info.now.postings_range ≡ false) }
     {
         let postings = self.checked_postings_of(term_info)?;
         let record_option = self.record_option();
-        match BlockSegmentPostings::open(term_info.doc_freq, postings, record_option, option) {
-            Ok(cursor) => Ok(cursor),
-            Err(fault) => Err(Fault::from(fault)),
+        let doc_freq = term_info.doc_freq;
+        match validation {
+            Validation::Skipped => {
+                Ok(BlockSegmentPostings::open_known(doc_freq, postings, record_option, option))
+            }
+            Validation::Complete => {
+                match BlockSegmentPostings::open(doc_freq, postings, record_option, option) {
+                    Ok(cursor) => Ok(cursor),
+                    Err(fault) => Err(Fault::from(fault)),
+                }
+            }
         }
-    }
-
-    /// Opens a block cursor over the postings that `term_info` describes, as far as they are requested. The
-    /// term must be known to open. Reads no block but the first.
-    ///
-    /// Returns `OutOfMemory` if the file's buffer can't be shared again.
-    #[tactic(auto, using(crate::proofs::KnownLemmas::range_known, crate::proofs::KnownLemmas::docs_lie))]
-    pub fn read_known_block_postings_from_terminfo(
-        &self,
-        term_info: &TermInfo,
-        option: IndexRecordOption,
-    ) -> Result<BlockSegmentPostings, Fault>
-        requires { IsOk (docs_of_file self.now.postings self.now.option option term_info.now) }
-        ensures ok { IfOk result (OpensBlocks self.now.postings self.now.option option term_info.now) }
-        ensures lie { lies_in self.now.postings term_info.now.postings_range ≡ true }
-        ensures only { OnlyMemory result }
-    {
-        let postings = self.postings_of(term_info)?;
-        let record_option = self.record_option();
-        Ok(BlockSegmentPostings::open_known(term_info.doc_freq, postings, record_option, option))
     }
 
     /// Replaces the postings of a block cursor, which keeps its two options, with those that `term_info`
@@ -337,7 +336,7 @@ impl InvertedIndexReader {
         term_info: &TermInfo,
         block_postings: &mut BlockSegmentPostings,
     ) -> Result<(), Fault>
-        ensures ok { OnOk result (OpensBlocks self.now.postings block_postings.old.recorded block_postings.old.requested term_info.now block_postings.new) }
+        ensures ok { OnOk result (OpensBlocks Validation.Complete self.now.postings block_postings.old.recorded block_postings.old.requested term_info.now block_postings.new) }
         ensures err { IfErr result (IsRefusal (docs_of_file self.now.postings block_postings.old.recorded block_postings.old.requested term_info.now)) }
         ensures range { IsErrOf result (Fault.Damaged Part.Range) ↔ (lies_in self.now.postings term_info.now.postings_range ≡ false) }
         ensures emptied { OnErr result (block_postings.new ≡ cursor_of_none block_postings.old.recorded block_postings.old.requested) }
@@ -362,7 +361,7 @@ impl InvertedIndexReader {
         option: IndexRecordOption,
         postings: &mut SegmentPostings,
     ) -> Result<(), Fault>
-        ensures ok { OnOk result (OpensTerm self.now option term_info.now postings.new) }
+        ensures ok { OnOk result (OpensTerm Validation.Complete self.now option term_info.now postings.new) }
         ensures err { IfErr result (IsRefusal (term_of_file self.now option term_info.now)) }
         ensures range { IsErrOf result (Fault.Damaged Part.Range) ↔ (ranges_lie self.now option term_info.now ≡ false) }
         ensures emptied { OnErr result (postings.new ≡ postings_of_none self.now.option option) }

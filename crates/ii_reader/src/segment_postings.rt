@@ -1,21 +1,23 @@
-ghost use Rattle.std.specs.Prelude.{◌≡◌, ◌+◌, ◌*◌, ◌/◌, ◌^◌, ◌<◌, ◌≤◌, ◌⊎◌, ◌++◌, ◌-◌, ◌∷◌, false, not, [], drop, get_or, take, length, map, min, Ok, Err, IfOk, IfErr, OnOk, OnErr, IsOk, IsTrue};
+ghost use Rattle.std.specs.Prelude.{◌≡◌, ◌+◌, ◌*◌, ◌/◌, ◌^◌, ◌<◌, ◌≤◌, ◌⊎◌, ◌++◌, ◌-◌, ◌∷◌, false, not, [], drop, get_or, take, length, map, min, Ok, Err, IfOk, IfErr, OnOk, OnErr, IsOk, IsSome, IsTrue};
 ghost use Rattle.std.specs.List.{All};
 ghost use Rattle.ii_io.specs.Faults.{OnlyMemory};
 ghost use Rattle.ii_io.specs.Parts.{part_of};
 ghost use Rattle.ii_codes.specs.Sums.{fit_u32, running_sums};
 ghost use Rattle.ii_docset.specs.Alive.{IsCovered, alive_in};
 ghost use Rattle.ii_docset.specs.Cursor.{doc_at, from_doc, position_before, positions_at, term_freq_at, IsCurrent, IsSound, IsTarget};
-ghost use Rattle.ii_layout.specs.TermList.{list_of, term_list};
+ghost use Rattle.ii_base.specs.Options.{downgrade, has_positions};
+ghost use Rattle.ii_layout.specs.TermList.{deltas_if, list_of, term_list};
+ghost use Rattle.ii_check.specs.CheckedBlocks.{no_blocks};
 ghost use Rattle.ii_check.specs.CheckedPostings.{is_read};
-ghost use Rattle.ii_check.specs.FreqReading.{freq_reading};
 ghost use Rattle.ii_check.specs.Positions.{deltas_read};
-ghost use Rattle.ii_reader.specs.Bounds.{blocks_with_freq, bounds_trusted, sought_with_freq, trusted};
-ghost use Rattle.ii_reader.specs.SegmentPostings.{DecodesOnce, DecodesPositions, FitCursor, SpentLazily, StaysLazy, WentLazily, decodes_read, postings_of_none};
+ghost use Rattle.ii_reader.specs.Bounds.{blocks_with_freq, sought_with_freq, trusted};
+ghost use Rattle.ii_reader.specs.BlockSegmentPostings.{cursor_of_none};
+ghost use Rattle.ii_reader.specs.SegmentPostings.{DecodesOnce, DecodesPositions, FitCursor, OpensList, OpensParts, SpentLazily, StaysLazy, WentLazily, decodes_read, postings_from, postings_of_none};
 
 use super::block_segment_postings::BlockSegmentPostings;
 use bytes::Bytes;
-use ii_base::{AliveBitSet, Fault, HasLen, IndexRecordOption, LayoutFault};
-use ii_check::FreqReadingOption;
+use ii_base::{AliveBitSet, Fault, HasLen, IndexRecordOption, LayoutFault, Part};
+use ii_check::{FreqReadingOption, Validation};
 use ii_codes::COMPRESSION_BLOCK_SIZE;
 use ii_docset::{DocId, DocSet, Postings, SeekOnce, TERMINATED};
 use ii_layout::PositionReader;
@@ -60,6 +62,7 @@ impl Model for SegmentPostings {
       freq_decodes = s.block_cursor.freq_decodes;
       entries_read = s.block_cursor.entries_read;
       position_decodes = decodes_read s.position_reader;
+      checked = s.block_cursor.checked;
     } };
 
     ghost invariant = { λ s. (s.cur < 128)
@@ -73,8 +76,9 @@ impl SegmentPostings {
     /// Validates the list of `doc_freq` documents at the front of `postings`, by the recorded and the
     /// requested option, and opens a cursor over it. Returns the first corrupt part.
     ///
-    /// Validates all documents, then all term frequencies if they are read, and then all positions. Positions
-    /// are ignored unless both options have them, term frequencies are read, and bytes of positions are
+    /// Validates all documents, then all term frequencies if they are read, and then all positions. Each block
+    /// of documents and of term frequencies is decoded once for that, before the positions. Positions are
+    /// ignored unless both options have them, term frequencies are read, and bytes of positions are
     /// given. Ignores the bytes after the list. Never allocates.
     pub fn open(
         doc_freq: u32,
@@ -83,45 +87,22 @@ impl SegmentPostings {
         record_option: IndexRecordOption,
         requested_option: IndexRecordOption,
     ) -> Result<SegmentPostings, LayoutFault>
-        ensures ok { IfOk result (λ cursor. term_list record_option requested_option doc_freq postings positions ≡ Ok cursor.rest) }
-        ensures doc_freq { IfOk result (λ cursor. cursor.doc_freq ≡ doc_freq) }
-        ensures many { IfOk result (λ cursor. length cursor.rest ≡ doc_freq) }
-        ensures reading { IfOk result (λ cursor. (freq_reading record_option requested_option doc_freq postings ≡ Ok cursor.freq_reading)
-            × (bounds_trusted record_option requested_option doc_freq postings ≡ Ok cursor.bounds)) }
-
-        // The cursor is at its first block.
-        ensures first { IfOk result (λ cursor. cursor.block ≡ 0) }
-        // No more than this was decoded and read for it.
-        ensures doc_decodes { IfOk result (λ cursor. cursor.doc_decodes ≤ 1) }
-        ensures freq_decodes { IfOk result (λ cursor. cursor.freq_decodes ≤ 1) }
-        ensures entries_read { IfOk result (λ cursor. cursor.entries_read ≤ 1) }
-        ensures position_decodes { IfOk result (λ cursor. cursor.position_decodes ≤ 1) }
-        // The error.
+        ensures opened { IfOk result (OpensList Validation.Complete record_option requested_option doc_freq postings positions) }
         ensures err { IfErr result (λ fault. term_list record_option requested_option doc_freq postings positions ≡ Err (part_of fault)) }
     {
         let mut block_cursor = BlockSegmentPostings::empty_by(record_option, requested_option);
-        if let Err(fault) = block_cursor.fill(doc_freq, postings) {
+        let mut position_reader = None;
+        if let Err(fault) = fill(
+            &mut block_cursor,
+            &mut position_reader,
+            doc_freq,
+            postings,
+            positions,
+            Validation::Complete,
+        ) {
             return Err(fault);
         }
-        // What the cursor gives about its list and its block.
-        let _docs = block_cursor.docs();
-        let _reading = block_cursor.freq_reading_option();
-        if positions.is_none() {
-            return Ok(SegmentPostings {
-                block_cursor,
-                cur: 0,
-                position_reader: None,
-            });
-        }
-        let position_reader = match block_cursor.open_positions(positions) {
-            Ok(position_reader) => position_reader,
-            Err(fault) => return Err(fault),
-        };
-        Ok(SegmentPostings {
-            block_cursor,
-            cur: 0,
-            position_reader,
-        })
+        Ok(SegmentPostings::from_block_postings(block_cursor, position_reader))
     }
 
     /// Opens a cursor over known postings and positions, by the recorded and the requested option. `postings`
@@ -137,38 +118,21 @@ impl SegmentPostings {
         requested_option: IndexRecordOption,
     ) -> SegmentPostings
         requires { IsOk (term_list record_option requested_option doc_freq postings positions) }
-        ensures ok { term_list record_option requested_option doc_freq postings positions ≡ Ok result.rest }
-        ensures doc_freq { result.doc_freq ≡ doc_freq }
-        ensures many { length result.rest ≡ doc_freq }
-        ensures reading { (freq_reading record_option requested_option doc_freq postings ≡ Ok result.freq_reading)
-            × (bounds_trusted record_option requested_option doc_freq postings ≡ Ok result.bounds) }
-
-        // The cursor is at its first block.
-        ensures first { result.block ≡ 0 }
-        // No more than this was decoded and read for it.
-        ensures doc_decodes { result.doc_decodes ≤ 1 }
-        ensures freq_decodes { result.freq_decodes ≤ 1 }
-        ensures entries_read { result.entries_read ≤ 1 }
-        ensures position_decodes { result.position_decodes ≤ 1 }
+        ensures { OpensList Validation.Skipped record_option requested_option doc_freq postings positions result }
     {
         let mut block_cursor = BlockSegmentPostings::empty_by(record_option, requested_option);
-        block_cursor.fill_known(doc_freq, postings);
-        // What the cursor gives about its list and its block.
-        let _docs = block_cursor.docs();
-        let _reading = block_cursor.freq_reading_option();
-        if positions.is_none() {
-            return SegmentPostings {
-                block_cursor,
-                cur: 0,
-                position_reader: None,
-            };
-        }
-        let position_reader = block_cursor.open_known_positions(positions);
-        SegmentPostings {
-            block_cursor,
-            cur: 0,
-            position_reader,
-        }
+        let mut position_reader = None;
+        let Ok(()) = fill(
+            &mut block_cursor,
+            &mut position_reader,
+            doc_freq,
+            postings,
+            positions,
+            Validation::Skipped,
+        ) else {
+            unreachable!()
+        };
+        SegmentPostings::from_block_postings(block_cursor, position_reader)
     }
 
     /// Replaces the list, as `open` does with the same arguments: by the list of `doc_freq` documents at the
@@ -182,45 +146,21 @@ impl SegmentPostings {
         record_option: IndexRecordOption,
         requested_option: IndexRecordOption,
     ) -> Result<(), LayoutFault>
-        ensures ok { OnOk result (term_list record_option requested_option doc_freq postings positions ≡ Ok self.new.rest) }
-        ensures doc_freq { OnOk result (self.new.doc_freq ≡ doc_freq) }
-        ensures many { OnOk result (length self.new.rest ≡ doc_freq) }
-        ensures reading { OnOk result ((freq_reading record_option requested_option doc_freq postings ≡ Ok self.new.freq_reading)
-            × (bounds_trusted record_option requested_option doc_freq postings ≡ Ok self.new.bounds)) }
-
-        // The cursor is at its first block.
-        ensures first { self.new.block ≡ 0 }
-        // No more than this was decoded and read for it.
-        ensures doc_decodes { self.new.doc_decodes ≤ 1 }
-        ensures freq_decodes { self.new.freq_decodes ≤ 1 }
-        ensures entries_read { self.new.entries_read ≤ 1 }
-        ensures position_decodes { self.new.position_decodes ≤ 1 }
-        // The error, and what it leaves.
+        ensures opened { OnOk result (OpensList Validation.Complete record_option requested_option doc_freq postings positions self.new) }
         ensures err { IfErr result (λ fault. term_list record_option requested_option doc_freq postings positions ≡ Err (part_of fault)) }
         ensures emptied { OnErr result (self.new ≡ postings_of_none record_option requested_option) }
     {
         self.cur = 0;
         self.position_reader = None;
         self.block_cursor.clear_by(record_option, requested_option);
-        if let Err(fault) = self.block_cursor.fill(doc_freq, postings) {
-            return Err(fault);
-        }
-        // What the cursor gives about its list and its block.
-        let _docs = self.block_cursor.docs();
-        let _reading = self.block_cursor.freq_reading_option();
-        if positions.is_none() {
-            return Ok(());
-        }
-        match self.block_cursor.open_positions(positions) {
-            Ok(position_reader) => {
-                self.position_reader = position_reader;
-                Ok(())
-            }
-            Err(fault) => {
-                self.block_cursor.clear_by(record_option, requested_option);
-                Err(fault)
-            }
-        }
+        fill(
+            &mut self.block_cursor,
+            &mut self.position_reader,
+            doc_freq,
+            postings,
+            positions,
+            Validation::Complete,
+        )
     }
 
     // Removes the list, and sets the two options.
@@ -238,7 +178,7 @@ impl SegmentPostings {
 
     /// Opens a cursor over no documents.
     pub fn empty() -> SegmentPostings
-        ensures { result ≡ record { rest = []; doc_freq = 0; freq_reading = FreqReadingOption.NoFreq; bounds = []; block = 0; doc_decodes = 0; freq_decodes = 0; entries_read = 0; position_decodes = 0 } }
+        ensures { result ≡ record { rest = []; doc_freq = 0; freq_reading = FreqReadingOption.NoFreq; bounds = []; block = 0; doc_decodes = 0; freq_decodes = 0; entries_read = 0; position_decodes = 0; checked = no_blocks } }
     {
         SegmentPostings::from_block_postings(BlockSegmentPostings::empty(), None)
     }
@@ -253,18 +193,7 @@ impl SegmentPostings {
         position_reader: Option<PositionReader>,
     ) -> SegmentPostings
         requires { FitCursor segment_block_postings (deltas_read position_reader) }
-        ensures rest { result.rest
-            ≡ drop (128 * segment_block_postings.block) (list_of segment_block_postings.docs segment_block_postings.freqs (deltas_read position_reader)) }
-        ensures doc_freq { result.doc_freq ≡ length segment_block_postings.docs }
-        ensures reading { (result.freq_reading ≡ segment_block_postings.freq_reading) × (result.bounds ≡ trusted segment_block_postings.freq_reading segment_block_postings.bounds) }
-
-        // The block of the cursor.
-        ensures block { result.block ≡ segment_block_postings.block }
-        // What was decoded and read for it.
-        ensures doc_decodes { result.doc_decodes ≡ segment_block_postings.doc_decodes }
-        ensures freq_decodes { result.freq_decodes ≡ segment_block_postings.freq_decodes }
-        ensures entries_read { result.entries_read ≡ segment_block_postings.entries_read }
-        ensures position_decodes { result.position_decodes ≡ decodes_read position_reader }
+        ensures { result ≡ postings_from (128 * segment_block_postings.block) segment_block_postings position_reader }
     {
         // What the cursor gives about its list and its block.
         let _docs = segment_block_postings.docs();
@@ -511,6 +440,61 @@ impl Postings for SegmentPostings {
         let start = self.block_cursor.position_offset(self.cur);
         let count = self.block_cursor.freq(self.cur);
         read_piece(reader, start, count, from, before, output)
+    }
+}
+
+// Opens a list in a block cursor over no documents and, if they are read, its positions. The list must be
+// valid if validation is skipped. After an error the cursor is over no documents.
+#[inline(always)]
+fn fill(
+    block_cursor: &mut BlockSegmentPostings,
+    position_reader: &mut Option<PositionReader>,
+    doc_freq: u32,
+    postings: Bytes,
+    positions: Option<Bytes>,
+    validation: Validation,
+) -> Result<(), LayoutFault>
+    requires none { block_cursor.old ≡ cursor_of_none block_cursor.old.recorded block_cursor.old.requested }
+    requires no_reader { position_reader.old ≡ None }
+    requires known { validation ≡ Validation.Skipped → IsOk (term_list block_cursor.old.recorded block_cursor.old.requested doc_freq postings positions) }
+    ensures opened { OnOk result (OpensParts validation block_cursor.old.recorded block_cursor.old.requested doc_freq postings positions block_cursor.new position_reader.new) }
+    ensures err { IfErr result (λ fault. term_list block_cursor.old.recorded block_cursor.old.requested doc_freq postings positions ≡ Err (part_of fault)) }
+    ensures emptied { OnErr result ((block_cursor.new ≡ cursor_of_none block_cursor.old.recorded block_cursor.old.requested) × (position_reader.new ≡ None)) }
+{
+    if let Err(fault) = block_cursor.fill(doc_freq, postings, validation) {
+        return Err(fault);
+    }
+    if positions.is_none() {
+        return Ok(());
+    }
+    fill_positions(block_cursor, position_reader, positions, validation)
+}
+
+// Opens the positions of a block cursor's list, if they are read.
+fn fill_positions(
+    block_cursor: &mut BlockSegmentPostings,
+    position_reader: &mut Option<PositionReader>,
+    positions: Option<Bytes>,
+    validation: Validation,
+) -> Result<(), LayoutFault>
+    requires no_reader { position_reader.old ≡ None }
+    requires known { validation ≡ Validation.Skipped → IsSome (deltas_if (has_positions (downgrade block_cursor.old.recorded block_cursor.old.requested)) block_cursor.old.freqs positions) }
+    ensures same { OnOk result (block_cursor.new ≡ block_cursor.old) }
+    ensures deltas { OnOk result (deltas_if (has_positions (downgrade block_cursor.old.recorded block_cursor.old.requested)) block_cursor.old.freqs positions ≡ Some (deltas_read position_reader.new)) }
+    ensures decodes { OnOk result (decodes_read position_reader.new ≤ 1) }
+    ensures refused { OnErr result (deltas_if (has_positions (downgrade block_cursor.old.recorded block_cursor.old.requested)) block_cursor.old.freqs positions ≡ None) }
+    ensures err { IfErr result (λ fault. fault ≡ LayoutFault.Damaged Part.Positions) }
+    ensures emptied { OnErr result ((block_cursor.new ≡ cursor_of_none block_cursor.old.recorded block_cursor.old.requested) × (position_reader.new ≡ None)) }
+{
+    match block_cursor.open_positions(positions, validation) {
+        Ok(opened) => {
+            *position_reader = opened;
+            Ok(())
+        }
+        Err(fault) => {
+            block_cursor.clear();
+            Err(fault)
+        }
     }
 }
 

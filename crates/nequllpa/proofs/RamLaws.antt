@@ -1,19 +1,18 @@
 -- What is written to files in memory, and why it can't be.
-use Rattle.std.proofs.Common.{inl, inr, ◌≡◌, ℕ, List, [], Option, Some, None, Result, Ok, Err, refl, sym, ap, ◌∙◌, subst, ⊎_elim}
+use Rattle.std.proofs.Common.{inl, ◌≡◌, ℕ, List, [], Option, Some, None, Result, Ok, Err, sym, ap, ◌∙◌, subst}
 use Rattle.std.specs.Prelude.{◌⊎◌, IfErr, IfOk, length}
 use Rattle.std.specs.List.{All}
 use Rattle.std.specs.Io.KnownBytes.{Appends}
 use Rattle.ii_io.specs.declared.faults.Fault.{Fault}
-use Rattle.ii_io.specs.declared.faults.Fault.TheVariants.{OutOfMemory, Write, SerializerClosed, IndexerFailed, UnsupportedLeaf, DecreasingPosition, Limit, Damaged}
-use Rattle.ii_io.specs.Faults.{memory_fault}
+use Rattle.ii_io.specs.declared.faults.Fault.TheVariants.{OutOfMemory}
 use Rattle.ii_base.specs.Schema.{SchemaEntry}
 use Rattle.ii_definitions.specs.Tokens.{IndexToken}
-use Rattle.ii_indexing.specs.IndexFiles.{IsIndexFault, WroteIndex}
+use Rattle.ii_indexing.specs.IndexFiles.{WroteIndex}
 use Rattle.ii_indexing.specs.declared.index_writers.IndexWriters.{IndexWriters}
-use Rattle.ii_reader.specs.OpenIndex.{GivesReaders, IndexHolds, NormsHold, OpenIndexState}
+use Rattle.ii_reader.specs.OpenIndex.{GivesReaders, IndexHolds, NormsHold, OpenIndexState, trusted_index}
 use Rattle.ii_reader.specs.InvertedIndexReader.{AllOpen}
-use Rattle.ii_reader.proofs.KnownLemmas.{readers_open}
-use Rattle.ii_indexing.specs.RamFiles.{IsRamFault, empty_files}
+use Rattle.ii_reader.proofs.KnownLemmas.{readers_open, readers_trusted}
+use Rattle.ii_indexing.specs.RamFiles.{empty_files}
 
 pub appended : (bytes : List ℕ) (o : Option (List ℕ)) → Appends (Some []) o bytes → o ≡ Some bytes
 appended bytes None h = absurd h
@@ -33,9 +32,9 @@ in_ram {W} entries n old new ts empty w = (
 abbrev pub GivesAll : List SchemaEntry → ℕ → List IndexToken → Result OpenIndexState Fault → Type 0
 GivesAll entries n ts r = GivesReaders entries ts r × IfOk r (λ index. NormsHold entries n index.fieldnorms ts)
 
-pub index_holds : (entries : List SchemaEntry) (n : ℕ) (ts : List IndexToken) (r : Result OpenIndexState Fault) → GivesAll entries n ts r → IfOk r (λ index. IndexHolds entries n index ts)
-index_holds entries n ts (Ok index) h = record { readers = h.0; norms = h.1 }
-index_holds entries n ts (Err e) h = tt
+-- an index that was opened and is trusted
+pub index_holds : (entries : List SchemaEntry) (n : ℕ) (ts : List IndexToken) (index : OpenIndexState) → GivesAll entries n ts (Ok index) → IndexHolds entries n (trusted_index index) ts
+index_holds entries n ts index h = record { readers = readers_trusted entries index.readers ts h.0; norms = h.1 }
 
 -- each term of an index that was just written opens
 pub all_open : (entries : List SchemaEntry) (n : ℕ) (ts : List IndexToken) (index : OpenIndexState) (r : Result OpenIndexState Fault) → r ≡ Ok index → GivesAll entries n ts r → length index.readers ≡ length entries → All AllOpen index.readers

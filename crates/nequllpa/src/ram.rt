@@ -9,8 +9,8 @@ ghost use Rattle.ii_definitions.specs.Tokens.{IndexToken, tokens_of};
 ghost use Rattle.ii_definitions.specs.IndexCalls.{MayAllBeIndexed, call_of};
 ghost use Rattle.ii_indexing.specs.Refusals.{calls_fault};
 ghost use Rattle.ii_indexing.specs.RamFiles.{IsRamFault};
-ghost use Rattle.ii_reader.specs.InvertedIndexReader.{AllOpen};
-ghost use Rattle.ii_reader.specs.OpenIndex.{GivesReaders, IndexHolds, NormsHold};
+ghost use Rattle.ii_reader.specs.InvertedIndexReader.{AllOpen, IsTrusted};
+ghost use Rattle.ii_reader.specs.OpenIndex.{GivesReaders, IndexHolds, NormsHold, trusted_index};
 
 use bytes::Bytes;
 use ii_base::{Fault, Schema, TextAnalyzer};
@@ -40,6 +40,7 @@ pub fn index_in_ram<A: TextAnalyzer>(
     requires calls { MayAllBeIndexed schema num_docs calls.items }
     ensures holds { IfOk result (λ index. IndexHolds schema num_docs index (tokens_of (A.words analyzer.now) (map (call_of schema) calls.items))) }
     ensures many { IfOk result (λ index. length index.readers ≡ length schema) }
+    ensures trusted { IfOk result (λ index. All IsTrusted index.readers) }
     ensures refused { IfSome (calls_fault (A.words analyzer.now) (option_of schema) [] (map (call_of schema) calls.items)) (λ fault. (result ≡ Err fault) ⊎ (result ≡ Err Fault.OutOfMemory)) }
     ensures fault { calls_fault (A.words analyzer.now) (option_of schema) [] (map (call_of schema) calls.items) ≡ None
         → IfErr result (λ e. (e ≡ Fault.OutOfMemory) ⊎ IsRamFault schema num_docs (tokens_of (A.words analyzer.now) (map (call_of schema) calls.items)) e) }
@@ -59,7 +60,7 @@ pub fn index_in_ram<A: TextAnalyzer>(
 // Marks an index as trusted, each of whose terms opens.
 fn trusted(index: OpenIndex) -> OpenIndex
     requires { All AllOpen index.readers }
-    ensures { result ≡ index }
+    ensures { result ≡ trusted_index index }
 {
     let mut index = index;
     index.trust();

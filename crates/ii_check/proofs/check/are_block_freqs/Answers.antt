@@ -6,8 +6,8 @@ use Rattle.ii_layout.proofs.FrequencyLemmas.{block_fits}
 use Rattle.ii_check.proofs.FrequencyLemmas.{block_refused, block_there}
 use Rattle.ii_check.proofs.check.are_block_freqs.Goals as goal
 
-pub returns-then-not-has_sum : goal.returns-then-not-has_sum
-returns-then-not-has_sum c =
+pub returns-then-not-has_sum-clause-has : goal.returns-then-not-has_sum-clause-has
+returns-then-not-has_sum-clause-has c =
     let b = c.in-BitPacked in
     let output = c.try_uncompress_block_unsorted.new.self.output in
     let bytes = c.bytes_from-bytes.ensures ∙ ap (λ (n : ℕ). drop n c.args.bytes.now) c.compressed_block_size.ensures in
@@ -18,8 +18,8 @@ returns-then-not-has_sum c =
     let sum = ap (has_sum c.args.skip_info b.tf_sum) (sym values) ∙ sym c.has_sum.ensures ∙ c.if-not-has_sum.true in
     rw b.is (block_refused c.args.skip_info b.doc_num_bits b.tf_num_bits b.tf_sum b.block_wand_fieldnorm_id b.block_wand_term_freq b.strict_delta_encoded c.args.bytes.now output _ read sum)
 
-pub returns : goal.returns
-returns c =
+pub returns-clause-has : goal.returns-clause-has
+returns-clause-has c =
     let b = c.in-BitPacked in
     let output = c.try_uncompress_block_unsorted.new.self.output in
     let bytes = c.bytes_from-bytes.ensures ∙ ap (λ (n : ℕ). drop n c.args.bytes.now) c.compressed_block_size.ensures in

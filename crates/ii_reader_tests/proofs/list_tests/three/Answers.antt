@@ -4,6 +4,6 @@ use Rattle.ii_reader_tests.proofs.list_tests.three.Goals as goal
 
 pub returns-in-Ok : goal.returns-in-Ok
 returns-in-Ok c =
-    let opened = rw c.from_static-bytes.ensures at c.in-Ok.ensures.ok in
+    let opened = rw c.from_static-bytes.ensures at c.in-Ok.ensures.opened.list in
     let same = sym opened ∙ row_three in
     cc

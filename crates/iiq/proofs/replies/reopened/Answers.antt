@@ -9,4 +9,4 @@ pub unreachable-requires : goal.unreachable-requires
 unreachable-requires c = ok_no_err _ _ _ (opens_written c.args.docs.now c.args.postings c.reads_documents_back.ensures c.requires.ascending c.requires.written) c.in-Err.ensures.err
 
 pub returns : goal.returns
-returns c = ok_is _ _ _ c.in-Ok.ensures.ok (opens_written c.args.docs.now c.args.postings c.reads_documents_back.ensures c.requires.ascending c.requires.written)
+returns c = ok_is _ _ _ c.in-Ok.ensures.opened.list (opens_written c.args.docs.now c.args.postings c.reads_documents_back.ensures c.requires.ascending c.requires.written)

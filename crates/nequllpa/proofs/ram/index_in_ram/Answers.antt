@@ -1,4 +1,5 @@
-use Rattle.std.proofs.Common.{List, map, Result, Ok, Err, sym, subst}
+use Rattle.std.proofs.Common.{List, length, map, Result, Err, ap, sym, subst, ◌∙◌}
+use Rattle.std.proofs.lemmas.List.{length-map}
 use Rattle.std.specs.Prelude.{IfErr, OnOk}
 use Rattle.ii_io.specs.declared.faults.Fault.{Fault}
 use Rattle.ii_base.specs.Schema.{SchemaEntry}
@@ -9,7 +10,9 @@ use Rattle.ii_definitions.specs.Tokens.{tokens_of}
 use Rattle.ii_definitions.specs.IndexCalls.{call_of}
 use Rattle.ii_indexing.specs.IndexFiles.{IsIndexFault, WroteIndex}
 use Rattle.ii_indexing.specs.RamFiles.{IsRamFault}
+use Rattle.ii_reader.specs.InvertedIndexReader.{trusted_reader}
 use Rattle.ii_reader.specs.OpenIndex.{GivesReaders, OpenIndexState}
+use Rattle.ii_reader.proofs.KnownLemmas.{all_trusted}
 use Rattle.ii_indexing.proofs.RamLaws.{fault_in_ram}
 use Rattle.nequllpa.proofs.RamLaws.{GivesAll, all_open, in_ram, index_holds, readers_fault}
 use Rattle.nequllpa.proofs.ram.index_in_ram.Goals as goal
@@ -39,7 +42,7 @@ returns-in-Ok-open_files-clause-holds g c =
     let norms = subst (λ (es : List SchemaEntry). HoldNorms es c.args.num_docs wrote.norms.fieldnorms ts) same wrote.norms.hold in
     let gives = c.open_files.ensures.holds wrote.terms.terms wrote.terms.postings wrote.terms.positions wrote.norms.fieldnorms c.args.num_docs ts ram.0 ram.1 ram.2 ram.3 hold norms in
     let all = subst (λ (es : List SchemaEntry). GivesAll es c.args.num_docs ts c.open_files.result) c.in_ok-copy.ensures.same gives in
-    rw c.trusted.ensures (index_holds c.args.schema c.args.num_docs ts (Ok c.in-Ok-open_files.index) (subst (λ (r : Result OpenIndexState Fault). GivesAll c.args.schema c.args.num_docs ts r) c.in-Ok-open_files.is all))
+    rw c.trusted.ensures (index_holds c.args.schema c.args.num_docs ts c.in-Ok-open_files.index (subst (λ (r : Result OpenIndexState Fault). GivesAll c.args.schema c.args.num_docs ts r) c.in-Ok-open_files.is all))
 
 pub returns-in-Ok-clause-fault : goal.returns-in-Ok-clause-fault
 returns-in-Ok-clause-fault g c none =
@@ -61,3 +64,9 @@ returns-clause-fault g c none =
     rw c.in_memory.ensures
     (fault_in_ram c.args.schema c.args.num_docs files ts c.in-Err.fault c.in_memory-files.ensures
     (subst (λ (r : Result (Unit {0}) Fault). IfErr r (IsIndexFault c.args.schema c.args.num_docs files ts)) c.in-Err.is (c.write_index-files.ensures.fault none)))
+
+pub returns-in-Ok-open_files-clause-many : goal.returns-in-Ok-open_files-clause-many
+returns-in-Ok-open_files-clause-many g c = rw c.trusted.ensures (length-map c.in-Ok-open_files.index.readers trusted_reader ∙ c.in-Ok-open_files.ensures.many ∙ ap length c.in_ok-copy.ensures.same)
+
+pub returns-in-Ok-open_files-clause-trusted : goal.returns-in-Ok-open_files-clause-trusted
+returns-in-Ok-open_files-clause-trusted g c = rw c.trusted.ensures (all_trusted c.in-Ok-open_files.index.readers)

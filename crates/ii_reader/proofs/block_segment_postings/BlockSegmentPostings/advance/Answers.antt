@@ -15,7 +15,7 @@ returns-clause-goes c =
     let moves : Moves s.checked s.skip c.advance.new.skip s.doc_decoder c.load_block.new.doc_decoder s.freq_decoder c.load_block.new.freq_decoder =
     record { was = c.self.invariant; at = c.advance.ensures.at; next = c.advance.ensures.block; loads = c.load_block.ensures }
     in
-    rw (← c.self.view_is) (moved_goes s.checked s.skip c.advance.new.skip s.doc_decoder c.load_block.new.doc_decoder s.freq_decoder c.load_block.new.freq_decoder moves)
+    rw (← c.self.view_is) (moved_goes (record { docs = s.checked_blocks.docs.value; freqs = s.checked_blocks.freqs.value }) s.checked s.skip c.advance.new.skip s.doc_decoder c.load_block.new.doc_decoder s.freq_decoder c.load_block.new.freq_decoder moves)
 
 pub returns-clause-lazy : goal.returns-clause-lazy
 returns-clause-lazy c =
@@ -23,5 +23,5 @@ returns-clause-lazy c =
     let moves : Moves s.checked s.skip c.advance.new.skip s.doc_decoder c.load_block.new.doc_decoder s.freq_decoder c.load_block.new.freq_decoder =
     record { was = c.self.invariant; at = c.advance.ensures.at; next = c.advance.ensures.block; loads = c.load_block.ensures }
     in
-    loaded_lazy s.checked c.advance.new.skip c.load_block.new.doc_decoder c.load_block.new.freq_decoder
+    loaded_lazy (record { docs = s.checked_blocks.docs.value; freqs = s.checked_blocks.freqs.value }) s.checked c.advance.new.skip c.load_block.new.doc_decoder c.load_block.new.freq_decoder
     (moved_loaded s.checked s.skip c.advance.new.skip s.doc_decoder c.load_block.new.doc_decoder s.freq_decoder c.load_block.new.freq_decoder moves)

@@ -1,36 +1,43 @@
 use Rattle.std.proofs.Common.{ap, ◌∙◌}
 use Rattle.ii_reader.specs.BlockSegmentPostings.{BlockSegmentPostingsState}
-use Rattle.ii_reader.proofs.BlockLemmas.{decodes_first, docs_opened, entries_first, entries_opened, first_loaded, freq_decodes_first, reading_opened}
+use Rattle.ii_reader.proofs.BlockLemmas.{counted, decodes_first, docs_opened, entries_first, entries_opened, first_loaded, freq_decodes_first, reading_opened}
+use Rattle.ii_reader.proofs.KnownLemmas.{postings_known}
 use Rattle.ii_reader.proofs.block_segment_postings.BlockSegmentPostings.fill.Goals as goal
+
+pub open-opened-requires-clause-known : goal.open-opened-requires-clause-known
+open-opened-requires-clause-known c = λ skipped.
+    let recorded = c.record_option.ensures ∙ ap (λ (s : BlockSegmentPostingsState). s.recorded) c.self.view_is in
+    let requested = c.requested_option.ensures ∙ ap (λ (s : BlockSegmentPostingsState). s.requested) c.self.view_is in
+    rw (recorded, requested) (postings_known c.args.self.now.recorded c.args.self.now.requested c.args.doc_freq c.args.bytes (c.requires.known skipped))
 
 pub invariant_of-self : goal.invariant_of-self
 invariant_of-self c =
     first_loaded c.in-Ok.checked c.skip_reader-self-inside.result c.open-opened.new.doc_decoder c.open-opened.new.freq_decoder c.in-Ok.ensures.documents c.skip_reader-self-inside.ensures.at c.skip_reader-self-inside.ensures.first c.in-Ok.ensures.first
 
-pub returns-in-Ok-clause-freq_decodes : goal.returns-in-Ok-clause-freq_decodes
-returns-in-Ok-clause-freq_decodes c =
+pub returns-in-Ok-clause-opened : goal.returns-in-Ok-clause-opened
+returns-in-Ok-clause-opened c =
+    let old = c.args.self.now in
     let checked = c.in-Ok.checked in
-    rw (← c.in-Ok.ensures.doc_freq) (freq_decodes_first checked.postings.freqs checked.doc_freq c.open-opened.new.freq_decoder c.in-Ok.ensures.documents.freqs c.in-Ok.ensures.first.freqs_are)
-
-pub returns-in-Ok-clause-ok : goal.returns-in-Ok-clause-ok
-returns-in-Ok-clause-ok c =
+    let s = c.self.inside in
+    let new = c.open-opened.new.checked_blocks in
+    let none = ap (λ (s : BlockSegmentPostingsState). s.checked) (c.self.view_is ∙ c.requires.none) in
     let recorded = c.record_option.ensures ∙ ap (λ (s : BlockSegmentPostingsState). s.recorded) c.self.view_is in
     let requested = c.requested_option.ensures ∙ ap (λ (s : BlockSegmentPostingsState). s.requested) c.self.view_is in
-    docs_opened c.args.self.now.recorded c.args.self.now.requested c.args.doc_freq c.args.bytes c.in-Ok.checked.postings (rw (recorded, requested) at c.in-Ok.ensures.ok)
-
-pub returns-in-Ok-clause-reading : goal.returns-in-Ok-clause-reading
-returns-in-Ok-clause-reading c =
-    let recorded = c.record_option.ensures ∙ ap (λ (s : BlockSegmentPostingsState). s.recorded) c.self.view_is in
-    let requested = c.requested_option.ensures ∙ ap (λ (s : BlockSegmentPostingsState). s.requested) c.self.view_is in
-    reading_opened c.args.self.now.recorded c.args.self.now.requested c.args.doc_freq c.args.bytes c.in-Ok.checked.postings _ (rw (recorded, requested) at c.in-Ok.ensures.ok) (rw requested at c.in-Ok.ensures.reading)
-
-pub returns-in-Ok-clause-entries : goal.returns-in-Ok-clause-entries
-returns-in-Ok-clause-entries c = entries_opened c.in-Ok.checked c.args.doc_freq c.in-Ok.ensures.documents c.in-Ok.ensures.doc_freq
-
-pub returns-in-Ok-clause-doc_decodes : goal.returns-in-Ok-clause-doc_decodes
-returns-in-Ok-clause-doc_decodes c =
-    rw (← c.in-Ok.ensures.doc_freq) (decodes_first c.in-Ok.checked.postings.docs c.in-Ok.checked.doc_freq c.open-opened.new.doc_decoder.decodes c.in-Ok.ensures.documents.many c.in-Ok.ensures.first.docs_are.decodes)
-
-pub returns-in-Ok-clause-entries_read : goal.returns-in-Ok-clause-entries_read
-returns-in-Ok-clause-entries_read c =
-    entries_first c.in-Ok.checked c.skip_reader-self-inside.result c.args.doc_freq c.skip_reader-self-inside.ensures.at c.skip_reader-self-inside.ensures.first c.in-Ok.ensures.doc_freq
+    let postings = rw (recorded, requested) at c.in-Ok.ensures.ok in
+    let reading = reading_opened old.recorded old.requested c.args.doc_freq c.args.bytes checked.postings _ postings (rw requested at c.in-Ok.ensures.reading) in
+    let freqs = freq_decodes_first checked.postings.freqs checked.doc_freq c.open-opened.new.freq_decoder c.in-Ok.ensures.documents.freqs c.in-Ok.ensures.first.freqs_are in
+    let docs = decodes_first checked.postings.docs checked.doc_freq c.open-opened.new.doc_decoder.decodes c.in-Ok.ensures.documents.many c.in-Ok.ensures.first.docs_are.decodes in
+    record {
+      docs = docs_opened old.recorded old.requested c.args.doc_freq c.args.bytes checked.postings postings;
+      recorded_is = c.in-Ok.ensures.options.0 ∙ recorded;
+      requested_is = c.in-Ok.ensures.options.1 ∙ requested;
+      reading = reading.0;
+      bounds = reading.1;
+      entries = entries_opened checked c.args.doc_freq c.in-Ok.ensures.documents c.in-Ok.ensures.doc_freq;
+      read = c.in-Ok.ensures.documents.read;
+      first = c.skip_reader-self-inside.ensures.first;
+      doc_decodes = rw (← c.in-Ok.ensures.doc_freq) docs;
+      freq_decodes = rw (← c.in-Ok.ensures.doc_freq) freqs;
+      checked = counted c.args.validation checked.freq_reading c.args.doc_freq (record { docs = s.checked_blocks.docs.value; freqs = s.checked_blocks.freqs.value }) (record { docs = new.docs.value; freqs = new.freqs.value }) none c.in-Ok.ensures.docs_checked c.in-Ok.ensures.freqs_checked;
+      entries_read = entries_first checked c.skip_reader-self-inside.result c.args.doc_freq c.skip_reader-self-inside.ensures.at c.skip_reader-self-inside.ensures.first c.in-Ok.ensures.doc_freq;
+    }

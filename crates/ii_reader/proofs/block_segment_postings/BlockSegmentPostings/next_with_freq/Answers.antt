@@ -24,7 +24,7 @@ returns-clause-goes c =
     let goes : GoesOn s.checked s.skip c.seek_with_freq.new.skip s.doc_decoder c.load_block.new.doc_decoder s.freq_decoder c.load_block.new.freq_decoder =
     record { was = c.self.invariant; at = c.seek_with_freq.ensures.at; later = c.seek_with_freq.ensures.seeks.behind; loads = c.load_block.ensures }
     in
-    rw (← c.self.view_is) (on_goes s.checked s.skip c.seek_with_freq.new.skip s.doc_decoder c.load_block.new.doc_decoder s.freq_decoder c.load_block.new.freq_decoder goes)
+    rw (← c.self.view_is) (on_goes (record { docs = s.checked_blocks.docs.value; freqs = s.checked_blocks.freqs.value }) s.checked s.skip c.seek_with_freq.new.skip s.doc_decoder c.load_block.new.doc_decoder s.freq_decoder c.load_block.new.freq_decoder goes)
 
 pub returns-clause-passes : goal.returns-clause-passes
 returns-clause-passes c = λ fs e.

@@ -30,7 +30,7 @@ returns-clause-goes c =
     let goes : GoesOn s.checked s.skip c.seek.new.skip s.doc_decoder c.load_block.new.doc_decoder s.freq_decoder c.load_block.new.freq_decoder =
     record { was = c.self.invariant; at = c.seek.ensures.at; later = goes_on c.args.target s.checked.postings.docs s.skip.block c.seek.new.skip.block high c.requires c.seek.ensures.seeks; loads = c.load_block.ensures }
     in
-    rw (← c.self.view_is) (on_goes s.checked s.skip c.seek.new.skip s.doc_decoder c.load_block.new.doc_decoder s.freq_decoder c.load_block.new.freq_decoder goes)
+    rw (← c.self.view_is) (on_goes (record { docs = s.checked_blocks.docs.value; freqs = s.checked_blocks.freqs.value }) s.checked s.skip c.seek.new.skip s.doc_decoder c.load_block.new.doc_decoder s.freq_decoder c.load_block.new.freq_decoder goes)
 
 pub returns-clause-seeks : goal.returns-clause-seeks
 returns-clause-seeks c = rw (← c.self.view_is) c.seek.ensures.seeks
@@ -42,4 +42,4 @@ pub returns-then-target-doc-clause-entries : goal.returns-then-target-doc-clause
 returns-then-target-doc-clause-entries c = rw (← c.self.view_is) (entries_are c.self.inside.checked c.self.invariant.has)
 
 pub returns-then-target-doc-clause-goes : goal.returns-then-target-doc-clause-goes
-returns-then-target-doc-clause-goes c = record { recorded = refl; requested = refl; docs = refl; freqs = refl; freq_reading = refl; bounds = refl; block = refl; doc_decodes = omega arith; freq_decodes = omega arith }
+returns-then-target-doc-clause-goes c = record { recorded = refl; requested = refl; docs = refl; freqs = refl; freq_reading = refl; bounds = refl; checked = refl; block = refl; doc_decodes = omega arith; freq_decodes = omega arith }

@@ -3,23 +3,11 @@ use Rattle.ii_reader.specs.InvertedIndexReader.{AllOpen, InvertedIndexReaderStat
 use Rattle.ii_reader.proofs.KnownLemmas.{key_known}
 use Rattle.ii_reader.proofs.inverted_index_reader.InvertedIndexReader.read_postings.Goals as goal
 
-pub read_known_postings_from_terminfo-requires : goal.read_known_postings_from_terminfo-requires
-read_known_postings_from_terminfo-requires c =
-    let all = subst (λ (r : InvertedIndexReaderState). AllOpen r) c.self.view_is (c.self.invariant c.if-self.true) in
+pub open_postings-requires : goal.open_postings-requires
+open_postings-requires c = λ skipped.
+    let all = subst (λ (r : InvertedIndexReaderState). AllOpen r) c.self.view_is (c.self.invariant skipped) in
     key_known c.args.self.now c.args.term.now.value c.args.option c.in-Some.term_info all c.in-Some.ensures.value
 
-pub returns-in-Err-read_postings_from_terminfo-clause-holds :
-    goal.returns-in-Err-read_postings_from_terminfo-clause-holds
-returns-in-Err-read_postings_from_terminfo-clause-holds c = λ field tokens held.
-    c.in-Err-read_postings_from_terminfo.ensures.holds field c.args.term.now.value tokens (c.in-Some.ensures.holds field tokens held)
-
-pub returns-in-Err-clause-range : goal.returns-in-Err-clause-range
-returns-in-Err-clause-range c =
-    let memory = c.in-Err.ensures.only in
-    let lie = c.in-Err.ensures.lie in
-    rw (← c.in-Some.ensures.value) (λ damaged. absurd (cc), λ gone. absurd (cc))
-
-pub returns-in-Ok-clause-range : goal.returns-in-Ok-clause-range
-returns-in-Ok-clause-range c =
-    let lie = c.in-Ok.ensures.lie in
-    rw (← c.in-Some.ensures.value) (λ damaged. absurd (cc), λ gone. absurd (cc))
+pub returns-in-Err-clause-holds : goal.returns-in-Err-clause-holds
+returns-in-Err-clause-holds c = λ field tokens held.
+    c.in-Err.ensures.holds field c.args.term.now.value tokens (c.in-Some.ensures.holds field tokens held)

@@ -1,24 +1,13 @@
 use Rattle.std.specs.Prelude.{⊤}
 use Rattle.ii_definitions.specs.Files.{bytes_in}
+use Rattle.ii_check.specs.declared.validation.Validation.TheVariants.{Complete}
 use Rattle.ii_reader.specs.InvertedIndexReader.{given_if, reads_positions}
-use Rattle.ii_reader.proofs.ReaderLemmas.{file_list, list_is, list_no_range, memory_alone, no_range, refused_by}
+use Rattle.ii_reader.proofs.ReaderLemmas.{file_list, list_is, list_no_range, memory_alone, no_range, opens_term, refused_by}
 use Rattle.ii_reader.proofs.inverted_index_reader.InvertedIndexReader.reset_postings_from_terminfo.Goals as goal
 
 pub returns-in-Ok-reset-clause-ok : goal.returns-in-Ok-reset-clause-ok
 returns-in-Ok-reset-clause-ok c =
-    let opened = rw (c.in-Ok.ensures.postings, c.in-Ok.ensures.positions, c.record_option-record_option.ensures) at c.in-Ok-reset.ensures in
-    record {
-      list = file_list c.args.self.now c.args.option c.args.term_info.now _ c.in-Ok.ensures.lie opened.ok;
-      doc_freq = opened.doc_freq;
-      many = opened.many;
-      reading = opened.reading.0;
-      bounds = opened.reading.1;
-      first = opened.first;
-      doc_decodes = opened.doc_decodes;
-      freq_decodes = opened.freq_decodes;
-      entries_read = opened.entries_read;
-      position_decodes = opened.position_decodes;
-    }
+    opens_term Complete c.args.self.now c.args.option c.args.term_info.now c.reset.new.self c.in-Ok.ensures.lie (rw (c.in-Ok.ensures.postings, c.in-Ok.ensures.positions, c.record_option-record_option.ensures) at c.in-Ok-reset.ensures.opened)
 
 pub returns-in-Ok-reset-clause-holds : goal.returns-in-Ok-reset-clause-holds
 returns-in-Ok-reset-clause-holds c = λ field key tokens held.

@@ -3,4 +3,4 @@ use Rattle.ii_reader.specs.InvertedIndexReader.{AllOpen, InvertedIndexReaderStat
 use Rattle.ii_reader.proofs.inverted_index_reader.InvertedIndexReader.trust.Goals as goal
 
 pub invariant_of-self : goal.invariant_of-self
-invariant_of-self c = λ set. subst (λ (r : InvertedIndexReaderState). AllOpen r) (sym c.self.view_is) c.requires
+invariant_of-self c = λ set. λ key requested. (subst (λ (r : InvertedIndexReaderState). AllOpen r) (sym c.self.view_is) c.requires) key requested

@@ -1,57 +1,15 @@
-use Rattle.std.proofs.Common.{None, refl, ap, ◌∙◌, arith}
-use Rattle.ii_base.specs.Options.{downgrade, has_positions}
-use Rattle.ii_check.specs.Positions.{deltas_read}
-use Rattle.ii_reader.proofs.BoundLemmas.{trusted_read}
-use Rattle.ii_reader.proofs.CursorLemmas.{length_opened}
-use Rattle.ii_reader.proofs.PositionLemmas.{fits_found, list_opened, list_refused, none_given}
+use Rattle.std.proofs.Common.{◌*◌, refl}
+use Rattle.ii_check.specs.declared.validation.Validation.TheVariants.{Complete}
+use Rattle.ii_reader.proofs.OpenLemmas.{opens_list, parts_fit}
 use Rattle.ii_reader.proofs.segment_postings.SegmentPostings.open.Goals as goal
 
-pub returns-then-is_none-clause-ok : goal.returns-then-is_none-clause-ok
-returns-then-is_none-clause-ok c =
-    let b = c.fill.new.self in
-    let read = (rw c.empty_by-block_cursor.ensures at c.in_default.ensures.ok) in
-    let none = none_given (has_positions (downgrade c.args.record_option c.args.requested_option)) b.freqs c.args.positions c.if-is_none.ensures in
-    list_opened c.args.record_option c.args.requested_option c.args.doc_freq b.block c.args.postings b.docs b.freqs c.args.positions None read none c.in_default.ensures.first
+pub from_block_postings-requires : goal.from_block_postings-requires
+from_block_postings-requires c =
+    let parts = rw c.empty_by-block_cursor.ensures at c.in_default.ensures.opened in
+    parts_fit Complete c.args.record_option c.args.requested_option c.args.doc_freq c.args.postings c.args.positions c.fill.new.block_cursor c.fill.new.position_reader parts
 
-pub invariant_of-result-2 : goal.invariant_of-result-2
-invariant_of-result-2 c =
-    let b = c.fill.new.self in
-    let read = c.freq_reading_option-reading.ensures.read in
-    (omega arith, c.docs-docs.ensures.entries, rw c.freq_reading_option-reading.ensures.option at read, c.docs-docs.ensures.lazy.within, fits_found b c.args.positions (deltas_read c.in-Ok.position_reader) (has_positions (downgrade b.recorded b.requested)) refl c.in-Ok.ensures.ok)
-
-pub returns-clause-ok : goal.returns-clause-ok
-returns-clause-ok c =
-    let b = c.fill.new.self in
-    let recorded = c.in_default.ensures.options.0 ∙ ap (λ s. s.recorded) c.empty_by-block_cursor.ensures in
-    let requested = c.in_default.ensures.options.1 ∙ ap (λ s. s.requested) c.empty_by-block_cursor.ensures in
-    let found = (rw (recorded, requested) at c.in-Ok.ensures.ok) in
-    let read = (rw c.empty_by-block_cursor.ensures at c.in_default.ensures.ok) in
-    list_opened c.args.record_option c.args.requested_option c.args.doc_freq b.block c.args.postings b.docs b.freqs c.args.positions (deltas_read c.in-Ok.position_reader) read found c.in_default.ensures.first
-
-pub returns-then-is_none-clause-many : goal.returns-then-is_none-clause-many
-returns-then-is_none-clause-many c =
-    let b = c.fill.new.self in
-    length_opened c.args.doc_freq b.block b.docs b.freqs None c.in_default.ensures.entries c.in_default.ensures.first
-
-pub returns-clause-many : goal.returns-clause-many
-returns-clause-many c =
-    let b = c.fill.new.self in
-    length_opened c.args.doc_freq b.block b.docs b.freqs (deltas_read c.in-Ok.position_reader) c.in_default.ensures.entries c.in_default.ensures.first
-
-pub returns-then-is_none-clause-reading : goal.returns-then-is_none-clause-reading
-returns-then-is_none-clause-reading c =
-    let told = rw c.empty_by-block_cursor.ensures at c.in_default.ensures.reading in
-    (told.0, trusted_read c.args.record_option c.args.requested_option c.args.doc_freq c.args.postings c.fill.new.self.freq_reading c.fill.new.self.bounds told.0 told.1)
-
-pub returns-clause-reading : goal.returns-clause-reading
-returns-clause-reading c =
-    let told = rw c.empty_by-block_cursor.ensures at c.in_default.ensures.reading in
-    (told.0, trusted_read c.args.record_option c.args.requested_option c.args.doc_freq c.args.postings c.fill.new.self.freq_reading c.fill.new.self.bounds told.0 told.1)
-
-pub invariant_of-result : goal.invariant_of-result
-invariant_of-result c =
-    let read = c.freq_reading_option-reading.ensures.read in
-    (omega arith, c.docs-docs.ensures.entries, rw c.freq_reading_option-reading.ensures.option at read, c.docs-docs.ensures.lazy.within, tt)
-
-pub returns-in-Err-clause-err : goal.returns-in-Err-clause-err
-returns-in-Err-clause-err c = list_refused c.args.record_option c.args.requested_option c.args.doc_freq c.args.postings c.args.positions _ (rw c.empty_by-block_cursor.ensures at c.in-Err.ensures.err)
+pub returns-clause-opened : goal.returns-clause-opened
+returns-clause-opened c =
+    let b = c.fill.new.block_cursor in
+    let parts = rw c.empty_by-block_cursor.ensures at c.in_default.ensures.opened in
+    rw c.from_block_postings.ensures (opens_list Complete c.args.record_option c.args.requested_option c.args.doc_freq c.args.postings c.args.positions b c.fill.new.position_reader (128 * b.block) refl parts)

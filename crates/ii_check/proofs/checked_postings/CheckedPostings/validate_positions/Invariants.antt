@@ -1,6 +1,6 @@
 use Rattle.std.proofs.Common.{◌≡◌}
 use Rattle.ii_check.specs.CheckedPostings.{IsAtBlock}
-use Rattle.ii_check.proofs.checked_postings.CheckedPostings.open_positions.Given as goal
+use Rattle.ii_check.proofs.checked_postings.CheckedPostings.validate_positions.Given as goal
 
 abbrev pub invariant-loop-block : goal.invariant-loop-block
 invariant-loop-block l = record {

@@ -4,7 +4,7 @@ use Rattle.ii_base.specs.Options.{downgrade, has_positions}
 use Rattle.ii_check.specs.CheckedPostings.{HasDocuments}
 use Rattle.ii_check.proofs.CheckedPostingsLemmas.{asked, are_given, has_documents}
 use Rattle.ii_check.proofs.PositionLemmas.{last_loaded}
-use Rattle.ii_check.proofs.checked_postings.CheckedPostings.open_positions.Goals as goal
+use Rattle.ii_check.proofs.checked_postings.CheckedPostings.validate_positions.Goals as goal
 
 pub open_counted_positions-requires : goal.open_counted_positions-requires
 open_counted_positions-requires c =
