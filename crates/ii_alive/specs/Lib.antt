@@ -1,0 +1,3 @@
+pub mod Alive
+pub mod AliveBits
+pub mod AliveBytes

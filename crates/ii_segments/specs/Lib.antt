@@ -1,0 +1,3 @@
+pub mod Documents
+pub mod SegmentLaws
+pub mod Segments
