@@ -8,6 +8,8 @@ mod json_tests;
 #[cfg(test)]
 mod leaf_tests;
 #[cfg(test)]
+mod segment_tests;
+#[cfg(test)]
 mod store_tests;
 #[cfg(test)]
 mod tests;

@@ -1,6 +1,6 @@
 -- The effect of one more change on a directory in memory.
-use Rattle.std.proofs.Common.{◌≡◌, ◌⊎◌, inl, inr, ⊎_elim, ℕ, ◌==◌, false, List, [], ◌∷◌, ◌++◌, length, take, Option, None, Some, Vec, Result, Ok, Err, OnOk, OnErr, IfOk, refl, sym, ap, ◌∙◌, arith}
-use Rattle.std.proofs.lemmas.Bool.{cases_lt, ne_eqb, eq-eqb}
+use Rattle.std.proofs.Common.{◌≡◌, ◌⊎◌, inl, inr, ⊎_elim, ℕ, true, false, List, [], ◌∷◌, ◌++◌, length, take, Option, None, Some, Vec, Result, Ok, Err, OnOk, OnErr, IfOk, refl, sym, ap, ◌∙◌, arith}
+use Rattle.std.proofs.lemmas.Bool.{cases_lt}
 use Rattle.std.proofs.lemmas.List.{length-append, take-append-le}
 use Rattle.std.specs.declared.alloc.Global.{Global}
 use Rattle.ii_store.specs.declared.memory_directory.Change.{Change}
@@ -8,7 +8,8 @@ use Rattle.ii_store.specs.declared.memory_directory.Change.TheVariants.{Put, Rem
 use Rattle.ii_store.specs.declared.name.Name.{Name}
 use Rattle.ii_store.specs.Directory.{Elapses, Elsewhere, Files, IsOther, IsPut, IsRenamed, MayBeRenamed, Same, found_bytes}
 use Rattle.ii_store.specs.MemoryDirectory.{MayBePut, WereSince, after, all_taken, changed, files_after}
-use Rattle.ii_store.specs.Names.{name_number}
+use Rattle.ii_store.proofs.NameLaws.{not_true, same_is, same_itself}
+use Rattle.ii_store.specs.Names.{same_name}
 
 -- the last change applies to what the others leave
 pub after_last : (files : Files) (changes : List Change) (last : Change) → after files (changes ++ last ∷ []) ≡ changed last (after files changes)
@@ -16,25 +17,25 @@ unfolding after
 after_last files [] last = refl
 after_last files (change ∷ changes) last = after_last (changed change files) changes last
 
-other_number : (name other : Name) → IsOther name other → (name_number name == name_number other) ≡ false
-other_number name other differ = ne_eqb (name_number name) (name_number other) (λ same. differ (sym same))
+other_name : (name other : Name) → IsOther name other → same_name name other ≡ false
+other_name name other differ = not_true (same_name name other) (λ same. differ (sym (same_is name other same)))
 
 put_changes : (name : Name) (bytes : Vec ℕ Global) (files : Files) → IsPut name (Some bytes.items) files (changed (Put name bytes) files)
 put_changes name bytes files = record {
-  there = rw (eq-eqb (name_number name) (name_number name) refl) refl;
-  elsewhere = λ other differ. rw (other_number name other differ) refl;
+  there = rw (same_itself name) refl;
+  elsewhere = λ other differ. rw (other_name name other differ) refl;
 }
 
 removed_changes : (name : Name) (files : Files) → IsPut name None files (changed (Removed name) files)
 removed_changes name files = record {
-  there = rw (eq-eqb (name_number name) (name_number name) refl) refl;
-  elsewhere = λ other differ. rw (other_number name other differ) refl;
+  there = rw (same_itself name) refl;
+  elsewhere = λ other differ. rw (other_name name other differ) refl;
 }
 
 renamed_changes : (from to : Name) (files : Files) → IsRenamed from to files (changed (Renamed from to) files)
 renamed_changes from to files = record {
-  there = rw (eq-eqb (name_number to) (name_number to) refl) refl;
-  elsewhere = λ other not_from not_to. rw (other_number to other not_to, other_number from other not_from) refl;
+  there = rw (same_itself to) refl;
+  elsewhere = λ other not_from not_to. rw (other_name to other not_to, other_name from other not_from) refl;
 }
 
 -- the same of lists of changes
@@ -133,28 +134,28 @@ module _ (all before : List Change) (last : Change) (name : Name) (split : all �
   by_last : files_after all name ≡ changed last (files_after before) name
   by_last = ap (λ changes. files_after changes name) split ∙ ap (λ files. files name) (after_last (λ _. None) before last)
 
-  pub put_here : (put : Name) (bytes : Vec ℕ Global) → last ≡ Put put bytes → name_number put ≡ name_number name → Some bytes.items ≡ files_after all name
-  put_here put bytes is same = sym (by_last ∙ ap (λ change. changed change (files_after before) name) is ∙ rw (eq-eqb (name_number put) (name_number name) same) refl)
+  pub put_here : (put : Name) (bytes : Vec ℕ Global) → last ≡ Put put bytes → same_name put name ≡ true → Some bytes.items ≡ files_after all name
+  put_here put bytes is same = sym (by_last ∙ ap (λ change. changed change (files_after before) name) is ∙ rw same refl)
 
-  pub put_elsewhere : (put : Name) (bytes : Vec ℕ Global) → last ≡ Put put bytes → (name_number put ≡ name_number name → ⊥) → files_after before name ≡ files_after all name
-  put_elsewhere put bytes is differ = sym (by_last ∙ ap (λ change. changed change (files_after before) name) is ∙ rw (ne_eqb (name_number put) (name_number name) differ) refl)
+  pub put_elsewhere : (put : Name) (bytes : Vec ℕ Global) → last ≡ Put put bytes → same_name put name ≡ false → files_after before name ≡ files_after all name
+  put_elsewhere put bytes is differ = sym (by_last ∙ ap (λ change. changed change (files_after before) name) is ∙ rw differ refl)
 
-  pub removed_here : (removed : Name) → last ≡ Removed removed → name_number removed ≡ name_number name → None ≡ files_after all name
-  removed_here removed is same = sym (by_last ∙ ap (λ change. changed change (files_after before) name) is ∙ rw (eq-eqb (name_number removed) (name_number name) same) refl)
+  pub removed_here : (removed : Name) → last ≡ Removed removed → same_name removed name ≡ true → None ≡ files_after all name
+  removed_here removed is same = sym (by_last ∙ ap (λ change. changed change (files_after before) name) is ∙ rw same refl)
 
-  pub removed_elsewhere : (removed : Name) → last ≡ Removed removed → (name_number removed ≡ name_number name → ⊥) → files_after before name ≡ files_after all name
-  removed_elsewhere removed is differ = sym (by_last ∙ ap (λ change. changed change (files_after before) name) is ∙ rw (ne_eqb (name_number removed) (name_number name) differ) refl)
+  pub removed_elsewhere : (removed : Name) → last ≡ Removed removed → same_name removed name ≡ false → files_after before name ≡ files_after all name
+  removed_elsewhere removed is differ = sym (by_last ∙ ap (λ change. changed change (files_after before) name) is ∙ rw differ refl)
 
-  pub renamed_to : (from to : Name) → last ≡ Renamed from to → name_number to ≡ name_number name → files_after before from ≡ files_after all name
-  renamed_to from to is same = sym (by_last ∙ ap (λ change. changed change (files_after before) name) is ∙ rw (eq-eqb (name_number to) (name_number name) same) refl)
+  pub renamed_to : (from to : Name) → last ≡ Renamed from to → same_name to name ≡ true → files_after before from ≡ files_after all name
+  renamed_to from to is same = sym (by_last ∙ ap (λ change. changed change (files_after before) name) is ∙ rw same refl)
 
-  pub renamed_from : (from to : Name) → last ≡ Renamed from to → (name_number to ≡ name_number name → ⊥) → name_number from ≡ name_number name → None ≡ files_after all name
+  pub renamed_from : (from to : Name) → last ≡ Renamed from to → same_name to name ≡ false → same_name from name ≡ true → None ≡ files_after all name
   renamed_from from to is differ same = sym (by_last ∙ ap (λ change. changed change (files_after before) name) is
-      ∙ rw (ne_eqb (name_number to) (name_number name) differ, eq-eqb (name_number from) (name_number name) same) refl)
+      ∙ rw (differ, same) refl)
 
-  pub renamed_elsewhere : (from to : Name) → last ≡ Renamed from to → (name_number to ≡ name_number name → ⊥) → (name_number from ≡ name_number name → ⊥) → files_after before name ≡ files_after all name
+  pub renamed_elsewhere : (from to : Name) → last ≡ Renamed from to → same_name to name ≡ false → same_name from name ≡ false → files_after before name ≡ files_after all name
   renamed_elsewhere from to is differ differ_too = sym (by_last ∙ ap (λ change. changed change (files_after before) name) is
-      ∙ rw (ne_eqb (name_number to) (name_number name) differ, ne_eqb (name_number from) (name_number name) differ_too) refl)
+      ∙ rw (differ, differ_too) refl)
 
 pub found_at_ok : {E : Type 0} (result : Result (Option (Vec ℕ Global)) E) (before all : Option (List ℕ)) → before ≡ all → IfOk result (λ found. found_bytes found ≡ before) → IfOk result (λ found. found_bytes found ≡ all)
 found_at_ok (Ok found) before all same given = given ∙ same

@@ -7,9 +7,10 @@ use Rattle.ii_store.specs.declared.name.Slot.{Slot}
 use Rattle.ii_store.specs.declared.name.Slot.TheVariants.{First, Second}
 use Rattle.ii_store.specs.Directory.{Elapses, Elsewhere, Files, IsOther, IsPut, IsRenamed, MayBeRenamed, Same}
 use Rattle.ii_store.specs.Index.{Index, bytes_of_file, meta_file, index_in, index_of, slot_in, used_slot}
-use Rattle.ii_store.specs.Names.{kind_at, kind_number, other_slot}
+use Rattle.ii_store.specs.Names.{kind_at, kind_number, name_number, other_slot}
 use Rattle.ii_store.specs.Save.{HoldsFiles, IsOldOrNew, IsOutside, LeavesOne, LeavesSame}
 use Rattle.std.proofs.Math.Nat.{eq-or-lt_of_le}
+use Rattle.ii_store.proofs.NameLaws.{kind_below, kind_of_number}
 use Rattle.ii_store.proofs.MetaLaws.{index_of_meta, slot_of_meta}
 
 -- what holds at Ok implies what holds at Ok
@@ -18,20 +19,6 @@ at_ok P Q (Ok x) implies holds = implies holds
 at_ok P Q (Err e) implies holds = tt
 
 -- kinds and their numbers
-
-kind_below : (kind : Kind) → kind_number kind < 5
-kind_below Schema = omega arith
-kind_below Terms = omega arith
-kind_below Postings = omega arith
-kind_below Positions = omega arith
-kind_below FieldNorms = omega arith
-
-kind_of_number : (kind : Kind) → kind_at (kind_number kind) ≡ kind
-kind_of_number Schema = refl
-kind_of_number Terms = refl
-kind_of_number Postings = refl
-kind_of_number Positions = refl
-kind_of_number FieldNorms = refl
 
 number_of_kind : (n : ℕ) → n < 5 → kind_number (kind_at n) ≡ n
 number_of_kind zero lt = refl
@@ -48,24 +35,24 @@ other_other Second = refl
 -- names that differ
 
 other_files : (slot : Slot) (kind other : Kind) → IsOther (File slot kind) (File (other_slot slot) other)
-other_files First kind other same = omega (arith, kind_below kind, kind_below other, same)
-other_files Second kind other same = omega (arith, kind_below kind, kind_below other, same)
+other_files First kind other same = omega (arith, kind_below kind, kind_below other, ap name_number same)
+other_files Second kind other same = omega (arith, kind_below kind, kind_below other, ap name_number same)
 
 meta_is_no_file : (slot : Slot) (kind : Kind) → IsOther (File slot kind) Meta
-meta_is_no_file slot kind same = omega (arith, same)
+meta_is_no_file slot kind same = omega (arith, ap name_number same)
 
 file_is_not_new_meta : (slot : Slot) (kind : Kind) → IsOther NewMeta (File slot kind)
-file_is_not_new_meta slot kind same = omega (arith, same)
+file_is_not_new_meta slot kind same = omega (arith, ap name_number same)
 
 file_is_not_meta : (slot : Slot) (kind : Kind) → IsOther Meta (File slot kind)
-file_is_not_meta slot kind same = omega (arith, same)
+file_is_not_meta slot kind same = omega (arith, ap name_number same)
 
 meta_is_not_new_meta : IsOther NewMeta Meta
-meta_is_not_new_meta same = omega (arith, same)
+meta_is_not_new_meta same = omega (arith, ap name_number same)
 
 other_kind : (slot : Slot) (kind other : Kind) → (kind_number other ≡ kind_number kind → ⊥) → IsOther (File slot kind) (File slot other)
-other_kind First kind other differ same = differ (omega (arith, same))
-other_kind Second kind other differ same = differ (omega (arith, same))
+other_kind First kind other differ same = differ (omega (arith, ap name_number same))
+other_kind Second kind other differ same = differ (omega (arith, ap name_number same))
 
 -- what stays outside of a slot
 

@@ -1,8 +1,9 @@
 -- The files of a folder, the effect of each call, and what a stop may leave.
-use Rattle.std.specs.Prelude.{◌≡◌, ◌⊎◌, ℕ, ◌≤◌, List, Option, None, Some, Vec}
+use Rattle.std.specs.Prelude.{◌≡◌, ◌⊎◌, ℕ, ◌≤◌, List, Option, None, Some, IsSome, Vec}
+use Rattle.std.specs.List.{Contains, IsDistinct}
 use Rattle.std.specs.declared.alloc.Global.{Global}
 use Rattle.ii_store.specs.declared.name.Name.{Name}
-use Rattle.ii_store.specs.Names.{name_number}
+use Rattle.ii_store.specs.Names.{same_name}
 
 -- the bytes of each existing file
 abbrev pub Files : Type 0
@@ -13,9 +14,15 @@ abbrev pub found_bytes : Option (Vec ℕ Global) → Option (List ℕ)
 found_bytes None = None
 found_bytes (Some v) = Some v.items
 
+-- these are the names of all files, each once
+pub record IsListing (names : List Name) (files : Files) : Type 0 where
+  pub there : (name : Name) → Contains names name → IsSome (files name)
+  pub all : (name : Name) → IsSome (files name) → Contains names name
+  pub once : IsDistinct same_name names
+
 -- two names differ
 abbrev pub IsOther : Name → Name → Type 0
-IsOther name other = name_number other ≡ name_number name → ⊥
+IsOther name other = other ≡ name → ⊥
 
 -- the files are equal
 abbrev pub Same : Files → Files → Type 0

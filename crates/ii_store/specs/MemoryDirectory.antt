@@ -1,5 +1,6 @@
 -- The files of a directory in memory after its changes.
-use Rattle.std.specs.Prelude.{◌≡◌, ◌⊎◌, ◌≤◌, ℕ, ◌==◌, List, [], ◌∷◌, ◌++◌, length, take, None, Some, Vec, if◌then◌else◌}
+use Rattle.std.specs.Prelude.{◌≡◌, ◌⊎◌, ◌≤◌, ℕ, List, [], ◌∷◌, ◌++◌, length, take, None, Some, IsSome, Vec, if◌then◌else◌}
+use Rattle.std.specs.List.{Contains, IsDistinct}
 use Rattle.std.proofs.Common.{refl, sym, ap, ◌∙◌}
 use Rattle.std.proofs.Math.Nat.{le_refl, le_antisymm}
 use Rattle.std.specs.declared.alloc.Global.{Global}
@@ -8,15 +9,27 @@ use Rattle.ii_store.specs.declared.memory_directory.Change.TheVariants.{Put, Rem
 use Rattle.ii_store.specs.declared.memory_directory.MemoryDirectory.{MemoryDirectory}
 use Rattle.ii_store.specs.declared.name.Name.{Name}
 use Rattle.ii_store.specs.Directory.{Files, Same}
-use Rattle.ii_store.specs.Names.{name_number}
+use Rattle.ii_store.specs.Names.{same_name}
+
+-- the name that a change may give bytes to
+abbrev pub target : Change → Name
+target (Put name bytes) = name
+target (Removed name) = name
+target (Renamed from to) = to
+
+-- Of the targets, these are the names of files, each once.
+pub record Lists (files : Files) (targets names : List Name) : Type 0 where
+  pub there : (name : Name) → Contains names name → IsSome (files name)
+  pub all : (name : Name) → Contains targets name → IsSome (files name) → Contains names name
+  pub once : IsDistinct same_name names
 
 -- the files after a change
 abbrev pub changed : Change → Files → Files
-changed (Put put bytes) files name = if name_number put == name_number name then Some bytes.items else files name
-changed (Removed removed) files name = if name_number removed == name_number name then None else files name
+changed (Put put bytes) files name = if same_name put name then Some bytes.items else files name
+changed (Removed removed) files name = if same_name removed name then None else files name
 changed (Renamed from to) files name =
-    if name_number to == name_number name then files from
-    else if name_number from == name_number name then None
+    if same_name to name then files from
+    else if same_name from name then None
     else files name
 
 -- the files after a list of changes, in order

@@ -59,6 +59,21 @@ salvaged_bytes i = record {
   fieldnorms = i.fieldnorms.bytes;
 }
 
+-- a file that is as it was saved
+abbrev pub sound_file : List ℕ → SalvagedFileState
+sound_file bytes = record { bytes = bytes; fault = None }
+
+-- all files of an index, as they were saved
+abbrev pub sound_index : Index → SalvagedIndexState
+sound_index i = record {
+  num_docs = i.num_docs;
+  schema = sound_file i.schema;
+  terms = sound_file i.terms;
+  postings = sound_file i.postings;
+  positions = sound_file i.positions;
+  fieldnorms = sound_file i.fieldnorms;
+}
+
 -- all bytes of a file, none if it is missing, and how it differs from its entry in `meta`
 unfoldable pub salvaged_in : Kind → List ℕ → Option (List ℕ) → SalvagedFileState
 salvaged_in kind entry found = record { bytes = unwrap_or found []; fault = result_err (file_in kind entry found) }

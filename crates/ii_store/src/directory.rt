@@ -1,6 +1,6 @@
 //! The directory of an index: its files, and what may be left if the program stops.
 ghost use Rattle.std.specs.Prelude.{◌≡◌, ◌≤◌, ℕ, IfOk, None, OnOk, Some};
-ghost use Rattle.ii_store.specs.Directory.{Elapses, Elsewhere, Files, IsPut, IsRenamed, MayBeRenamed, Same, found_bytes};
+ghost use Rattle.ii_store.specs.Directory.{Elapses, Elsewhere, Files, IsListing, IsPut, IsRenamed, MayBeRenamed, Same, found_bytes};
 
 use crate::faults::DirectoryFault;
 use crate::name::Name;
@@ -29,6 +29,10 @@ pub trait Directory {
     /// Returns the bytes of a file, or `None` if there is no such file.
     fn read(&self, alloc: Global, name: Name) -> Result<Option<Vec<u8>>, DirectoryFault>
         ensures { is_known self.now → IfOk result (λ found. found_bytes found ≡ seen self.now name) };
+
+    /// Returns the names of all files, each once. Files with other names than those of `Name` aren't among them.
+    fn list(&self, alloc: Global) -> Result<Vec<Name>, DirectoryFault>
+        ensures { is_known self.now → IfOk result (λ names. IsListing names.items (seen self.now)) };
 
     /// Writes a complete file, replacing any old one, and flushes it. A stop may leave any bytes in the
     /// file.

@@ -2,7 +2,7 @@ ghost use Rattle.std.specs.Prelude.{◌≡◌};
 ghost use Rattle.ii_store.specs.Faults.{of_directory};
 ghost use Rattle.ii_store.specs.declared.faults.DirectoryFault.TheVariants as faults;
 
-use crate::name::Kind;
+use crate::name::{Kind, SegmentComponent, SegmentId};
 use std::alloc::{AllocError, AllocFailed};
 use std::io;
 use thiserror::Error;
@@ -39,6 +39,15 @@ pub enum IndexFault {
     /// The checksum of a file differs from its checksum in `meta`.
     #[error("the file of {0} has another checksum than meta says")]
     WrongChecksum(Kind),
+    /// A file of a segment is missing.
+    #[error("the file of {1} of segment {0} is missing")]
+    MissingFile(SegmentId, SegmentComponent),
+    /// The length of a file of a segment differs from its length in `meta`.
+    #[error("the file of {1} of segment {0} has another length than meta says")]
+    WrongFileLength(SegmentId, SegmentComponent),
+    /// The checksum of a file of a segment differs from its checksum in `meta`.
+    #[error("the file of {1} of segment {0} has another checksum than meta says")]
+    WrongFileChecksum(SegmentId, SegmentComponent),
 }
 
 /// Why an index could not be loaded.
@@ -65,6 +74,22 @@ impl<T: Drop> From<AllocFailed<T>> for DirectoryFault {
 
     fn from(_: AllocFailed<T>) -> Self {
         DirectoryFault::OutOfMemory
+    }
+}
+
+impl From<AllocError> for StoreFault {
+    ghost from_gives = { λ _ e. e ≡ of_directory faults.OutOfMemory };
+
+    fn from(_: AllocError) -> Self {
+        StoreFault::Directory(DirectoryFault::OutOfMemory)
+    }
+}
+
+impl<T: Drop> From<AllocFailed<T>> for StoreFault {
+    ghost from_gives = { λ _ e. e ≡ of_directory faults.OutOfMemory };
+
+    fn from(_: AllocFailed<T>) -> Self {
+        StoreFault::Directory(DirectoryFault::OutOfMemory)
     }
 }
 

@@ -67,7 +67,8 @@ impl<'a, R: Files + AllocGlobal> Folder<'a, R> {
 
     // Returns the path of a file.
     fn path_of(&self, name: Name) -> Result<String, DirectoryFault> {
-        Ok(format!(in self.rt.alloc(); "{}/{}", self.path, name.as_str())?)
+        let name = name.text(self.rt.alloc())?;
+        Ok(format!(in self.rt.alloc(); "{}/{name}", self.path)?)
     }
 
     // Writes a file and flushes it.
@@ -117,6 +118,17 @@ impl<R: Files + AllocGlobal> Directory for Folder<'_, R> {
                 Err(DirectoryFault::Refused(e.kind()))
             }
         }
+    }
+
+    fn list(&self, alloc: Global) -> Result<Vec<Name>, DirectoryFault> {
+        let mut names = Vec::new(alloc);
+        for entry in told(fs::read_dir(&self.rt, self.path))? {
+            let entry = told(entry)?;
+            if let Some(name) = Name::of_text(entry.file_name().as_bytes()) {
+                names.push(name)?;
+            }
+        }
+        Ok(names)
     }
 
     fn write(&mut self, name: Name, bytes: &[u8]) -> Result<(), DirectoryFault> {

@@ -1,7 +1,10 @@
 //! A directory in memory, for tests and for indexes without files.
-ghost use Rattle.std.specs.Prelude.{false, ◌≡◌, ◌++◌, [], ◌∷◌, IfOk, OnErr, OnOk, length};
-ghost use Rattle.ii_store.specs.Directory.{found_bytes};
-ghost use Rattle.ii_store.specs.MemoryDirectory.{MayBePut, files_after, files_of};
+ghost use Rattle.std.specs.Prelude.{false, ◌≡◌, ◌++◌, [], ◌∷◌, IfOk, List, OnErr, OnOk, length};
+ghost use Rattle.std.specs.List.{list_any};
+ghost use Rattle.ii_store.specs.Directory.{IsListing, found_bytes};
+ghost use Rattle.ii_store.specs.MemoryDirectory.{Lists, MayBePut, files_after, files_of, target};
+ghost use Rattle.ii_store.specs.Names.{same_name};
+ghost use Rattle.ii_store.specs.declared.name.Name.{Name};
 
 use crate::directory::Directory;
 use crate::faults::DirectoryFault;
@@ -86,6 +89,61 @@ impl MemoryDirectory {
     }
 }
 
+impl Change {
+    // Returns the name that the change may give bytes to.
+    fn target(&self) -> Name
+        ensures { result ≡ target self.now }
+    {
+        match self {
+            Change::Put(name, _) => *name,
+            Change::Removed(name) => *name,
+            Change::Renamed(_, to) => *to,
+        }
+    }
+}
+
+// Returns the names of the files after these changes.
+fn listing(alloc: Global, changes: &[Change]) -> Result<Vec<Name>, DirectoryFault>
+    ensures { IfOk result (λ names. IsListing names.items (files_after changes.now)) }
+{
+    let mut names = Vec::new(alloc);
+    for change in changes {
+        push_if_there(alloc, changes, change.target(), &mut names)?;
+    }
+    Ok(names)
+}
+
+// Appends a name that isn't listed yet, if a file has it.
+fn push_if_there(
+    alloc: Global,
+    changes: &[Change],
+    name: Name,
+    names: &mut Vec<Name>,
+) -> Result<(), DirectoryFault>
+    ensures { (targets : List Name) → Lists (files_after changes.now) targets names.old.items → OnOk result (Lists (files_after changes.now) (targets ++ name ∷ []) names.new.items) }
+{
+    if has_name(names.as_slice(), name) {
+        return Ok(());
+    }
+    let Some(_) = bytes_after(alloc, changes, name)? else {
+        return Ok(());
+    };
+    names.push(name)?;
+    Ok(())
+}
+
+// Returns whether a name is listed.
+fn has_name(names: &[Name], name: Name) -> bool
+    ensures { result ≡ list_any (same_name name) names.now }
+{
+    for other in names {
+        if name.is_same(*other) {
+            return true;
+        }
+    }
+    false
+}
+
 // Returns the bytes of a file after these changes.
 fn bytes_after(
     alloc: Global,
@@ -99,22 +157,22 @@ fn bytes_after(
     };
     match last {
         Change::Put(put, bytes) => {
-            if put.number() == name.number() {
+            if put.is_same(name) {
                 return Ok(Some(bytes.to_vec(alloc)?));
             }
             bytes_after(alloc, before, name)
         }
         Change::Removed(removed) => {
-            if removed.number() == name.number() {
+            if removed.is_same(name) {
                 return Ok(None);
             }
             bytes_after(alloc, before, name)
         }
         Change::Renamed(from, to) => {
-            if to.number() == name.number() {
+            if to.is_same(name) {
                 return bytes_after(alloc, before, *from);
             }
-            if from.number() == name.number() {
+            if from.is_same(name) {
                 return Ok(None);
             }
             bytes_after(alloc, before, name)
@@ -140,6 +198,10 @@ impl Directory for MemoryDirectory {
 
     fn read(&self, alloc: Global, name: Name) -> Result<Option<Vec<u8>>, DirectoryFault> {
         bytes_after(alloc, self.changes.as_slice(), name)
+    }
+
+    fn list(&self, alloc: Global) -> Result<Vec<Name>, DirectoryFault> {
+        listing(alloc, self.changes.as_slice())
     }
 
     fn write(&mut self, name: Name, bytes: &[u8]) -> Result<(), DirectoryFault> {

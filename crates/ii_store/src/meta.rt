@@ -14,7 +14,7 @@ use std::alloc::{AllocError, Global};
 pub const VERSION: u32 = 1;
 
 // The first bytes of a `meta` file.
-const FORMAT: &[u8] = b"nequllpa";
+pub(crate) const FORMAT: &[u8] = b"nequllpa";
 
 // The offsets in a `meta` file: slot, number of documents, the entry of each file, and its own checksum.
 const SLOT_AT: usize = 12;
@@ -39,7 +39,7 @@ const META_LEN: usize = 249;
 const ENTRY_LEN: usize = 40;
 
 // Returns whether `bytes` is the checksum of a file.
-fn is_checksum(bytes: &[u8], file: &[u8]) -> bool
+pub(crate) fn is_checksum(bytes: &[u8], file: &[u8]) -> bool
     ensures { result ≡ bytes_eq bytes.now (sha256 file.now) }
 {
     bytes == Sha256::digest(file).as_slice()
@@ -96,7 +96,7 @@ pub(crate) fn checked_num_docs(meta: &[u8]) -> Result<u32, IndexFault>
 
 // Returns the version of a `meta` file, of any version.
 #[tactic(auto, unfolding(crate::specs::Index::version_in, crate::specs::Index::format))]
-fn version_of(meta: &[u8]) -> Result<u32, IndexFault>
+pub(crate) fn version_of(meta: &[u8]) -> Result<u32, IndexFault>
     ensures { result ≡ version_in meta.now }
 {
     if meta.len() < SLOT_AT {

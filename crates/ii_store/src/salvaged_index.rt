@@ -1,8 +1,9 @@
 //! The remains of an index whose files may be truncated, changed or missing.
-ghost use Rattle.std.specs.Prelude.{◌≡◌, ◌≤◌, ◌+◌, IfOk, Some, drop, length};
+ghost use Rattle.std.specs.Prelude.{◌≡◌, ◌≤◌, ◌+◌, IfOk, Ok, Some, drop, length};
 ghost use Rattle.ii_store.specs.declared.name.Name.TheVariants.{File};
-ghost use Rattle.ii_store.specs.Index.{AnswersFromFiles, slot_in, view};
-ghost use Rattle.ii_store.specs.SalvagedIndex.{file_of, file_view, salvaged_bytes, salvaged_by, salvaged_in, salvaged, salvaged_view};
+ghost use Rattle.ii_store.specs.Directory.{Files};
+ghost use Rattle.ii_store.specs.Index.{AnswersFromFiles, Index, index_of, slot_in, view};
+ghost use Rattle.ii_store.specs.SalvagedIndex.{file_of, file_view, salvaged_bytes, salvaged_by, salvaged_in, salvaged, salvaged_view, sound_index};
 
 use crate::directory::Directory;
 use crate::faults::{DirectoryFault, IndexFault, StoreFault};
@@ -134,3 +135,8 @@ fn salvaged_file<D: Directory>(
     let fault = fault_by(kind, entry, bytes.as_slice());
     Ok(SalvagedFile { bytes, fault })
 }
+
+/// Law: what is salvaged of a sound index is exactly that index, without faults.
+pub fn salvage_of_sound()
+    ensures { (files : Files) (i : Index) → index_of files ≡ Ok i → salvaged files ≡ Ok (sound_index i) }
+{}

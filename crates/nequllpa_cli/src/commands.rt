@@ -184,10 +184,8 @@ pub fn tell_no_index(rt: &HostRuntime, path: &str, fault: IndexFault) -> anyhow:
 fn tell_none(rt: &HostRuntime, path: &str) -> anyhow::Result<u8> {
     match Folder::new(rt, path).orphan() {
         Ok(Some(name)) => {
-            println!(rt;
-                "{path}: an index whose meta is missing: there is {}",
-                name.as_str()
-            )?;
+            let name = name.text(rt.alloc())?;
+            println!(rt; "{path}: an index whose meta is missing: there is {name}")?;
             eprintln!(rt;
                 "{PROGRAM}: restore meta from a copy, or index the lines again with --force"
             )?;

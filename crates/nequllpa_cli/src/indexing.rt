@@ -127,7 +127,7 @@ fn refuse_orphan(rt: &HostRuntime, path: &str) -> anyhow::Result<Result<(), u8>>
     match Folder::new(rt, path).orphan() {
         Ok(None) => Ok(Ok(())),
         Ok(Some(name)) => {
-            let name = name.as_str();
+            let name = name.text(rt.alloc())?;
             eprintln!(rt;
                 "{PROGRAM}: {path}: there is {name}, and no meta: a file of an index whose meta is missing, or a file of yours; --force replaces the files of an index"
             )?;

@@ -1,0 +1,100 @@
+-- What the calls of a commit leave.
+use Rattle.std.proofs.Common.{◌≡◌, inl, inr, ⊎_elim, ℕ, List, [], ◌∷◌, Option, Some, Result, Ok, Err, refl, ap, ◌∙◌, arith}
+use Rattle.ii_store.specs.declared.faults.IndexFault.{IndexFault}
+use Rattle.ii_store.specs.declared.name.Name.TheVariants.{Meta, NewMeta, Segment}
+use Rattle.ii_store.specs.declared.name.SegmentComponent.{SegmentComponent}
+use Rattle.ii_store.specs.Directory.{Elapses, Elsewhere, Files, IsOther, IsPut, IsRenamed, MayBeRenamed, Same}
+use Rattle.ii_store.specs.Index.{◌>>=◌}
+use Rattle.ii_store.specs.IndexMeta.{IsValidMeta, MetaState, meta_bytes}
+use Rattle.ii_store.specs.Names.{name_number}
+use Rattle.ii_store.specs.Segments.{IsOldOrNewList, KeepsOtherFiles, LeavesOneList, ListedFile, contents_of, index_with, list_in, listed, segments_of}
+use Rattle.ii_store.proofs.ListLaws.{meta_again}
+use Rattle.ii_store.proofs.SaveLaws.{elapses_implies, elapses_none, elapses_then}
+
+-- the files of segments are the same
+abbrev pub KeepsSegments : Files → Files → Type 0
+KeepsSegments a c = (id : ℕ) (component : SegmentComponent) → c (Segment id component) ≡ a (Segment id component)
+
+contents_same : (ls : List ListedFile) (a c : Files) → KeepsSegments a c → contents_of ls c ≡ contents_of ls a
+unfolding contents_of
+contents_same [] a c each = refl
+contents_same (l ∷ ls) a c each = rw (each l.id l.file.component, contents_same ls a c each) refl
+
+pub index_same : (m : MetaState) (a c : Files) → KeepsSegments a c → index_with m c ≡ index_with m a
+unfolding index_with
+index_same m a c each = rw (contents_same (listed m) a c each) refl
+
+each_list : (r : Result MetaState IndexFault) (a c : Files) → KeepsSegments a c → (r >>= λ m. index_with m c) ≡ (r >>= λ m. index_with m a)
+each_list (Ok m) a c each = index_same m a c each
+each_list (Err e) a c each = refl
+
+-- the same `meta` and files of segments are the same index
+pub segments_same : (a c : Files) → c Meta ≡ a Meta → KeepsSegments a c → segments_of c ≡ segments_of a
+unfolding segments_of
+segments_same a c meta each = ap (λ (found : Option (List ℕ)). list_in found >>= λ m. index_with m c) meta ∙ each_list (list_in (a Meta)) a c each
+
+pub same_segments : (a c : Files) → Same a c → segments_of c ≡ segments_of a
+same_segments a c same = segments_same a c (same Meta) (λ id component. same (Segment id component))
+
+-- names that differ
+
+pub meta_is_no_new_meta : IsOther NewMeta Meta
+meta_is_no_new_meta same = omega (arith, ap name_number same)
+
+pub segment_is_no_new_meta : (id : ℕ) (component : SegmentComponent) → IsOther NewMeta (Segment id component)
+segment_is_no_new_meta id component same = omega (arith, ap name_number same)
+
+pub segment_is_no_meta : (id : ℕ) (component : SegmentComponent) → IsOther Meta (Segment id component)
+segment_is_no_meta id component same = omega (arith, ap name_number same)
+
+-- one call after the other
+
+pub written_is_old : (a c : Files) → Elsewhere NewMeta a c → segments_of c ≡ segments_of a
+written_is_old a c elsewhere = segments_same a c (elsewhere Meta meta_is_no_new_meta) (λ id component. elsewhere (Segment id component) (segment_is_no_new_meta id component))
+
+module _ (m : MetaState) (valid : IsValidMeta m) (old ready : Files) (put : IsPut NewMeta (Some (meta_bytes m)) old ready) where
+  pub renamed_list : (new : Files) → IsRenamed NewMeta Meta ready new → list_in (new Meta) ≡ Ok m
+  unfolding list_in
+  renamed_list new renamed = ap list_in (renamed.there ∙ put.there) ∙ meta_again m valid
+
+  renamed_segments : (new : Files) → IsRenamed NewMeta Meta ready new → KeepsSegments old new
+  renamed_segments new renamed id component =
+      renamed.elsewhere (Segment id component) (segment_is_no_new_meta id component) (segment_is_no_meta id component)
+      ∙ put.elsewhere (Segment id component) (segment_is_no_new_meta id component)
+
+  pub renamed_index : (new : Files) → IsRenamed NewMeta Meta ready new → segments_of new ≡ index_with m old
+  unfolding segments_of
+  renamed_index new renamed = rw (renamed_list new renamed) (index_same m old new (renamed_segments new renamed))
+
+  pub renamed_keeps : (new : Files) → IsRenamed NewMeta Meta ready new → KeepsOtherFiles old new
+  renamed_keeps new renamed name no_meta no_new_meta = renamed.elsewhere name no_new_meta no_meta ∙ put.elsewhere name no_new_meta
+
+  maybe_renamed : (c : Files) → MayBeRenamed NewMeta Meta ready c → IsOldOrNewList old m c
+  maybe_renamed c (inl same) = inl (same_segments ready c same ∙ written_is_old old ready put.elsewhere)
+  maybe_renamed c (inr renamed) = inr (renamed_index c renamed)
+
+module _ {D : Type 0} (moment : D → ℕ) (left_since : D → ℕ → Files → Type 0) (seen : D → Files) (old : D)
+    (only : (c : Files) → left_since old (moment old) c → Same (seen old) c) (m : MetaState) where
+  leaves_list : (new : D) → Elapses (moment old) (moment new) (left_since old) (left_since new) (IsOldOrNewList (seen old) m) → LeavesOneList moment left_since seen old new m
+  leaves_list new time = record {
+    each = λ c left. ⊎_elim (λ before. inl (same_segments (seen old) c (only c before))) (λ one. one) (time.nothing_else (moment old) c (omega arith) left);
+    time = time;
+  }
+
+  -- nothing was called yet
+  pub leaves_list_none : LeavesOneList moment left_since seen old old m
+  leaves_list_none = leaves_list old (elapses_none moment left_since old (IsOldOrNewList (seen old) m))
+
+  module _ (ready : D) (first : Elapses (moment old) (moment ready) (left_since old) (left_since ready) (Elsewhere NewMeta (seen old))) where
+    written_time : Elapses (moment old) (moment ready) (left_since old) (left_since ready) (IsOldOrNewList (seen old) m)
+    written_time = elapses_implies moment left_since old ready (Elsewhere NewMeta (seen old)) (IsOldOrNewList (seen old) m) first (λ c elsewhere. inl (written_is_old (seen old) c elsewhere))
+
+    -- the new `meta` was written next to the old one, completely or in part
+    pub list_written : LeavesOneList moment left_since seen old ready m
+    list_written = leaves_list ready written_time
+
+    -- it replaced the old one, or not
+    pub list_renamed : (new : D) → IsValidMeta m → IsPut NewMeta (Some (meta_bytes m)) (seen old) (seen ready)
+        → Elapses (moment ready) (moment new) (left_since ready) (left_since new) (MayBeRenamed NewMeta Meta (seen ready)) → LeavesOneList moment left_since seen old new m
+    list_renamed new valid put second = leaves_list new (elapses_then moment left_since old ready new (IsOldOrNewList (seen old) m) (MayBeRenamed NewMeta Meta (seen ready)) written_time second
+        (λ c may. maybe_renamed m valid (seen old) (seen ready) put c may))
