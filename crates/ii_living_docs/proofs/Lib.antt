@@ -1,0 +1,3 @@
+mod ChainLemmas
+pub mod FoundLemmas
+pub mod LivingLemmas

@@ -1,0 +1,4 @@
+pub mod FindLaws
+pub mod LocalLaws
+mod SearchLemmas
+mod WorkedRows

@@ -1,0 +1,2 @@
+pub mod SegmentSearch
+pub mod Searcher

@@ -1,0 +1,47 @@
+-- What a query matches in an index of segments.
+use Rattle.std.specs.Prelude.{◌≡◌, ℕ, ◌+◌, ◌≤◌, Bool, true, ◌&&◌, List, [], ◌∷◌, ◌++◌, filter, length, map, min, nat_le}
+use Rattle.std.specs.List.{AllByRecursion, range_with_len}
+use Rattle.ii_base.specs.declared.doc_id.TheConstants.{TERMINATED}
+use Rattle.ii_base.specs.Schema.{SchemaEntry}
+use Rattle.ii_alive.specs.Alive.{num_living, rank}
+use Rattle.ii_query_parser.specs.declared.query.Query.{Query}
+use Rattle.ii_query_parser.specs.Queries.{QueryTree, QueryTrees, all_below, any_of, each_of, matches, no_tree, nothing, one_phrase, one_term, tree, tree_of, without}
+use Rattle.ii_segments.specs.Segments.{AreSegmentTokens, Segment, index_tokens, is_living, living_docs, num_docs_of}
+
+-- Whether each part of a query that matches all documents below a number matches the first n.
+abbrev mutual
+  pub tree_covers : ℕ → QueryTree → Bool
+  tree_covers n nothing = true
+  tree_covers n (all_below m) = nat_le n (min m TERMINATED)
+  tree_covers n (one_term term) = true
+  tree_covers n (one_phrase first others) = true
+  tree_covers n (each_of qs) = trees_cover n qs
+  tree_covers n (any_of qs) = trees_cover n qs
+  tree_covers n (without first other) = tree_covers n first && tree_covers n other
+
+  pub trees_cover : ℕ → QueryTrees → Bool
+  trees_cover n no_tree = true
+  trees_cover n (tree q qs) = tree_covers n q && trees_cover n qs
+
+-- whether each part of a query that matches all documents below a number matches the first n
+abbrev pub covers_docs : ℕ → Query → Bool
+covers_docs n query = tree_covers n (tree_of query)
+
+-- A query matches a living document in an index of segments exactly if it matches it in its segment, by the segment's number.
+abbrev pub SearchIsLocal : Type 0
+SearchIsLocal = (entries : List SchemaEntry) (query : Query) (before after : List Segment) (s : Segment) (doc n : ℕ)
+    → AllByRecursion (AreSegmentTokens entries) (before ++ s ∷ after) → is_living s.alive doc ≡ true
+    → num_docs_of (before ++ s ∷ after) ≤ n → length s.alive ≤ n → covers_docs n query ≡ true
+    → matches query (index_tokens (before ++ s ∷ after)) (num_docs_of before + rank s.alive doc) ≡ matches query s.tokens doc
+
+-- the living documents of segments that match a query, given the number of the first living document
+abbrev pub found_in_segments : Query → ℕ → List Segment → List ℕ
+found_in_segments query base [] = []
+found_in_segments query base (s ∷ ss) =
+    map (λ (doc : ℕ). base + rank s.alive doc) (filter (matches query s.tokens) (living_docs s.alive)) ++ found_in_segments query (base + num_living s.alive) ss
+
+-- The documents that match a query are those of each segment, one after the other.
+abbrev pub FindsInSegments : Type 0
+FindsInSegments = (entries : List SchemaEntry) (query : Query) (ss : List Segment) (n : ℕ)
+    → AllByRecursion (AreSegmentTokens entries) ss → num_docs_of ss ≤ n → AllByRecursion (λ (s : Segment). length s.alive ≤ n) ss → covers_docs n query ≡ true
+    → filter (matches query (index_tokens ss)) (range_with_len 0 (num_docs_of ss)) ≡ found_in_segments query 0 ss
