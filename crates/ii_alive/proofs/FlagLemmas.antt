@@ -16,10 +16,6 @@ pub enough_words : (n : ℕ) → n ≤ 64 * num_words n
 unfolding num_words
 enough_words n = omega arith
 
-pub few_words : (n : ℕ) → 64 * num_words n < n + 64
-unfolding num_words
-few_words n = omega arith
-
 -- flags none of which is set
 pub none_from : (bs : List Bool) → list_all not bs ≡ true → bs ≡ replicate (length bs) false
 none_from [] none = refl

@@ -9,9 +9,3 @@ use Rattle.ii_check.specs.CheckedBlocks.{blocks_checked, num_blocks}
 pub decodes_low : (m : ℕ) → decodes_of m ≤ min 1 m
 decodes_low zero = omega arith
 decodes_low (suc m) = omega arith
-
-pub checked_long : (n : ℕ) → 128 ≤ n → blocks_checked Complete n ≡ num_blocks n
-checked_long n long = ap (λ (b : Bool). if b then 0 else num_blocks n) (le-ltb n 128 long)
-
-pub checked_short : (n : ℕ) → n < 128 → blocks_checked Complete n ≡ 0
-checked_short n short = ap (λ (b : Bool). if b then 0 else num_blocks n) (lt-ltb n 128 short)

@@ -48,23 +48,10 @@ with_deltas t positions read = ok_or (deltas_if t read.1 positions) Positions >>
 pub docs_known : (recorded requested : IndexRecordOption) (n : ℕ) (bytes : List ℕ) (positions : Option (List ℕ)) → IsOk (term_list recorded requested n bytes positions) → IsOk (docs_and_freqs recorded requested n bytes)
 docs_known recorded requested n bytes positions known = first_known (docs_and_freqs recorded requested n bytes) (with_deltas (has_positions (downgrade recorded requested)) positions) known
 
-pub deltas_known : (recorded requested : IndexRecordOption) (n : ℕ) (bytes docs : List ℕ) (freqs positions : Option (List ℕ)) → IsOk (term_list recorded requested n bytes positions) → docs_and_freqs recorded requested n bytes ≡ Ok (docs, freqs)
-    → IsSome (deltas_if (has_positions (downgrade recorded requested)) freqs positions)
-deltas_known recorded requested n bytes docs freqs positions known read =
-    let t = has_positions (downgrade recorded requested) in
-    let there = then_known (docs_and_freqs recorded requested n bytes) (with_deltas t positions) (docs, freqs) known read in
-    some_known (deltas_if t freqs positions) Positions (first_known (ok_or (deltas_if t freqs positions) Positions) (λ (deltas : Option (List ℕ)). Ok (list_of docs freqs deltas)) there)
-
 -- so its ranges lie in the bodies
 pub lie_known : {A : Type 0} (t : Bool) (found : Result A Part) → IsOk (if_they_lie t found) → (t ≡ true) × IsOk found
 lie_known true found known = (refl, known)
 lie_known false found known = absurd (cc)
-
-pub ranges_known : (reader : InvertedIndexReaderState) (requested : IndexRecordOption) (info : TermInfo) → IsOk (term_of_file reader requested info) → ranges_lie reader requested info ≡ true
-ranges_known reader requested info known = (lie_known (ranges_lie reader requested info) _ known).0
-
-pub range_known : (bytes : List ℕ) (recorded requested : IndexRecordOption) (info : TermInfo) → IsOk (docs_of_file bytes recorded requested info) → lies_in bytes info.postings_range ≡ true
-range_known bytes recorded requested info known = (lie_known (lies_in bytes info.postings_range) _ known).0
 
 pub docs_lie : (bytes : List ℕ) (recorded requested : IndexRecordOption) (info : TermInfo) → IsOk (docs_of_file bytes recorded requested info) → IsOk (docs_and_freqs recorded requested info.doc_freq (bytes_in bytes info.postings_range))
 docs_lie bytes recorded requested info known = (lie_known (lies_in bytes info.postings_range) _ known).1
@@ -145,6 +132,3 @@ trusted_next k readers items d new within is trusted =
     let item : slice_index_or items k d ≡ slice_index_or readers k d = ap (λ (l : List InvertedIndexReaderState). slice_index_or l k d) is ∙ next_is k readers d within in
     let one : suc k ≡ k + 1 = omega arith in
     (λ j. slice_set (is j) k ((trusted ∙ ap trusted_reader item) j)) ∙ set_next k readers d within ∙ ap (λ (n : ℕ). trusted_to n readers) one
-
-pub trusted_end : (k : ℕ) (readers : List InvertedIndexReaderState) → length readers ≤ k → trusted_to k readers ≡ map trusted_reader readers
-trusted_end k readers past = rw (take_all k readers past, drop_all k readers past) (append-nil (map trusted_reader readers))

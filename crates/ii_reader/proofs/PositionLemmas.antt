@@ -282,14 +282,3 @@ pub list_opened : (recorded requested : IndexRecordOption) (doc_freq block : ℕ
     → deltas_if (has_positions (downgrade recorded requested)) freqs positions ≡ Some deltas → block ≡ 0 → term_list recorded requested doc_freq bytes positions ≡ Ok (drop (128 * block + 0) (list_of docs freqs deltas))
 list_opened recorded requested doc_freq block bytes docs freqs positions deltas read found first =
     rw (read, found) (ap Ok (sym (ap (λ (n : ℕ). drop (128 * n + 0) (list_of docs freqs deltas)) first)))
-
--- no list was opened whose documents or counts are refused
-pub list_refused : (recorded requested : IndexRecordOption) (doc_freq : ℕ) (bytes : List ℕ) (positions : Option (List ℕ)) (part : Part) → docs_and_freqs recorded requested doc_freq bytes ≡ Err part → term_list recorded requested doc_freq bytes positions ≡ Err part
-list_refused recorded requested doc_freq bytes positions part refused = rw refused refl
-
--- no deltas are read where no bytes are given
-pub none_given : (t : Bool) (freqs positions : Option (List ℕ)) → is_some positions ≡ false → deltas_if t freqs positions ≡ Some None
-none_given false freqs positions none = refl
-none_given true None positions none = refl
-none_given true (Some fs) None none = refl
-none_given true (Some fs) (Some bytes) none = absurd (cc)

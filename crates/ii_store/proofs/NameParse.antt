@@ -88,15 +88,6 @@ alive_made text generation parts =
     ∙ ap (λ (d : List ℕ). take 1 text ++ d) (take-append-drop 16 (drop 1 text))
     ∙ take-append-drop 1 text
 
-pub no_component : (text : List ℕ) → (text ≡ codes ".term" → ⊥) → (text ≡ codes ".idx" → ⊥) → (text ≡ codes ".pos" → ⊥) → (text ≡ codes ".norm" → ⊥) → (text ≡ codes ".count" → ⊥)
-    → ((generation : ℕ) → generation < 2 ^ 64 → component_text (components.Alive generation) ≡ text → ⊥) → (c : SegmentComponent) → component_generation c < 2 ^ 64 → component_text c ≡ text → ⊥
-no_component text a b c d e alive components.Terms lt same = a (sym same)
-no_component text a b c d e alive components.Postings lt same = b (sym same)
-no_component text a b c d e alive components.Positions lt same = c (sym same)
-no_component text a b c d e alive components.FieldNorms lt same = d (sym same)
-no_component text a b c d e alive components.Counts lt same = e (sym same)
-no_component text a b c d e alive (components.Alive generation) lt same = alive generation lt same
-
 -- names shorter than sixteen bytes
 pub no_fixed : (text : List ℕ) → (text ≡ codes "meta" → ⊥) → (text ≡ codes "meta.new" → ⊥) → ((kind : Kind) → name_text (File First kind) ≡ text → ⊥) → ((kind : Kind) → name_text (File Second kind) ≡ text → ⊥)
     → (name : Name) → length (name_text name) < 16 → name_text name ≡ text → ⊥

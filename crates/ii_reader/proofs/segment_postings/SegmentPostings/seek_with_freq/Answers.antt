@@ -27,6 +27,13 @@ returns-then-least-le1-clause-rest c =
     let up = (rw (← c.self.view_is) at c.doc-doc.ensures.sound).ascending in
     c.seek.ensures.rest ∙ (rw (← c.self.view_is) (rest_unread_few b.freqs (deltas_read s.position_reader) c.args.target c.args.least (128 * b.block + s.cur) b.docs unread c.if-least-le1.true up))
 
+pub returns-then-least-le1-clause-decodes : goal.returns-then-least-le1-clause-decodes
+returns-then-least-le1-clause-decodes c =
+    let s = c.self.inside in
+    let unread = ap is_read (sym c.freq_reading_option.ensures.option) ∙ sym c.is_read.ensures ∙ c.if-is_read.false in
+    let went = c.seek.ensures.work in
+    rw (← c.self.view_is) (unread_decodes c.args.least s.block_cursor.block c.seek.new.self.block s.block_cursor.doc_decodes c.seek.new.self.doc_decodes s.block_cursor.freq_reading s.block_cursor.bounds unread (rw (← c.self.view_is) at went.forward) (rw (← c.self.view_is) at went.doc_decodes))
+
 pub returns-clause-rest : goal.returns-clause-rest
 returns-clause-rest c =
     let s = c.self.inside in
