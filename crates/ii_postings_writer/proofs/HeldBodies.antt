@@ -11,12 +11,10 @@ use Rattle.std.proofs.lemmas.List.FromFn.{get_or-map-range_with_len}
 use Rattle.std.proofs.lemmas.List.Sums.{length-filter}
 use Rattle.ii_io.specs.Composite.{Body, body_of}
 use Rattle.ii_base.specs.Schema.{SchemaEntry}
-use Rattle.ii_layout.specs.TermList.{ReadsUncountedTermBack}
 use Rattle.ii_definitions.specs.Fields.{option_of}
 use Rattle.ii_definitions.specs.Files.{HasField, HoldsField}
 use Rattle.ii_definitions.specs.Postings.{field_count, kind_of, tokens_at}
 use Rattle.ii_definitions.specs.Tokens.{IndexToken}
-use Rattle.ii_recorder.specs.Pushed.{ReadsEntriesBack}
 use Rattle.ii_recorder.specs.Recorded.{RecorderState}
 use Rattle.ii_postings_writer.specs.FieldParts.{FieldPart, HoldsPart, WroteTerms, bodies_of, first_parts, parts_of, positions_of_part, postings_body, terms_body, tokens_in}
 use Rattle.std.specs.Prelude.{MatchOption}
@@ -24,7 +22,9 @@ use Rattle.ii_base.specs.declared.schema.index_record_option.IndexRecordOption.{
 use Rattle.ii_postings_writer.specs.HeldBodies.{BodiesHold, HaveTokens, WroteTokens}
 use Rattle.ii_postings_writer.specs.IndexingTerm.{AreTermBytes, field_bytes}
 use Rattle.ii_postings_writer.specs.Records.{HasPostings}
-use Rattle.ii_postings_writer.proofs.HeldFields.{IsKnown, all_known, each_found, found_in, holds_field, some_terms, some_tokens}
+use Rattle.ii_postings_writer.proofs.HeldFields.{IsKnown, all_known, each_found, found_in, some_terms, some_tokens}
+use Rattle.ii_postings_writer.proofs.TokenTerms.{HasFieldTokens, holds_field}
+use Rattle.ii_recorder.specs.TokenTerms.{HoldsItsTokens}
 use Rattle.ii_postings_writer.proofs.SortedLemmas.{kept_writable}
 use Rattle.ii_recorder.specs.IndexSerializer.{IndexSerializerState}
 use Rattle.ii_postings_writer.specs.IndexingContext.{TermIndex, recorder_of}
@@ -137,7 +137,7 @@ pub record IsWritten (entries : List SchemaEntry) (writers : List PostingsWriter
   pub may : AllByRecursion (λ (t : List ℕ × RecorderState). MayBeWritten (length entries) readers t.0 t.1) sorted
   pub tokens : HaveTokens entries sorted writers ts
 
-module _ (law : ReadsEntriesBack) (uncounted : ReadsUncountedTermBack) (entries : List SchemaEntry) (writers : List PostingsWriterState) (readers : List Body) (sorted : TermIndex) (ts : List IndexToken) (w : IsWritten entries writers readers sorted ts) where
+module _ (law : HoldsItsTokens) (entries : List SchemaEntry) (writers : List PostingsWriterState) (readers : List Body) (sorted : TermIndex) (ts : List IndexToken) (w : IsWritten entries writers readers sorted ts) where
   abbrev n : ℕ
   n = length entries
 
@@ -155,6 +155,9 @@ module _ (law : ReadsEntriesBack) (uncounted : ReadsUncountedTermBack) (entries 
 
   records_in : (field : ℕ) → field < n → (key : List ℕ) → MatchOption (recorder_of sorted (field_bytes field ++ key)) (tokens_at field key ts ≡ []) (HasPostings (kind_of (mode_of field) (tokens_at field key ts)) (tokens_at field key ts))
   records_in field inside key = w.tokens.records field key (fits field inside)
+
+  has_tokens : (field : ℕ) → field < n → HasFieldTokens (mode_of field) field sorted ts
+  has_tokens field inside = record { small = fits field inside; whole = w.whole; ascending = w.ascending; records = records_in field inside }
 
   module _ (held : AllByRecursion (HoldsPart entries) (first_parts entries writers readers lists n)) where
     part_is_held : (field : ℕ) → field < n → 0 < length (terms_in field sorted) → HoldsPart entries (part_of entries field (tokens_in writers field) (norms_in readers field) (terms_in field sorted))
@@ -181,11 +184,11 @@ module _ (law : ReadsEntriesBack) (uncounted : ReadsUncountedTermBack) (entries 
             count_zero : (m : ℕ) → field_count field ts ≡ m → nat_lt 0 (field_count field ts) ≡ false
             count_zero zero none = rw none refl
             count_zero (suc m) some =
-                let terms = some_terms law uncounted (norms_in readers field) (mode_of field) field (fits field inside) sorted ts (records_in field inside) (omega (arith, some)) in
+                let terms = some_terms (norms_in readers field) (mode_of field) field (fits field inside) sorted ts (records_in field inside) (omega (arith, some)) in
                 absurd (omega (arith, terms, ap length is))
         by_case (t ∷ us) is =
             let some : 0 < length (terms_in field sorted) = subst (λ (l : List SortedTerm). 0 < length l) (sym is) (omega (arith)) in
-            let count = some_tokens law uncounted (norms_in readers field) (mode_of field) field (fits field inside) sorted ts (records_in field inside) (known_in field inside) some in
+            let count = some_tokens (norms_in readers field) (mode_of field) field (fits field inside) sorted ts (records_in field inside) (known_in field inside) some in
             rw is (sym (lt-ltb 0 (field_count field ts) count))
 
     has_field : (body : FieldPart → Body) (same : (p : FieldPart) → (body p).field ≡ p.field) (field : ℕ) → HasField field (map body (first_parts entries writers readers lists n)) ts
@@ -219,7 +222,7 @@ module _ (law : ReadsEntriesBack) (uncounted : ReadsUncountedTermBack) (entries 
             let postings = body_is (postings_body entries) (λ f. refl) field p inside at_postings in
             let positions = body_is (positions_of_part entries) (λ f. refl) field q inside at_positions in
             let own = part_of entries field (tokens_in writers field) (norms_in readers field) (terms_in field sorted) in
-            let holds = holds_field law uncounted (norms_in readers field) (mode_of field) field (fits field inside) sorted ts (records_in field inside) (tokens_in writers field) (bodies_of entries own) (w.tokens.counted field inside)
+            let holds = holds_field (norms_in readers field) (mode_of field) field sorted ts (has_tokens field inside) law (tokens_in writers field) (bodies_of entries own) (w.tokens.counted field inside)
             (part_is_held field inside terms.0).terms (known_in field inside) in
             subst (λ (bytes : List ℕ). HoldsField (mode_of field) field bytes p q ts) terms.1
             (subst (λ (bytes : List ℕ). HoldsField (mode_of field) field (bodies_of entries own).terms bytes q ts) postings.1
@@ -259,12 +262,12 @@ parts_known : (entries : List SchemaEntry) (writers : List PostingsWriterState) 
 parts_known entries writers readers terms n = parts_below entries writers readers terms 0 n n (omega arith)
 
 -- how a call ends that writes the terms of a context with tokens
-pub wrote_tokens : {A E : Type 0} (result : Result A E) → ReadsEntriesBack → ReadsUncountedTermBack → (old new : IndexSerializerState) (writers : List PostingsWriterState) (readers : List Body) (terms sorted : TermIndex) (ts : List IndexToken) → IsWritten old.entries writers readers sorted ts
+pub wrote_tokens : {A E : Type 0} (result : Result A E) → HoldsItsTokens → (old new : IndexSerializerState) (writers : List PostingsWriterState) (readers : List Body) (terms sorted : TermIndex) (ts : List IndexToken) → IsWritten old.entries writers readers sorted ts
     → OnOk result (WroteTerms old new writers readers terms sorted) → OnOk result (WroteTokens old new ts)
-wrote_tokens (Ok x) law uncounted old new writers readers terms sorted ts w wrote = record {
+wrote_tokens (Ok x) law old new writers readers terms sorted ts w wrote = record {
   fs = first_parts old.entries writers readers (map (λ (field : ℕ). terms_in field sorted) (range_with_len 0 (length old.entries))) (length old.entries);
   known = parts_known old.entries writers readers (map (λ (field : ℕ). terms_in field sorted) (range_with_len 0 (length old.entries))) (length old.entries);
   fields = wrote.fields;
-  held = bodies_hold law uncounted old.entries writers readers sorted ts w wrote.fields.held;
+  held = bodies_hold law old.entries writers readers sorted ts w wrote.fields.held;
 }
-wrote_tokens (Err e) law uncounted old new writers readers terms sorted ts w wrote = tt
+wrote_tokens (Err e) law old new writers readers terms sorted ts w wrote = tt

@@ -1,5 +1,5 @@
--- The bodies of a field hold its tokens.
-use Rattle.std.proofs.Common.{◌==◌, get_or, zero, suc, ◌≡◌, ℕ, ◌<◌, ◌^◌, Bool, true, false, ◌||◌, List, [], ◌∷◌, ◌++◌, length, map, drop, Option, Some, None, refl, sym, ap, ◌∙◌, subst, arith, true≢false, nat_eq, Less}
+-- The terms of a field are found under their keys, and it has terms exactly where it has tokens.
+use Rattle.std.proofs.Common.{◌==◌, zero, suc, ◌≡◌, ℕ, ◌<◌, ◌^◌, Bool, true, false, ◌||◌, List, [], ◌∷◌, ◌++◌, length, map, drop, Option, Some, None, refl, sym, ap, ◌∙◌, subst, arith, true≢false, nat_eq, Less}
 use Rattle.std.specs.Prelude.{bytes_eq, MatchOption, filter, IsTrue}
 use Rattle.std.specs.Ordering.{is_eq, nat_cmp}
 use Rattle.std.specs.Cmp.Lexicographic.{bytes_decides, slice_cmp}
@@ -11,18 +11,13 @@ use Rattle.std.proofs.lemmas.Cmp.{nat_list_eq_equiv}
 use Rattle.std.proofs.lemmas.List.Sums.{length-filter}
 use Rattle.std.proofs.lemmas.Map.Text.{is_eq-slice_cmp}
 use Rattle.ii_base.specs.declared.schema.index_record_option.IndexRecordOption.{IndexRecordOption}
-use Rattle.ii_layout.specs.TermList.{ReadsUncountedTermBack}
-use Rattle.ii_termstore.specs.declared.term_info.TermInfo.{TermInfo}
-use Rattle.ii_termdict.specs.Dictionary.{info_under}
-use Rattle.ii_definitions.specs.Files.{HoldsField, HoldsTerm}
 use Rattle.ii_definitions.specs.Postings.{field_count, grouped, kind_of, occurs, tokens_at}
 use Rattle.ii_definitions.specs.Tokens.{IndexToken}
 use Rattle.ii_definitions.proofs.GroupedLaws.{no_field, some_occurs}
-use Rattle.ii_recorder.specs.HeldTerms.{HoldsKey, HoldsTerms, HoldsWritten, has_key}
-use Rattle.ii_recorder.specs.Pushed.{ReadsEntriesBack}
-use Rattle.ii_recorder.specs.Terms.{FieldBodies, WrittenTerm}
+use Rattle.ii_recorder.specs.HeldTerms.{has_key}
+use Rattle.ii_recorder.specs.Terms.{WrittenTerm}
 use Rattle.ii_postings_writer.specs.Records.{HasPostings}
-use Rattle.ii_postings_writer.proofs.HoldLaws.{holds_term, recorder_occurred}
+use Rattle.ii_postings_writer.proofs.HoldLaws.{recorder_occurred}
 use Rattle.ii_recorder.specs.Recorded.{RecorderState}
 use Rattle.ii_postings_writer.specs.IndexingContext.{TermIndex, recorder_of}
 use Rattle.ii_postings_writer.specs.IndexingTerm.{AreTermBytes, field_bytes, field_in}
@@ -78,17 +73,6 @@ found_has_key norms mode field key r (t ∷ ts) small found = by_case (bytes_eq 
         rw (inside, own) refl
     by_case false other rest = others (lies_in field t.0) refl (rest (sym (found_later (field_bytes field ++ key) t ts other) ∙ found))
 
--- Where a written term comes from.
-record Origin (norms : Option Norms) (mode : IndexRecordOption) (P : SortedTerm → Type 0) (t : WrittenTerm) : Type 0 where
-  state : SortedTerm
-  is : written_term norms mode state ≡ t
-  holds : P state
-
-origin_at : (norms : Option Norms) (mode : IndexRecordOption) (P : SortedTerm → Type 0) (states : List SortedTerm) (t : WrittenTerm) (k : ℕ) → AllByRecursion P states → k < length (map (written_term norms mode) states) → get_or (map (written_term norms mode) states) k t ≡ t → Origin norms mode P t
-origin_at norms mode P [] t k all inside is = absurd (omega (arith, inside))
-origin_at norms mode P (s ∷ ss) t zero all inside is = record { state = s; is = is; holds = all.0 }
-origin_at norms mode P (s ∷ ss) t (suc k) all inside is = origin_at norms mode P ss t k all.1 (omega (arith, inside)) is
-
 -- What is known of each term of a field.
 pub record IsKnown (norms : Option Norms) (mode : IndexRecordOption) (field : ℕ) (sorted : TermIndex) (s : SortedTerm) : Type 0 where
   pub found : recorder_of sorted (field_bytes field ++ s.key) ≡ Some s.recorder
@@ -137,27 +121,10 @@ count_some field key ts occurred = by_case (field_count field ts) refl
     by_case zero is = absurd (true≢false (sym occurred ∙ no_field field key ts is))
     by_case (suc n) is = omega (arith, is)
 
-module _ (law : ReadsEntriesBack) (uncounted : ReadsUncountedTermBack) (norms : Option Norms) (mode : IndexRecordOption) (field : ℕ) (small : field < 2 ^ 32) (sorted : TermIndex) (ts : List IndexToken)
+module _ (norms : Option Norms) (mode : IndexRecordOption) (field : ℕ) (small : field < 2 ^ 32) (sorted : TermIndex) (ts : List IndexToken)
     (records : (key : List ℕ) → MatchOption (recorder_of sorted (field_bytes field ++ key)) (tokens_at field key ts ≡ []) (HasPostings (kind_of mode (tokens_at field key ts)) (tokens_at field key ts))) where
   abbrev written : List WrittenTerm
   written = map (written_term norms mode) (terms_in field sorted)
-
-  no_key : (key : List ℕ) (o : Option RecorderState) → recorder_of sorted (field_bytes field ++ key) ≡ o → has_key key written ≡ false → occurs field key ts ≡ false
-  no_key key None absent none = none_occurred field key ts (subst (λ (o : Option RecorderState). MatchOption o (tokens_at field key ts ≡ []) (HasPostings (kind_of mode (tokens_at field key ts)) (tokens_at field key ts))) absent (records key))
-  no_key key (Some r) found none = absurd (true≢false (sym (found_has_key norms mode field key r sorted small found) ∙ none))
-
-  one_key : (key postings positions : List ℕ) (info : TermInfo) → AllByRecursion (IsKnown norms mode field sorted) (terms_in field sorted) → HoldsKey mode postings positions written key info → HoldsTerm mode field key postings positions ts info
-  one_key key postings positions info known k =
-      let o = origin_at norms mode (IsKnown norms mode field sorted) (terms_in field sorted) k.term k.written.0 known k.written.1 k.written.2 in
-      let same : o.state.key ≡ key = ap (λ (t : WrittenTerm). t.key) o.is ∙ k.key_is in
-      let found : recorder_of sorted (field_bytes field ++ key) ≡ Some o.state.recorder = subst (λ (bytes : List ℕ). recorder_of sorted (field_bytes field ++ bytes) ≡ Some o.state.recorder) same o.holds.found in
-      let has = subst (λ (r : Option RecorderState). MatchOption r (tokens_at field key ts ≡ []) (HasPostings (kind_of mode (tokens_at field key ts)) (tokens_at field key ts))) found (records key) in
-      holds_term law uncounted norms mode field key postings positions ts o.state info has o.holds.told o.holds.writable (subst (λ (t : WrittenTerm). HoldsWritten mode postings positions t info) (sym o.is) k.held)
-
-  exact_key : (key postings positions : List ℕ) (o : Option TermInfo) → AllByRecursion (IsKnown norms mode field sorted) (terms_in field sorted) → MatchOption o (has_key key written ≡ false) (HoldsKey mode postings positions written key)
-      → MatchOption o (occurs field key ts ≡ false) (HoldsTerm mode field key postings positions ts)
-  exact_key key postings positions None known none = no_key key (recorder_of sorted (field_bytes field ++ key)) refl none
-  exact_key key postings positions (Some info) known k = one_key key postings positions info known k
 
   -- a field with terms has tokens
   pub some_tokens : AllByRecursion (IsKnown norms mode field sorted) (terms_in field sorted) → 0 < length (terms_in field sorted) → 0 < field_count field ts
@@ -180,14 +147,3 @@ module _ (law : ReadsEntriesBack) (uncounted : ReadsUncountedTermBack) (norms : 
           let none = subst (λ (o : Option RecorderState). MatchOption o (tokens_at field key ts ≡ []) (HasPostings (kind_of mode (tokens_at field key ts)) (tokens_at field key ts))) absent (records key) in
           absurd (true≢false (sym is ∙ none_occurred field key ts none))
       by_case key is (Some r) found = keyed_some norms mode (terms_in field sorted) key (found_has_key norms mode field key r sorted small found)
-
-  -- the bodies of a field that was written hold its tokens
-  pub holds_field : (tokens : ℕ) (bodies : FieldBodies) → tokens ≡ field_count field ts → HoldsTerms mode tokens bodies written → AllByRecursion (IsKnown norms mode field sorted) (terms_in field sorted)
-      → HoldsField mode field bodies.terms bodies.postings bodies.positions ts
-  holds_field tokens bodies counted h known = record {
-    entries = h.entries;
-    postings_body = h.postings_body;
-    counted = h.counted ∙ ap (λ (n : ℕ). Some (n, h.postings_body)) counted;
-    sorted = h.sorted;
-    exact = λ key. exact_key key h.postings_body bodies.positions (info_under key h.entries) known (h.exact key);
-  }

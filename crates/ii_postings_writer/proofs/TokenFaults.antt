@@ -26,7 +26,8 @@ use Rattle.ii_postings_writer.specs.IndexingTerm.{AreTermBytes}
 use Rattle.ii_postings_writer.specs.PostingsWriter.{PostingsWriterState}
 use Rattle.ii_postings_writer.specs.SortedTerms.{SortedTerm, terms_in, written_term}
 use Rattle.ii_postings_writer.specs.TermLimits.{AreWithin, FirstOf, HasLargeSum, IsLong, IsWithin, PassEnds}
-use Rattle.ii_postings_writer.specs.TokenFiles.{FirstEnds, FirstTerm, field_keys, token_terms, file_bodies, token_bodies}
+use Rattle.ii_postings_writer.specs.TokenFiles.{FirstEnds, FirstTerm, token_terms, file_bodies, token_bodies}
+use Rattle.ii_recorder.specs.TokenTerms.{field_keys}
 use Rattle.ii_postings_writer.specs.WriteFaults.{FirstInParts, FirstPartEnds, IsContextFault, IsPartsFault, IsTokensFault, IsWithinPart, all_bodies, bodies_of_tokens}
 use Rattle.ii_postings_writer.proofs.FaultLemmas.{fault_more}
 use Rattle.ii_postings_writer.proofs.HeldBodies.{sorted_tokens}
@@ -81,10 +82,10 @@ module _ (entries : List SchemaEntry) (writers : List PostingsWriterState) (sort
   -- the terms of a field are those of its tokens
   terms_are : (field : ℕ) → field < n → map (written_term None (option_of entries field)) (list_at field) ≡ token_terms entries ts field
   terms_are field inside =
-      ap (map (written_term None (option_of entries field))) (list_is field inside) ∙ field_written (option_of entries field) field sorted ts (has_field field inside)
+      ap (map (written_term None (option_of entries field))) (list_is field inside) ∙ field_written None (option_of entries field) field sorted ts (has_field field inside)
 
   keys_in_list : (field : ℕ) → field < n → map (λ (s : SortedTerm). s.key) (list_at field) ≡ field_keys field ts
-  keys_in_list field inside = ap (map (λ (s : SortedTerm). s.key)) (list_is field inside) ∙ keys_written (option_of entries field) field sorted ts (has_field field inside)
+  keys_in_list field inside = ap (map (λ (s : SortedTerm). s.key)) (list_is field inside) ∙ keys_written None (option_of entries field) field sorted ts (has_field field inside)
 
   -- so are its bodies
   bodies_are : (field : ℕ) → field < n → bodies_of entries (part_of entries field (tokens_in writers field) None (list_at field)) ≡ token_bodies entries ts field

@@ -1,5 +1,5 @@
 -- The terms of a field as they are written, by the tokens that a context has.
-use Rattle.std.proofs.Common.{inl, inr, ◌≡◌, ℕ, ◌<◌, ◌^◌, ◌==◌, Bool, true, false, ◌||◌, List, [], ◌∷◌, ◌++◌, map, cond, Option, Some, None, refl, sym, ap, ◌∙◌, subst, nat_eq, Less}
+use Rattle.std.proofs.Common.{inl, inr, ◌≡◌, ℕ, ◌<◌, ◌^◌, ◌==◌, Bool, true, false, ◌||◌, List, [], ◌∷◌, ◌++◌, map, cond, Option, Some, None, refl, sym, ap, ◌∙◌, subst, Less}
 use Rattle.std.specs.Prelude.{◌⊎◌, T, bytes_eq, filter, if◌then◌else◌, MatchOption}
 use Rattle.std.specs.Ordering.{is_eq, nat_cmp}
 use Rattle.std.specs.Cmp.Lexicographic.{bytes_decides, nat_list_cmp_total, slice_cmp}
@@ -8,7 +8,6 @@ use Rattle.std.specs.FinMap.Entries.{below_all}
 use Rattle.std.specs.List.{AllByRecursion, list_any}
 use Rattle.std.specs.List.Sorted.{IsStrictlySortedBy}
 use Rattle.std.specs.Map.{keys_of}
-use Rattle.std.proofs.lemmas.Cmp.{nat_list_eq_equiv}
 use Rattle.std.proofs.lemmas.Map.Text.{is_eq-slice_cmp}
 use Rattle.ii_base.specs.declared.schema.index_record_option.IndexRecordOption.{IndexRecordOption}
 use Rattle.ii_base.specs.declared.schema.index_record_option.IndexRecordOption.TheVariants.{Basic, WithFreqs, WithFreqsAndPositions}
@@ -24,9 +23,15 @@ use Rattle.ii_postings_writer.specs.IndexingContext.{TermIndex, recorder_of}
 use Rattle.ii_postings_writer.specs.IndexingTerm.{AreTermBytes, field_bytes}
 use Rattle.ii_postings_writer.specs.Records.{HasPostings}
 use Rattle.ii_postings_writer.specs.SortedTerms.{SortedTerm, terms_in, written_term}
-use Rattle.ii_postings_writer.specs.TokenFiles.{field_keys, key_term}
-use Rattle.ii_postings_writer.proofs.HeldFields.{each_found, found_has_key, found_in, none_occurred}
-use Rattle.ii_postings_writer.proofs.HoldLaws.{kind_which, recorder_occurred}
+use Rattle.ii_fieldnorm.specs.Readers.{Norms}
+use Rattle.ii_definitions.specs.Files.{HoldsField}
+use Rattle.ii_definitions.specs.Postings.{field_count}
+use Rattle.ii_recorder.specs.HeldTerms.{HoldsTerms}
+use Rattle.ii_recorder.specs.Terms.{FieldBodies}
+use Rattle.ii_recorder.specs.TokenTerms.{HoldsItsTokens, IsReadableKey, entries_term, field_keys, token_term}
+use Rattle.ii_recorder.proofs.TokenLaws.{kind_which, occurs_among}
+use Rattle.ii_postings_writer.proofs.HeldFields.{IsKnown, each_found, found_has_key, found_in, none_occurred}
+use Rattle.ii_postings_writer.proofs.HoldLaws.{readable_key, recorder_occurred}
 use Rattle.ii_postings_writer.proofs.SortedLemmas.{terms_in_ascend}
 
 -- keys as the entries of a set
@@ -89,23 +94,9 @@ pub no_keys : (field : ℕ) → field_keys field [] ≡ []
 unfolding IsStrictlySortedBy
 no_keys field = sym (keys_are [] [] tt (λ q. refl))
 
--- whether a key occurred, by the keys of a field's tokens
-occurs_among : (field : ℕ) (key : List ℕ) (ts : List IndexToken) → occurs field key ts ≡ list_any (bytes_eq key) (map (λ (t : IndexToken). t.key) (filter (λ (t : IndexToken). t.field == field) ts))
-occurs_among field key [] = refl
-occurs_among field key (t ∷ ts) = by_case (nat_eq t.field field) refl (occurs_among field key ts)
-  where
-    by_case : (b : Bool) → nat_eq t.field field ≡ b → occurs field key ts ≡ list_any (bytes_eq key) (map (λ (u : IndexToken). u.key) (filter (λ (u : IndexToken). u.field == field) ts))
-        → occurs field key (t ∷ ts) ≡ list_any (bytes_eq key) (map (λ (u : IndexToken). u.key) (filter (λ (u : IndexToken). u.field == field) (t ∷ ts)))
-    by_case true is rest = rw (is, rest, nat_list_eq_equiv.symm key t.key) refl
-    by_case false is rest = rw (is, rest) refl
-
--- a term with these deltas
-abbrev with_deltas : List ℕ → IndexRecordOption → List Entry → List ℕ → WrittenTerm
-with_deltas key kept es deltas = record { key = key; norms = None; skip_info = kept; docs = docs_of es; freqs = pushed_freqs kept es; deltas = deltas }
-
 -- a term of a field, by what its recorder keeps and has
-abbrev made : IndexRecordOption → List ℕ → IndexRecordOption → List Entry → WrittenTerm
-made mode key kept es = record { key = key; norms = None; skip_info = if has_freq kept then mode else Basic; docs = docs_of es; freqs = pushed_freqs kept es; deltas = if has_positions mode then pushed_deltas es else [] }
+abbrev made : Option Norms → IndexRecordOption → List ℕ → IndexRecordOption → List Entry → WrittenTerm
+made norms mode key kept es = record { key = key; norms = norms; skip_info = if has_freq kept then mode else Basic; docs = docs_of es; freqs = pushed_freqs kept es; deltas = if has_positions mode then pushed_deltas es else [] }
 
 documents_alone : (es : List Entry) → pushed_deltas (map (cut_entry Basic) es) ≡ []
 documents_alone [] = refl
@@ -115,29 +106,34 @@ counts_alone : (es : List Entry) → pushed_deltas (map (cut_entry WithFreqs) es
 counts_alone [] = refl
 counts_alone (e ∷ es) = counts_alone es
 
-made_of_field : (mode : IndexRecordOption) (key : List ℕ) (es : List Entry) → made mode key mode (map (cut_entry mode) es) ≡ with_deltas key mode (map (cut_entry mode) es) (pushed_deltas (map (cut_entry mode) es))
-made_of_field Basic key es = ap (with_deltas key Basic (map (cut_entry Basic) es)) (sym (documents_alone es))
-made_of_field WithFreqs key es = ap (with_deltas key WithFreqs (map (cut_entry WithFreqs) es)) (sym (counts_alone es))
-made_of_field WithFreqsAndPositions key es = refl
+module _ (norms : Option Norms) (key : List ℕ) (es : List Entry) where
+  -- a term with these deltas
+  abbrev with_deltas : IndexRecordOption → List ℕ → WrittenTerm
+  with_deltas kept deltas = record (entries_term norms kept key (map (cut_entry kept) es)) { deltas = deltas }
 
-made_of_documents : (mode : IndexRecordOption) (key : List ℕ) (es : List Entry) → made mode key Basic (map (cut_entry Basic) es) ≡ with_deltas key Basic (map (cut_entry Basic) es) (pushed_deltas (map (cut_entry Basic) es))
-made_of_documents Basic key es = ap (with_deltas key Basic (map (cut_entry Basic) es)) (sym (documents_alone es))
-made_of_documents WithFreqs key es = ap (with_deltas key Basic (map (cut_entry Basic) es)) (sym (documents_alone es))
-made_of_documents WithFreqsAndPositions key es = refl
+  made_of_field : (mode : IndexRecordOption) → made norms mode key mode (map (cut_entry mode) es) ≡ entries_term norms mode key (map (cut_entry mode) es)
+  made_of_field Basic = ap (with_deltas Basic) (sym (documents_alone es))
+  made_of_field WithFreqs = ap (with_deltas WithFreqs) (sym (counts_alone es))
+  made_of_field WithFreqsAndPositions = refl
 
-made_of_kind : (mode kind : IndexRecordOption) (key : List ℕ) (es : List Entry) → (kind ≡ mode) ⊎ (kind ≡ Basic) → made mode key kind (map (cut_entry kind) es) ≡ with_deltas key kind (map (cut_entry kind) es) (pushed_deltas (map (cut_entry kind) es))
-made_of_kind mode kind key es (inl same) =
-    subst (λ (k : IndexRecordOption). made mode key k (map (cut_entry k) es) ≡ with_deltas key k (map (cut_entry k) es) (pushed_deltas (map (cut_entry k) es))) (sym same) (made_of_field mode key es)
-made_of_kind mode kind key es (inr basic) =
-    subst (λ (k : IndexRecordOption). made mode key k (map (cut_entry k) es) ≡ with_deltas key k (map (cut_entry k) es) (pushed_deltas (map (cut_entry k) es))) (sym basic) (made_of_documents mode key es)
+  made_of_documents : (mode : IndexRecordOption) → made norms mode key Basic (map (cut_entry Basic) es) ≡ entries_term norms Basic key (map (cut_entry Basic) es)
+  made_of_documents Basic = ap (with_deltas Basic) (sym (documents_alone es))
+  made_of_documents WithFreqs = ap (with_deltas Basic) (sym (documents_alone es))
+  made_of_documents WithFreqsAndPositions = refl
+
+  made_of_kind : (mode kind : IndexRecordOption) → (kind ≡ mode) ⊎ (kind ≡ Basic) → made norms mode key kind (map (cut_entry kind) es) ≡ entries_term norms kind key (map (cut_entry kind) es)
+  made_of_kind mode kind (inl same) =
+      subst (λ (k : IndexRecordOption). made norms mode key k (map (cut_entry k) es) ≡ entries_term norms k key (map (cut_entry k) es)) (sym same) (made_of_field mode)
+  made_of_kind mode kind (inr basic) =
+      subst (λ (k : IndexRecordOption). made norms mode key k (map (cut_entry k) es) ≡ entries_term norms k key (map (cut_entry k) es)) (sym basic) (made_of_documents mode)
 
 -- a recorder with the postings of a key is written as that key
-key_written : (mode : IndexRecordOption) (field : ℕ) (ts : List IndexToken) (s : SortedTerm) → HasPostings (kind_of mode (tokens_at field s.key ts)) (tokens_at field s.key ts) s.recorder → written_term None mode s ≡ key_term mode field ts s.key
-key_written mode field ts s has =
+key_written : (norms : Option Norms) (mode : IndexRecordOption) (field : ℕ) (ts : List IndexToken) (s : SortedTerm) → HasPostings (kind_of mode (tokens_at field s.key ts)) (tokens_at field s.key ts) s.recorder → written_term norms mode s ≡ token_term norms mode field ts s.key
+key_written norms mode field ts s has =
     let tokens = tokens_at field s.key ts in
-    ap (λ (o : IndexRecordOption). made mode s.key o (entries_of_recorder s.recorder)) has.kept
-    ∙ ap (made mode s.key (kind_of mode tokens)) has.entries
-    ∙ made_of_kind mode (kind_of mode tokens) s.key (grouped tokens) (kind_which mode tokens)
+    ap (λ (o : IndexRecordOption). made norms mode s.key o (entries_of_recorder s.recorder)) has.kept
+    ∙ ap (made norms mode s.key (kind_of mode tokens)) has.entries
+    ∙ made_of_kind norms s.key (grouped tokens) mode (kind_of mode tokens) (kind_which mode tokens)
 
 -- What a sorted context has of the tokens of a field.
 pub record HasFieldTokens (mode : IndexRecordOption) (field : ℕ) (sorted : TermIndex) (ts : List IndexToken) : Type 0 where
@@ -146,7 +142,7 @@ pub record HasFieldTokens (mode : IndexRecordOption) (field : ℕ) (sorted : Ter
   pub ascending : IsStrictlySortedBy (slice_cmp nat_cmp) (keys_of sorted)
   pub records : (key : List ℕ) → MatchOption (recorder_of sorted (field_bytes field ++ key)) (tokens_at field key ts ≡ []) (HasPostings (kind_of mode (tokens_at field key ts)) (tokens_at field key ts))
 
-module _ (mode : IndexRecordOption) (field : ℕ) (sorted : TermIndex) (ts : List IndexToken) (h : HasFieldTokens mode field sorted ts) where
+module _ (norms : Option Norms) (mode : IndexRecordOption) (field : ℕ) (sorted : TermIndex) (ts : List IndexToken) (h : HasFieldTokens mode field sorted ts) where
   abbrev IsFound : SortedTerm → Type 0
   IsFound s = recorder_of sorted (field_bytes field ++ s.key) ≡ Some s.recorder
 
@@ -160,13 +156,13 @@ module _ (mode : IndexRecordOption) (field : ℕ) (sorted : TermIndex) (ts : Lis
   all_found : AllByRecursion IsFound (terms_in field sorted)
   all_found = found_in field sorted sorted h.whole (each_found sorted h.ascending)
 
-  terms_written : (ss : List SortedTerm) → AllByRecursion IsFound ss → map (written_term None mode) ss ≡ map (key_term mode field ts) (keys_in ss)
+  terms_written : (ss : List SortedTerm) → AllByRecursion IsFound ss → map (written_term norms mode) ss ≡ map (token_term norms mode field ts) (keys_in ss)
   terms_written [] found = refl
   terms_written (s ∷ ss) found =
-      let here : written_term None mode s ≡ key_term mode field ts s.key = key_written mode field ts s (subst (Has s.key) found.0 (h.records s.key)) in
+      let here : written_term norms mode s ≡ token_term norms mode field ts s.key = key_written norms mode field ts s (subst (Has s.key) found.0 (h.records s.key)) in
       rw (here, terms_written ss found.1) refl
 
-  any_key : (key : List ℕ) (ss : List SortedTerm) → list_any (λ (t : WrittenTerm). bytes_eq key t.key) (map (written_term None mode) ss) ≡ list_any (bytes_eq key) (keys_in ss)
+  any_key : (key : List ℕ) (ss : List SortedTerm) → list_any (λ (t : WrittenTerm). bytes_eq key t.key) (map (written_term norms mode) ss) ≡ list_any (bytes_eq key) (keys_in ss)
   any_key key [] = refl
   any_key key (s ∷ ss) = ap (λ (b : Bool). bytes_eq key s.key || b) (any_key key ss)
 
@@ -190,7 +186,7 @@ module _ (mode : IndexRecordOption) (field : ℕ) (sorted : TermIndex) (ts : Lis
       by_case None absent = no_key key (terms_in field sorted) absent all_found ∙ sym (none_occurred field key ts (subst (Has key) absent (h.records key)))
       by_case (Some r) found =
           let occurred : occurs field key ts ≡ true = recorder_occurred mode field key ts r (subst (Has key) found (h.records key)) in
-          sym (any_key key (terms_in field sorted)) ∙ found_has_key None mode field key r sorted h.small found ∙ sym occurred
+          sym (any_key key (terms_in field sorted)) ∙ found_has_key norms mode field key r sorted h.small found ∙ sym occurred
 
   pub keys_written : keys_in (terms_in field sorted) ≡ field_keys field ts
   keys_written =
@@ -199,5 +195,17 @@ module _ (mode : IndexRecordOption) (field : ℕ) (sorted : TermIndex) (ts : Lis
       ∙ field_keys_are field ts
 
   -- the terms of a field are written as its tokens say
-  pub field_written : map (written_term None mode) (terms_in field sorted) ≡ map (key_term mode field ts) (field_keys field ts)
-  field_written = terms_written (terms_in field sorted) all_found ∙ ap (map (key_term mode field ts)) keys_written
+  pub field_written : map (written_term norms mode) (terms_in field sorted) ≡ map (token_term norms mode field ts) (field_keys field ts)
+  field_written = terms_written (terms_in field sorted) all_found ∙ ap (map (token_term norms mode field ts)) keys_written
+
+  readable_keys : (ss : List SortedTerm) → AllByRecursion (IsKnown norms mode field sorted) ss → AllByRecursion (IsReadableKey mode field ts) (keys_in ss)
+  readable_keys [] known = tt
+  readable_keys (s ∷ ss) known = (readable_key norms mode field ts s (subst (Has s.key) known.0.found (h.records s.key)) known.0.told known.0.writable, readable_keys ss known.1)
+
+  -- the bodies of a field that was written hold its tokens
+  pub holds_field : HoldsItsTokens → (tokens : ℕ) (bodies : FieldBodies) → tokens ≡ field_count field ts → HoldsTerms mode tokens bodies (map (written_term norms mode) (terms_in field sorted))
+      → AllByRecursion (IsKnown norms mode field sorted) (terms_in field sorted) → HoldsField mode field bodies.terms bodies.postings bodies.positions ts
+  holds_field law tokens bodies counted holds known =
+      law norms mode field ts bodies (subst (AllByRecursion (IsReadableKey mode field ts)) keys_written (readable_keys (terms_in field sorted) known))
+      (subst (λ (n : ℕ). HoldsTerms mode n bodies (map (token_term norms mode field ts) (field_keys field ts))) counted
+      (subst (HoldsTerms mode tokens bodies) field_written holds))

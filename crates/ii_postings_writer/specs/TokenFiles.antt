@@ -1,36 +1,19 @@
 -- What is written for tokens, and which limits it exceeds.
-use Rattle.std.specs.Prelude.{ℕ, ◌==◌, List, filter, length, map, nat_lt, None}
-use Rattle.std.specs.Cmp.Lexicographic.{slice_cmp}
-use Rattle.std.specs.FinMap.{from_entries, keys}
+use Rattle.std.specs.Prelude.{ℕ, List, filter, length, map, nat_lt, None}
 use Rattle.std.specs.List.{range_with_len}
-use Rattle.std.specs.Ordering.{nat_cmp}
 use Rattle.ii_io.specs.Composite.{Body}
 use Rattle.ii_base.specs.Schema.{SchemaEntry}
 use Rattle.ii_base.specs.declared.schema.index_record_option.IndexRecordOption.{IndexRecordOption}
-use Rattle.ii_base.specs.Entries.{docs_of}
-use Rattle.ii_definitions.specs.Cut.{cut_entry}
 use Rattle.ii_definitions.specs.Fields.{option_of}
-use Rattle.ii_definitions.specs.Postings.{field_count, grouped, kind_of, tokens_at}
+use Rattle.ii_definitions.specs.Postings.{field_count}
 use Rattle.ii_definitions.specs.Tokens.{IndexToken}
-use Rattle.ii_recorder.specs.Pushed.{pushed_deltas, pushed_freqs}
 use Rattle.ii_recorder.specs.Terms.{FieldBodies, WrittenTerm, field_bodies}
+use Rattle.ii_recorder.specs.TokenTerms.{field_keys, token_term}
 use Rattle.ii_postings_writer.specs.TermLimits.{AreWithin, FirstOf, IsWithin, PassEnds}
 
--- the keys of a field that occurred, each once, in ascending order
-abbrev pub field_keys : ℕ → List IndexToken → List (List ℕ)
-field_keys field ts = keys (from_entries {X = Unit {0}} {R = slice_cmp nat_cmp} (map (λ (t : IndexToken). (t.key, tt)) (filter (λ (t : IndexToken). t.field == field) ts)))
-
--- the postings of a key as a field with the option `mode` writes them; without bounds, which change no length
-abbrev pub key_term : IndexRecordOption → ℕ → List IndexToken → List ℕ → WrittenTerm
-key_term mode field ts key =
-    let tokens = tokens_at field key ts in
-    let kind = kind_of mode tokens in
-    let es = map (cut_entry kind) (grouped tokens) in
-    record { key = key; norms = None; skip_info = kind; docs = docs_of es; freqs = pushed_freqs kind es; deltas = pushed_deltas es }
-
--- the terms of a field
+-- the terms of a field; without bounds, which change no length
 abbrev pub token_terms : List SchemaEntry → List IndexToken → ℕ → List WrittenTerm
-token_terms entries ts field = map (key_term (option_of entries field) field ts) (field_keys field ts)
+token_terms entries ts field = map (token_term None (option_of entries field) field ts) (field_keys field ts)
 
 -- the fields of a schema
 abbrev pub fields_of : List SchemaEntry → List ℕ

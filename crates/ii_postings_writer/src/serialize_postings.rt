@@ -26,8 +26,7 @@ use crate::sorted_terms::{FieldTerms, TermOfField};
 use ii_base::{Fault, Field, FieldEntry, Schema, ValueType};
 use ii_fieldnorm::{FieldNormReader, FieldNormReaders};
 use ii_json::JsonTermSerializer;
-use ii_layout::written::reads_uncounted_term_back;
-use ii_recorder::held_terms::reads_entries_back;
+use ii_recorder::held_terms::holds_its_tokens;
 use ii_recorder::{BufferLender, InvertedIndexSerializer};
 use std::alloc::Global;
 use std::io::Write;
@@ -239,8 +238,7 @@ pub fn serialize_postings<W: Write>(
     ensures fault { IfErr result (λ e. (e ≡ Fault.OutOfMemory) ⊎ (e ≡ Fault.SerializerClosed) ⊎ IsContextFault serializer.old per_field_postings_writers.now fieldnorm_readers.now (resolved_terms (json_fields schema.now) ctx.path_to_unordered_id ctx.term_index) e) }
     ensures err { IfErr result (ClosesOrStays serializer.old serializer.new) }
 {
-    reads_entries_back();
-    reads_uncounted_term_back();
+    holds_its_tokens();
     let terms = field_terms(alloc, &ctx, schema)?;
     let told = serialize_fields(
         alloc,

@@ -7,6 +7,7 @@ pub mod RecorderLemmas
 pub mod PushLemmas
 pub mod DeltaLemmas
 pub mod PushedEntries
+pub mod TokenLaws
 pub mod WorkedRows
 mod VintRowLemmas
 mod GatheredLemmas

@@ -12,3 +12,4 @@ pub mod Pushed
 pub mod VintRows
 pub mod Gathered
 pub mod Kept
+pub mod TokenTerms

@@ -1,7 +1,8 @@
 ghost use Rattle.ii_recorder.specs.HeldTerms.{HoldsEachTerm, HoldsWhatIsWritten};
 ghost use Rattle.ii_recorder.specs.Pushed.{ReadsEntriesBack};
+ghost use Rattle.ii_recorder.specs.TokenTerms.{HoldsItsTokens};
 
-use ii_layout::written::reads_term_back;
+use ii_layout::written::{reads_term_back, reads_uncounted_term_back};
 use ii_termdict::written::reads_dictionary_back;
 
 /// States what the bodies of a written field hold: the number of its tokens, exactly the keys of its terms,
@@ -23,4 +24,13 @@ pub fn reads_entries_back()
     ensures { ReadsEntriesBack }
 {
     reads_term_back();
+}
+
+/// States that bodies hold the tokens of a field if they hold the terms that are written for these tokens: for
+/// each key that occurred its postings, as the field records them.
+pub fn holds_its_tokens()
+    ensures { HoldsItsTokens }
+{
+    reads_entries_back();
+    reads_uncounted_term_back();
 }

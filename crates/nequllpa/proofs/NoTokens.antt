@@ -17,13 +17,14 @@ use Rattle.ii_definitions.specs.Postings.{doc_count}
 use Rattle.ii_definitions.specs.Tokens.{IndexToken}
 use Rattle.ii_recorder.specs.Terms.{FieldBodies, WrittenTerm}
 use Rattle.ii_postings_writer.specs.TermLimits.{AreWithin, FirstOf, HasLargeSum, IsLong, IsWithin, PassEnds}
-use Rattle.ii_postings_writer.specs.TokenFiles.{FirstEnds, FirstTerm, field_keys, token_terms, fields_of, file_bodies, key_term, token_bodies}
+use Rattle.ii_postings_writer.specs.TokenFiles.{FirstEnds, FirstTerm, token_terms, fields_of, file_bodies, token_bodies}
+use Rattle.ii_recorder.specs.TokenTerms.{field_keys, token_term}
 use Rattle.ii_postings_writer.proofs.TokenTerms.{no_keys}
 use Rattle.ii_indexing.specs.IndexFiles.{PassLimits}
 use Rattle.ii_indexing.specs.RamFiles.{IsRamFault, empty_file}
 
 no_terms : (es : List SchemaEntry) (field : ℕ) → token_terms es [] field ≡ []
-no_terms es field = ap (map (key_term (option_of es field) field [])) (no_keys field)
+no_terms es field = ap (map (token_term None (option_of es field) field [])) (no_keys field)
 
 none_of_first : {X : Type 0} (Q P : X → Type 0) → ((x : X) → P x → ⊥) → (xs : List X) → FirstOf Q P xs → ⊥
 none_of_first Q P none [] found = found

@@ -1,0 +1,8 @@
+//! The file of counts of a segment: how many tokens each document has in each field.
+#![tactic(auto)]
+
+pub mod reader;
+pub mod serializer;
+
+pub use reader::{CountReader, CountReaders};
+pub use serializer::CountsSerializer;
