@@ -20,6 +20,7 @@ use Rattle.std.proofs.lemmas.List.MinMax.{ranks_by}
 use Rattle.ii_postings_writer.specs.declared.sorted_terms.KeptTerm.{KeptTerm}
 use Rattle.ii_postings_writer.specs.IndexingTerm.{AreTermBytes, field_bytes, field_in}
 use Rattle.ii_postings_writer.specs.ResolvedTerms.{behind_id, front_of, held_cmp, path_id_in, rank_of, value_place}
+use Rattle.ii_postings_writer.proofs.SortedLemmas.{nat_cmp-refl}
 use Rattle.ii_postings_writer.proofs.TermLemmas.{length_field}
 use Rattle.ii_postings_writer.specs.SortKeys.{IsKept, kept_cmp, padded_number}
 
@@ -51,9 +52,6 @@ two_digits power x y s t first second below = by (cases_order x y)
 nat_less : (x y : ℕ) → x < y → nat_cmp x y ≡ Less
 nat_less x y less = sym (nat_cmp_is x y Less less)
 
-nat_same : (x : ℕ) → nat_cmp x x ≡ Equal
-nat_same x = sym (nat_cmp_is x x Equal refl)
-
 -- bytes with the lower number come first
 number_below : (n : ℕ) (xs ys : List ℕ) → AreBytes xs → AreBytes ys → padded_number n xs < padded_number n ys → slice_cmp nat_cmp xs ys ≡ Less
 number_below zero xs ys are also below = absurd (omega (arith, below))
@@ -65,7 +63,7 @@ number_below (suc n) (x ∷ xs) (y ∷ ys) are also below =
   where
     by : (x < y) ⊎ ((x ≡ y) × (padded_number n xs < padded_number n ys)) → (padded_number n xs < padded_number n ys → slice_cmp nat_cmp xs ys ≡ Less) → slice_cmp nat_cmp (x ∷ xs) (y ∷ ys) ≡ Less
     by (inl less) more = rw (nat_less x y less) refl
-    by (inr (same, less)) more = rw (same, nat_same y) (more less)
+    by (inr (same, less)) more = rw (same, nat_cmp-refl y) (more less)
 
 -- bytes of one length with the same number are the same
 number_same : (n : ℕ) (xs ys : List ℕ) → AreBytes xs → AreBytes ys → length xs ≡ length ys → length xs ≤ n → padded_number n xs ≡ padded_number n ys → slice_cmp nat_cmp xs ys ≡ Equal
@@ -82,7 +80,7 @@ number_same (suc n) (x ∷ xs) (y ∷ ys) are also len within same = by (cases_o
     second = below_power n ys (after_first y ys also)
 
     by : (x ≡ y) ⊎ ((x < y) ⊎ (y < x)) → (padded_number n xs ≡ padded_number n ys → slice_cmp nat_cmp xs ys ≡ Equal) → slice_cmp nat_cmp (x ∷ xs) (y ∷ ys) ≡ Equal
-    by (inl one) more = rw (one, nat_same y) (more (omega (arith, subst (λ (d : ℕ). d * 256 ^ n + padded_number n xs ≡ y * 256 ^ n + padded_number n ys) one same)))
+    by (inl one) more = rw (one, nat_cmp-refl y) (more (omega (arith, subst (λ (d : ℕ). d * 256 ^ n + padded_number n xs ≡ y * 256 ^ n + padded_number n ys) one same)))
     by (inr (inl less)) more =
         let above : (x + 1) * 256 ^ n ≤ y * 256 ^ n = mul-le-mul_right (256 ^ n) (omega (arith, less)) in
         absurd (omega (arith, above, first, same))
@@ -101,7 +99,7 @@ by_number n xs ys are also = by (cases_order (padded_number n xs) (padded_number
     b = padded_number n ys
 
     by : (a ≡ b) ⊎ ((a < b) ⊎ (b < a)) → ordering_then (nat_cmp a b) (slice_cmp nat_cmp xs ys) ≡ slice_cmp nat_cmp xs ys
-    by (inl same) = rw (same, nat_same b) refl
+    by (inl same) = rw (same, nat_cmp-refl b) refl
     by (inr (inl less)) = rw (nat_less a b less, number_below n xs ys are also less) refl
     by (inr (inr greater)) =
         let first : slice_cmp nat_cmp xs ys ≡ Greater = nat_list_cmp_total.antisymm xs ys ∙ ap ordering_reverse (number_below n ys xs also are greater) in
@@ -119,7 +117,7 @@ by_number_alone n xs ys are also len within = by (cases_order (padded_number n x
     b = padded_number n ys
 
     by : (a ≡ b) ⊎ ((a < b) ⊎ (b < a)) → nat_cmp a b ≡ slice_cmp nat_cmp xs ys
-    by (inl same) = rw (same, nat_same b, number_same n xs ys are also len within same) refl
+    by (inl same) = rw (same, nat_cmp-refl b, number_same n xs ys are also len within same) refl
     by (inr (inl less)) = rw (nat_less a b less, number_below n xs ys are also less) refl
     by (inr (inr greater)) = sym (nat_cmp_is a b Greater greater) ∙ sym (nat_list_cmp_total.antisymm xs ys ∙ ap ordering_reverse (number_below n ys xs also are greater))
 

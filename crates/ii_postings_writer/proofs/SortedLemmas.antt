@@ -1,7 +1,6 @@
 -- Terms in the order of their bytes.
 use Rattle.std.proofs.Common.{zero-add, Some, Result, Ok, Err, IfOk, None, zero, suc, ◌+◌, ◌<◌, ◌^◌, ◌++◌, drop, filter, nat_eq, arith, ◌≡◌, ℕ, Bool, true, false, List, [], ◌∷◌, map, refl, sym, ap, ◌∙◌, subst}
-use Rattle.std.proofs.Common.{Ordering, Less, Equal, Greater}
-use Rattle.std.specs.Ordering.{ordering_reverse}
+use Rattle.std.proofs.Common.{Ordering, Less, Equal}
 use Rattle.std.specs.Prelude.{slice_index_or, bytes_eq}
 use Rattle.std.proofs.lemmas.List.Elements.{All-tail}
 use Rattle.std.specs.Prelude.{All}
@@ -10,7 +9,8 @@ use Rattle.ii_recorder.specs.Recorded.{RecorderState}
 use Rattle.std.specs.List.{range_with_len, AllByRecursion, IsDistinct, dedup, dedup_from}
 use Rattle.std.specs.List.Sorted.{IsSorted, IsStrictlySortedBy}
 use Rattle.std.specs.Map.{keys_of}
-use Rattle.std.proofs.lemmas.Cmp.{nat_cmp_total, nat_list_cmp_total, on_total}
+use Rattle.std.proofs.lemmas.Cmp.{nat_list_cmp_total, on_total}
+use Rattle.std.specs.Cmp.{nat_cmp_is}
 use Rattle.std.proofs.lemmas.Cmp.{nat_list_eq_equiv}
 use Rattle.std.specs.Cmp.Lexicographic.{slice_cmp}
 use Rattle.std.specs.Ordering.{nat_cmp}
@@ -55,13 +55,8 @@ sorted_distinct {K} f ks sorted distinct =
     let same = dedup_distinct (λ (x y : K). bytes_eq (f x) (f y)) (λ x y. nat_list_eq_equiv.symm (f x) (f y)) ks distinct in
     mapped_ascends (slice_cmp nat_cmp) f ks (subst (λ (zs : List K). IsStrictlySortedBy (λ (x y : K). slice_cmp nat_cmp (f x) (f y)) zs) same strict)
 
-same_reversed : (o : Ordering) → o ≡ ordering_reverse o → o ≡ Equal
-same_reversed Less e = absurd (cc)
-same_reversed Equal e = refl
-same_reversed Greater e = absurd (cc)
-
-nat_cmp-refl : (n : ℕ) → nat_cmp n n ≡ Equal
-nat_cmp-refl n = same_reversed (nat_cmp n n) (nat_cmp_total.antisymm n n)
+pub nat_cmp-refl : (n : ℕ) → nat_cmp n n ≡ Equal
+nat_cmp-refl n = sym (nat_cmp_is n n Equal refl)
 
 -- a prefix of both is not compared
 slice_cmp-prefix : (front xs ys : List ℕ) → slice_cmp nat_cmp (front ++ xs) (front ++ ys) ≡ slice_cmp nat_cmp xs ys

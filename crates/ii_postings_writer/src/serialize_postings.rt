@@ -31,42 +31,8 @@ use ii_recorder::{BufferLender, InvertedIndexSerializer};
 use std::alloc::Global;
 use std::io::Write;
 
-// Writes a field with the number of tokens of its writer, and its terms, which ascend.
+// Writes a field with the number of tokens of its writer and its terms, if it has any.
 fn serialize_field<W: Write>(
-    field: Field,
-    writer: &PostingsWriterKind,
-    fieldnorm_reader: Option<FieldNormReader>,
-    terms: &[TermOfField<'_>],
-    keys: &mut JsonTermSerializer,
-    buffer_lender: &mut BufferLender,
-    serializer: &mut InvertedIndexSerializer<W>,
-) -> Result<(), Fault>
-    requires known { field < length serializer.old.entries }
-    requires lacks { serializer.old.closed ≡ false → LacksField field serializer.old.bodies }
-    requires ascending { AreAscending (map (λ t. (state_of t).key) terms.now) }
-    requires writable { AllByRecursion (IsWritable fieldnorm_reader) (map state_of terms.now) }
-    ensures wrote { OnOk result (AddsBodies serializer.old.bodies serializer.new.bodies field
-        (field_bodies (option_of serializer.old.entries field) (state_of_kind writer.now).total_num_tokens (map (written_term fieldnorm_reader (option_of serializer.old.entries field)) (map state_of terms.now)))) }
-    ensures holds { OnOk result (HoldsTerms (option_of serializer.old.entries field) (state_of_kind writer.now).total_num_tokens
-        (field_bodies (option_of serializer.old.entries field) (state_of_kind writer.now).total_num_tokens (map (written_term fieldnorm_reader (option_of serializer.old.entries field)) (map state_of terms.now)))
-        (map (written_term fieldnorm_reader (option_of serializer.old.entries field)) (map state_of terms.now))) }
-    ensures told { OnOk result (AllByRecursion (IsTold (option_of serializer.old.entries field)) (map state_of terms.now)) }
-    ensures within { OnOk result (AreWithin (option_of serializer.old.entries field) (map (written_term fieldnorm_reader (option_of serializer.old.entries field)) (map state_of terms.now))) }
-
-    // The state afterwards, and the errors.
-    ensures ends { EndsWriting serializer.old serializer.new result }
-    ensures grow { AllGrow serializer.old.bodies serializer.new.bodies }
-    ensures fault { IfErr result (λ e. (e ≡ Fault.SerializerClosed)
-        ⊎ IsPartFault serializer.old.entries serializer.old.bodies (record { field = field; tokens = (state_of_kind writer.now).total_num_tokens; norms = fieldnorm_reader; terms = map state_of terms.now }) e) }
-{
-    let total_num_tokens = writer.total_num_tokens();
-    let mut serializer = serializer.new_field(field, total_num_tokens, fieldnorm_reader)?;
-    writer.serialize(terms, keys, buffer_lender, &mut serializer)?;
-    serializer.close()
-}
-
-// Writes a field, if it has terms.
-fn serialize_if_any<W: Write>(
     field: Field,
     writers: &PerFieldPostingsWriter,
     norms: &FieldNormReaders,
@@ -97,15 +63,10 @@ fn serialize_if_any<W: Write>(
     }
     let writer = writers.get_for_field(field);
     let fieldnorm_reader = norms.get_field(field)?;
-    serialize_field(
-        field,
-        writer,
-        fieldnorm_reader,
-        terms,
-        keys,
-        buffer_lender,
-        serializer,
-    )
+    let total_num_tokens = writer.total_num_tokens();
+    let mut serializer = serializer.new_field(field, total_num_tokens, fieldnorm_reader)?;
+    writer.serialize(terms, keys, buffer_lender, &mut serializer)?;
+    serializer.close()
 }
 
 // Writes the fields that have terms, in order.
@@ -135,7 +96,7 @@ fn serialize_fields<W: Write>(
     let mut buffer_lender = BufferLender::new(alloc);
     for place in 0..terms.len() {
         let field = Field::from_field_id(place as u32);
-        let told = serialize_if_any(
+        let told = serialize_field(
             field,
             writers,
             norms,

@@ -6,9 +6,6 @@ ghost use Rattle.ii_io.specs.Composite.{Body, fit_fields};
 ghost use Rattle.ii_io.specs.Faults.{OnlyMemory};
 ghost use Rattle.ii_io.specs.Numbers.{le_bytes};
 ghost use Rattle.ii_recorder.specs.IndexBodies.{AddsBodies, AddsMore, AllGrow, AreBegun, OneIsFull, AreUnclosed, LacksField, tables_of, CountsFailures, CountsFailuresOf};
-ghost use Rattle.ii_recorder.specs.Endings.{CountsOnce};
-ghost use Rattle.ii_recorder.specs.Terms.{positions_bytes};
-ghost use Rattle.ii_layout.specs.Written.{written_postings};
 ghost use Rattle.ii_recorder.specs.FieldTerms.{EndsTerm, IsEndFault, bytes_of, field_terms};
 ghost use Rattle.ii_termdict.specs.Dictionary.{dictionary};
 ghost use Rattle.ii_termdict.specs.Written.{written_dictionary};
@@ -21,7 +18,7 @@ use std::io::Write;
 use std::marker::Model;
 
 /// Holds the three composite files of an index: terms, postings and positions.
-pub struct IndexBodies<W: Write> {
+pub(crate) struct IndexBodies<W: Write> {
     terms: CompositeWrite<W>,
     postings: CompositeWrite<W>,
     positions: CompositeWrite<W>,
@@ -47,7 +44,7 @@ impl<W: Write> Model for IndexBodies<W> {
 }
 
 impl<W: Write> IndexBodies<W> {
-    pub fn wrap(
+    pub(crate) fn wrap(
         alloc: Global,
         terms: CountingWriter<W>,
         postings: CountingWriter<W>,
@@ -67,7 +64,7 @@ impl<W: Write> IndexBodies<W> {
     }
 
     // Starts the body of a field in each file. The postings begin with the number of its tokens.
-    pub fn begin_field(&mut self, field: Field, total_num_tokens: u64) -> Result<(), Fault>
+    pub(crate) fn begin_field(&mut self, field: Field, total_num_tokens: u64) -> Result<(), Fault>
         requires unclosed { AreUnclosed self.old }
         requires lacks { LacksField field self.old }
         ensures ok { OnOk result (AddsBodies self.old self.new field (record { terms = []; postings = le_bytes 8 total_num_tokens; positions = [] })) }
@@ -90,7 +87,11 @@ impl<W: Write> IndexBodies<W> {
 
     // Ends a term of the field that was started last: appends its postings and positions, and keeps its
     // place.
-    pub fn end_term(&mut self, term: &mut OpenTerm, places: &mut TermPlaces) -> Result<(), Fault>
+    pub(crate) fn end_term(
+        &mut self,
+        term: &mut OpenTerm,
+        places: &mut TermPlaces,
+    ) -> Result<(), Fault>
         requires begun { AreBegun self.old }
         requires open { (term.old.closed ≡ false) × (places.old.closed ≡ false) }
         requires key { length places.old.keys ≡ length places.old.infos + 1 }
@@ -106,16 +107,11 @@ impl<W: Write> IndexBodies<W> {
         // Which errors it returns, and when.
         ensures fault { IfErr result (λ e. IsEndFault term.old places.old self.old.postings.writer self.old.positions.writer e) }
     {
-        put_term(
-            term,
-            places,
-            self.postings.writer(),
-            self.positions.writer(),
-        )
+        term.write(places, self.postings.writer(), self.positions.writer())
     }
 
     // Writes the dictionary of the field that was started last, and flushes.
-    pub fn finish_field(&mut self, places: &mut TermPlaces) -> Result<(), Fault>
+    pub(crate) fn finish_field(&mut self, places: &mut TermPlaces) -> Result<(), Fault>
         requires begun { AreBegun self.old }
         requires open { places.old.closed ≡ false }
         requires whole { length places.old.keys ≡ length places.old.infos }
@@ -161,7 +157,7 @@ impl<W: Write> IndexBodies<W> {
     }
 
     // Returns the three writers without writing tables.
-    pub fn into_writers(self) -> (CountingWriter<W>, CountingWriter<W>, CountingWriter<W>)
+    pub(crate) fn into_writers(self) -> (CountingWriter<W>, CountingWriter<W>, CountingWriter<W>)
         ensures terms { result.0 ≡ self.terms.writer }
         ensures postings { result.1 ≡ self.postings.writer }
         ensures positions { result.2 ≡ self.positions.writer }
@@ -179,7 +175,7 @@ impl<W: Write> IndexBodies<W> {
     }
 
     // Writes the tables of the three composite files, and returns the writers.
-    pub fn close(
+    pub(crate) fn close(
         self,
     ) -> (
         CountingWriter<W>,
@@ -243,38 +239,4 @@ fn begin_body<W: Write>(composite: &mut CompositeWrite<W>, field: Field) -> Resu
 {
     composite.for_field(field)?;
     Ok(())
-}
-
-// Writes the postings and the positions of a term, and keeps its place.
-fn put_term<W: Write>(
-    term: &mut OpenTerm,
-    places: &mut TermPlaces,
-    postings_write: &mut CountingWriter<W>,
-    positions_write: &mut CountingWriter<W>,
-) -> Result<(), Fault>
-    requires open { (term.old.closed ≡ false) × (places.old.closed ≡ false) }
-    requires key { length places.old.keys ≡ length places.old.infos + 1 }
-    ensures postings { OnOk result (Wrote postings_write.old postings_write.new (written_postings term.old.norms term.old.skip_info term.old.docs term.old.freqs)) }
-    ensures positions { OnOk result (Wrote positions_write.old positions_write.new (positions_bytes term.old.mode term.old.deltas)) }
-    ensures ends { OnOk result (EndsTerm (field_terms term.old places.old true) (field_terms term.new places.new false)) }
-
-    // The outcomes: a failed call counts once, and each writer keeps what was written.
-    ensures once { CountsOnce (postings_write.old.failed_calls + positions_write.old.failed_calls)
-        (postings_write.new.failed_calls + positions_write.new.failed_calls) result }
-    ensures kept { (postings_write.old.failed_calls ≤ postings_write.new.failed_calls) × (positions_write.old.failed_calls ≤ positions_write.new.failed_calls) }
-    ensures grow { Grows postings_write.old postings_write.new × Grows positions_write.old positions_write.new }
-
-    // Which errors it returns, and when.
-    ensures fault { IfErr result (λ e. IsEndFault term.old places.old postings_write.old positions_write.old e) }
-{
-    let doc_freq = term.doc_freq();
-    let postings_len = match term.write_postings(postings_write) {
-        Ok(len) => len,
-        Err(fault) => return Err(fault),
-    };
-    let positions_len = match term.write_positions(positions_write) {
-        Ok(len) => len,
-        Err(fault) => return Err(fault),
-    };
-    places.insert_term(doc_freq, postings_len, positions_len)
 }

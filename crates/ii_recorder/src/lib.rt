@@ -3,7 +3,6 @@
 #![tactic(auto)]
 
 pub mod buffer_lender;
-pub mod field_serializer;
 pub mod held_terms;
 mod index_bodies;
 mod open_term;
@@ -12,11 +11,10 @@ pub mod serializer;
 mod term_places;
 
 pub use buffer_lender::BufferLender;
-pub use field_serializer::FieldSerializer;
 pub use recorder::Recorder;
 pub use recorder::any_recorder::AnyRecorder;
 pub use recorder::doc_id_recorder::DocIdRecorder;
 pub use recorder::term_frequency_recorder::TermFrequencyRecorder;
 pub use recorder::tf_and_position_recorder::TfAndPositionRecorder;
 pub use recorder::vint32_reader::VInt32Reader;
-pub use serializer::InvertedIndexSerializer;
+pub use serializer::{FieldSerializer, InvertedIndexSerializer};

@@ -1,15 +1,14 @@
-ghost use Rattle.std.specs.Prelude.{◌≡◌, ◌+◌, ◌^◌, ◌<◌, ◌≤◌, ◌↔◌, ◌⊎◌, if◌then◌else◌, [], ◌∷◌, ◌++◌, false, length, OnOk, OnErr, IfOk, IfErr, IsErrOf, IsTrue};
+ghost use Rattle.std.specs.Prelude.{◌≡◌, ◌+◌, ◌^◌, ◌<◌, ◌≤◌, ◌⊎◌, if◌then◌else◌, [], true, false, length, OnOk, IfOk, IfErr, IsErrOf, IsTrue};
 ghost use Rattle.ii_base.specs.declared.schema.index_record_option.IndexRecordOption.TheVariants.{Basic};
-ghost use Rattle.ii_base.specs.Options.{has_freq, has_positions};
+ghost use Rattle.ii_base.specs.Options.{has_positions};
 ghost use Rattle.ii_io.specs.CountingWriter.{Grows, IsFull, Wrote};
-ghost use Rattle.ii_base.specs.Entries.{are_documents};
-ghost use Rattle.ii_layout.specs.Bounds.{Covers};
-ghost use Rattle.ii_layout.specs.PostingsSerializer.{IsSumTooLarge};
 ghost use Rattle.ii_layout.specs.Written.{written_postings};
 ghost use Rattle.ii_recorder.specs.Endings.{CountsOnce};
+ghost use Rattle.ii_recorder.specs.FieldTerms.{EndsTerm, IsEndFault, field_terms};
 ghost use Rattle.ii_recorder.specs.Terms.{positions_bytes};
 
-use ii_base::{DocId, IndexRecordOption};
+use super::term_places::TermPlaces;
+use ii_base::IndexRecordOption;
 use ii_fieldnorm::FieldNormReader;
 use ii_io::{CountingWriter, Fault, LimitName};
 use ii_layout::{PositionWriter, PostingsSerializer};
@@ -19,11 +18,11 @@ use std::marker::Model;
 
 /// Holds the open term of a field until it is written: its documents with their term frequencies, and the
 /// deltas of their positions.
-pub struct OpenTerm {
-    mode: IndexRecordOption,
-    postings: PostingsSerializer,
-    positions: PositionWriter,
-    doc_freq: u32,
+pub(crate) struct OpenTerm {
+    pub(crate) mode: IndexRecordOption,
+    pub(crate) postings: PostingsSerializer,
+    pub(crate) positions: PositionWriter,
+    pub(crate) doc_freq: u32,
 }
 
 // A drop has to be a call.
@@ -59,7 +58,7 @@ impl Model for OpenTerm {
 }
 
 impl OpenTerm {
-    pub fn new(
+    pub(crate) fn new(
         alloc: Global,
         mode: IndexRecordOption,
         fieldnorm_reader: Option<FieldNormReader>,
@@ -75,88 +74,56 @@ impl OpenTerm {
     }
 
     // Starts a new term, as the field records it or without term frequencies.
-    pub fn begin(&mut self, term_doc_freq: u32, record_term_freq: bool)
+    pub(crate) fn begin(&mut self, term_doc_freq: u32, record_term_freq: bool)
         ensures { self.new ≡ record self.old { skip_info = if record_term_freq then self.old.mode else Basic; docs = []; freqs = [] } }
     {
         self.postings.new_term(term_doc_freq, record_term_freq);
         self.doc_freq = 0;
     }
 
-    // Returns the number of documents of the term.
-    pub fn doc_freq(&self) -> u32
-        ensures { result ≡ length self.now.docs }
-    {
-        self.doc_freq
-    }
-
-    // Adds a document with its term frequency, and the deltas of its positions if the field records them.
-    pub fn write_doc(
+    // Ends the term: writes its postings and then, if the field records them, its positions, and keeps its
+    // place.
+    pub(crate) fn write<W: Write>(
         &mut self,
-        doc_id: DocId,
-        term_freq: u32,
-        position_deltas: &[u32],
+        places: &mut TermPlaces,
+        postings_write: &mut CountingWriter<W>,
+        positions_write: &mut CountingWriter<W>,
     ) -> Result<(), Fault>
-        requires open { self.old.closed ≡ false }
-        requires ascending { IsTrue (are_documents (self.old.docs ++ doc_id ∷ [])) }
-        requires counted { IsTrue (has_freq self.old.skip_info) → 0 < term_freq }
-        requires covered { Covers self.old.norms doc_id }
-        ensures ok { OnOk result (self.new ≡ record self.old {
-          docs = self.old.docs ++ doc_id ∷ [];
-          freqs = self.old.freqs ++ term_freq ∷ [];
-          deltas = if has_positions self.old.mode then self.old.deltas ++ position_deltas.now else self.old.deltas;
-        }) }
-        ensures err { OnErr result (IsTrue self.new.closed) }
-        ensures mode { self.new.mode ≡ self.old.mode }
+        requires open { (self.old.closed ≡ false) × (places.old.closed ≡ false) }
+        requires key { length places.old.keys ≡ length places.old.infos + 1 }
+        ensures postings { OnOk result (Wrote postings_write.old postings_write.new (written_postings self.old.norms self.old.skip_info self.old.docs self.old.freqs)) }
+        ensures positions { OnOk result (Wrote positions_write.old positions_write.new (positions_bytes self.old.mode self.old.deltas)) }
+        ensures ends { OnOk result (EndsTerm (field_terms self.old places.old true) (field_terms self.new places.new false)) }
+
+        // The outcomes: a failed call counts once, and each writer keeps what was written.
+        ensures once { CountsOnce (postings_write.old.failed_calls + positions_write.old.failed_calls)
+            (postings_write.new.failed_calls + positions_write.new.failed_calls) result }
+        ensures kept { (postings_write.old.failed_calls ≤ postings_write.new.failed_calls) × (positions_write.old.failed_calls ≤ positions_write.new.failed_calls) }
+        ensures grow { Grows postings_write.old postings_write.new × Grows positions_write.old positions_write.new }
 
         // Which errors it returns, and when.
-        ensures limit { IsErrOf result (Fault.Limit LimitName.BlockFrequencySum) ↔ IsSumTooLarge self.old.skip_info (self.old.freqs ++ term_freq ∷ []) }
-        ensures only { IfErr result (λ e. (e ≡ Fault.OutOfMemory) ⊎ (e ≡ Fault.Limit LimitName.BlockFrequencySum)) }
+        ensures fault { IfErr result (λ e. IsEndFault self.old places.old postings_write.old positions_write.old e) }
     {
-        let added = self.postings.write_doc(doc_id, term_freq);
-        if added.is_err() {
-            self.doc_freq = 0;
-            return added;
-        }
-        self.doc_freq += 1;
-        if !self.mode.has_positions() {
-            return Ok(());
-        }
-        self.positions.write_positions_delta(position_deltas)
-    }
-
-    // Writes the postings, and returns how many bytes they take.
-    pub fn write_postings<W: Write>(&mut self, writer: &mut CountingWriter<W>) -> Result<u32, Fault>
-        requires open { self.old.closed ≡ false }
-        ensures ok { IfOk result (λ len. len ≡ length (written_postings self.old.norms self.old.skip_info self.old.docs self.old.freqs)) }
-        ensures wrote { OnOk result (Wrote writer.old writer.new (written_postings self.old.norms self.old.skip_info self.old.docs self.old.freqs)) }
-        ensures rest { OnOk result (self.new ≡ record self.old { docs = []; freqs = [] }) }
-        ensures short { OnOk result (length (written_postings self.old.norms self.old.skip_info self.old.docs self.old.freqs) < 2 ^ 32) }
-        ensures mode { self.new.mode ≡ self.old.mode }
-
-        // The outcomes: a failed call counts once, and the writer keeps what was written.
-        ensures once { CountsOnce writer.old.failed_calls writer.new.failed_calls result }
-        ensures kept { writer.old.failed_calls ≤ writer.new.failed_calls }
-        ensures grows { Grows writer.old writer.new }
-
-        // Which errors it returns, and when.
-        ensures full { IsErrOf result (Fault.Limit LimitName.Offset) → IsFull writer.old (length (written_postings self.old.norms self.old.skip_info self.old.docs self.old.freqs)) }
-        ensures long { IsErrOf result (Fault.Limit LimitName.TermBytes) → 2 ^ 32 ≤ length (written_postings self.old.norms self.old.skip_info self.old.docs self.old.freqs) }
-        ensures only { IfErr result (λ e. (e ≡ Fault.Write) ⊎ (e ≡ Fault.Limit LimitName.Offset) ⊎ (e ≡ Fault.Limit LimitName.TermBytes)) }
-    {
-        let start = writer.written_bytes();
-        let written = self.postings.close_term(self.doc_freq, writer);
+        let doc_freq = self.doc_freq;
+        let start = postings_write.written_bytes();
+        let written = self.postings.close_term(doc_freq, postings_write);
         self.doc_freq = 0;
-        match written {
-            Ok(()) => len_between(start, writer.written_bytes()),
-            Err(fault) => Err(fault),
+        if written.is_err() {
+            return written;
         }
+        let postings_len = match len_between(start, postings_write.written_bytes()) {
+            Ok(len) => len,
+            Err(fault) => return Err(fault),
+        };
+        let positions_len = match self.write_positions(positions_write) {
+            Ok(len) => len,
+            Err(fault) => return Err(fault),
+        };
+        places.insert_term(doc_freq, postings_len, positions_len)
     }
 
     // Writes the positions if the field records them, and returns how many bytes they take.
-    pub fn write_positions<W: Write>(
-        &mut self,
-        writer: &mut CountingWriter<W>,
-    ) -> Result<u32, Fault>
+    fn write_positions<W: Write>(&mut self, writer: &mut CountingWriter<W>) -> Result<u32, Fault>
         requires open { self.old.closed ≡ false }
         ensures ok { IfOk result (λ len. len ≡ length (positions_bytes self.old.mode self.old.deltas)) }
         ensures wrote { OnOk result (Wrote writer.old writer.new (positions_bytes self.old.mode self.old.deltas)) }

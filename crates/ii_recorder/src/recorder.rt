@@ -6,7 +6,7 @@ ghost use Rattle.ii_recorder.specs.Pushed.{HaveDeltas, MayPush, Pushes};
 ghost use Rattle.ii_recorder.specs.Recorded.{RecorderState, begun, current_doc, entries_of_recorder, last_doc, position_fault, u32_max, with_position};
 
 use super::buffer_lender::BufferLender;
-use super::field_serializer::FieldSerializer;
+use super::serializer::FieldSerializer;
 use ii_base::{DocId, Fault};
 use std::io::Write;
 

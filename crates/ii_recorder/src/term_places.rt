@@ -18,7 +18,7 @@ const OFFSET_LIMIT: usize = 1 << 56;
 
 /// Holds the dictionary of a field whose terms' postings and positions follow each other, and where the bytes
 /// of the last term end.
-pub struct TermPlaces {
+pub(crate) struct TermPlaces {
     dictionary: TermDictionaryWriter,
     postings_end: usize,
     positions_end: usize,
@@ -54,7 +54,7 @@ impl Model for TermPlaces {
 }
 
 impl TermPlaces {
-    pub fn new(alloc: Global) -> TermPlaces
+    pub(crate) fn new(alloc: Global) -> TermPlaces
         ensures { result ≡ record { keys = []; infos = []; postings_end = 0; positions_end = 0; closed = false } }
     {
         TermPlaces {
@@ -66,7 +66,7 @@ impl TermPlaces {
 
     // Adds the key of a term, which must be greater than the previous key by its bytes. The previous term
     // must have been added.
-    pub fn insert_key(&mut self, key: &[u8]) -> Result<(), Fault>
+    pub(crate) fn insert_key(&mut self, key: &[u8]) -> Result<(), Fault>
         requires ascending { self.old.closed ≡ false → AreAscending (self.old.keys ++ key.now ∷ []) }
         requires whole { self.old.closed ≡ false → length self.old.keys ≡ length self.old.infos }
         ensures ok { OnOk result (self.new ≡ record self.old { keys = self.old.keys ++ key.now ∷ [] }) }
@@ -78,7 +78,7 @@ impl TermPlaces {
     }
 
     // Adds the term of the last key, given how many bytes its postings and positions take.
-    pub fn insert_term(
+    pub(crate) fn insert_term(
         &mut self,
         doc_freq: u32,
         postings_len: u32,
@@ -115,7 +115,7 @@ impl TermPlaces {
     }
 
     // Writes the dictionary of all terms. Never allocates.
-    pub fn finish<W: Write>(&mut self, writer: &mut CountingWriter<W>) -> Result<(), Fault>
+    pub(crate) fn finish<W: Write>(&mut self, writer: &mut CountingWriter<W>) -> Result<(), Fault>
         requires whole { self.old.closed ≡ false → length self.old.keys ≡ length self.old.infos }
         ensures written { WritesUnlessClosed self.old.closed writer.old writer.new (written_dictionary self.old.keys self.old.infos) result }
         ensures holds { OnOk result (dictionary (written_dictionary self.old.keys self.old.infos) ≡ Ok (zip self.old.keys self.old.infos)) }

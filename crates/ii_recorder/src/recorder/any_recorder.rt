@@ -6,7 +6,7 @@ use super::doc_id_recorder::DocIdRecorder;
 use super::term_frequency_recorder::TermFrequencyRecorder;
 use super::tf_and_position_recorder::TfAndPositionRecorder;
 use crate::buffer_lender::BufferLender;
-use crate::field_serializer::FieldSerializer;
+use crate::serializer::FieldSerializer;
 use ii_base::{DocId, Fault, IndexRecordOption};
 use std::alloc::Global;
 use std::io::Write;

@@ -9,7 +9,7 @@ use super::Recorder;
 use super::sum_reader::SumReader;
 use super::vint32_reader::VInt32Reader;
 use crate::buffer_lender::BufferLender;
-use crate::field_serializer::FieldSerializer;
+use crate::serializer::FieldSerializer;
 use ii_base::{DocId, Fault};
 use ii_io::vint::{MAX_VINT_SIZE, write_u32};
 use smallvec::SmallVec;

@@ -7,7 +7,7 @@ ghost use Rattle.ii_base.specs.declared.schema.index_record_option.IndexRecordOp
 use super::Recorder;
 use super::vint32_reader::VInt32Reader;
 use crate::buffer_lender::BufferLender;
-use crate::field_serializer::FieldSerializer;
+use crate::serializer::FieldSerializer;
 use ii_base::{DocId, Fault, LimitName, write_u32_vint};
 use std::alloc::Global;
 use std::io::Write;

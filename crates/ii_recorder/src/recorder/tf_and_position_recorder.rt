@@ -1,4 +1,4 @@
-ghost use Rattle.std.specs.Prelude.{◌≡◌, ◌^◌, ◌<◌, [], ◌∷◌, None, length, OnOk, IfOk};
+ghost use Rattle.std.specs.Prelude.{◌≡◌, ◌^◌, ◌<◌, [], ◌∷◌, None, false, length, OnOk, IfOk};
 ghost use Rattle.std.specs.List.{AllByRecursion};
 ghost use Rattle.ii_io.specs.Faults.{OnlyMemory};
 ghost use Rattle.ii_codes.specs.Sums.{differences};
@@ -9,7 +9,7 @@ ghost use Rattle.ii_base.specs.declared.schema.index_record_option.IndexRecordOp
 use super::Recorder;
 use super::vint32_reader::VInt32Reader;
 use crate::buffer_lender::BufferLender;
-use crate::field_serializer::FieldSerializer;
+use crate::serializer::FieldSerializer;
 use ii_base::{DocId, Fault, LimitName, write_u32_vint};
 use std::alloc::Global;
 use std::io::Write;
@@ -92,16 +92,13 @@ fn push_located_doc<W: Write>(
     deltas: &mut Vec<u32>,
     serializer: &mut FieldSerializer<'_, W>,
 ) -> Result<(), Fault>
+    requires open { serializer.old.index.now.closed ≡ false }
     requires few { length (first_positions numbers.old) < 2 ^ 32 }
     requires may { MayPush WithFreqsAndPositions serializer.old.index.now (located_at doc (first_positions numbers.old) ∷ []) }
     ensures same_reference { serializer.new.index.ghost_name ≡ serializer.old.index.ghost_name }
     ensures rest { OnOk result (numbers.new ≡ behind_positions numbers.old) }
     ensures pushes { Pushes WithFreqsAndPositions serializer.old.index.now serializer.new.index.now (located_at doc (first_positions numbers.old) ∷ []) result }
 {
-    let checked = serializer.check_open();
-    if checked.is_err() {
-        return checked;
-    }
     match take_deltas(numbers, deltas) {
         Ok(count) => serializer.write_doc(doc, count, deltas),
         Err(refused) => {

@@ -19,6 +19,9 @@ overflow_add-doc g c =
     c.loop-delta.invariant.3 left c.requires.may in
     omega (arith, below)
 
+pub push_located_doc-pushed-requires-clause-open : goal.push_located_doc-pushed-requires-clause-open
+push_located_doc-pushed-requires-clause-open g c = c.loop-delta.invariant.3.pushed.ends.closing.closes.ok
+
 pub push_located_doc-pushed-requires-clause-few : goal.push_located_doc-pushed-requires-clause-few
 push_located_doc-pushed-requires-clause-few g c =
     let last = c.loop-delta.last in
