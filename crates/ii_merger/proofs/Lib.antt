@@ -1,1 +1,2 @@
+pub mod ComingLemmas
 pub mod PushLemmas

@@ -59,7 +59,7 @@ loop-doc-preserved g c =
     let went = sym c.if-is_err.false ∙ c.is_err.ensures.value in
     let one = subst (λ (xs : List Entry). Pushes c.args.option c.loop-doc.serializer.index.now c.push_entry-pushed.new.serializer.index.now xs c.push_entry-pushed.result) first.alone c.push_entry-pushed.ensures.pushes in
     let next = pushing_next c.args.option c.args.serializer.now.index.now c.loop-doc.serializer.index.now c.push_entry-pushed.new.serializer.index.now (g.P.DocSet.rest c.args.cursor.now) es first.entry (drop 1 es) c.push_entry-pushed.result
-        c.loop-doc.invariant.pushing first.is went one in
+    c.loop-doc.invariant.pushing first.is went one in
     let after = c.advance-doc.ensures.rest ∙ ap (drop 1) c.push_entry-pushed.ensures.rest in
     record {
       here = c.advance-doc.ensures.doc;
