@@ -1,4 +1,4 @@
-//! Tests `ii_store`, `ii_io`, `ii_base` and `ii_json` through their public calls.
+//! Tests `ii_store`, `ii_io`, `ii_base`, `ii_tokenizers` and `ii_json` through their public calls.
 #![tactic(auto)]
 
 #[cfg(test)]
@@ -13,5 +13,7 @@ mod segment_tests;
 mod store_tests;
 #[cfg(test)]
 mod tests;
+#[cfg(test)]
+mod tokenizer_tests;
 #[cfg(test)]
 mod value_tests;

@@ -143,7 +143,7 @@ fn spell_stream<S: TokenStream>(alloc: Global, tokens: &mut S) -> Result<String,
 }
 
 // Returns whether both the token list and the token stream of a text give these tokens.
-fn are_spelled<T: TextAnalyzer>(
+pub(crate) fn are_spelled<T: TextAnalyzer>(
     alloc: Global,
     analyzer: &T,
     text: &str,

@@ -1,0 +1,71 @@
+use crate::tests::are_spelled;
+use ii_tokenizers::Analyzer;
+use std::test::Fail;
+
+const LETTERS_39: &str = "abcdefghijklmnopqrstuvwxyzabcdefghijklm";
+
+#[test]
+fn texts_are_analyzed(rt: HostRuntime) -> Result<(), Fail> {
+    let rows = [
+        (
+            Analyzer::Ascii,
+            "The old man\u{2019}s \u{201c}sea\u{201d}",
+            "The@0+1 0..3, old@1+1 4..7, man\u{2019}s@2+1 8..15, \u{201c}sea\u{201d}@3+1 16..25, ",
+        ),
+        (
+            Analyzer::Default,
+            "The old man\u{2019}s \u{201c}sea\u{201d}",
+            "the@0+1 0..3, old@1+1 4..7, man@2+1 8..11, s@3+1 14..15, sea@4+1 19..22, ",
+        ),
+        (
+            Analyzer::Default,
+            "STRASSE Stra\u{df}e",
+            "strasse@0+1 0..7, strasse@1+1 8..15, ",
+        ),
+        (
+            Analyzer::Default,
+            "e.g. 3.14 foo_bar",
+            "e@0+1 0..1, g@1+1 2..3, 3@2+1 5..6, 14@3+1 7..9, foo_bar@4+1 10..17, ",
+        ),
+        (
+            Analyzer::Default,
+            "\u{8001}\u{4eba}",
+            "\u{8001}@0+1 0..3, \u{4eba}@1+1 3..6, ",
+        ),
+        (Analyzer::Default, "\u{1f44d} --", ""),
+        (Analyzer::Default, "", ""),
+        (Analyzer::Default, "sea\u{301}", "sea\u{301}@0+1 0..5, "),
+        (Analyzer::Raw, "ID-7 a", "ID-7 a@0+1 0..6, "),
+        (Analyzer::Raw, "", ""),
+        (
+            Analyzer::Whitespace,
+            " a  b-c ",
+            "a@0+1 1..2, b-c@1+1 4..7, ",
+        ),
+        (Analyzer::Whitespace, "\u{a0}\t", ""),
+    ];
+    for (analyzer, text, spelled) in rows {
+        let found = are_spelled(rt.alloc(), &analyzer, text, spelled)?;
+        assert!(rt; found == [true; 2]);
+    }
+    Ok(())
+}
+
+// A word of 39 bytes is kept; a longer one is left out, and its position stays free.
+#[test]
+fn long_words_leave_gaps(rt: HostRuntime) -> Result<(), Fail> {
+    let mut kept = String::from_str(rt.alloc(), "a ")?;
+    kept.push_str(LETTERS_39)?;
+    let mut long = String::from_str(rt.alloc(), kept.as_str())?;
+    kept.push_str(" b")?;
+    long.push_str("n b")?;
+    let mut all = String::from_str(rt.alloc(), "a@0+1 0..1, ")?;
+    all.push_str(LETTERS_39)?;
+    all.push_str("@1+1 2..41, b@2+1 42..43, ")?;
+    let found = are_spelled(rt.alloc(), &Analyzer::Default, kept.as_str(), all.as_str())?;
+    assert!(rt; found == [true; 2]);
+    let few = "a@0+1 0..1, b@2+1 43..44, ";
+    let found = are_spelled(rt.alloc(), &Analyzer::Default, long.as_str(), few)?;
+    assert!(rt; found == [true; 2]);
+    Ok(())
+}

@@ -1,0 +1,34 @@
+-- Laws of filters.
+use Rattle.std.proofs.Common.{◌≡◌, ℕ, Bool, true, false, List, [], ◌∷◌, ◌++◌, length, map, nat_lt, take, drop, string_bytes, chars, refl, sym, ap, ◌∙◌, filter, get_or, set, zero, suc, arith, ◌<◌, ◌+◌, subst}
+use Rattle.std.specs.Prelude.{encode_utf8_all}
+use Rattle.caseless.specs.Caseless.{default_case_fold}
+use Rattle.std.proofs.Math.ListN.{get_or-map}
+use Rattle.std.proofs.lemmas.List.{length-map, map-set}
+use Rattle.std.proofs.lemmas.List.Edits.{map_over_more}
+use Rattle.ii_base.specs.declared.tokenizer.token.Token.{Token}
+use Rattle.ii_base.specs.Words.{Word, word_of, words_of}
+use Rattle.ii_tokenizers.specs.Analyzers.{fold_case, folded, remove_long}
+
+-- the tokens that stay are those whose words stay
+pub kept_words : (limit : ℕ) (ts : List Token) → words_of (filter (λ (t : Token). nat_lt (length (string_bytes t.text)) limit) ts) ≡ remove_long limit (words_of ts)
+kept_words limit [] = refl
+kept_words limit (t ∷ ts) = by_case (nat_lt (length (string_bytes t.text)) limit) refl (kept_words limit ts)
+  where
+    by_case : (b : Bool) → nat_lt (length (string_bytes t.text)) limit ≡ b → words_of (filter (λ (u : Token). nat_lt (length (string_bytes u.text)) limit) ts) ≡ remove_long limit (words_of ts)
+        → words_of (filter (λ (u : Token). nat_lt (length (string_bytes u.text)) limit) (t ∷ ts)) ≡ remove_long limit (words_of (t ∷ ts))
+    by_case true is rest = rw is (ap (λ (ws : List Word). word_of t ∷ ws) rest)
+    by_case false is rest = rw is rest
+
+-- one token more is folded
+pub folded_next : (old now : List Token) (k : ℕ) (t u : Token) → k < length old → words_of now ≡ fold_case (take k (words_of old)) ++ drop k (words_of old) → t ≡ get_or now k t → word_of u ≡ folded (word_of t)
+    → words_of (set now k u) ≡ fold_case (take (k + 1) (words_of old)) ++ drop (k + 1) (words_of old)
+folded_next old now k t u within is here made =
+    map-set word_of now k u
+    ∙ ap (set (words_of now) k) made
+    ∙ map_over_more folded (words_of old) (words_of now) k (word_of t) (subst (λ (n : ℕ). k < n) (sym (length-map old word_of)) within) is (ap word_of here ∙ sym (get_or-map word_of now k t))
+
+-- an item that is there is the same by any default
+pub same_item : {X : Type 0} (xs : List X) (i : ℕ) (d e : X) → i < length xs → get_or xs i d ≡ get_or xs i e
+same_item [] i d e within = absurd (omega (arith, within))
+same_item (x ∷ xs) zero d e within = refl
+same_item (x ∷ xs) (suc i) d e within = same_item xs i d e (omega (arith, within))

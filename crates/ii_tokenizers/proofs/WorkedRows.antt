@@ -1,0 +1,31 @@
+-- Computed examples of parts and of filters.
+use Rattle.std.proofs.Common.{◌≡◌, ℕ, ◌==◌, Bool, [], ◌∷◌, length, map, refl}
+use Rattle.ii_base.specs.Words.{Word}
+use Rattle.ii_tokenizers.specs.Analyzers.{Part, nonempty_parts, part_word, parts_between, raw_words, remove_long, words_from}
+
+abbrev is_comma : ℕ → Bool
+is_comma c = c == 44
+
+-- `a,é` from byte 3 on: a part at 3, and one at 5, after the comma
+pub two_parts : parts_between is_comma 3 (97 ∷ 44 ∷ 233 ∷ []) ≡ record { offset = 3; characters = 97 ∷ [] } ∷ record { offset = 5; characters = 233 ∷ [] } ∷ []
+unfolding parts_between
+two_parts = refl
+
+-- `é,,b`: é has two bytes, and the part between the commas is empty
+pub three_parts : parts_between is_comma 0 (233 ∷ 44 ∷ 44 ∷ 98 ∷ []) ≡ record { offset = 0; characters = 233 ∷ [] } ∷ record { offset = 3; characters = [] } ∷ record { offset = 4; characters = 98 ∷ [] } ∷ []
+unfolding parts_between
+three_parts = refl
+
+pub without_empty : nonempty_parts (parts_between is_comma 0 (44 ∷ 97 ∷ 44 ∷ [])) ≡ record { offset = 1; characters = 97 ∷ [] } ∷ []
+unfolding parts_between
+without_empty = refl
+
+-- the token of `é` at byte 5, in position 1
+pub word_of_part : part_word 1 (record { offset = 5; characters = 233 ∷ [] }) ≡ record { offset_from = 5; offset_to = 7; position = 1; text = 195 ∷ 169 ∷ []; position_length = 1 }
+unfolding lib.Utf8.encode
+word_of_part = refl
+
+-- tokens of fewer than three bytes: the position of the one that is left out stays free
+pub short_ones : map (λ (w : Word). w.position) (remove_long 3 (words_from 0 (record { offset = 0; characters = 97 ∷ [] } ∷ record { offset = 2; characters = 97 ∷ 98 ∷ 99 ∷ [] } ∷ record { offset = 6; characters = 98 ∷ [] } ∷ []))) ≡ 0 ∷ 2 ∷ []
+unfolding lib.Utf8.encode
+short_ones = refl

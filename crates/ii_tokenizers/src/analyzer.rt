@@ -1,0 +1,58 @@
+ghost use Rattle.std.specs.Prelude.{◌≡◌, IfOk};
+ghost use Rattle.ii_io.specs.Faults.{OnlyMemory};
+ghost use Rattle.ii_base.specs.Words.{words_of};
+ghost use Rattle.ii_tokenizers.specs.Analyzers.{analyzed, default_words};
+
+use super::filters::{fold_case, remove_long};
+use super::parts::{raw_words, space_words, split_words};
+use ii_base::{AsciiTokenizer, TextAnalyzer, TextTokens, Token, TokenList};
+use ii_io::Fault;
+use std::alloc::Global;
+
+/// How the texts of a field are cut into tokens.
+#[derive(Clone, Copy, Debug, PartialEq, Eq)]
+pub enum Analyzer {
+    /// Runs of ASCII letters, ASCII digits and non-ASCII characters, unchanged (`AsciiTokenizer`).
+    Ascii,
+    /// The complete text, unchanged: ids and tags.
+    Raw,
+    /// Runs of characters that are no white space, unchanged.
+    Whitespace,
+    /// Unicode words, cut at the marks inside them, in folded case. Tokens of 40 bytes and more are left out, and
+    /// their positions are kept.
+    Default,
+}
+
+impl TextAnalyzer for Analyzer {
+    ghost words = { analyzed };
+
+    fn token_list(&self, alloc: Global, text: &str) -> Result<TokenList, Fault> {
+        match self {
+            Analyzer::Ascii => AsciiTokenizer.token_list(alloc, text),
+            Analyzer::Raw => Ok(TokenList::new(raw_words(alloc, text)?)),
+            Analyzer::Whitespace => Ok(TokenList::new(space_words(alloc, text)?)),
+            Analyzer::Default => Ok(TokenList::new(default_words(alloc, text)?)),
+        }
+    }
+
+    fn token_stream<'t>(&self, alloc: Global, text: &'t str) -> Result<TextTokens<'t>, Fault> {
+        match self {
+            Analyzer::Ascii => AsciiTokenizer.token_stream(alloc, text),
+            _ => Ok(TextTokens::Owned(self.token_list(alloc, text)?)),
+        }
+    }
+}
+
+// The longest token, in bytes, is shorter than this.
+const LIMIT: usize = 40;
+
+// Returns the words of a text, in folded case, without long ones.
+fn default_words(alloc: Global, text: &str) -> Result<Vec<Token>, Fault>
+    ensures ok { IfOk result (λ tokens. words_of tokens.items ≡ default_words text.now) }
+    ensures only { OnlyMemory result }
+{
+    let mut tokens = split_words(alloc, text)?;
+    fold_case(alloc, &mut tokens)?;
+    remove_long(LIMIT, &mut tokens);
+    Ok(tokens)
+}

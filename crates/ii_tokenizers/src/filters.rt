@@ -1,0 +1,31 @@
+//! Filters, which change tokens or leave some out. Offsets and positions stay.
+ghost use Rattle.std.specs.Prelude.{◌≡◌, OnOk};
+ghost use Rattle.ii_io.specs.Faults.{OnlyMemory};
+ghost use Rattle.ii_base.specs.Words.{words_of};
+ghost use Rattle.ii_tokenizers.specs.Analyzers.{fold_case, remove_long};
+
+use caseless::default_case_fold_str;
+use ii_base::Token;
+use ii_io::Fault;
+use std::alloc::Global;
+
+/// Folds the case of each token, so that words that differ in case alone become the same (`STRASSE` and
+/// `Straße` become `strasse`).
+///
+/// Returns `OutOfMemory` if an allocation fails; some tokens are then folded.
+pub fn fold_case(alloc: Global, tokens: &mut Vec<Token>) -> Result<(), Fault>
+    ensures ok { OnOk result (words_of tokens.new.items ≡ fold_case (words_of tokens.old.items)) }
+    ensures only { OnlyMemory result }
+{
+    for place in 0..tokens.len() {
+        tokens[place].text = default_case_fold_str(alloc, tokens[place].text.as_str())?;
+    }
+    Ok(())
+}
+
+/// Removes the tokens of at least `limit` bytes.
+pub fn remove_long(limit: usize, tokens: &mut Vec<Token>)
+    ensures { words_of tokens.new.items ≡ remove_long limit (words_of tokens.old.items) }
+{
+    tokens.retain(|token| token.text.len() < limit);
+}
