@@ -8,6 +8,8 @@ mod block_search_tests;
 #[cfg(test)]
 mod bounds_tests;
 #[cfg(test)]
+mod count_tests;
+#[cfg(test)]
 mod dictionary_tests;
 #[cfg(test)]
 mod packed_tests;
