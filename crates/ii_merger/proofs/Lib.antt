@@ -1,2 +1,1 @@
-pub mod ComingLemmas
 pub mod PushLemmas

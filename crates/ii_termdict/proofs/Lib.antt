@@ -6,3 +6,5 @@ pub mod ReadDictionaryLemmas
 pub mod OrderLemmas
 pub mod FirstKey
 pub mod ReadBackLemmas
+mod MergerLemmas
+mod LeastKey

@@ -4,3 +4,4 @@ pub mod TermDictionaryBuilder
 pub mod TermDictionaryWriter
 pub mod Written
 pub mod TermStreamer
+pub mod TermMerger

@@ -3,6 +3,7 @@
 
 pub mod builder;
 mod key_parts;
+pub mod merger;
 pub mod streamer;
 pub mod termdict;
 pub mod writer;
@@ -12,6 +13,7 @@ pub use builder::TermDictionaryBuilder;
 pub use ii_termstore::{
     TermInfo, TermInfoBlockMeta, TermInfoStore, TermInfoStoreWriter, TermOrdinal,
 };
+pub use merger::{ComingTerms, TermMerger};
 pub use streamer::TermStreamer;
 pub use termdict::TermDictionary;
 pub use writer::TermDictionaryWriter;

@@ -8,7 +8,7 @@ use Rattle.std.specs.Option.{option_map, option_to_list}
 use Rattle.ii_termstore.specs.declared.term_info.TermInfo.{TermInfo}
 use Rattle.ii_termdict.specs.Dictionary.{TermEntry, entry_infos, entry_keys}
 use Rattle.std.proofs.lemmas.List.{map-append, take_more}
-use Rattle.ii_merger.specs.MergedTerms.{behind_key, first_info}
+use Rattle.ii_termdict.specs.TermMerger.{behind_key, first_info}
 
 -- a term as it is borrowed from a dictionary
 abbrev Borrowed : Type 0

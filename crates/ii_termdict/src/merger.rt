@@ -1,10 +1,11 @@
 ghost use Rattle.std.specs.Prelude.{◌≡◌, ◌++◌, ◌∷◌, [], map, IfOk, IfSome, OnOk};
 ghost use Rattle.std.specs.Option.{option_map};
 ghost use Rattle.ii_io.specs.Faults.{OnlyMemory};
-ghost use Rattle.ii_merger.specs.MergedTerms.{behind_key, first_info, first_key, least_key, less_key};
+ghost use Rattle.ii_termdict.specs.TermMerger.{FirstInfosAreAll, behind_key, first_info, first_key, least_key, less_key};
 
 use ii_io::Fault;
-use ii_termdict::{TermDictionary, TermStreamer};
+use crate::streamer::TermStreamer;
+use crate::termdict::TermDictionary;
 use ii_termstore::TermInfo;
 use std::cmp::Ordering;
 use std::marker::Model;
@@ -69,11 +70,11 @@ impl<'a> ComingTerms<'a> {
 
 /// The terms of several dictionaries that are still to come, in the order of their keys.
 #[derive(Drop)]
-pub struct MergedTerms<'a> {
+pub struct TermMerger<'a> {
     dictionaries: Vec<ComingTerms<'a>>,
 }
 
-impl<'a> Model for MergedTerms<'a> {
+impl<'a> Model for TermMerger<'a> {
     ghost use Rattle.std.specs.Prelude.{List};
     ghost use Rattle.ii_termdict.specs.Dictionary.{TermEntry};
 
@@ -82,12 +83,12 @@ impl<'a> Model for MergedTerms<'a> {
     ghost view = { λ t. t.dictionaries.items };
 }
 
-impl<'a> MergedTerms<'a> {
+impl<'a> TermMerger<'a> {
     /// Returns the terms of these dictionaries.
-    pub fn new(dictionaries: Vec<ComingTerms<'a>>) -> MergedTerms<'a>
+    pub fn new(dictionaries: Vec<ComingTerms<'a>>) -> TermMerger<'a>
         ensures { result ≡ dictionaries.entry.items }
     {
-        MergedTerms { dictionaries }
+        TermMerger { dictionaries }
     }
 
     /// Returns the least key that is still to come, if there is one.
@@ -136,3 +137,9 @@ fn less_key<'a>(key: Option<&'a [u8]>, other: Option<&'a [u8]>) -> Option<&'a [u
         (None, other) => other,
     }
 }
+
+/// Law of merged terms: the least key of ascending dictionaries has in each of them the info that it is first
+/// with, or none.
+pub fn first_infos_are_all()
+    ensures { FirstInfosAreAll }
+{}

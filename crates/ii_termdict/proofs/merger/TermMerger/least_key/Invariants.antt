@@ -1,8 +1,8 @@
 use Rattle.std.proofs.Common.{◌≡◌, ◌≤◌, ℕ, List, drop, length}
 use Rattle.std.specs.Borrow.{Bor}
 use Rattle.std.specs.Option.{option_map}
-use Rattle.ii_merger.specs.MergedTerms.{least_key}
-use Rattle.ii_merger.proofs.merged_terms.MergedTerms.least_key.Given as goal
+use Rattle.ii_termdict.specs.TermMerger.{least_key}
+use Rattle.ii_termdict.proofs.merger.TermMerger.least_key.Given as goal
 
 abbrev pub invariant-loop-place : goal.invariant-loop-place
 invariant-loop-place l = (option_map (λ (k : Bor (List ℕ)). k.now) l.least ≡ least_key (drop l.place l.self-inside.dictionaries.items)) × (l.place ≤ length l.self-inside.dictionaries.items)

@@ -1,8 +1,10 @@
 -- The terms of several dictionaries, merged: the entries of each that are still to come.
-use Rattle.std.specs.Prelude.{ℕ, Bool, true, false, not, List, [], ◌∷◌, bytes_eq, filter, map, if◌then◌else◌, Option, None, Some, slice_get}
+use Rattle.std.specs.Prelude.{◌≡◌, ℕ, List, [], ◌∷◌, bytes_eq, map, if◌then◌else◌, Option, None, Some, slice_get}
+use Rattle.std.specs.List.{AllByRecursion}
 use Rattle.std.specs.Option.{option_map}
 use Rattle.ii_termstore.specs.declared.term_info.TermInfo.{TermInfo}
-use Rattle.ii_termdict.specs.Dictionary.{TermEntry, is_below}
+use Rattle.ii_termdict.specs.Dictionary.{TermEntry, entry_keys, info_under, is_below}
+use Rattle.ii_termdict.specs.ReadBack.{AreAscending}
 
 -- the first key of entries, if there is one
 abbrev pub first_key : List TermEntry → Option (List ℕ)
@@ -28,3 +30,7 @@ first_info key (e ∷ es) = if bytes_eq key e.0 then Some e.1 else None
 abbrev pub behind_key : List ℕ → List TermEntry → List TermEntry
 behind_key key [] = []
 behind_key key (e ∷ es) = if bytes_eq key e.0 then es else e ∷ es
+
+-- The least key of ascending dictionaries has in each of them the info that it is first with, or none.
+abbrev pub FirstInfosAreAll : Type 0
+FirstInfosAreAll = (ess : List (List TermEntry)) (key : List ℕ) → AllByRecursion (λ (es : List TermEntry). AreAscending (entry_keys es)) ess → least_key ess ≡ Some key → map (first_info key) ess ≡ map (info_under key) ess

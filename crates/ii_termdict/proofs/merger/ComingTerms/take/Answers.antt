@@ -1,12 +1,11 @@
-use Rattle.std.proofs.Common.{◌≡◌, ◌∙◌, ◌∷◌, List, ℕ, Bool, true, not, drop, sym, ap, refl}
+use Rattle.std.proofs.Common.{◌≡◌, ◌∙◌, ◌∷◌, List, ℕ, true, drop, sym, ap}
 use Rattle.std.specs.Prelude.{bytes_eq, Option}
 use Rattle.std.specs.Borrow.{Bor}
 use Rattle.std.proofs.lemmas.Cmp.{nat_list_eq_equiv}
 use Rattle.ii_termstore.specs.declared.term_info.TermInfo.{TermInfo}
-use Rattle.ii_termdict.specs.Dictionary.{TermEntry}
-use Rattle.ii_merger.specs.MergedTerms.{behind_key}
-use Rattle.ii_merger.proofs.ComingLemmas.{behind_first, coming_next, coming_of, not_false}
-use Rattle.ii_merger.proofs.merged_terms.ComingTerms.take.Goals as goal
+use Rattle.ii_termdict.specs.TermMerger.{behind_key}
+use Rattle.ii_termdict.proofs.MergerLemmas.{behind_first, coming_next, coming_of, not_false}
+use Rattle.ii_termdict.proofs.merger.ComingTerms.take.Goals as goal
 
 pub returns-clause-rest : goal.returns-clause-rest
 returns-clause-rest c =

@@ -1,6 +1,6 @@
 use Rattle.std.proofs.Common.{◌≡◌, ◌++◌, drop, length, map, take}
-use Rattle.ii_merger.specs.MergedTerms.{behind_key, first_info}
-use Rattle.ii_merger.proofs.merged_terms.MergedTerms.take.Given as goal
+use Rattle.ii_termdict.specs.TermMerger.{behind_key, first_info}
+use Rattle.ii_termdict.proofs.merger.TermMerger.take.Given as goal
 
 abbrev pub invariant-loop-place : goal.invariant-loop-place
 invariant-loop-place l =

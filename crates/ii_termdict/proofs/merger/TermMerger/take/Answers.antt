@@ -1,10 +1,10 @@
-use Rattle.std.proofs.Common.{◌≡◌, ◌<◌, ◌++◌, ◌∷◌, [], List, drop, get_or, length, map, set, take, sym, ap, ◌∙◌, arith}
-use Rattle.std.proofs.lemmas.List.{length-set, map-append, take_more}
+use Rattle.std.proofs.Common.{◌≡◌, ◌<◌, List, get_or, length, set, ap, ◌∙◌, arith}
+use Rattle.std.proofs.lemmas.List.{length-set}
 use Rattle.std.proofs.lemmas.List.Edits.{map_over_more}
 use Rattle.ii_termdict.specs.Dictionary.{TermEntry}
-use Rattle.ii_merger.specs.MergedTerms.{behind_key, first_info}
-use Rattle.ii_merger.proofs.ComingLemmas.{infos_more, over_here}
-use Rattle.ii_merger.proofs.merged_terms.MergedTerms.take.Goals as goal
+use Rattle.ii_termdict.specs.TermMerger.{behind_key}
+use Rattle.ii_termdict.proofs.MergerLemmas.{infos_more, over_here}
+use Rattle.ii_termdict.proofs.merger.TermMerger.take.Goals as goal
 
 pub loop-place-preserved : goal.loop-place-preserved
 loop-place-preserved c =
