@@ -33,16 +33,3 @@ ends_unrefused old new h inside ends =
       plain = λ _. none;
       inside = λ e. absurd (cc);
     }
-
--- and after one is started
-pub begins_unrefused : (old new : FieldTermsState) (key : List ℕ) (skip_info : IndexRecordOption) → IsUnrefused old → old.term_open ≡ false → new.term ≡ record old.term { skip_info = skip_info; docs = []; freqs = [] }
-    → new.places ≡ record old.places { keys = old.places.keys ++ key ∷ [] } → new.term_open ≡ true → IsUnrefused new
-begins_unrefused old new key skip_info h between term place inside =
-    let ended = h.between between in
-    record {
-      term = rw term h.term;
-      places = rw place h.places;
-      between = λ e. absurd (cc);
-      plain = λ _. rw term ended.1;
-      inside = λ _. rw place (let keys = ended.0 in omega (arith, length-append old.places.keys (key ∷ [])));
-    }
