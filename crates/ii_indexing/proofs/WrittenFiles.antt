@@ -19,7 +19,7 @@ use Rattle.ii_recorder.specs.IndexBodies.{CountsFailures, CountsFailuresOf, OneI
 use Rattle.ii_recorder.specs.IndexSerializer.{IndexSerializerState}
 use Rattle.ii_postings_writer.specs.FieldParts.{FieldPart, HasFields, WroteContext, positions_of_part, postings_body, terms_body}
 use Rattle.ii_postings_writer.specs.HeldBodies.{HaveTokens, WroteTokens}
-use Rattle.ii_indexing.specs.IndexFiles.{ClosedFiles, CountsIndexFailures, HaveNoRoom, PassLimits, begun_file, index_failed_calls}
+use Rattle.ii_indexing.specs.IndexFiles.{ClosedFiles, CountsIndexFailures, HaveNoRoom, PassLimits, begun_file}
 use Rattle.ii_indexing.specs.declared.index_writers.IndexWriters.{IndexWriters}
 use Rattle.ii_postings_writer.specs.IndexingContext.{TermIndex}
 use Rattle.ii_postings_writer.specs.PostingsWriter.{PostingsWriterState}
@@ -107,20 +107,29 @@ norms_refused old now bytes (Err e) h = record {
   fieldnorms = h.prefix.failed_calls;
 }
 
+-- one more writer that didn't fail
+counts_more : (a b n m : ℕ) (result : Result (Unit {0}) Fault) → m ≡ n → CountsOnce a b result → CountsOnce (a + n) (b + m) result
+counts_more a b n m (Ok x) same h = record { ok = omega (arith, same, h.ok); write = (λ is. absurd (cc), λ more. absurd (omega (arith, same, more, h.ok))); by_one = λ is. absurd (cc) }
+counts_more a b n m (Err e) same h = record { ok = tt; write = (λ is. let more = h.write.0 is in omega (arith, same, more), λ more. h.write.1 (omega (arith, same, more))); by_one = λ is. let one = h.by_one is in omega (arith, same, one) }
+
+-- the three files of an index without output
+abbrev pub begun_files : {W : Type 0} → IndexWriters W → IndexBodiesState
+begun_files w = record { terms = begun_file w.terms; postings = begun_file w.postings; positions = begun_file w.positions }
+
 -- and the other files, after norms that were written
-pub norms_before : {W : Type 0} (old new : IndexWriters W) (now : CountingWriterState) (bytes : List ℕ) (written result : Result (Unit {0}) Fault) → false ≡ is_err written → Writes old.fieldnorms now bytes written
-    → CountsIndexFailures (record old { fieldnorms = now }) new result → CountsIndexFailures old new result
-norms_before old new now bytes (Ok x) result went h last =
+pub files_counted : {W : Type 0} (old : IndexWriters W) (now t p q : CountingWriterState) (bytes : List ℕ) (begun : IndexBodiesState) (written result : Result (Unit {0}) Fault) → false ≡ is_err written → Writes old.fieldnorms now bytes written
+    → begun ≡ begun_files old → CountsFailuresOf begun t p q result → CountsIndexFailures old (record { terms = t; postings = p; positions = q; fieldnorms = now }) result
+files_counted old now t p q bytes begun (Ok x) result went h is last =
     let same = h.ok.failed_calls in
-    let none = ap (λ (n : ℕ). old.terms.failed_calls + old.postings.failed_calls + old.positions.failed_calls + n) same in
+    let counted = subst (λ (b : IndexBodiesState). CountsFailuresOf b t p q result) is last in
     record {
-      once = subst (λ (n : ℕ). CountsOnce n (index_failed_calls new) result) none last.once;
-      terms = last.terms;
-      postings = last.postings;
-      positions = last.positions;
-      fieldnorms = omega (arith, same, last.fieldnorms);
+      once = counts_more (failed_calls (begun_files old)) (t.failed_calls + p.failed_calls + q.failed_calls) old.fieldnorms.failed_calls now.failed_calls result same counted.once;
+      terms = counted.terms_kept;
+      postings = counted.postings_kept;
+      positions = counted.positions_kept;
+      fieldnorms = omega (arith, same);
     }
-norms_before old new now bytes (Err e) result went h last = absurd (cc)
+files_counted old now t p q bytes begun (Err e) result went h is last = absurd (cc)
 
 -- Why the tables can't be written.
 pub record ClosesBy (s : IndexSerializerState) (result : Result (Unit {0}) Fault) : Type 0 where

@@ -83,20 +83,30 @@ impl PackedBlocks {
         self.skip_info
     }
 
-    // Packs a full block after the others. An allocation failure drops all blocks.
-    fn push(&mut self, block: &Block) -> Result<(), Fault>
-        requires full { length block.now.docs ≡ 128 }
-        requires freqs { AreBlockFreqs self.old.skip_info block.now.freqs }
-        requires covered { AllByRecursion (Covers self.old.norms) block.now.docs }
-        requires ascending { IsTrue (are_documents (self.old.term.docs ++ block.now.docs)) }
+    // Packs the open block, which is full, after the others, and starts an empty one. An error drops all
+    // documents. It is apart from the code for each document, so that a call for a document saves few
+    // registers.
+    #[cold]
+    #[inline(never)]
+    fn push(&mut self, block: &mut Block) -> Result<(), Fault>
+        requires full { length block.old.docs ≡ 128 }
+        requires freqs { (length block.old.freqs ≡ 128) × ArePositive self.old.skip_info block.old.freqs }
+        requires covered { AllByRecursion (Covers self.old.norms) block.old.docs }
+        requires ascending { IsTrue (are_documents (self.old.term.docs ++ block.old.docs)) }
         requires open { self.old.closed ≡ false }
+        ensures block { block.new ≡ no_docs }
 
         // What stays the same, and the outcomes.
         ensures same { (self.new.norms ≡ self.old.norms) × (self.new.skip_info ≡ self.old.skip_info) }
-        ensures ok { OnOk result (self.new ≡ record self.old { term = joined self.old.term block.now }) }
-        ensures err { OnErr result (self.new.term ≡ no_docs) }
-        ensures only { OnlyMemory result }
+        ensures stays { OnOk result (self.new.closed ≡ false) }
+        ensures added { AddsDocs self.old.skip_info self.old.term self.new.term block.old result }
     {
+        let skip_info = self.skip_info();
+        if is_sum_too_large(skip_info, block) {
+            self.begin(skip_info);
+            block.clear();
+            return Err(Fault::Limit(LimitName::BlockFrequencySum));
+        }
         let packed = write_block(
             self.skip_info,
             block,
@@ -110,6 +120,7 @@ impl PackedBlocks {
             Ok(()) => {
                 self.last_doc_id_encoded = block.last_doc();
                 self.docs = self.docs.and(block);
+                block.clear();
                 Ok(())
             }
             Err(fault) => {
@@ -117,6 +128,7 @@ impl PackedBlocks {
                 self.postings_write.clear();
                 self.last_doc_id_encoded = 0;
                 self.docs = DocList::new();
+                block.clear();
                 Err(fault)
             }
         }
@@ -174,7 +186,9 @@ fn write_block(
         ≡ postings_write.old.items ++ (sorted_bytes last_doc block.now.docs ++ packed_freqs skip_info block.now.freqs)) }
     ensures only { OnlyMemory result }
 {
-    write_block_docs(block, last_doc, block_encoder, skip_write, postings_write)?;
+    let (num_bits, bytes) = block_encoder.compress_block_sorted(block.doc_ids(), last_doc);
+    skip_write.write_doc(block.last_doc(), num_bits)?;
+    postings_write.extend_from_slice(bytes)?;
     write_block_freqs(
         skip_info,
         block,
@@ -183,26 +197,6 @@ fn write_block(
         skip_write,
         postings_write,
     )
-}
-
-// Packs the documents of a full block, and adds their part of its skip entry.
-fn write_block_docs(
-    block: &Block,
-    last_doc: DocId,
-    block_encoder: &mut BlockEncoder,
-    skip_write: &mut SkipSerializer,
-    postings_write: &mut Vec<u8>,
-) -> Result<(), Fault>
-    requires docs { IsFullBlock last_doc block.now.docs }
-    requires open { skip_write.old.closed ≡ false }
-    ensures skip { OnOk result (skip_write.new ≡ record { bytes = skip_write.old.bytes ++ entry_of_block last_doc block.now.docs; closed = false }) }
-    ensures postings { OnOk result (postings_write.new.items ≡ postings_write.old.items ++ sorted_bytes last_doc block.now.docs) }
-    ensures only { OnlyMemory result }
-{
-    let (num_bits, bytes) = block_encoder.compress_block_sorted(block.doc_ids(), last_doc);
-    skip_write.write_doc(block.last_doc(), num_bits)?;
-    postings_write.extend_from_slice(bytes)?;
-    Ok(())
 }
 
 // Packs the term frequencies of a full block, if it has any, and adds their part of its skip entry.
@@ -312,68 +306,6 @@ fn is_sum_too_large(skip_info: IndexRecordOption, block: &Block) -> bool
         return false;
     }
     block.term_freq_sum() > u64::from(u32::MAX)
-}
-
-// Packs the open block, which is full, and starts an empty one. An error drops all documents. It is apart
-// from the code for each document, so that a call for a document saves few registers.
-#[cold]
-#[inline(never)]
-fn pack_full(
-    skip_info: IndexRecordOption,
-    blocks: &mut PackedBlocks,
-    block: &mut Block,
-) -> Result<(), Fault>
-    requires option { skip_info ≡ blocks.old.skip_info }
-    requires whole { AreWhole blocks.old.term }
-    requires full { length block.old.docs ≡ 128 }
-    requires freqs { (length block.old.freqs ≡ 128) × ArePositive blocks.old.skip_info block.old.freqs }
-    requires covered { AllByRecursion (Covers blocks.old.norms) block.old.docs }
-    requires ascending { IsTrue (are_documents (blocks.old.term.docs ++ block.old.docs)) }
-    requires open { blocks.old.closed ≡ false }
-    ensures block { block.new ≡ no_docs }
-
-    // What stays the same, and the outcomes.
-    ensures same { (blocks.new.norms ≡ blocks.old.norms) × (blocks.new.skip_info ≡ blocks.old.skip_info) }
-    ensures stays { OnOk result (blocks.new.closed ≡ false) }
-    ensures added { AddsDocs blocks.old.skip_info blocks.old.term blocks.new.term block.old result }
-{
-    if is_sum_too_large(skip_info, block) {
-        blocks.begin(skip_info);
-        block.clear();
-        return Err(Fault::Limit(LimitName::BlockFrequencySum));
-    }
-    let packed = blocks.push(block);
-    block.clear();
-    packed
-}
-
-// Adds a document to the open block, and packs the block if it is then full. An error drops all documents.
-#[inline(always)]
-fn append_doc(
-    blocks: &mut PackedBlocks,
-    block: &mut Block,
-    doc_id: DocId,
-    term_freq: u32,
-) -> Result<(), Fault>
-    requires block { IsOpenBlock blocks.old.skip_info block.old }
-    requires covered { AllByRecursion (Covers blocks.old.norms) (block.old.docs ++ doc_id ∷ []) }
-    requires ascending { IsTrue (are_documents (blocks.old.term.docs ++ block.old.docs ++ doc_id ∷ [])) }
-    requires positive { IsTrue (has_freq blocks.old.skip_info) → 0 < term_freq }
-    requires open { blocks.old.closed ≡ false }
-    ensures block { IsOpenBlock blocks.old.skip_info block.new }
-
-    // What stays the same, and the outcomes.
-    ensures covered { AllByRecursion (Covers blocks.old.norms) block.new.docs }
-    ensures same { (blocks.new.norms ≡ blocks.old.norms) × (blocks.new.skip_info ≡ blocks.old.skip_info) }
-    ensures stays { OnOk result (blocks.new.closed ≡ false) }
-    ensures added { AddsDocs blocks.old.skip_info (joined blocks.old.term block.old) (joined blocks.new.term block.new) (one_doc doc_id term_freq) result }
-{
-    let skip_info = blocks.skip_info();
-    block.append_doc(doc_id, term_freq);
-    if !block.is_full() {
-        return Ok(());
-    }
-    pack_full(skip_info, blocks, block)
 }
 
 /// Writes the postings of one term after the other.
@@ -486,9 +418,15 @@ impl PostingsSerializer {
         if self.is_closed {
             return Err(Fault::SerializerClosed);
         }
-        let appended = append_doc(&mut self.blocks, &mut self.block, doc_id, term_freq);
-        self.is_closed = appended.is_err();
-        appended
+        // Shows the proof that complete blocks are packed.
+        let _skip_info = self.blocks.skip_info();
+        self.block.append_doc(doc_id, term_freq);
+        if !self.block.is_full() {
+            return Ok(());
+        }
+        let packed = self.blocks.push(&mut self.block);
+        self.is_closed = packed.is_err();
+        packed
     }
 
     /// Writes the postings of the term, which has `doc_freq` documents, and ends it.

@@ -12,8 +12,8 @@ ghost use Rattle.ii_recorder.specs.Terms.{WrittenTerm};
 ghost use Rattle.ii_definitions.specs.Fields.{option_of};
 ghost use Rattle.ii_definitions.specs.Tokens.{IndexToken, end_after, kept_words, piece_tokens_from};
 ghost use Rattle.ii_postings_writer.specs.IndexingContext.{AllEndBy, IsRecorded};
-ghost use Rattle.ii_postings_writer.specs.IndexingTerm.{field_bytes, term_bytes};
-ghost use Rattle.ii_postings_writer.specs.PostingsWriter.{HasTokens, IndexesKept, IndexesWords, PostingsWriterState, RefusesWords, TextState, kept_fault, subscribe_fault, term_token, text_fault, text_piece, text_state, tokens_counted};
+ghost use Rattle.ii_postings_writer.specs.IndexingTerm.{term_bytes};
+ghost use Rattle.ii_postings_writer.specs.PostingsWriter.{HasTokens, IndexesWords, PostingsWriterState, RefusesWords, TextState, subscribe_fault, term_token, text_fault, text_piece, text_state, tokens_counted};
 ghost use Rattle.ii_postings_writer.specs.Records.{Records};
 ghost use Rattle.ii_postings_writer.specs.SortedTerms.{IsTold, IsWritable, state_of, written_term};
 ghost use Rattle.ii_postings_writer.specs.WordRefusals.{gap_fault, words_fault};
@@ -214,58 +214,7 @@ impl SpecializedPostingsWriter {
         Ok(())
     }
 
-    // Records a position of a word, whose bytes follow the term's.
-    fn subscribe_word(
-        &mut self,
-        doc: DocId,
-        pos: u32,
-        word: &[u8],
-        term: &mut IndexingTerm,
-        terms: &mut TermRecorders,
-    ) -> Result<(), Fault>
-        requires low { doc < TERMINATED }
-        requires ends { AllEndBy doc terms.old }
-        ensures recorded { OnOk result (IsRecorded self.old.option doc pos (field_bytes term.old.field ++ (term.old.value ++ word.now)) terms.old terms.new) }
-        ensures ends { OnOk result (AllEndBy doc terms.new) }
-        ensures counted { OnOk result (self.new ≡ tokens_counted 1 self.old) }
-
-        // Errors.
-        ensures uncounted { OnErr result (self.new ≡ self.old) }
-        ensures refused { IsRefusedBy (subscribe_fault self.old.option self.old.total_num_tokens doc pos (field_bytes term.old.field ++ (term.old.value ++ word.now)) terms.old) result }
-        ensures same_term { OnOk result (term.new ≡ term.old) }
-    {
-        let len = term.len_bytes();
-        term.add_bytes(word)?;
-        self.record(self.option, doc, pos, term, terms)?;
-        term.truncate_value_bytes(len);
-        Ok(())
-    }
-
-    // Indexes a word that isn't too long.
-    fn index_kept(
-        &mut self,
-        doc: DocId,
-        token: &TokenView<'_>,
-        begin: u32,
-        term: &mut IndexingTerm,
-        terms: &mut TermRecorders,
-        at: &mut IndexingPosition,
-    ) -> Result<(), Fault>
-        requires low { doc < TERMINATED }
-        requires ends { AllEndBy doc terms.old }
-        ensures indexed { OnOk result (IndexesKept (text_piece doc term.old []) begin (seen_word token.now) (text_state terms.old self.old at.old) (text_state terms.new self.new at.new)) }
-        ensures same_term { OnOk result (term.new ≡ term.old) }
-        ensures refused { IsRefusedBy (kept_fault (text_piece doc term.old []) begin (seen_word token.now) (text_state terms.old self.old at.old)) result }
-    {
-        let (position, end) = token_place(begin, token.position, token.position_length)?;
-        let num_tokens = one_more(at.num_tokens)?;
-        self.subscribe_word(doc, position, token.text.as_bytes(), term, terms)?;
-        at.num_tokens = num_tokens;
-        at.end_position = at.end_position.max(end);
-        Ok(())
-    }
-
-    // Indexes a word, unless it is too long.
+    // Indexes a word, whose bytes follow the term's, unless it is too long.
     fn index_word(
         &mut self,
         doc: DocId,
@@ -286,7 +235,15 @@ impl SpecializedPostingsWriter {
         if token.text.len() > MAX_TOKEN_LEN {
             return Ok(());
         }
-        self.index_kept(doc, token, begin, term, terms, at)
+        let (position, end) = token_place(begin, token.position, token.position_length)?;
+        let num_tokens = one_more(at.num_tokens)?;
+        let len = term.len_bytes();
+        term.add_bytes(token.text.as_bytes())?;
+        self.record(self.option, doc, position, term, terms)?;
+        term.truncate_value_bytes(len);
+        at.num_tokens = num_tokens;
+        at.end_position = at.end_position.max(end);
+        Ok(())
     }
 
     // Indexes the remaining words of a text.

@@ -7,12 +7,13 @@ use Rattle.std.proofs.lemmas.Grind.{flat_map-append}
 use Rattle.std.specs.List.{flat_map}
 use Rattle.ii_base.specs.declared.schema.index_record_option.IndexRecordOption.{IndexRecordOption}
 use Rattle.ii_io.specs.CompositeWrite.{CompositeWriteState, AddsBody}
-use Rattle.ii_io.proofs.WriteSteps.{Wrote-trans}
+use Rattle.ii_io.specs.CountingWriter.{CountingWriterState, Wrote}
+use Rattle.ii_io.proofs.WriteSteps.{Wrote-trans, wrote_nothing}
 use Rattle.ii_io.specs.Numbers.{le_bytes}
 use Rattle.ii_fieldnorm.specs.Readers.{Norms}
 use Rattle.ii_termstore.specs.declared.term_info.TermInfo.{TermInfo}
 use Rattle.ii_termstore.specs.TermInfos.{term_info_from}
-use Rattle.ii_recorder.specs.Terms.{IsShort, WrittenTerm, postings_bytes, positions_bytes, positions_body, infos_from, open_bodies, field_bodies}
+use Rattle.ii_recorder.specs.Terms.{FieldBodies, IsShort, WrittenTerm, postings_bytes, positions_bytes, positions_body, infos_from, open_bodies, field_bodies}
 use Rattle.ii_termdict.specs.Written.{written_dictionary}
 use Rattle.ii_recorder.specs.TermPlaces.{TermPlacesState, with_term}
 use Rattle.ii_recorder.specs.FieldTerms.{EndsTerm, HasTerms, bytes_of, term_under}
@@ -107,6 +108,16 @@ term_ended initial old new field tokens norms ts key h ends more same =
 pub on_ok_both : {A B C : Type 0} (result : Result (Unit {0}) Fault) → (A → B → C) → OnOk result A → OnOk result B → OnOk result C
 on_ok_both (Ok u) f a b = f a b
 on_ok_both (Err e) f a b = tt
+
+-- the postings and the positions of a term were written to their files
+pub term_wrote : (result : Result (Unit {0}) Fault) (old : IndexBodiesState) (postings positions : CountingWriterState) (more : FieldBodies) → more.terms ≡ [] → OnOk result (Wrote old.postings.writer postings more.postings) → OnOk result (Wrote old.positions.writer positions more.positions)
+    → OnOk result (AddsMore old (record old { postings = record old.postings { writer = postings }; positions = record old.positions { writer = positions } }) more)
+term_wrote (Ok u) old postings positions more none p q = record {
+  terms = record { writer = rw none (wrote_nothing old.terms.writer); base = refl; starts = refl; closed = refl };
+  postings = record { writer = p; base = refl; starts = refl; closed = refl };
+  positions = record { writer = q; base = refl; starts = refl; closed = refl };
+}
+term_wrote (Err e) old postings positions more none p q = tt
 
 -- a field whose dictionary was written
 pub field_finished : (initial old new : IndexBodiesState) (field tokens : ℕ) (mode : IndexRecordOption) (ts : List WrittenTerm) (places : TermPlacesState) → AddsBodies initial old field (open_bodies mode tokens ts)

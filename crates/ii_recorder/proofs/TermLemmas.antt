@@ -1,15 +1,8 @@
 -- What holds for a field's terms after one is ended.
-use Rattle.std.proofs.Common.{◌≡◌, ℕ, ◌+◌, ◌^◌, ◌<◌, Bool, true, false, List, [], ◌∷◌, ◌++◌, length, ⊎_elim, refl, ◌∙◌, arith, length-append}
+use Rattle.std.proofs.Common.{◌+◌, ◌^◌, ◌<◌, length, ⊎_elim, arith}
 use Rattle.ii_layout.specs.Written.{written_postings}
 use Rattle.ii_recorder.specs.Terms.{positions_bytes}
-use Rattle.ii_base.specs.declared.schema.index_record_option.IndexRecordOption.{IndexRecordOption}
-use Rattle.ii_base.specs.Options.{has_positions}
-use Rattle.ii_recorder.specs.OpenTerm.{OpenTermState}
-use Rattle.ii_recorder.specs.FieldTerms.{EndsTerm, FieldTermsState, IsLeft, IsUnrefused, IsWithinLimits}
-
-no_deltas : (old : FieldTermsState) (new : OpenTermState) (b : Bool) → has_positions old.term.mode ≡ b → IsUnrefused old → IsLeft old.term new → new.deltas ≡ []
-no_deltas old new true e h left = left.located e
-no_deltas old new false e h left = left.plain e ∙ h.plain e
+use Rattle.ii_recorder.specs.FieldTerms.{EndsTerm, FieldTermsState, IsWithinLimits}
 
 -- a term that was ended passed no limit
 pub ends_within : (old new : FieldTermsState) → EndsTerm old new → IsWithinLimits old
@@ -20,29 +13,3 @@ ends_within old new h =
     let low : old.places.postings_end + length (written_postings old.term.norms old.term.skip_info old.term.docs old.term.freqs) < 2 ^ 56 = rw place at h.within.0 in
     let low_too : old.places.positions_end + length (positions_bytes old.term.mode old.term.deltas) < 2 ^ 56 = rw place at h.within.1 in
     (λ long. ⊎_elim (λ a. absurd (omega arith)) (λ a. absurd (omega arith)) long, λ pass. ⊎_elim (λ a. absurd (omega arith)) (λ a. absurd (omega arith)) pass)
-
-pub ends_unrefused : (old new : FieldTermsState) → IsUnrefused old → old.term_open ≡ true → EndsTerm old new → IsUnrefused new
-ends_unrefused old new h inside ends =
-    let none = no_deltas old new.term (has_positions old.term.mode) refl h ends.left in
-    let closed = ends.ended in
-    let place = ends.places in
-    record {
-      term = ends.left.unrefused;
-      places = rw place h.places;
-      between = λ _. (rw place (let keys = h.inside inside in omega (arith, length-append old.places.infos)), none);
-      plain = λ _. none;
-      inside = λ e. absurd (cc);
-    }
-
--- and after one is started
-pub begins_unrefused : (old new : FieldTermsState) (key : List ℕ) (skip_info : IndexRecordOption) → IsUnrefused old → old.term_open ≡ false → new.term ≡ record old.term { skip_info = skip_info; docs = []; freqs = [] }
-    → new.places ≡ record old.places { keys = old.places.keys ++ key ∷ [] } → new.term_open ≡ true → IsUnrefused new
-begins_unrefused old new key skip_info h between term place inside =
-    let ended = h.between between in
-    record {
-      term = rw term h.term;
-      places = rw place h.places;
-      between = λ e. absurd (cc);
-      plain = λ _. rw term ended.1;
-      inside = λ _. rw place (let keys = ended.0 in omega (arith, length-append old.places.keys (key ∷ [])));
-    }

@@ -1,16 +1,14 @@
-ghost use Rattle.std.specs.Prelude.{◌≡◌, ◌+◌, ◌-◌, ◌^◌, ◌<◌, ◌≤◌, ◌⊎◌, List, [], true, false, length, Ok, OnOk, IfErr, IsErrOf};
+ghost use Rattle.std.specs.Prelude.{◌≡◌, ◌+◌, ◌-◌, ◌^◌, ◌<◌, ◌⊎◌, List, [], true, false, length, Ok, OnOk, IfErr, IsErrOf};
 ghost use Rattle.std.specs.List.{zip};
-ghost use Rattle.ii_io.specs.CountingWriter.{CountingWriterState, Grows, IsFull, Wrote};
+ghost use Rattle.ii_io.specs.CountingWriter.{CountingWriterState, Grows, IsFull};
 ghost use Rattle.ii_io.specs.CompositeWrite.{AddsBody, HasBodies, WroteComposite, has_start};
 ghost use Rattle.ii_io.specs.Composite.{Body, fit_fields};
 ghost use Rattle.ii_io.specs.Faults.{OnlyMemory};
 ghost use Rattle.ii_io.specs.Numbers.{le_bytes};
 ghost use Rattle.ii_recorder.specs.IndexBodies.{AddsBodies, AddsMore, AllGrow, AreBegun, OneIsFull, AreUnclosed, LacksField, tables_of, CountsFailures, CountsFailuresOf};
-ghost use Rattle.ii_recorder.specs.FieldTerms.{EndsTerm, IsEndFault, bytes_of, field_terms};
 ghost use Rattle.ii_termdict.specs.Dictionary.{dictionary};
 ghost use Rattle.ii_termdict.specs.Written.{written_dictionary};
 
-use super::open_term::OpenTerm;
 use super::term_places::TermPlaces;
 use ii_io::{BinarySerializable, CompositeWrite, CountingWriter, Fault, Field, LimitName};
 use std::alloc::Global;
@@ -19,9 +17,9 @@ use std::marker::Model;
 
 /// Holds the three composite files of an index: terms, postings and positions.
 pub(crate) struct IndexBodies<W: Write> {
-    terms: CompositeWrite<W>,
-    postings: CompositeWrite<W>,
-    positions: CompositeWrite<W>,
+    pub(crate) terms: CompositeWrite<W>,
+    pub(crate) postings: CompositeWrite<W>,
+    pub(crate) positions: CompositeWrite<W>,
 }
 
 // A drop has to be a call.
@@ -83,31 +81,6 @@ impl<W: Write> IndexBodies<W> {
         begin_body(&mut self.positions, field)?;
         begin_body(&mut self.postings, field)?;
         total_num_tokens.serialize(self.postings.writer())
-    }
-
-    // Ends a term of the field that was started last: appends its postings and positions, and keeps its
-    // place.
-    pub(crate) fn end_term(
-        &mut self,
-        term: &mut OpenTerm,
-        places: &mut TermPlaces,
-    ) -> Result<(), Fault>
-        requires begun { AreBegun self.old }
-        requires open { (term.old.closed ≡ false) × (places.old.closed ≡ false) }
-        requires key { length places.old.keys ≡ length places.old.infos + 1 }
-        ensures ends { OnOk result (EndsTerm (field_terms term.old places.old true) (field_terms term.new places.new false)) }
-        ensures wrote { OnOk result (AddsMore self.old self.new (bytes_of term.old)) }
-        ensures unclosed { AreUnclosed self.old → AreUnclosed self.new }
-        ensures begun { AreBegun self.new }
-
-        // The outcomes: a failed call counts once, and each writer keeps what was written.
-        ensures failures { CountsFailures self.old self.new result }
-        ensures grow { AllGrow self.old self.new }
-
-        // Which errors it returns, and when.
-        ensures fault { IfErr result (λ e. IsEndFault term.old places.old self.old.postings.writer self.old.positions.writer e) }
-    {
-        term.write(places, self.postings.writer(), self.positions.writer())
     }
 
     // Writes the dictionary of the field that was started last, and flushes.

@@ -229,7 +229,11 @@ impl<W: Write> InvertedIndexSerializer<W> {
         if !self.is_term_open {
             return Ok(());
         }
-        let ended = self.bodies.end_term(&mut self.term, &mut self.places);
+        let ended = self.term.write(
+            &mut self.places,
+            self.bodies.postings.writer(),
+            self.bodies.positions.writer(),
+        );
         self.is_term_open = false;
         self.is_closed = ended.is_err();
         ended

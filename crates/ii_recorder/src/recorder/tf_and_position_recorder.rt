@@ -108,33 +108,6 @@ fn push_located_doc<W: Write>(
     }
 }
 
-// Adds documents with their term frequencies and positions.
-fn push_located_docs<W: Write>(
-    numbers: &mut VInt32Reader<'_>,
-    deltas: &mut Vec<u32>,
-    serializer: &mut FieldSerializer<'_, W>,
-) -> Result<(), Fault>
-    requires counted { AllByRecursion (λ e. e.term_freq < 2 ^ 32) (all_of (positions_in numbers.old)) }
-    requires may { MayPush WithFreqsAndPositions serializer.old.index.now (all_of (positions_in numbers.old)) }
-    ensures same_reference { serializer.new.index.ghost_name ≡ serializer.old.index.ghost_name }
-    ensures pushes { Pushes WithFreqsAndPositions serializer.old.index.now serializer.new.index.now (all_of (positions_in numbers.old)) result }
-{
-    let checked = serializer.check_open();
-    if checked.is_err() {
-        return checked;
-    }
-    let mut last = 0;
-    while let Some(delta) = numbers.next() {
-        let doc = last + delta;
-        let pushed = push_located_doc(doc, numbers, deltas, serializer);
-        if pushed.is_err() {
-            return pushed;
-        }
-        last = doc;
-    }
-    Ok(())
-}
-
 // Returns all bytes.
 fn all_bytes(bytes: &[u8]) -> &[u8]
     ensures value { result.now ≡ bytes.now }
@@ -191,7 +164,20 @@ impl Recorder for TfAndPositionRecorder {
     ) -> Result<(), Fault> {
         let (_, deltas) = buffer_lender.lend_all();
         let mut numbers = VInt32Reader::new(all_bytes(&self.positions));
-        push_located_docs(&mut numbers, deltas, serializer)
+        let checked = serializer.check_open();
+        if checked.is_err() {
+            return checked;
+        }
+        let mut last = 0;
+        while let Some(delta) = numbers.next() {
+            let doc = last + delta;
+            let pushed = push_located_doc(doc, &mut numbers, deltas, serializer);
+            if pushed.is_err() {
+                return pushed;
+            }
+            last = doc;
+        }
+        Ok(())
     }
 
     fn term_doc_freq(&self) -> Option<u32> {

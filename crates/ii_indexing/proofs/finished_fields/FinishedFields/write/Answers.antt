@@ -1,14 +1,33 @@
-use Rattle.std.proofs.Common.{inl, inr, List, ℕ, refl, sym, subst, ◌∙◌, ⊎_elim}
+use Rattle.std.proofs.Common.{◌≡◌, ◌∙◌, inl, inr, List, ℕ, refl, sym, subst, ⊎_elim, []}
+use Rattle.std.specs.Prelude.{◌⊎◌, IfErr}
 use Rattle.std.proofs.lemmas.Result.{IfErr-weaker}
-use Rattle.ii_io.specs.CountingWriter.{CountingWriterState, Writes, Wrote}
-use Rattle.ii_io.proofs.WriteSteps.{Grows-trans, grows_not, writes_grows, writes_went}
+use Rattle.ii_io.specs.declared.faults.Fault.TheVariants.{OutOfMemory, Write}
+use Rattle.ii_io.specs.CountingWriter.{Grows, Writes, Wrote}
+use Rattle.ii_io.proofs.WriteSteps.{grows_not, writes_grows, writes_went}
+use Rattle.ii_base.specs.Schema.{SchemaEntry}
+use Rattle.ii_definitions.specs.Fields.{option_of}
+use Rattle.ii_definitions.specs.Files.{HoldTokens}
+use Rattle.ii_recorder.specs.IndexBodies.{IndexBodiesState}
+use Rattle.ii_postings_writer.specs.FieldParts.{HasFields}
+use Rattle.ii_postings_writer.specs.ResolvedTerms.{HaveHeldTokens}
 use Rattle.ii_postings_writer.proofs.TermIndexLemmas.{on_ok}
-use Rattle.ii_indexing.proofs.WrittenFiles.{norms_before, norms_refused}
+use Rattle.ii_indexing.specs.IndexFiles.{PassLimits}
+use Rattle.ii_indexing.proofs.WrittenFiles.{PassesBehind, begun_fields, files_counted, norms_refused}
 use Rattle.ii_indexing.proofs.finished_fields.FinishedFields.write.Goals as goal
+
+pub write_files-terms-requires-clause-fresh : goal.write_files-terms-requires-clause-fresh
+write_files-terms-requires-clause-fresh g c =
+    subst (λ (b : IndexBodiesState). HasFields c.open.result.entries b b []) (sym c.open.ensures.bodies) (begun_fields c.open.result.entries c.args.writers.terms c.args.writers.postings c.args.writers.positions)
 
 pub returns-clause-fault : goal.returns-clause-fault
 returns-clause-fault g c ts hold have =
-    IfErr-weaker c.write.result.1 _ _ (λ e fault. ⊎_elim inl (λ others. inr (⊎_elim inl (λ limits. inr (inl limits)) others)) fault) (c.write.ensures.fault ts have)
+    let r = c.write_files-terms.result in
+    let entries = c.open.ensures.entries ∙ c.requires.same in
+    let parts = c.into_parts-ctx in
+    let tokens : HaveHeldTokens c.open.result.entries parts.result.0.path_to_unordered_id parts.result.0.term_index parts.result.1 ts = rw (entries, parts.ensures.terms, parts.ensures.paths, parts.ensures.writers) have in
+    let fault = subst (λ (es : List SchemaEntry). IfErr r.3 (λ e. (e ≡ OutOfMemory) ⊎ (e ≡ Write) ⊎ PassLimits es c.args.writers.terms c.args.writers.postings c.args.writers.positions ts e)) entries
+    (subst (λ (b : IndexBodiesState). IfErr r.3 (PassesBehind c.open.result.entries b ts)) c.open.ensures.bodies (c.write_files-terms.ensures.fault ts tokens)) in
+    IfErr-weaker r.3 _ _ (λ e fault. ⊎_elim inl (λ others. inr (⊎_elim inl (λ limits. inr (inl limits)) others)) fault) fault
 
 pub returns-then-is_err-clause-grow : goal.returns-then-is_err-clause-grow
 returns-then-is_err-clause-grow g c =
@@ -19,9 +38,10 @@ returns-then-is_err-clause-grow g c =
 pub returns-clause-grow : goal.returns-clause-grow
 returns-clause-grow g c =
     let old = c.args.writers in
+    let r = c.write_files-terms.result in
     let norms = writes_grows old.fieldnorms c.write_norms-written.new.writer _ c.write_norms-written.result c.write_norms-written.ensures.written in
-    let more = c.write.ensures.grow in
-    record { terms = more.terms; postings = more.postings; positions = more.positions; fieldnorms = Grows-trans old.fieldnorms c.write_norms-written.new.writer c.write.result.0.fieldnorms norms more.fieldnorms }
+    let grown = subst (λ (b : IndexBodiesState). Grows b.terms.writer r.0 × Grows b.postings.writer r.1 × Grows b.positions.writer r.2) c.open.ensures.bodies c.write_files-terms.ensures.grow in
+    record { terms = grown.0; postings = grown.1; positions = grown.2; fieldnorms = norms }
 
 pub returns-clause-holds : goal.returns-clause-holds
 returns-clause-holds g c ts norms have =
@@ -29,16 +49,30 @@ returns-clause-holds g c ts norms have =
     let bytes = c.args.self.norms in
     let norm_file = subst (λ (xs : List ℕ). Writes c.args.writers.fieldnorms c.write_norms-written.new.writer xs c.write_norms-written.result) c.deref.ensures c.write_norms-written.ensures.written in
     let wrote = writes_went c.args.writers.fieldnorms c.write_norms-written.new.writer bytes c.write_norms-written.result went norm_file in
-    on_ok c.write.result.1 _ _
+    let r = c.write_files-terms.result in
+    let entries = c.open.ensures.entries ∙ c.requires.same in
+    let bodies = c.open.ensures.bodies in
+    let parts = c.into_parts-ctx in
+    let tokens : HaveHeldTokens c.open.result.entries parts.result.0.path_to_unordered_id parts.result.0.term_index parts.result.1 ts = rw (entries, parts.ensures.terms, parts.ensures.paths, parts.ensures.writers) have in
+    on_ok r.3 _ _
     (λ held. record {
-      terms = record { terms = held.terms; postings = held.postings; positions = held.positions; wrote_terms = held.wrote_terms; wrote_postings = held.wrote_postings; wrote_positions = held.wrote_positions; hold = held.hold };
-      norms = record { fieldnorms = bytes; wrote = subst (λ (w : CountingWriterState). Wrote c.args.writers.fieldnorms w bytes) (sym c.write.ensures.norms) wrote; hold = norms };
+      terms = record {
+        terms = held.terms;
+        postings = held.postings;
+        positions = held.positions;
+        wrote_terms = subst (λ (b : IndexBodiesState). Wrote b.terms.writer r.0 held.terms) bodies held.wrote_terms;
+        wrote_postings = subst (λ (b : IndexBodiesState). Wrote b.postings.writer r.1 held.postings) bodies held.wrote_postings;
+        wrote_positions = subst (λ (b : IndexBodiesState). Wrote b.positions.writer r.2 held.positions) bodies held.wrote_positions;
+        hold = subst (λ (es : List SchemaEntry). HoldTokens (option_of es) held.terms held.postings held.positions ts) entries held.hold;
+      };
+      norms = record { fieldnorms = bytes; wrote = wrote; hold = norms };
     })
-    (c.write.ensures.holds ts have)
+    (c.write_files-terms.ensures.holds ts tokens)
 
 pub returns-then-is_err-clause-failures : goal.returns-then-is_err-clause-failures
 returns-then-is_err-clause-failures g c = norms_refused c.args.writers c.write_norms-written.new.writer _ c.write_norms-written.result c.write_norms-written.ensures.written
 
 pub returns-clause-failures : goal.returns-clause-failures
 returns-clause-failures g c =
-    norms_before c.args.writers c.write.result.0 c.write_norms-written.new.writer _ c.write_norms-written.result c.write.result.1 (sym c.if-is_err.false ∙ c.is_err.ensures.value) c.write_norms-written.ensures.written c.write.ensures.failures
+    let r = c.write_files-terms.result in
+    files_counted c.args.writers c.write_norms-written.new.writer r.0 r.1 r.2 _ c.open.result.bodies c.write_norms-written.result r.3 (sym c.if-is_err.false ∙ c.is_err.ensures.value) c.write_norms-written.ensures.written c.open.ensures.bodies c.write_files-terms.ensures.failures

@@ -1,4 +1,4 @@
-use Rattle.std.proofs.Common.{ap}
+use Rattle.std.proofs.Common.{ap, rules}
 use Rattle.ii_layout.specs.SkipSerializer.{SkipSerializerState}
 use Rattle.ii_layout.proofs.PackingLemmas.{next_block, packed_by}
 use Rattle.ii_layout.proofs.serializer.PackedBlocks.push.Goals as goal
@@ -8,12 +8,12 @@ write_block-packed-requires c =
     record {
       docs = next_block _ _ _ _ _ c.self.invariant c.requires.full (rw (← c.self.view_is) at c.requires.ascending);
       covered = rw (← c.self.view_is) at c.requires.covered;
-      freqs = rw (← c.self.view_is) at c.requires.freqs;
+      freqs = search rules;
       «open» = rw (← c.self.view_is) at c.requires.«open»;
     }
 
 pub invariant_of-self : goal.invariant_of-self
 invariant_of-self c =
     let bytes = ap (λ (s : SkipSerializerState). s.bytes) c.in-Ok.ensures.skip in
-    packed_by c.self.inside.bounds c.self.inside.skip_info c.self.inside.docs.term c.args.block.now _ _ _ c.self.invariant c.requires.full c.requires.freqs.many c.and-self-inside.ensures
+    packed_by c.self.inside.bounds c.self.inside.skip_info c.self.inside.docs.term c.args.block.now _ _ _ c.self.invariant c.requires.full c.requires.freqs.0 c.and-self-inside.ensures
     (λ j. record { last_doc = c.last_doc-self-inside.ensures j; skip = bytes j; postings = c.in-Ok.ensures.postings j })

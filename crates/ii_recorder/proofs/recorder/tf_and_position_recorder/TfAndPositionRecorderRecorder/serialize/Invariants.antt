@@ -2,7 +2,7 @@ use Rattle.std.proofs.Common.{◌≡◌}
 use Rattle.ii_base.specs.declared.schema.index_record_option.IndexRecordOption.TheVariants.{WithFreqsAndPositions}
 use Rattle.ii_recorder.specs.Gathered.{all_of, gathered, none_after, positions_in, with_number}
 use Rattle.ii_recorder.proofs.PushLemmas.{IsPushing}
-use Rattle.ii_recorder.proofs.recorder.tf_and_position_recorder.push_located_docs.Given as goal
+use Rattle.ii_recorder.proofs.recorder.tf_and_position_recorder.TfAndPositionRecorderRecorder.serialize.Given as goal
 
 abbrev pub invariant-loop-delta : goal.invariant-loop-delta
 invariant-loop-delta g l =
