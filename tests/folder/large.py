@@ -1,7 +1,9 @@
 #!/usr/bin/env python3
 """Runs `nequllpa` on large input: lists of 1,000 and 20,000 documents, so of many full blocks, 100 fields of which the
 first has no words, queries of 128 clauses, a phrase of 20 words, a word of 10 kB, a line of 8 MB. The answers must be
-those of a plain reading. Then bytes of each file change: `check` must name the file and count a damage."""
+those of a plain reading. Then bytes of each file change: `check` must name the file and count a damage. Last, each part
+of a list of 1,000 documents changes, then the number of tokens and the norms: `check` must say which part of which
+term is damaged, and nothing else."""
 import json
 import os
 import random
@@ -21,6 +23,12 @@ PROGRAM = 'nequllpa_cli'
 DOCS = 20_000
 FIELDS = 100
 CLAUSES = 128
+# The documents of the list that is damaged part by part, and its full blocks of 128.
+LISTED = 1_000
+BLOCKS = LISTED // 128
+# The size of a skip entry of a list with positions, and what it has from which byte on: docs/FORMATS.md.
+ENTRY = 12
+LAST_DOC, WIDTH, COUNT_WIDTH, SUM, GREATEST = 0, 4, 5, 6, 11
 FILES = {'term.0': 'terms', 'idx.0': 'postings', 'pos.0': 'positions', 'fieldnorm.0': 'field norms'}
 
 
@@ -112,6 +120,106 @@ def damages(user, chosen):
             file.write(whole)
 
 
+def counted(chosen):
+    """Returns how often each of 1,000 documents among 3,000 has the word `sea`."""
+    return {doc: 1 + chosen.randrange(3) for doc in chosen.sample(range(3 * LISTED), LISTED)}
+
+
+class List:
+    """Where the parts of the only list before `zero` are in the files: its skip entries, its blocks, the vints after them."""
+
+    def __init__(self, postings, positions, counts):
+        self.entries = 9
+        assert postings[8] == 0x80 + BLOCKS * ENTRY, 'a skip list of one byte of length'
+        self.blocks = [self.entries + BLOCKS * ENTRY]
+        for block in range(BLOCKS):
+            entry = self.entries + block * ENTRY
+            self.blocks.append(self.blocks[-1] + 16 * ((postings[entry + WIDTH] & 31) + postings[entry + COUNT_WIDTH]))
+        self.rest = LISTED - 128 * BLOCKS
+        # distances and counts below 128 have one byte each
+        self.end = self.blocks[-1] + 2 * self.rest
+        deltas = sum(counts.values())
+        widths = positions[1:1 + deltas // 128]
+        self.positions_end = 1 + len(widths) + 16 * sum(widths) + deltas % 128
+
+    def entry(self, block, part):
+        return self.entries + block * ENTRY + part
+
+    def counts_of(self, block, postings):
+        """Returns where the packed counts of a block begin."""
+        return self.blocks[block] + 16 * (postings[self.entry(block, WIDTH)] & 31)
+
+
+def changes(where, files):
+    """Yields changes of one byte: the file, the place, the byte, and the line that `check` must print."""
+    postings, positions = files['idx.0'], files['pos.0']
+    said = f'the file of postings, field body, term sea: damaged {{}}, bytes 8..{where.end}'
+    skip, documents, frequencies = map(said.format, ('skip list', 'documents', 'frequencies'))
+    of_positions = f'the file of positions, field body, term sea: damaged positions, bytes 0..{where.positions_end}'
+    for name, place, byte, line in (
+            ('idx.0', 8, postings[8] - 1, skip),
+            ('idx.0', where.entry(3, COUNT_WIDTH), 33, skip),
+            ('idx.0', where.entry(2, LAST_DOC), postings[where.entry(2, LAST_DOC)] ^ 1, documents),
+            ('idx.0', where.blocks[4], postings[where.blocks[4]] ^ 1, documents),
+            ('idx.0', where.blocks[-1], 0x80, documents),
+            ('idx.0', where.entry(1, SUM), postings[where.entry(1, SUM)] ^ 1, frequencies),
+            ('idx.0', where.entry(0, GREATEST), 2, frequencies),
+            ('idx.0', where.counts_of(5, postings), postings[where.counts_of(5, postings)] ^ 1, frequencies),
+            ('idx.0', where.end - 1, postings[where.end - 1] & 0x7f, frequencies),
+            ('idx.0', where.end - 1, postings[where.end - 1] + 1, of_positions),
+            ('pos.0', 0, positions[0] - 1, of_positions),
+            ('pos.0', 0, 0xff, of_positions),
+            ('pos.0', 3, 33, of_positions),
+            ('pos.0', where.positions_end - 1, positions[where.positions_end - 1] & 0x7f, of_positions)):
+        yield name, place, byte, line
+
+
+def changed_norms(counts, chosen):
+    """Yields changes of the norms of some documents, as `changes` does. A norm below 24 is the number of tokens itself. The
+    norms of the first field, which has no words, come first."""
+    for doc in (0, 3 * LISTED - 1, *chosen.sample(range(1, 3 * LISTED - 1), 3)):
+        tokens, place = counts.get(doc, 0) + 1, 3 * LISTED + doc
+        yield ('fieldnorm.0', place, tokens + 1, f'the file of field norms, field body: document {doc} has {tokens} tokens, but its norm is that of another '
+               f'number, bytes {place}..{place + 1}')
+
+
+def miscounts(files, tokens):
+    """Yields changes of the number of tokens, by one less and one more, as `changes` does."""
+    low = files['idx.0'][0]
+    for byte in (low - 1, low + 1):
+        told = tokens - low + byte
+        yield 'idx.0', 0, byte, f'the file of postings, field body: the field counts {told} tokens, but its terms have {tokens}, bytes 0..8'
+
+
+def list_parts(user, chosen):
+    """Damages each part of a list of 1,000 documents, and looks at each line that `check` prints."""
+    counts = counted(chosen)
+    lines = [{'body': 'sea ' * counts.get(doc, 0) + 'zero'} for doc in range(3 * LISTED)]
+    user.wants(['index', 'listed', '--schema', 'schema.toml'], 0, f'{len(lines)} documents indexed\n', given=''.join(json.dumps(line) + '\n' for line in lines).encode())
+    files = {}
+    for name in FILES:
+        with open(os.path.join(user.room, 'listed', name), 'rb') as file:
+            files[name] = file.read()
+    where = List(files['idx.0'], files['pos.0'], counts)
+    tried = 0
+    for name, place, byte, line in [*changes(where, files), *miscounts(files, sum(counts.values()) + len(lines)), *changed_norms(counts, chosen)]:
+        changed = bytearray(files[name])
+        if changed[place] == byte:
+            raise Failed(f'{name} at {place} has {byte} already')
+        changed[place] = byte
+        path = os.path.join(user.room, 'listed', name)
+        with open(path, 'wb') as file:
+            file.write(changed)
+        done = user.run('check', 'listed')
+        told = [said for said in done.stdout.decode().splitlines() if said.startswith('the file of ')]
+        if done.returncode != 1 or told != [line]:
+            raise Failed(f'{name} changed at {place} to {byte}: status {done.returncode}, {done.stdout[:400]!r}; wanted {line!r}')
+        with open(path, 'wb') as file:
+            file.write(files[name])
+        tried += 1
+    return tried
+
+
 def main():
     if 'NEQULLPA' not in os.environ and not programs.build(PROGRAM):
         print('tests/folder: the program was not built')
@@ -129,10 +237,11 @@ def main():
             damages(user, chosen)
             if not user.run('check', 'folder').stdout.decode().endswith('\n0 damages\n'):
                 raise Failed('check: damages in a folder that was restored')
+            tried = list_parts(user, chosen)
         except Failed as why:
             print(f'tests/folder: {why}')
             return 1
-    print(f'tests/folder: {DOCS} documents, {CLAUSES} clauses, a line of {max(len(doc["body"]) for doc in docs) >> 20} MB, {user.runs} runs, in {time.time() - begun:.0f} s')
+    print(f'tests/folder: {DOCS} documents, {CLAUSES} clauses, a line of {max(len(doc["body"]) for doc in docs) >> 20} MB, {tried} damaged parts of a list, {user.runs} runs, in {time.time() - begun:.0f} s')
     return 0
 
 

@@ -47,9 +47,10 @@ pub trait DocSet: Drop {
         ensures doc { result ≡ doc_at (rest self.now) }
         ensures sound { IsSound (rest self.now) };
 
-    /// Returns an estimate of the number of documents.
+    /// Returns an estimate of the number of documents: at least the number of remaining ones.
     fn size_hint(&self) -> u32
-        ensures { hints self.now result };
+        ensures hint { hints self.now result }
+        ensures enough { length (rest self.now) ≤ result };
 
     /// Advances to the first document that is at least `target`, and returns it, or `TERMINATED`. The
     /// target must be at most `TERMINATED`, and at least the current document, if there is one.
@@ -116,9 +117,10 @@ pub trait DocSet: Drop {
         buffer.len()
     }
 
-    /// Returns an estimate of the cost of iterating over all documents.
+    /// Returns an estimate of the cost of iterating over all documents: at least the number of remaining ones.
     fn cost(&self) -> u64
-        ensures { hints self.now result }
+        ensures hint { hints self.now result }
+        ensures enough { length (rest self.now) ≤ result }
     {
         u64::from(self.size_hint())
     }

@@ -2,12 +2,12 @@
 use Rattle.std.proofs.Common.{◌≡◌, ◌∙◌, ℕ, zero, suc, ◌+◌, ◌<◌, ◌≤◌, List, [], ◌∷◌, ◌++◌, length, drop, get_or, set, Some, refl, sym, ap, arith, ◌⊎◌, inl, inr, subst, take, min, ◌^◌, ◌-◌}
 use Rattle.std.specs.Prelude.{slice_get}
 use Rattle.std.specs.List.{AllZip, flat_map, sum}
-use Rattle.std.proofs.lemmas.List.Sums.{sum_by-append}
-use Rattle.std.proofs.lemmas.List.{drop_all, take_all}
+use Rattle.std.proofs.lemmas.List.Sums.{sum_by-append, sum_by-cons}
+use Rattle.std.proofs.lemmas.List.{drop_all, length-append, take_all}
 use Rattle.ii_base.specs.Entries.{Entry}
 use Rattle.ii_base.specs.declared.doc_id.TheConstants.{TERMINATED}
 use Rattle.ii_docset.specs.Cursor.{IsCurrent, IsSound, doc_at}
-use Rattle.ii_docset.proofs.CursorLemmas.{nothing_left}
+use Rattle.ii_docset.proofs.CursorLemmas.{length_below, nothing_left}
 use Rattle.ii_living_docs.specs.Chain.{HasCurrent, IsAtCurrent, IsSumOfHints, chained}
 
 module _ {D : Type 0} where
@@ -116,3 +116,32 @@ module _ {D : Type 0} (hints : D → ℕ → Type 0) where
 
   pub hints_all : (from k : ℕ) (cs : List D) (total : ℕ) → length cs ≤ k → IsSumOfHints hints (drop from (take k cs)) total → IsSumOfHints hints (drop from cs) total
   hints_all from k cs total all is = subst (λ (l : List D). IsSumOfHints hints (drop from l) total) (take_all k cs all) is
+
+-- hints, each at least the number of the cursor's documents
+module _ {D : Type 0} (hints : D → ℕ → Type 0) (rest : D → List Entry) where
+  alone : (cs : List D) (ns : List ℕ) → AllZip (λ (c : D) (n : ℕ). hints c n × (length (rest c) ≤ n)) cs ns → AllZip hints cs ns
+  alone [] [] all = tt
+  alone [] (n ∷ ns) all = elim all [ ]
+  alone (c ∷ cs) [] all = elim all [ ]
+  alone (c ∷ cs) (n ∷ ns) all = (all.0.0, alone cs ns all.1)
+
+  enough : (cs : List D) (ns : List ℕ) → AllZip (λ (c : D) (n : ℕ). hints c n × (length (rest c) ≤ n)) cs ns → length (flat_map rest cs) ≤ sum ns
+  enough [] [] all = omega arith
+  enough [] (n ∷ ns) all = elim all [ ]
+  enough (c ∷ cs) [] all = elim all [ ]
+  enough (c ∷ cs) (n ∷ ns) all =
+      let later = enough cs ns all.1 in
+      let first = all.0.1 in
+      let long = length-append (rest c) (flat_map rest cs) in
+      let added = sum_by-cons (λ (m : ℕ). m) n ns in
+      omega (arith, later, first, long, added)
+
+  pub hints_alone : (cs : List D) (total : ℕ) → IsSumOfHints (λ (c : D) (n : ℕ). hints c n × (length (rest c) ≤ n)) cs total → IsSumOfHints hints cs total
+  hints_alone cs total is = record { each = is.each; are = alone cs is.each is.are; is = is.is }
+
+  pub hints_enough : (cs : List D) (total : ℕ) → IsSound (flat_map rest cs) → IsSumOfHints (λ (c : D) (n : ℕ). hints c n × (length (rest c) ≤ n)) cs total → length (flat_map rest cs) ≤ total
+  hints_enough cs total sound is =
+      let few = enough cs is.each is.are in
+      let low = length_below (flat_map rest cs) sound.ascending in
+      let all = is.is in
+      omega (arith, few, low, all)

@@ -1,16 +1,18 @@
 -- Living documents by their numbers.
 use Rattle.std.proofs.Common.{◌≡◌, ◌∙◌, ℕ, zero, suc, ◌+◌, ◌<◌, ◌≤◌, Bool, true, false, List, [], ◌∷◌, length, drop, refl, sym, ap, arith, ◌⊎◌, inl, inr}
-use Rattle.std.specs.Prelude.{nat_le, slice_index_or}
+use Rattle.std.specs.Prelude.{filter, nat_le, slice_index_or}
 use Rattle.std.specs.List.{AllByRecursion}
 use Rattle.std.proofs.lemmas.Bool.{cases_lt, le-leb, leb-true, lt-leb}
 use Rattle.std.proofs.lemmas.List.Elements.{All-from_recursion, recursion_from_All}
+use Rattle.std.proofs.lemmas.List.{length-map}
+use Rattle.std.proofs.lemmas.List.Sums.{count_by-le-length, length-filter}
 use Rattle.ii_base.specs.Entries.{Entry}
 use Rattle.ii_base.specs.declared.doc_id.TheConstants.{TERMINATED}
 use Rattle.ii_docset.specs.Cursor.{FitsU32, IsAscending, IsCurrent, IsSound, IsTarget, doc_at, from_doc, positions_at, term_freq_at}
 use Rattle.ii_alive.specs.Alive.{rank}
 use Rattle.ii_alive.proofs.RankLemmas.{rank_below, rank_mono, rank_strict}
 use Rattle.ii_living_docs.specs.LivingDocs.{AreNumbered, IsAtLiving, IsDocumentOf}
-use Rattle.ii_segments.specs.Segments.{living_entries, entry_at_rank}
+use Rattle.ii_segments.specs.Segments.{living_entries, entry_at_rank, is_living}
 
 outside : (alive : List Bool) (doc : ℕ) → length alive ≤ doc → slice_index_or alive doc false ≡ false
 outside [] zero beyond = refl
@@ -171,3 +173,12 @@ module _ (base : ℕ) (alive : List Bool) where
       by : (doc_at es < length alive) ⊎ (length alive ≤ doc_at es) → base ≤ doc_at (living_entries base alive es)
       by (inl inside) = omega (arith, doc_here es numbered at inside)
       by (inr beyond) = absurd (omega (arith, current, ap doc_at (none_beyond es at.sound.ascending beyond)))
+
+-- no more documents are alive than there are
+pub living_short : (base : ℕ) (alive : List Bool) (es : List Entry) → length (living_entries base alive es) ≤ length es
+living_short base alive es =
+    let living = λ (e : Entry). is_living alive e.doc in
+    let same = length-map (filter living es) (entry_at_rank base alive) in
+    let counted = length-filter living es in
+    let few = count_by-le-length living es in
+    omega (arith, same, counted, few)

@@ -53,7 +53,7 @@ fn next_place<D: DocSet>(cursors: &Vec<D>, from: usize) -> usize
 
 // Returns the sum of the hints of the cursors from a place on, or `u32::MAX` if it is greater.
 fn sum_of_hints<D: DocSet>(cursors: &Vec<D>, from: usize) -> u32
-    ensures { IsSumOfHints D.hints (drop from cursors.now.items) result }
+    ensures { IsSumOfHints (λ cursor hint. D.hints cursor hint × (length (D.rest cursor) ≤ hint)) (drop from cursors.now.items) result }
 {
     let mut sum = 0_u32;
     for place in from..cursors.len() {

@@ -2,6 +2,7 @@ mod CheckingLaws
 mod IndexingLaws
 pub mod BoundLaws
 mod DeepLaws
+mod HintLaws
 mod LoadedLaws
 mod OpenedLaws
 mod OpeningLaws

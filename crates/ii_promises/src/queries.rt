@@ -1,14 +1,15 @@
 // Cursors that combine two cursors.
-ghost use Rattle.std.specs.Prelude.{◌≡◌, ◌<◌, ◌+◌, ◌&&◌, ◌||◌, ℕ, nat_eq, not, IfErr, IfOk};
+ghost use Rattle.std.specs.Prelude.{◌≡◌, ◌<◌, ◌≤◌, ◌+◌, ◌∷◌, [], ◌&&◌, ◌||◌, ℕ, length, map, min, nat_eq, not, take, IfErr, IfOk};
 ghost use Rattle.std.specs.List.{list_any};
 ghost use Rattle.ii_base.specs.Entries.{Entry};
 ghost use Rattle.ii_docset.specs.Cursor.{IsSound};
 ghost use Rattle.ii_docset.specs.Intersection.{has_doc};
 ghost use Rattle.ii_query.specs.Phrase.{has_position};
+ghost use Rattle.ii_reader.specs.SegmentPostings.{SegmentPostingsState};
 
 use nequllpa::{
-    DocId, DocSet, Exclude, Fault, Intersection, PhraseMatch, PhrasePart, SeekDangerResult,
-    SegmentPostings, Union,
+    DocId, DocSet, Exclude, Fault, Intersection, PhraseMatch, PhrasePart, QueryCursor,
+    SeekDangerResult, SegmentPostings, Union,
 };
 use std::alloc::Global;
 
@@ -63,4 +64,28 @@ pub fn neighbours_are_found(
     let mut others = Vec::new(alloc);
     others.push(PhrasePart::new(1, second))?;
     Ok(has(&mut PhraseMatch::new(first, others), doc))
+}
+
+/// The hint of any cursor, and its cost, are at least the number of its remaining documents.
+pub fn hints_are_enough<D: DocSet>(cursor: &D) -> (u32, u64)
+    ensures hint { length (D.rest cursor.now) ≤ result.0 }
+    ensures cost { length (D.rest cursor.now) ≤ result.1 }
+{
+    (cursor.size_hint(), cursor.cost())
+}
+
+/// In a conjunction of two terms the one with fewer documents leads, and the hint is its number of documents.
+pub fn the_rarer_term_leads(
+    alloc: Global,
+    first: SegmentPostings,
+    other: SegmentPostings,
+) -> Result<QueryCursor<SegmentPostings>, Fault>
+    ensures hint { IfOk result (λ cursor. cursor.hint ≡ min first.doc_freq other.doc_freq) }
+    ensures leader { IfOk result (λ cursor. map (λ (c : SegmentPostingsState). c.doc_freq) (take 1 cursor.cursors) ≡ min first.doc_freq other.doc_freq ∷ []) }
+    ensures memory { IfErr result (λ fault. fault ≡ Fault.OutOfMemory) }
+{
+    let mut cursors = Vec::new(alloc);
+    cursors.push(QueryCursor::one(first))?;
+    cursors.push(QueryCursor::one(other))?;
+    QueryCursor::intersection(alloc, cursors)
 }

@@ -5,13 +5,14 @@ ghost use Rattle.ii_docset.specs.Cursor.{IsAscending};
 ghost use Rattle.ii_docset.specs.Intersection.{has_doc};
 ghost use Rattle.ii_definitions.specs.Tokens.{IndexToken};
 ghost use Rattle.ii_reader.specs.OpenIndex.{IndexHolds};
+ghost use Rattle.ii_query_grammar.specs.Parsed.{IsReadAs, parsed};
 ghost use Rattle.ii_query_parser.specs.Queries.{has_fields, keeps_positions};
 ghost use Rattle.ii_query_parser.specs.QueryTexts.{text_matches, text_refusal};
 ghost use Rattle.ii_promises.specs.Texts.{GivesOrTells};
 
 use nequllpa::{
-    Fault, Field, OpenIndex, Query, QueryCursor, QueryParserError, Schema, SegmentPostings,
-    TermOrPhrase, TextAnalyzer, parse_query, search,
+    Fault, Field, OpenIndex, ParseError, Query, QueryCursor, QueryParserError, Schema,
+    SegmentPostings, TermOrPhrase, TextAnalyzer, UserInputAst, parse, parse_query, search,
 };
 use std::alloc::Global;
 
@@ -56,4 +57,11 @@ fn searched(
         Ok(cursor) => Ok(cursor),
         Err(fault) => Err(QueryParserError::Fault(fault)),
     }
+}
+
+/// At most 128 parentheses of a text may be open.
+pub fn texts_open_128_parentheses(alloc: Global, text: &str) -> Result<UserInputAst, ParseError>
+    ensures { IsReadAs result (parsed 128 text.now) }
+{
+    parse(alloc, text)
 }

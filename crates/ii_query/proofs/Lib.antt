@@ -1,5 +1,6 @@
 pub mod AllLemmas
 pub mod CommonLemmas
+pub mod HintLemmas
 pub mod MatchLaws
 pub mod MeetLemmas
 pub mod NestedLemmas

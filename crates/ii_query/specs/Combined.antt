@@ -1,5 +1,5 @@
 -- The documents of combined cursors.
-use Rattle.std.specs.Prelude.{◌≡◌, ℕ, ◌<◌, ◌≤◌, Bool, true, false, if◌then◌else◌, List, [], ◌∷◌, filter, map, nat_le, not}
+use Rattle.std.specs.Prelude.{◌≡◌, ℕ, ◌<◌, ◌≤◌, Bool, true, false, if◌then◌else◌, List, [], ◌∷◌, filter, length, map, nat_le, not}
 use Rattle.std.specs.List.{list_all, range_with_len}
 use Rattle.ii_base.specs.Entries.{Entry, docs_of, document}
 use Rattle.ii_base.specs.declared.doc_id.TheConstants.{TERMINATED}
@@ -11,9 +11,10 @@ pub record Parts (A B : Type 0) : Type 0 where
   pub first : A
   pub other : B
 
--- the remaining documents of a cursor, its nesting depth, and the cursors under it
+-- the remaining documents of a cursor, its hint, its nesting depth, and the cursors under it
 pub record QueryCursorState (T : Type 0) : Type 0 where
   pub rest : List Entry
+  pub hint : ℕ
   pub depth : ℕ
   pub cursors : List T
 
@@ -70,6 +71,12 @@ pub record IsAtFirst (es combined : List Entry) : Type 0 where
 pub record StandsAt (doc : ℕ) (es : List Entry) : Type 0 where
   pub sound : IsSound es
   pub here : doc ≡ doc_at es
+
+-- The same, and a hint is at least the number of remaining documents.
+pub record StandsWithin (doc hint : ℕ) (es : List Entry) : Type 0 where
+  pub sound : IsSound es
+  pub here : doc ≡ doc_at es
+  pub enough : length es ≤ hint
 
 -- The result of seeking lists to a document: the document itself if all of them have it, else a greater one, below which no document is in all of them.
 pub record SeekAnswer (doc bound : ℕ) (lists : List (List Entry)) : Type 0 where

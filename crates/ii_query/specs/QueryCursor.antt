@@ -1,6 +1,6 @@
 -- The documents of a cursor over other cursors.
-use Rattle.std.specs.Prelude.{◌≡◌, ℕ, suc, ◌+◌, ◌-◌, ◌≤◌, ◌++◌, max, List, [], ◌∷◌, map}
-use Rattle.std.specs.List.{AllZip}
+use Rattle.std.specs.Prelude.{◌≡◌, ℕ, suc, ◌+◌, ◌-◌, ◌^◌, ◌≤◌, ◌++◌, max, min, List, [], ◌∷◌, get_or, map}
+use Rattle.std.specs.List.{AllByRecursion, AllZip, sum_by}
 use Rattle.ii_base.specs.Entries.{Entry}
 use Rattle.ii_docset.specs.Cursor.{IsSound, from_doc}
 use Rattle.ii_docset.specs.Intersection.{has_doc}
@@ -21,6 +21,19 @@ depth_over (c ∷ cs) = max (suc c.depth) (depth_over cs)
 abbrev pub cursors_under : {T : Type 0} → List (QueryCursorState T) → List T
 cursors_under [] = []
 cursors_under (c ∷ cs) = c.cursors ++ cursors_under cs
+
+-- the sum of the hints of some cursors, or the greatest number of 32 bits if that is less
+abbrev pub sum_of_hints : {T : Type 0} → List (QueryCursorState T) → ℕ
+sum_of_hints cursors = min (sum_by (λ (c : QueryCursorState _). c.hint) cursors) (2 ^ 32 - 1)
+
+-- No hint is less than that of the cursor at an index.
+abbrev pub HasLeastHint : {T : Type 0} → ℕ → List (QueryCursorState T) → Type 0
+HasLeastHint at cursors = (c : QueryCursorState _) → c ≡ get_or cursors at c → AllByRecursion (λ (d : QueryCursorState _). c.hint ≤ d.hint) cursors
+
+-- The first of some cursors has this hint, and none has a lesser one. Without cursors it is 0.
+abbrev pub LeadsWith : {T : Type 0} → ℕ → List (QueryCursorState T) → Type 0
+LeadsWith hint [] = hint ≡ 0
+LeadsWith hint (c ∷ cs) = (hint ≡ c.hint) × AllByRecursion (λ (d : QueryCursorState _). c.hint ≤ d.hint) (c ∷ cs)
 
 -- A cursor dropped the documents below a target.
 pub record WentTo {T : Type 0} (went : T → T → Type 0) (target : ℕ) (old new : QueryCursorState T) : Type 0 where

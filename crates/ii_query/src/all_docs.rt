@@ -25,10 +25,12 @@ impl AllDocs {
 }
 
 impl DocSet for AllDocs {
-    ghost use Rattle.std.specs.Prelude.{◌-◌};
+    ghost use Rattle.std.specs.Prelude.{◌≡◌, ◌-◌};
     ghost use Rattle.ii_query.specs.Combined.{all_from};
 
     ghost rest = { λ s. all_from s.next (s.end - s.next) };
+
+    ghost hints = { λ s n. n ≡ s.end - s.next };
 
     ghost went_nowhere = { λ s. tt };
 

@@ -3,7 +3,7 @@ ghost use Rattle.std.specs.List.{AllByRecursion, AllZip};
 ghost use Rattle.ii_io.specs.Faults.{OnlyMemory};
 ghost use Rattle.ii_docset.specs.Cursor.{doc_at, from_doc, IsSound};
 ghost use Rattle.ii_query.specs.Combined.{IsAtFirst, QueryCursorState, SeekAnswer, StandsAt, all_from, either, intersection_of, union_of, without};
-ghost use Rattle.ii_query.specs.QueryCursor.{KeptFrom, WentTo, cursors_of, cursors_under, depth_of, depth_over, rest_of, rests};
+ghost use Rattle.ii_query.specs.QueryCursor.{HasLeastHint, KeptFrom, LeadsWith, WentTo, cursors_of, cursors_under, depth_of, depth_over, rest_of, rests, sum_of_hints};
 
 use crate::all_docs::AllDocs;
 use ii_base::Fault;
@@ -19,6 +19,8 @@ pub struct QueryCursor<T: DocSet> {
     parts: QueryParts<T>,
     // the current document, or `TERMINATED`
     doc: DocId,
+    // at least the number of remaining documents
+    hint: u32,
 }
 
 #[cycle(query_cursor)]
@@ -36,15 +38,15 @@ enum QueryParts<T: DocSet> {
 }
 
 impl<T: DocSet> Model for QueryCursor<T> {
-    ghost use Rattle.ii_query.specs.Combined.{QueryCursorState, StandsAt};
+    ghost use Rattle.ii_query.specs.Combined.{QueryCursorState, StandsWithin};
 
     ghost Value = { QueryCursorState T };
 
     ghost use Rattle.ii_query.specs.QueryCursor.{cursors_of, depth_of, rest_of};
 
-    ghost view = { λ c. record { rest = rest_of T.rest c.parts; depth = depth_of c.parts; cursors = cursors_of c.parts } };
+    ghost view = { λ c. record { rest = rest_of T.rest c.parts; hint = c.hint; depth = depth_of c.parts; cursors = cursors_of c.parts } };
 
-    ghost invariant = { λ c. StandsAt c.doc (rest_of T.rest c.parts) };
+    ghost invariant = { λ c. StandsWithin c.doc c.hint (rest_of T.rest c.parts) };
 
     ghost size = { λ s. s.depth };
 
@@ -58,48 +60,56 @@ impl<T: DocSet> QueryCursor<T> {
     /// Returns a cursor over no documents.
     pub fn nothing() -> QueryCursor<T>
         ensures rest { result.rest ≡ [] }
+        ensures hint { result.hint ≡ 0 }
         ensures cursors { result.cursors ≡ [] }
     {
         QueryCursor {
             parts: QueryParts::Nothing,
             doc: TERMINATED,
+            hint: 0,
         }
     }
 
     /// Returns a cursor over the documents of one cursor.
     pub fn one(cursor: T) -> QueryCursor<T>
         ensures rest { result.rest ≡ T.rest cursor }
+        ensures hint { T.hints cursor result.hint }
         ensures cursors { result.cursors ≡ cursor ∷ [] }
     {
         let doc = cursor.doc();
+        let hint = cursor.size_hint();
         QueryCursor {
             parts: QueryParts::One(cursor),
             doc,
+            hint,
         }
     }
 
     /// Returns a cursor over all documents below `num_docs`. No document is `TERMINATED` or above.
     pub fn all(num_docs: DocId) -> QueryCursor<T>
         ensures rest { result.rest ≡ all_from 0 (min num_docs TERMINATED) }
+        ensures hint { result.hint ≡ min num_docs TERMINATED }
         ensures cursors { result.cursors ≡ [] }
     {
         let docs = AllDocs::new(num_docs);
         let doc = docs.doc();
+        let hint = docs.size_hint();
         QueryCursor {
             parts: QueryParts::All(docs),
             doc,
+            hint,
         }
     }
 
     /// Returns a cursor over the documents that all cursors have, or over none without cursors. The cursor
-    /// with the least hint leads. Fails only with `OutOfMemory`.
+    /// with the least hint leads, and its hint is that of the intersection. Fails only with `OutOfMemory`.
     #[inline(never)]
     pub fn intersection(
         alloc: Global,
         cursors: Vec<QueryCursor<T>>,
     ) -> Result<QueryCursor<T>, Fault>
         ensures rest { IfOk result (λ cursor. cursor.rest ≡ intersection_of (rests cursors.items)) }
-        ensures work { IfOk result (λ cursor. (order : List (QueryCursorState T)) × IsPermutation cursors.items order × AllZip T.went (cursors_under order) cursor.cursors) }
+        ensures work { IfOk result (λ cursor. (order : List (QueryCursorState T)) × IsPermutation cursors.items order × AllZip T.went (cursors_under order) cursor.cursors × LeadsWith cursor.hint order) }
         ensures only { OnlyMemory result }
     {
         if cursors.is_empty() {
@@ -108,37 +118,43 @@ impl<T: DocSet> QueryCursor<T> {
         let at = rarest(&cursors);
         let mut others = cursors;
         let leader = others.swap_remove(at);
+        let hint = leader.bound();
         let mut leader = Box::new(alloc, leader)?;
         let doc = meet(&mut leader, &mut others);
         Ok(QueryCursor {
             parts: QueryParts::Intersection(leader, others),
             doc,
+            hint,
         })
     }
 
     /// Returns a cursor over the documents that at least one cursor has, each once, or over none without
-    /// cursors. Fails only with `OutOfMemory`.
+    /// cursors. Its hint is the sum of theirs, or `u32::MAX` if that is greater. Fails only with
+    /// `OutOfMemory`.
     #[inline(never)]
     pub fn union(alloc: Global, cursors: Vec<QueryCursor<T>>) -> Result<QueryCursor<T>, Fault>
         ensures rest { IfOk result (λ cursor. cursor.rest ≡ union_of (rests cursors.items)) }
+        ensures hint { IfOk result (λ cursor. cursor.hint ≡ sum_of_hints cursors.items) }
         ensures cursors { IfOk result (λ cursor. cursor.cursors ≡ cursors_under cursors.items) }
         ensures only { OnlyMemory result }
     {
+        let hint = bound_over(&cursors);
         if cursors.len() == 2 {
             let mut cursors = cursors;
             let other = cursors.swap_remove(1);
             let first = cursors.swap_remove(0);
-            return union_of_two(alloc, first, other);
+            return union_of_two(alloc, first, other, hint);
         }
         let doc = least_doc(&cursors);
         Ok(QueryCursor {
             parts: QueryParts::Union(cursors),
             doc,
+            hint,
         })
     }
 
-    /// Returns a cursor over the documents that `first` has and `other` doesn't have. Fails only with
-    /// `OutOfMemory`.
+    /// Returns a cursor over the documents that `first` has and `other` doesn't have, with the hint of
+    /// `first`. Fails only with `OutOfMemory`.
     #[inline(never)]
     pub fn without(
         alloc: Global,
@@ -146,15 +162,18 @@ impl<T: DocSet> QueryCursor<T> {
         other: QueryCursor<T>,
     ) -> Result<QueryCursor<T>, Fault>
         ensures rest { IfOk result (λ cursor. cursor.rest ≡ without first.rest other.rest) }
+        ensures hint { IfOk result (λ cursor. cursor.hint ≡ first.hint) }
         ensures work { IfOk result (λ cursor. AllZip T.went (first.cursors ++ other.cursors) cursor.cursors) }
         ensures only { OnlyMemory result }
     {
+        let hint = first.bound();
         let mut first = Box::new(alloc, first)?;
         let mut other = Box::new(alloc, other)?;
         let doc = leave_out(&mut first, &mut other);
         Ok(QueryCursor {
             parts: QueryParts::Without(first, other),
             doc,
+            hint,
         })
     }
 
@@ -168,18 +187,13 @@ impl<T: DocSet> QueryCursor<T> {
         self.doc
     }
 
-    // Returns an estimate of the number of remaining documents.
-    #[cycle(bound)]
-    fn bound(&self) -> u32 {
-        match &self.parts {
-            QueryParts::Nothing => 0,
-            QueryParts::One(cursor) => cursor.size_hint(),
-            QueryParts::All(docs) => docs.size_hint(),
-            QueryParts::Intersection(leader, _) => leader.bound(),
-            QueryParts::Either(first, other) => first.bound().saturating_add(other.bound()),
-            QueryParts::Union(parts) => bound_over(parts),
-            QueryParts::Without(first, _) => first.bound(),
-        }
+    // Returns the hint, which is at least the number of remaining documents.
+    fn bound(&self) -> u32
+        ensures hint { result ≡ self.now.hint }
+        ensures enough { length self.now.rest ≤ result }
+        ensures sound { IsSound self.now.rest }
+    {
+        self.hint
     }
 
     // Drops the documents below a target, which may be below the current document.
@@ -329,15 +343,13 @@ fn go_above<T: DocSet>(cursor: &mut T, doc: DocId, target: DocId) -> DocId
 fn rarest<T: DocSet>(cursors: &Vec<QueryCursor<T>>) -> usize
     requires { 0 < length cursors.now.items }
     ensures inside { result < length cursors.now.items }
+    ensures least { HasLeastHint result cursors.now.items }
     ensures sound { AllByRecursion (λ c. IsSound c.rest) cursors.now.items }
 {
     let mut at = 0;
-    let mut least = u32::MAX;
+    let mut least = cursors[0].bound();
     for i in 0..cursors.len() {
-        let cursor = &cursors[i];
-        // the invariant that documents ascend, for the proof
-        let _doc = cursor.current();
-        let bound = cursor.bound();
+        let bound = cursors[i].bound();
         if bound < least {
             at = i;
             least = bound;
@@ -346,14 +358,16 @@ fn rarest<T: DocSet>(cursors: &Vec<QueryCursor<T>>) -> usize
     at
 }
 
-// Returns an estimate of the number of remaining documents of a union.
-#[cycle(bound)]
-fn bound_over<T: DocSet>(parts: &Vec<QueryCursor<T>>) -> u32 {
-    let mut bound = 0u32;
+// Returns the sum of the hints, or `u32::MAX` if it is greater.
+fn bound_over<T: DocSet>(parts: &Vec<QueryCursor<T>>) -> u32
+    ensures sum { result ≡ sum_of_hints parts.now.items }
+    ensures enough { length (union_of (rests parts.now.items)) ≤ result }
+{
+    let mut sum = 0_u32;
     for i in 0..parts.len() {
-        bound = bound.saturating_add(parts[i].bound());
+        sum = sum.saturating_add(parts[i].bound());
     }
-    bound
+    sum
 }
 
 // Returns the least of the current documents.
@@ -446,8 +460,11 @@ fn union_of_two<T: DocSet>(
     alloc: Global,
     first: QueryCursor<T>,
     other: QueryCursor<T>,
+    hint: u32,
 ) -> Result<QueryCursor<T>, Fault>
+    requires { length (union_of (rests (first ∷ other ∷ []))) ≤ hint }
     ensures rest { IfOk result (λ cursor. cursor.rest ≡ union_of (rests (first ∷ other ∷ []))) }
+    ensures hint { IfOk result (λ cursor. cursor.hint ≡ hint) }
     ensures cursors { IfOk result (λ cursor. cursor.cursors ≡ cursors_under (first ∷ other ∷ [])) }
     ensures only { OnlyMemory result }
 {
@@ -457,6 +474,7 @@ fn union_of_two<T: DocSet>(
     Ok(QueryCursor {
         parts: QueryParts::Either(first, other),
         doc,
+        hint,
     })
 }
 
@@ -519,10 +537,13 @@ fn count_union<T: DocSet>(parts: &mut Vec<QueryCursor<T>>) -> u32
 }
 
 impl<T: DocSet> DocSet for QueryCursor<T> {
+    ghost use Rattle.std.specs.Prelude.{◌≡◌};
     ghost use Rattle.std.specs.List.{AllZip};
     ghost use Rattle.ii_query.specs.WorkLaws.{all_went_on, none_went};
 
     ghost rest = { λ s. s.rest };
+
+    ghost hints = { λ s n. n ≡ s.hint };
 
     // Each of its cursors advanced.
     ghost went = { λ a b. AllZip T.went a.cursors b.cursors };

@@ -82,6 +82,8 @@ impl<A: DocSet, B: DocSet> DocSet for Union<A, B> {
     }
 
     fn size_hint(&self) -> u32 {
+        // the invariant that documents ascend, for the proof
+        let _doc = self.doc();
         self.first
             .size_hint()
             .saturating_add(self.other.size_hint())

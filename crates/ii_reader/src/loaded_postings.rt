@@ -148,7 +148,8 @@ impl DocSet for LoadedPostings {
     }
 
     fn size_hint(&self) -> u32
-        ensures { result ≡ self.now.num_docs }
+        ensures hint { result ≡ self.now.num_docs }
+        ensures enough { length self.now.rest ≤ result }
     {
         self.doc_ids.len() as u32
     }

@@ -349,9 +349,10 @@ impl DocSet for SegmentPostings {
     }
 
     fn size_hint(&self) -> u32
-        ensures { result ≡ self.now.doc_freq }
+        ensures hint { result ≡ self.now.doc_freq }
+        ensures enough { length self.now.rest ≤ result }
     {
-        self.doc_freq()
+        self.block_cursor.doc_freq()
     }
 }
 

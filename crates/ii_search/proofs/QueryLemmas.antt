@@ -8,7 +8,7 @@ use Rattle.ii_io.specs.declared.faults.Fault.{Fault}
 use Rattle.ii_io.specs.declared.faults.Part.{Part}
 use Rattle.ii_base.specs.Entries.{Entry}
 use Rattle.ii_query.specs.Combined.{QueryCursorState}
-use Rattle.ii_query.specs.QueryCursor.{cursors_under, rests}
+use Rattle.ii_query.specs.QueryCursor.{LeadsWith, cursors_under, rests}
 use Rattle.ii_query.specs.TermOrPhrase.{WentOn}
 use Rattle.ii_query.specs.declared.term_or_phrase.TermOrPhrase.{TermOrPhrase}
 use Rattle.ii_query.proofs.MeetLemmas.{each_permuted}
@@ -102,6 +102,6 @@ few_in_order P cs order shuffled all = together P order (each_permuted (λ (c : 
 
 -- an intersection has decoded few blocks where its cursors have
 pub few_meet : (cs : List (QueryCursorState (TermOrPhrase SegmentPostingsState))) (r : Result (QueryCursorState (TermOrPhrase SegmentPostingsState)) Fault) → AllByRecursion EachDecodesFew (cursors_under cs)
-    → IfOk r (λ cursor. (order : List (QueryCursorState (TermOrPhrase SegmentPostingsState))) × IsPermutation cs order × AllZip (WentOn WentLazily SpentLazily) (cursors_under order) cursor.cursors) → IfOk r (λ cursor. AllByRecursion EachDecodesFew cursor.cursors)
-few_meet cs (Ok cursor) few (order, shuffled, went) = all_went (cursors_under order) cursor.cursors went (few_in_order EachDecodesFew cs order shuffled few)
+    → IfOk r (λ cursor. (order : List (QueryCursorState (TermOrPhrase SegmentPostingsState))) × IsPermutation cs order × AllZip (WentOn WentLazily SpentLazily) (cursors_under order) cursor.cursors × LeadsWith cursor.hint order) → IfOk r (λ cursor. AllByRecursion EachDecodesFew cursor.cursors)
+few_meet cs (Ok cursor) few (order, shuffled, went, leads) = all_went (cursors_under order) cursor.cursors went (few_in_order EachDecodesFew cs order shuffled few)
 few_meet cs (Err fault) few work = tt

@@ -53,7 +53,7 @@ impl DocSet for ListPostings {
     }
 
     fn size_hint(&self) -> u32 {
-        3
+        self.left.len() as u32
     }
 }
 

@@ -7,7 +7,8 @@ use Rattle.ii_docset.specs.Intersection.{has_doc}
 use Rattle.ii_docset.proofs.CursorLemmas.{doc_below, from_doc_here}
 use Rattle.ii_docset.proofs.IntersectionLemmas.{asked_for, at_end, doc_at-from_doc}
 use Rattle.ii_query.specs.Combined.{StandsAt, all_have, picked, union_of, without}
-use Rattle.ii_query.specs.QueryCursor.{KeptFrom, WentTo, cursors_under, rests}
+use Rattle.ii_query.specs.QueryCursor.{KeptFrom, WentTo, cursors_under, rest_of, rests}
+use Rattle.ii_query.proofs.HintLemmas.{from_doc_short, stands_within}
 use Rattle.ii_query.proofs.MeetLemmas.{MetAt, all_kept, met_at, picked_first, picked_kept, picked_past, seek_met, seek_missed}
 use Rattle.ii_query.proofs.NestedLemmas.{either_at, stands_low}
 use Rattle.ii_query.proofs.PartsLemmas.{DoneTo, depth_stays, done_depth, done_ends, done_long, done_next, least_next, least_to, union_at, union_from, went_sound, work_under}
@@ -25,6 +26,25 @@ QueryCursor::go_to-returns-then-target-doc-clause-rest g t c =
 
 pub QueryCursor::go_to-returns-then-target-doc-clause-work : goal.QueryCursor::go_to-returns-then-target-doc-clause-work
 QueryCursor::go_to-returns-then-target-doc-clause-work g t c = none_went g.T.DocSet.went g.met.T.DocSet.went_nowhere c.args.self.now.cursors
+
+pub QueryCursor::go_on-invariant_of-self : goal.QueryCursor::go_on-invariant_of-self
+QueryCursor::go_on-invariant_of-self g t c =
+    let old = rest_of g.T.DocSet.rest c.self.inside.parts in
+    let went : g.T.DocSet.rest c.go_above-next.new.cursor ≡ from_doc c.args.target old = search rules in
+    let few = from_doc_short c.args.target old in
+    let low = c.self.invariant.enough in
+    let long = ap length went in
+    stands_within c.go_above-next.result c.self.inside.hint (g.T.DocSet.rest c.go_above-next.new.cursor) c.go_above-next.ensures.at (omega (arith, few, low, long))
+
+pub QueryCursor::go_on-invariant_of-self-2 : goal.QueryCursor::go_on-invariant_of-self-2
+QueryCursor::go_on-invariant_of-self-2 g t c =
+    let old = rest_of g.T.DocSet.rest c.self.inside.parts in
+    let new = rest_of g.T.DocSet.rest c.move_to-next.new.parts in
+    let went : new ≡ from_doc c.args.target old = search rules in
+    let few = from_doc_short c.args.target old in
+    let low = c.self.invariant.enough in
+    let long = ap length went in
+    stands_within c.move_to-next.result c.self.inside.hint new c.move_to-next.ensures.at (omega (arith, few, low, long))
 
 pub go_to_each-go_to-doc-requires : goal.go_to_each-go_to-doc-requires
 go_to_each-go_to-doc-requires g t c κs within =

@@ -1,10 +1,11 @@
-use Rattle.std.proofs.Common.{◌≡◌, ◌+◌, rules, sym, ◌∙◌}
+use Rattle.std.proofs.Common.{◌≡◌, ◌+◌, ◌≤◌, ap, arith, length, rules, sym, ◌∙◌}
 use Rattle.ii_docset.specs.Cursor.{doc_at}
 use Rattle.ii_query.specs.Combined.{StandsAt, union_of}
 use Rattle.ii_query.specs.QueryCursor.{WentTo, rest_of, rests}
+use Rattle.ii_query.proofs.HintLemmas.{from_doc_short, stands_within}
 use Rattle.ii_query.proofs.UnionLemmas.{next_from, nothing_next}
 use Rattle.ii_query.specs.WorkLaws.{none_went}
-use Rattle.ii_query.proofs.PartsLemmas.{union_next, work_under}
+use Rattle.ii_query.proofs.PartsLemmas.{union_from, union_next, work_under}
 use Rattle.std.specs.List.{AllZip}
 use Rattle.ii_query.proofs.WorkLemmas.{all_beside}
 use Rattle.ii_query.proofs.query_cursor.QueryCursorDocSet.advance.Goals as goal
@@ -39,3 +40,12 @@ returns-in-Either-clause-work g c =
     let other : AllZip g.T.DocSet.went c.in-Either.other.value.cursors c.pass_either-next.new.other.cursors = search rules in
     rw (← c.self.view_is, c.in-Either.is)
     (all_beside g.T.DocSet.went c.in-Either.first.value.cursors c.in-Either.other.value.cursors c.pass_either-next.new.first.cursors c.pass_either-next.new.other.cursors first other)
+
+pub invariant_of-self-in-Union : goal.invariant_of-self-in-Union
+invariant_of-self-in-Union g c =
+    let cs = c.in-Union.parts.items in
+    let news = c.go_to_each-next.new.parts.items in
+    let low : length (union_of (rests cs)) ≤ c.self.inside.hint = rw (c.in-Union.is) at c.self.invariant.enough in
+    let few = from_doc_short (c.current-doc.result + 1) (union_of (rests cs)) in
+    let long = ap length (union_from g.T.DocSet.went (c.current-doc.result + 1) cs news c.go_to_each-next.ensures.went) in
+    stands_within c.go_to_each-next.result c.self.inside.hint (union_of (rests news)) c.go_to_each-next.ensures.at (omega (arith, low, few, long))

@@ -1,0 +1,47 @@
+-- The leader of a conjunction of two terms.
+use Rattle.std.proofs.Common.{◌≡◌, ◌⊎◌, inl, inr, ◌∙◌, ◌++◌, ◌≤◌, min, take, List, [], ◌∷◌, length, refl, sym, ap, subst, arith}
+use Rattle.std.specs.Prelude.{IfOk, IsPermutation, Result, Ok, Err, map}
+use Rattle.std.specs.List.{AllZip}
+use Rattle.std.proofs.lemmas.List.Sorted.{IsPermutation-sym, length_permutation}
+use Rattle.ii_io.specs.declared.faults.Fault.{Fault}
+use Rattle.ii_query.specs.Combined.{QueryCursorState}
+use Rattle.ii_query.specs.QueryCursor.{LeadsWith, cursors_under}
+use Rattle.ii_query.proofs.MeetLemmas.{each_permuted}
+use Rattle.ii_reader.specs.SegmentPostings.{SegmentPostingsState, WentLazily}
+
+-- A cursor over a term hints at the term's number of documents.
+pub record HintsAtOne (c : QueryCursorState SegmentPostingsState) : Type 0 where
+  pub cursor : SegmentPostingsState
+  pub one : c.cursors ≡ cursor ∷ []
+  pub hint : c.hint ≡ cursor.doc_freq
+
+-- the least hint of two
+least_of_two : (x y : QueryCursorState SegmentPostingsState) (c : QueryCursorState SegmentPostingsState) (cs : List (QueryCursorState SegmentPostingsState)) (hint : _) → IsPermutation (x ∷ y ∷ []) (c ∷ cs) → LeadsWith hint (c ∷ cs) → hint ≡ min x.hint y.hint
+least_of_two x y c cs hint shuffled leads =
+    let low = each_permuted (λ (d : QueryCursorState _). c.hint ≤ d.hint) (c ∷ cs) (x ∷ y ∷ []) (IsPermutation-sym (x ∷ y ∷ []) (c ∷ cs) shuffled) leads.1 in
+    let one = each_permuted (λ (d : QueryCursorState _). (d.hint ≡ x.hint) ⊎ (d.hint ≡ y.hint)) (x ∷ y ∷ []) (c ∷ cs) shuffled (inl refl, (inr refl, tt)) in
+    let is = leads.0 in
+    let first = low.0 in
+    let second = low.1.0 in
+    elim (one.0) [
+      | inl e ↦ omega (arith, is, first, second, e)
+      | inr e ↦ omega (arith, is, first, second, e)
+    ]
+
+-- the leader comes first
+leader_first : (c : QueryCursorState SegmentPostingsState) (cs : List (QueryCursorState SegmentPostingsState)) (moved : List SegmentPostingsState) → HintsAtOne c → AllZip WentLazily (cursors_under (c ∷ cs)) moved → map (λ (s : SegmentPostingsState). s.doc_freq) (take 1 moved) ≡ c.hint ∷ []
+leader_first c cs [] h all = elim (subst (λ (l : List SegmentPostingsState). AllZip WentLazily (l ++ cursors_under cs) []) h.one all) [ ]
+leader_first c cs (m ∷ ms) h all =
+    let went = subst (λ (l : List SegmentPostingsState). AllZip WentLazily (l ++ cursors_under cs) (m ∷ ms)) h.one all in
+    ap (λ (n : _). n ∷ []) (went.0.doc_freq ∙ sym h.hint)
+
+pub rarer_leads : (x y : QueryCursorState SegmentPostingsState) (cs : List (QueryCursorState SegmentPostingsState)) (r : Result (QueryCursorState SegmentPostingsState) Fault) → cs ≡ x ∷ y ∷ [] → HintsAtOne x → HintsAtOne y
+    → IfOk r (λ cursor. (order : List (QueryCursorState SegmentPostingsState)) × IsPermutation cs order × AllZip WentLazily (cursors_under order) cursor.cursors × LeadsWith cursor.hint order)
+    → IfOk r (λ cursor. (cursor.hint ≡ min x.hint y.hint) × (map (λ (s : SegmentPostingsState). s.doc_freq) (take 1 cursor.cursors) ≡ min x.hint y.hint ∷ []))
+rarer_leads x y cs (Err fault) are one two work = tt
+rarer_leads x y cs (Ok cursor) are one two ([], shuffled, went, leads) = absurd (let many = length_permutation cs [] shuffled in let long = ap length are in omega (arith, many, long))
+rarer_leads x y cs (Ok cursor) are one two (c ∷ order, shuffled, went, leads) =
+    let two_of : IsPermutation (x ∷ y ∷ []) (c ∷ order) = subst (λ (l : List (QueryCursorState SegmentPostingsState)). IsPermutation l (c ∷ order)) are shuffled in
+    let least = least_of_two x y c order cursor.hint two_of leads in
+    let h = (each_permuted HintsAtOne (x ∷ y ∷ []) (c ∷ order) two_of (one, (two, tt))).0 in
+    (least, leader_first c order cursor.cursors h went ∙ ap (λ (n : _). n ∷ []) (sym leads.0 ∙ least))
