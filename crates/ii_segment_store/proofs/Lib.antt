@@ -1,0 +1,3 @@
+mod LoadLaws
+mod PutLaws
+mod CommitLaws
