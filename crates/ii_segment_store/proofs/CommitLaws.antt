@@ -132,6 +132,11 @@ segments_same next id (s ∷ ss) a c le keeps all =
     let p = both (is_segment next s) (list_all (is_segment next) ss) all in
     rw (segment_same s a c (λ component. keeps s.id component (omega (arith, le, id_below next s p.0))), segments_same next id ss a c le keeps p.1) refl
 
+-- the same files of segments are the same list
+pub list_kept : (m : MetaState) (a c : Files) → KeepsBelow m.next_segment_id a c → list_all (is_segment m.next_segment_id) m.segments ≡ true → list_contents m c ≡ list_contents m a
+unfolding list_contents
+list_kept m a c keeps all = rw (segments_same m.next_segment_id m.next_segment_id m.segments a c (omega arith) keeps all) refl
+
 -- files that are the same, where segments have ids below one
 pub record SameBelow (id : ℕ) (a c : Files) : Type 0 where
   pub meta : c Meta ≡ a Meta

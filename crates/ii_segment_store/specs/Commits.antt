@@ -1,9 +1,12 @@
 -- What a commit of a segment leaves, wherever it is stopped.
-use Rattle.std.specs.Prelude.{◌≡◌, ◌⊎◌, ℕ, ◌+◌, ◌≤◌, [], ◌∷◌, ◌++◌, Result, Ok, Err, Some}
+use Rattle.std.specs.Prelude.{◌≡◌, ◌⊎◌, ℕ, ◌+◌, ◌≤◌, [], ◌∷◌, ◌++◌, Result, Ok, Err, None, Some}
 use Rattle.ii_store.specs.declared.faults.IndexFault.{IndexFault}
+use Rattle.ii_store.specs.declared.name.Kind.{Kind}
+use Rattle.ii_store.specs.declared.name.Kind.TheVariants as kinds
 use Rattle.ii_store.specs.declared.name.Name.{Name}
-use Rattle.ii_store.specs.declared.name.Name.TheVariants.{Meta, NewMeta, Segment}
+use Rattle.ii_store.specs.declared.name.Name.TheVariants.{File, Meta, NewMeta, Segment}
 use Rattle.ii_store.specs.declared.name.SegmentComponent.{SegmentComponent}
+use Rattle.ii_store.specs.declared.name.Slot.{Slot}
 use Rattle.ii_store.specs.declared.name.SegmentComponent.TheVariants.{FieldNorms, Positions, Postings, Terms}
 use Rattle.ii_store.specs.Directory.{Elapses, Files}
 use Rattle.ii_store.specs.Index.{Fails}
@@ -69,6 +72,26 @@ abbrev pub IsCommitFault : CommitFault → Result MetaState IndexFault → Segme
 IsCommitFault (faults.Store fault) wanted s = Fails fault wanted
 IsCommitFault faults.TooMany (Ok m) s = IsValidMeta (next_list m s) → ⊥
 IsCommitFault faults.TooMany (Err fault) s = ⊥
+
+-- only files of one slot of version 1 were changed
+abbrev pub KeepsButSlot : Slot → Files → Files → Type 0
+KeepsButSlot slot old new = (name : Name) → ((kind : Kind) → name ≡ File slot kind → ⊥) → new name ≡ old name
+
+-- only files of the slots of version 1 were changed
+abbrev pub KeepsButSlots : Files → Files → Type 0
+KeepsButSlots old new = (name : Name) → ((slot : Slot) (kind : Kind) → name ≡ File slot kind → ⊥) → new name ≡ old name
+
+-- A slot of version 1 has no file, but for the schema.
+pub record HasNoLists (slot : Slot) (files : Files) : Type 0 where
+  pub terms : files (File slot kinds.Terms) ≡ None
+  pub postings : files (File slot kinds.Postings) ≡ None
+  pub positions : files (File slot kinds.Positions) ≡ None
+  pub fieldnorms : files (File slot kinds.FieldNorms) ≡ None
+
+-- A slot of version 1 has no file.
+pub record HasNoSlot (slot : Slot) (files : Files) : Type 0 where
+  pub schema : files (File slot kinds.Schema) ≡ None
+  pub lists : HasNoLists slot files
 
 -- The files hold what they held, or something else.
 abbrev pub HoldsOldOr : Result IndexContents IndexFault → Files → Files → Type 0

@@ -2,11 +2,13 @@
 //! the old index or the new one.
 #![tactic(auto)]
 
+pub mod clearing;
 pub mod committing;
 pub mod faults;
 pub mod loading;
 pub mod stored_segments;
 
+pub use clearing::remove_slots;
 pub use committing::{append_segment, upgrade};
 pub use faults::CommitFault;
 pub use loading::{load_latest, load_segments};
