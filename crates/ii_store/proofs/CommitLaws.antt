@@ -7,7 +7,7 @@ use Rattle.ii_store.specs.Directory.{Elapses, Elsewhere, Files, IsOther, IsPut, 
 use Rattle.ii_store.specs.Index.{◌>>=◌}
 use Rattle.ii_store.specs.IndexMeta.{IsValidMeta, MetaState, meta_bytes}
 use Rattle.ii_store.specs.Names.{name_number}
-use Rattle.ii_store.specs.Segments.{IsOldOrNewList, KeepsOtherFiles, LeavesOneList, ListedFile, contents_of, index_with, list_in, listed, segments_of}
+use Rattle.ii_store.specs.Segments.{IsOldOrNewList, KeepsOtherFiles, LeavesOneList, ListedFile, MayBeReplaced, contents_of, index_with, list_in, listed, segments_of}
 use Rattle.ii_store.proofs.ListLaws.{meta_again}
 use Rattle.ii_store.proofs.SaveLaws.{elapses_implies, elapses_none, elapses_then}
 
@@ -62,39 +62,49 @@ module _ (m : MetaState) (valid : IsValidMeta m) (old ready : Files) (put : IsPu
       renamed.elsewhere (Segment id component) (segment_is_no_new_meta id component) (segment_is_no_meta id component)
       ∙ put.elsewhere (Segment id component) (segment_is_no_new_meta id component)
 
-  pub renamed_index : (new : Files) → IsRenamed NewMeta Meta ready new → segments_of new ≡ index_with m old
-  unfolding segments_of
-  renamed_index new renamed = rw (renamed_list new renamed) (index_same m old new (renamed_segments new renamed))
-
   pub renamed_keeps : (new : Files) → IsRenamed NewMeta Meta ready new → KeepsOtherFiles old new
   renamed_keeps new renamed name no_meta no_new_meta = renamed.elsewhere name no_new_meta no_meta ∙ put.elsewhere name no_new_meta
 
-  maybe_renamed : (c : Files) → MayBeRenamed NewMeta Meta ready c → IsOldOrNewList old m c
-  maybe_renamed c (inl same) = inl (same_segments ready c same ∙ written_is_old old ready put.elsewhere)
-  maybe_renamed c (inr renamed) = inr (renamed_index c renamed)
+  renamed_may : (c : Files) → MayBeRenamed NewMeta Meta ready c → MayBeReplaced m old c
+  renamed_may c (inl same) = record { meta = inl (same Meta ∙ put.elsewhere Meta meta_is_no_new_meta); keeps = λ name no_meta no_new_meta. same name ∙ put.elsewhere name no_new_meta }
+  renamed_may c (inr renamed) = record { meta = inr (renamed_list c renamed); keeps = renamed_keeps c renamed }
 
-module _ {D : Type 0} (moment : D → ℕ) (left_since : D → ℕ → Files → Type 0) (seen : D → Files) (old : D)
-    (only : (c : Files) → left_since old (moment old) c → Same (seen old) c) (m : MetaState) where
-  leaves_list : (new : D) → Elapses (moment old) (moment new) (left_since old) (left_since new) (IsOldOrNewList (seen old) m) → LeavesOneList moment left_since seen old new m
-  leaves_list new time = record {
-    each = λ c left. ⊎_elim (λ before. inl (same_segments (seen old) c (only c before))) (λ one. one) (time.nothing_else (moment old) c (omega arith) left);
-    time = time;
-  }
+-- the new `meta` was written next to the old one, completely or in part
+written_may : (m : MetaState) (a c : Files) → Elsewhere NewMeta a c → MayBeReplaced m a c
+written_may m a c elsewhere = record { meta = inl (elsewhere Meta meta_is_no_new_meta); keeps = λ name no_meta no_new_meta. elsewhere name no_new_meta }
 
+-- only the metas were changed
+kept_segments : (a c : Files) → KeepsOtherFiles a c → KeepsSegments a c
+kept_segments a c keeps id component = keeps (Segment id component) (segment_is_no_meta id component) (segment_is_no_new_meta id component)
+
+-- the index of a list that replaced another one
+pub replaced_index : (m : MetaState) (a c : Files) → list_in (c Meta) ≡ Ok m → KeepsOtherFiles a c → segments_of c ≡ index_with m a
+unfolding segments_of
+replaced_index m a c listed keeps = rw listed (index_same m a c (kept_segments a c keeps))
+
+maybe_replaced : (m : MetaState) (a c : Files) → MayBeReplaced m a c → IsOldOrNewList a m c
+maybe_replaced m a c may = ⊎_elim (λ same. inl (segments_same a c same (kept_segments a c may.keeps))) (λ listed. inr (replaced_index m a c listed may.keeps)) may.meta
+
+module _ {D : Type 0} (moment : D → ℕ) (left_since : D → ℕ → Files → Type 0) (seen : D → Files) (old : D) (m : MetaState) where
   -- nothing was called yet
-  pub leaves_list_none : LeavesOneList moment left_since seen old old m
-  leaves_list_none = leaves_list old (elapses_none moment left_since old (IsOldOrNewList (seen old) m))
+  pub replaced_none : Elapses (moment old) (moment old) (left_since old) (left_since old) (MayBeReplaced m (seen old))
+  replaced_none = elapses_none moment left_since old (MayBeReplaced m (seen old))
 
   module _ (ready : D) (first : Elapses (moment old) (moment ready) (left_since old) (left_since ready) (Elsewhere NewMeta (seen old))) where
-    written_time : Elapses (moment old) (moment ready) (left_since old) (left_since ready) (IsOldOrNewList (seen old) m)
-    written_time = elapses_implies moment left_since old ready (Elsewhere NewMeta (seen old)) (IsOldOrNewList (seen old) m) first (λ c elsewhere. inl (written_is_old (seen old) c elsewhere))
-
     -- the new `meta` was written next to the old one, completely or in part
-    pub list_written : LeavesOneList moment left_since seen old ready m
-    list_written = leaves_list ready written_time
+    pub replaced_written : Elapses (moment old) (moment ready) (left_since old) (left_since ready) (MayBeReplaced m (seen old))
+    replaced_written = elapses_implies moment left_since old ready (Elsewhere NewMeta (seen old)) (MayBeReplaced m (seen old)) first (written_may m (seen old))
 
     -- it replaced the old one, or not
-    pub list_renamed : (new : D) → IsValidMeta m → IsPut NewMeta (Some (meta_bytes m)) (seen old) (seen ready)
-        → Elapses (moment ready) (moment new) (left_since ready) (left_since new) (MayBeRenamed NewMeta Meta (seen ready)) → LeavesOneList moment left_since seen old new m
-    list_renamed new valid put second = leaves_list new (elapses_then moment left_since old ready new (IsOldOrNewList (seen old) m) (MayBeRenamed NewMeta Meta (seen ready)) written_time second
-        (λ c may. maybe_renamed m valid (seen old) (seen ready) put c may))
+    pub replaced_renamed : (new : D) → IsValidMeta m → IsPut NewMeta (Some (meta_bytes m)) (seen old) (seen ready)
+        → Elapses (moment ready) (moment new) (left_since ready) (left_since new) (MayBeRenamed NewMeta Meta (seen ready)) → Elapses (moment old) (moment new) (left_since old) (left_since new) (MayBeReplaced m (seen old))
+    replaced_renamed new valid put second = elapses_then moment left_since old ready new (MayBeReplaced m (seen old)) (MayBeRenamed NewMeta Meta (seen ready)) replaced_written second
+        (renamed_may m valid (seen old) (seen ready) put)
+
+  -- what is left of the old list and of the new one
+  pub leaves_list : ((c : Files) → left_since old (moment old) c → Same (seen old) c) → (new : D) → Elapses (moment old) (moment new) (left_since old) (left_since new) (MayBeReplaced m (seen old))
+      → LeavesOneList moment left_since seen old new m
+  leaves_list only new time = record {
+    each = λ c left. ⊎_elim (λ before. inl (same_segments (seen old) c (only c before))) (maybe_replaced m (seen old) c) (time.nothing_else (moment old) c (omega arith) left);
+    time = elapses_implies moment left_since old new (MayBeReplaced m (seen old)) (IsOldOrNewList (seen old) m) time (maybe_replaced m (seen old));
+  }

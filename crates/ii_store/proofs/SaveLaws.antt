@@ -18,6 +18,11 @@ pub at_ok : {T E : Type 0} (P Q : Type 0) (result : Result T E) → (P → Q) �
 at_ok P Q (Ok x) implies holds = implies holds
 at_ok P Q (Err e) implies holds = tt
 
+-- two facts at Ok imply one
+pub both_ok : {T E : Type 0} (P Q R : Type 0) (result : Result T E) → (P → Q → R) → OnOk result P → OnOk result Q → OnOk result R
+both_ok P Q R (Ok x) implies one two = implies one two
+both_ok P Q R (Err e) implies one two = tt
+
 -- kinds and their numbers
 
 number_of_kind : (n : ℕ) → n < 5 → kind_number (kind_at n) ≡ n

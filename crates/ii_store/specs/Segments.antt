@@ -95,6 +95,11 @@ IsOldOrNewList old m files = (segments_of files ≡ segments_of old) ⊎ (segmen
 abbrev pub KeepsOtherFiles : Files → Files → Type 0
 KeepsOtherFiles old new = (name : Name) → (name ≡ Meta → ⊥) → (name ≡ NewMeta → ⊥) → new name ≡ old name
 
+-- The files have the old `meta` or that of a list, and only the metas may have changed.
+pub record MayBeReplaced (m : MetaState) (old new : Files) : Type 0 where
+  pub meta : (new Meta ≡ old Meta) ⊎ (list_in (new Meta) ≡ Ok m)
+  pub keeps : KeepsOtherFiles old new
+
 -- A stop at any time since old leaves the old list of segments or the new one, with its files.
 pub record LeavesOneList {D : Type 0} (moment : D → ℕ) (left_since : D → ℕ → Files → Type 0) (seen : D → Files) (old new : D) (m : MetaState) : Type 0 where
   pub each : (c : Files) → left_since new (moment old) c → IsOldOrNewList (seen old) m c

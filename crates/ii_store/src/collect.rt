@@ -30,6 +30,7 @@ pub fn collect<D: Directory>(alloc: Global, directory: &mut D) -> Result<u64, St
     ensures count { D.is_known directory.old → IfOk result (λ count. (m : MetaState) → list_in (D.seen directory.old Meta) ≡ Ok m → CountsGarbage m (D.seen directory.old) count) }
     ensures fault { D.is_known directory.old → IfErr result (λ e. Fails e (list_in (D.seen directory.old Meta))) }
     ensures leaves_same { D.is_known directory.old → LeavesSameList D.moment D.left_since D.seen directory.old directory.new }
+    ensures leaves_others { D.is_known directory.old → (m : MetaState) → list_in (D.seen directory.old Meta) ≡ Ok m → Elapses (D.moment directory.old) (D.moment directory.new) (D.left_since directory.old) (D.left_since directory.new) (KeepsOthers m (D.seen directory.old)) }
 {
     let meta = load_meta(alloc, directory)?;
     let names = directory.list(alloc)?;

@@ -48,6 +48,9 @@ pub enum IndexFault {
     /// The checksum of a file of a segment differs from its checksum in `meta`.
     #[error("the file of {1} of segment {0} has another checksum than meta says")]
     WrongFileChecksum(SegmentId, SegmentComponent),
+    /// Some documents of a segment are deleted. Such a segment isn't loaded yet.
+    #[error("segment {0} has deleted documents, which are not read yet")]
+    DeletedDocuments(SegmentId),
 }
 
 /// Why an index could not be loaded.

@@ -94,9 +94,9 @@ pub(crate) fn checked_num_docs(meta: &[u8]) -> Result<u32, IndexFault>
     whole_num_docs(meta)
 }
 
-// Returns the version of a `meta` file, of any version.
+/// Returns the version of a `meta` file, of any version. Returns `DamagedMeta` for bytes that are no `meta`.
 #[tactic(auto, unfolding(crate::specs::Index::version_in, crate::specs::Index::format))]
-pub(crate) fn version_of(meta: &[u8]) -> Result<u32, IndexFault>
+pub fn version_of(meta: &[u8]) -> Result<u32, IndexFault>
     ensures { result ≡ version_in meta.now }
 {
     if meta.len() < SLOT_AT {

@@ -1,9 +1,10 @@
 //! Commits a list of segments so that a stop leaves either the old list or the new one, and reads it back.
 ghost use Rattle.std.specs.Prelude.{◌≡◌, ◌+◌, Ok, OnOk, Some};
 ghost use Rattle.ii_store.specs.declared.name.Name.TheVariants.{Meta, Segment};
+ghost use Rattle.ii_store.specs.Directory.{Elapses};
 ghost use Rattle.ii_store.specs.Index.{AnswersFromFiles};
 ghost use Rattle.ii_store.specs.IndexMeta.{IsValidMeta, meta_view};
-ghost use Rattle.ii_store.specs.Segments.{AreThere, KeepsOtherFiles, LeavesOneList, ListedFile, generation_in, index_with, list_in, listed_bytes, segments_of};
+ghost use Rattle.ii_store.specs.Segments.{AreThere, KeepsOtherFiles, LeavesOneList, ListedFile, MayBeReplaced, generation_in, index_with, list_in, listed_bytes, segments_of};
 
 use crate::directory::Directory;
 use crate::faults::{DirectoryFault, IndexFault, StoreFault};
@@ -32,6 +33,24 @@ pub fn commit<D: Directory>(
     ensures index { D.is_known directory.old → OnOk result (segments_of (D.seen directory.new) ≡ index_with (meta_view new.now) (D.seen directory.old)) }
     ensures keeps { D.is_known directory.old → OnOk result (KeepsOtherFiles (D.seen directory.old) (D.seen directory.new)) }
     ensures leaves_one { D.is_known directory.old → LeavesOneList D.moment D.left_since D.seen directory.old directory.new (meta_view new.now) }
+{
+    replace_list(alloc, directory, new)
+}
+
+/// Atomically replaces `meta` by that of a list of segments: writes it as `meta.new`, and renames that.
+///
+/// After a stop or an error the directory holds the old `meta` or the new one. All other files except
+/// `meta.new` are unchanged. Whether the files of the list are there isn't tested (see `commit`).
+pub fn replace_list<D: Directory>(
+    alloc: Global,
+    directory: &mut D,
+    new: &IndexMeta,
+) -> Result<(), DirectoryFault>
+    requires valid { IsValidMeta (meta_view new.now) }
+    ensures known { D.is_known directory.old → OnOk result (D.is_known directory.new) }
+    ensures listed { D.is_known directory.old → OnOk result (list_in (D.seen directory.new Meta) ≡ Ok (meta_view new.now)) }
+    ensures keeps { D.is_known directory.old → OnOk result (KeepsOtherFiles (D.seen directory.old) (D.seen directory.new)) }
+    ensures time { D.is_known directory.old → Elapses (D.moment directory.old) (D.moment directory.new) (D.left_since directory.old) (D.left_since directory.new) (MayBeReplaced (meta_view new.now) (D.seen directory.old)) }
 {
     let meta = encode(alloc, new)?;
     directory.write(Name::NewMeta, meta.as_slice())?;

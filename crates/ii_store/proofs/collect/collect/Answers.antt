@@ -1,6 +1,7 @@
 use Rattle.std.proofs.Common.{ap, subst, ◌∙◌}
 use Rattle.std.specs.List.{count_by}
 use Rattle.ii_store.specs.declared.name.Name.TheVariants.{Meta}
+use Rattle.ii_store.specs.Directory.{Elapses}
 use Rattle.ii_store.specs.Collect.{CountsGarbage, HasNoGarbage, IsCollected, KeepsOthers, is_garbage}
 use Rattle.ii_store.specs.IndexMeta.{meta_view}
 use Rattle.ii_store.specs.Segments.{list_in}
@@ -48,3 +49,19 @@ pub returns-clause-leaves_same : goal.returns-clause-leaves_same
 returns-clause-leaves_same g c = λ known.
     let d = g.D.Directory in
     same_list d.moment d.left_since d.seen c.args.directory.now (λ f left. g.met.D.Directory.only_now c.args.directory.now f known left) (meta_view c.in_ok-meta.meta) c.remove_garbage.new.directory (c.in_ok-meta.ensures known) (c.remove_garbage.ensures.time known)
+
+pub returns-in_err-removed-clause-leaves_others : goal.returns-in_err-removed-clause-leaves_others
+returns-in_err-removed-clause-leaves_others g c = λ known m is.
+    let d = g.D.Directory in
+    let old = c.args.directory.now in
+    let new = c.remove_garbage.new.directory in
+    let same = one_list (meta_view c.in_ok-meta.meta) m (list_in (d.seen old Meta)) (c.in_ok-meta.ensures known) is in
+    subst (λ n. Elapses (d.moment old) (d.moment new) (d.left_since old) (d.left_since new) (KeepsOthers n (d.seen old))) same (c.remove_garbage.ensures.time known)
+
+pub returns-clause-leaves_others : goal.returns-clause-leaves_others
+returns-clause-leaves_others g c = λ known m is.
+    let d = g.D.Directory in
+    let old = c.args.directory.now in
+    let new = c.remove_garbage.new.directory in
+    let same = one_list (meta_view c.in_ok-meta.meta) m (list_in (d.seen old Meta)) (c.in_ok-meta.ensures known) is in
+    subst (λ n. Elapses (d.moment old) (d.moment new) (d.left_since old) (d.left_since new) (KeepsOthers n (d.seen old))) same (c.remove_garbage.ensures.time known)

@@ -1,0 +1,341 @@
+-- What an index holds, before and after a commit.
+use Rattle.std.proofs.Common.{◌≡◌, inl, inr, ⊎_elim, ℕ, zero, suc, ◌<◌, ◌≤◌, ◌==◌, ◌-◌, ◌&&◌, length, take, drop, bytes_eq, nat_lt, Bool, true, false, not, List, [], ◌∷◌, ◌++◌, Option, None, Some, Result, Ok, Err, refl, sym, ap, subst, ◌∙◌, arith, if◌then◌else◌}
+use Rattle.std.specs.Prelude.{map}
+use Rattle.std.specs.List.{list_all}
+use Rattle.std.proofs.lemmas.Bool.{eq-eqb, ltb-true, ne_eqb}
+use Rattle.std.proofs.lemmas.Cmp.{nat_list_eq_equiv}
+use Rattle.sha2.specs.Sha256.{sha256}
+use Rattle.ii_store.specs.declared.faults.IndexFault.{IndexFault}
+use Rattle.ii_store.specs.declared.faults.IndexFault.TheVariants.{DamagedMeta, OtherVersion}
+use Rattle.ii_store.specs.declared.index_meta.FileMeta.{FileMeta}
+use Rattle.ii_store.specs.declared.index_meta.SegmentMeta.{SegmentMeta}
+use Rattle.ii_store.specs.declared.name.Kind.{Kind}
+use Rattle.ii_store.specs.declared.name.Kind.TheVariants.{Schema}
+use Rattle.ii_store.specs.declared.name.Kind.TheVariants as kinds_of
+use Rattle.ii_store.specs.declared.name.Name.TheVariants.{File, Meta, Segment}
+use Rattle.ii_store.specs.declared.name.SegmentComponent.{SegmentComponent}
+use Rattle.ii_store.specs.declared.name.SegmentComponent.TheVariants.{FieldNorms, Positions, Postings, Terms}
+use Rattle.ii_store.specs.declared.name.Slot.{Slot}
+use Rattle.ii_store.specs.Directory.{Elapses, Files, Same}
+use Rattle.ii_store.specs.Index.{◌>>=◌, Index, index_at, index_in, index_of, num_docs_in, used_slot, version_in, whole_num_docs_in}
+use Rattle.ii_store.specs.IndexMeta.{MetaState, SegmentState, checked_list, file_meta, is_consistent, is_segment, list_at, meta_of, segment_view}
+use Rattle.ii_store.specs.Names.{other_slot}
+use Rattle.ii_store.specs.Segments.{list_in, listed_bytes}
+use Rattle.ii_store.proofs.SaveLaws.{elapses_implies, elapses_none, index_outside}
+use Rattle.ii_segment_store.specs.Commits.{HasSegment, HoldsOldOr, IsCommitted, IsFresh, KeepsUncommitted, LeavesOneIndex, MayBeCommitted, listed_segment, next_list}
+use Rattle.ii_segment_store.specs.Contents.{IndexContents, SegmentContents, as_index, contents_at, contents_in, contents_of, file_of, found_in, list_contents, one_segment, segment_in, segments_in, with_segment}
+
+-- lists that a `meta` file holds
+
+both : (a b : Bool) → (a && b) ≡ true → (a ≡ true) × (b ≡ true)
+both true b e = (refl, e)
+both false b e = absurd cc
+
+abbrev unless : Bool → IndexFault → Result MetaState IndexFault → Result MetaState IndexFault
+unless b fault rest = if b then Err fault else rest
+
+past : (b : Bool) (fault : IndexFault) (rest : Result MetaState IndexFault) (m : MetaState) → unless b fault rest ≡ Ok m → rest ≡ Ok m
+past true fault rest m e = absurd cc
+past false fault rest m e = e
+
+abbrev taken : Bool → MetaState → Result MetaState IndexFault
+taken b m = if b then Ok m else Err DamagedMeta
+
+chosen : (b : Bool) (x m : MetaState) → taken b x ≡ Ok m → (b ≡ true) × (x ≡ m)
+chosen true x m e = (refl, cc)
+chosen false x m e = absurd cc
+
+last : (r : Result MetaState IndexFault) (m : MetaState) → (r >>= λ x. taken (is_consistent x) x) ≡ Ok m → is_consistent m ≡ true
+last (Ok x) m e = let p = chosen (is_consistent x) x m e in subst (λ (y : MetaState). is_consistent y ≡ true) p.1 p.0
+last (Err fault) m e = absurd cc
+
+of_version : (r : Result ℕ IndexFault) (rest : Result MetaState IndexFault) (m : MetaState) → (r >>= λ version. unless (not (version == 2)) (OtherVersion version) rest) ≡ Ok m → rest ≡ Ok m
+of_version (Ok version) rest m e = past (not (version == 2)) (OtherVersion version) rest m e
+of_version (Err fault) rest m e = absurd cc
+
+consistent : (meta : List ℕ) (m : MetaState) → meta_of meta ≡ Ok m → is_consistent m ≡ true
+unfolding meta_of checked_list
+consistent meta m e =
+    let short = nat_lt (length meta) 44 in
+    let changed = not (bytes_eq (drop (length meta - 32) meta) (sha256 (take (length meta - 32) meta))) in
+    let list = list_at (drop 12 (take (length meta - 32) meta)) in
+    let read = list >>= λ x. taken (is_consistent x) x in
+    last list m (past changed DamagedMeta read m (past short DamagedMeta (unless changed DamagedMeta read) m (of_version (version_in meta) (checked_list meta) m e)))
+
+segments_below : (m : MetaState) → is_consistent m ≡ true → list_all (is_segment m.next_segment_id) m.segments ≡ true
+unfolding is_consistent
+segments_below m e = (both _ _ (both _ _ e).0).0
+
+pub listed_below : (found : Option (List ℕ)) (m : MetaState) → list_in found ≡ Ok m → list_all (is_segment m.next_segment_id) m.segments ≡ true
+unfolding list_in
+listed_below None m e = absurd cc
+listed_below (Some meta) m e = segments_below m (consistent meta m e)
+
+-- a list of segments is read as one
+
+abbrev either : Bool → Result IndexContents IndexFault → Result IndexContents IndexFault → Result IndexContents IndexFault
+either b one two = if b then one else two
+
+second_version : (r : Result ℕ IndexFault) (rest : Result MetaState IndexFault) (m : MetaState) (one two : Result IndexContents IndexFault) → (r >>= λ version. unless (not (version == 2)) (OtherVersion version) rest) ≡ Ok m
+    → (r >>= λ version. either (version == 1) one two) ≡ two
+second_version (Ok zero) rest m one two e = refl
+second_version (Ok (suc zero)) rest m one two e = absurd cc
+second_version (Ok (suc (suc n))) rest m one two e = rw (ne_eqb (suc (suc n)) 1 (λ same. omega (arith, same))) refl
+second_version (Err fault) rest m one two e = absurd cc
+
+listed_at : (meta : List ℕ) (m : MetaState) (files : Files) → meta_of meta ≡ Ok m → contents_at meta files ≡ list_contents m files
+unfolding meta_of contents_at
+listed_at meta m files e =
+    let all : meta_of meta ≡ Ok m = e in
+    second_version (version_in meta) (checked_list meta) m (index_of files >>= λ i. Ok (one_segment i)) (meta_of meta >>= λ x. list_contents x files) e ∙ ap (λ (r : Result MetaState IndexFault). r >>= λ x. list_contents x files) all
+
+listed_found : (found : Option (List ℕ)) (m : MetaState) (files : Files) → list_in found ≡ Ok m → contents_in found files ≡ list_contents m files
+unfolding list_in contents_in
+listed_found None m files e = absurd cc
+listed_found (Some meta) m files e = listed_at meta m files e
+
+pub listed_contents : (m : MetaState) (files : Files) → list_in (files Meta) ≡ Ok m → contents_of files ≡ list_contents m files
+unfolding contents_of
+listed_contents m files e = listed_found (files Meta) m files e
+
+inside : (x y : MetaState) → ◌≡◌ {A = Result MetaState IndexFault} (Ok x) (Ok y) → x ≡ y
+inside x y e = cc
+
+one_list : (r : Result MetaState IndexFault) (x y : MetaState) → r ≡ Ok x → r ≡ Ok y → x ≡ y
+one_list r x y ex ey = inside x y (sym ex ∙ ey)
+
+pub fresh_id : (m : MetaState) (files : Files) → list_in (files Meta) ≡ Ok m → IsFresh m.next_segment_id files
+fresh_id m files e other is = omega (arith, ap (λ (x : MetaState). x.next_segment_id) (one_list (list_in (files Meta)) m other e is))
+
+-- the same files of segments below an id are the same segments
+abbrev pub KeepsBelow : ℕ → Files → Files → Type 0
+KeepsBelow id a c = (i : ℕ) (component : SegmentComponent) → i < id → c (Segment i component) ≡ a (Segment i component)
+
+found_same : (i : ℕ) (component : SegmentComponent) (found : Option FileMeta) (a c : Files) → ((component : SegmentComponent) → c (Segment i component) ≡ a (Segment i component)) → found_in i component found c ≡ found_in i component found a
+unfolding found_in
+found_same i component None a c each = refl
+found_same i component (Some f) a c each = rw (each f.component) refl
+
+segment_same : (s : SegmentState) (a c : Files) → ((component : SegmentComponent) → c (Segment s.id component) ≡ a (Segment s.id component)) → segment_in s c ≡ segment_in s a
+unfolding segment_in
+segment_same s a c each =
+    rw (found_same s.id Terms (file_of Terms s.files) a c each, found_same s.id Postings (file_of Postings s.files) a c each, found_same s.id Positions (file_of Positions s.files) a c each, found_same s.id FieldNorms (file_of FieldNorms s.files) a c each) refl
+
+id_below : (next : ℕ) (s : SegmentState) → is_segment next s ≡ true → s.id < next
+unfolding is_segment
+id_below next s e = ltb-true s.id next (both _ _ (both _ _ (both _ _ e).0).0).0
+
+pub segments_same : (next id : ℕ) (ss : List SegmentState) (a c : Files) → next ≤ id → KeepsBelow id a c → list_all (is_segment next) ss ≡ true → segments_in ss c ≡ segments_in ss a
+unfolding segments_in
+segments_same next id [] a c le keeps all = refl
+segments_same next id (s ∷ ss) a c le keeps all =
+    let p = both (is_segment next s) (list_all (is_segment next) ss) all in
+    rw (segment_same s a c (λ component. keeps s.id component (omega (arith, le, id_below next s p.0))), segments_same next id ss a c le keeps p.1) refl
+
+-- the same files of segments are the same list
+pub list_kept : (m : MetaState) (a c : Files) → KeepsBelow m.next_segment_id a c → list_all (is_segment m.next_segment_id) m.segments ≡ true → list_contents m c ≡ list_contents m a
+unfolding list_contents
+list_kept m a c keeps all = rw (segments_same m.next_segment_id m.next_segment_id m.segments a c (omega arith) keeps all) refl
+
+-- files that are the same, where segments have ids below one
+pub record SameBelow (id : ℕ) (a c : Files) : Type 0 where
+  pub meta : c Meta ≡ a Meta
+  pub slots : (slot : Slot) (kind : Kind) → c (File slot kind) ≡ a (File slot kind)
+  pub segments : KeepsBelow id a c
+
+module _ (id : ℕ) (a c : Files) (same : SameBelow id a c) where
+  one_same : index_of c ≡ index_of a
+  one_same = index_outside a c (record { meta = same.meta; files = λ kind. same.slots (other_slot (other_slot (used_slot (a Meta)))) kind })
+
+  list_same : (m : MetaState) → m.next_segment_id ≤ id → list_all (is_segment m.next_segment_id) m.segments ≡ true → list_contents m c ≡ list_contents m a
+  unfolding list_contents
+  list_same m le all = rw (segments_same m.next_segment_id id m.segments a c le same.segments all) refl
+
+  each_list : (r : Result MetaState IndexFault) → ((m : MetaState) → r ≡ Ok m → list_contents m c ≡ list_contents m a) → (r >>= λ m. list_contents m c) ≡ (r >>= λ m. list_contents m a)
+  each_list (Ok m) each = each m refl
+  each_list (Err fault) each = refl
+
+  each_version : (r : Result ℕ IndexFault) (one_c one_a two_c two_a : Result IndexContents IndexFault) → one_c ≡ one_a → two_c ≡ two_a → (r >>= λ version. either (version == 1) one_c two_c) ≡ (r >>= λ version. either (version == 1) one_a two_a)
+  each_version (Ok version) one_c one_a two_c two_a one two = rw (one, two) refl
+  each_version (Err fault) one_c one_a two_c two_a one two = refl
+
+  found_contents : (found : Option (List ℕ)) → ((m : MetaState) → list_in found ≡ Ok m → m.next_segment_id ≤ id) → contents_in found c ≡ contents_in found a
+  unfolding contents_in contents_at list_in
+  found_contents None fresh = refl
+  found_contents (Some meta) fresh = each_version (version_in meta) _ _ _ _ (ap (λ (r : Result Index IndexFault). r >>= λ i. Ok (one_segment i)) one_same)
+      (each_list (meta_of meta) (λ m is. list_same m (fresh m is) (segments_below m (consistent meta m is))))
+
+  -- they hold the same index
+  pub same_contents : IsFresh id a → contents_of c ≡ contents_of a
+  unfolding contents_of
+  same_contents fresh = ap (λ (found : Option (List ℕ)). contents_in found c) same.meta ∙ found_contents (a Meta) fresh
+
+-- the files of a new segment are read back
+
+read_back : (id : ℕ) (component : SegmentComponent) (bytes : List ℕ) (found : Option (List ℕ)) → found ≡ Some bytes → listed_bytes (record { id = id; file = file_meta component bytes }) found ≡ Ok bytes
+unfolding listed_bytes
+read_back id component bytes found is = rw is (rw (eq-eqb _ _ refl, nat_list_eq_equiv.refl (sha256 bytes)) refl)
+
+segment_again : (id : ℕ) (s : SegmentContents) (files : Files) → HasSegment id s files → segment_in (listed_segment id s) files ≡ Ok s
+unfolding segment_in found_in
+segment_again id s files there =
+    rw (
+      eq-eqb s.num_docs s.num_docs refl,
+      read_back id Terms s.terms (files (Segment id Terms)) there.terms,
+      read_back id Postings s.postings (files (Segment id Postings)) there.postings,
+      read_back id Positions s.positions (files (Segment id Positions)) there.positions,
+      read_back id FieldNorms s.fieldnorms (files (Segment id FieldNorms)) there.fieldnorms,
+    ) refl
+
+one_more : (r : Result SegmentContents IndexFault) (rs : Result (List SegmentContents) IndexFault) (z : SegmentContents)
+    → (r >>= λ f. (rs >>= λ cs. Ok (cs ++ z ∷ [])) >>= λ os. Ok (f ∷ os)) ≡ ((r >>= λ f. rs >>= λ os. Ok (f ∷ os)) >>= λ cs. Ok (cs ++ z ∷ []))
+one_more (Ok f) (Ok os) z = refl
+one_more (Ok f) (Err fault) z = refl
+one_more (Err fault) rs z = refl
+
+segments_more : (ss : List SegmentState) (s : SegmentState) (files : Files) (z : SegmentContents) → segment_in s files ≡ Ok z → segments_in (ss ++ s ∷ []) files ≡ (segments_in ss files >>= λ cs. Ok (cs ++ z ∷ []))
+unfolding segments_in
+segments_more [] s files z e = rw e refl
+segments_more (x ∷ ss) s files z e = rw (segments_more ss s files z e) (one_more (segment_in x files) (segments_in ss files) z)
+
+with_more : (schema : List ℕ) (rs : Result (List SegmentContents) IndexFault) (z : SegmentContents)
+    → ((rs >>= λ cs. Ok (cs ++ z ∷ [])) >>= λ segments. Ok (record { schema = schema; segments = segments })) ≡ with_segment z (rs >>= λ segments. Ok (record { schema = schema; segments = segments }))
+with_more schema (Ok cs) z = refl
+with_more schema (Err fault) z = refl
+
+list_more : (m : MetaState) (s : SegmentContents) (files : Files) → HasSegment m.next_segment_id s files → list_contents (next_list m s) files ≡ with_segment s (list_contents m files)
+unfolding list_contents
+list_more m s files there =
+    rw (segments_more m.segments (listed_segment m.next_segment_id s) files s (segment_again m.next_segment_id s files there)) (with_more m.schema (segments_in m.segments files) s)
+
+-- a commit
+
+module _ (m : MetaState) (s : SegmentContents) (old : Files) (below : list_all (is_segment m.next_segment_id) m.segments ≡ true) where
+  committed_below : (c : Files) → IsCommitted m.next_segment_id (next_list m s) s old c → KeepsBelow m.next_segment_id old c
+  committed_below c done i component lt = done.keeps (Segment i component) (λ other e. omega (arith, lt, name_id_of i component other e)) (λ e. absurd cc) (λ e. absurd cc)
+    where
+      name_id_of : (i : ℕ) (component other : SegmentComponent) → Segment i component ≡ Segment m.next_segment_id other → i ≡ m.next_segment_id
+      name_id_of i component other e = cc
+
+  -- the new list holds the segments of the old one, and the new one
+  pub committed_contents : (c : Files) → IsCommitted m.next_segment_id (next_list m s) s old c → contents_of c ≡ with_segment s (list_contents m old)
+  unfolding list_contents
+  committed_contents c done =
+      let again = segments_same m.next_segment_id m.next_segment_id m.segments old c (omega arith) (committed_below c done) below in
+      listed_contents (next_list m s) c done.meta ∙ list_more m s c done.there
+      ∙ ap (λ (r : Result (List SegmentContents) IndexFault). with_segment s (r >>= λ segments. Ok (record { schema = m.schema; segments = segments }))) again
+
+uncommitted_same : (id : ℕ) (old c : Files) → KeepsUncommitted id old c → SameBelow id old c
+uncommitted_same id old c keeps = record {
+  meta = keeps Meta (λ component e. absurd cc) (λ e. absurd cc);
+  slots = λ slot kind. keeps (File slot kind) (λ component e. absurd cc) (λ e. absurd cc);
+  segments = λ i component lt. keeps (Segment i component) (λ other e. omega (arith, lt, id_of i component other e)) (λ e. absurd cc);
+}
+  where
+    id_of : (i : ℕ) (component other : SegmentComponent) → Segment i component ≡ Segment id other → i ≡ id
+    id_of i component other e = cc
+
+pub may_hold : (m : MetaState) (s : SegmentContents) (old c : Files) → list_all (is_segment m.next_segment_id) m.segments ≡ true → IsFresh m.next_segment_id old → MayBeCommitted m.next_segment_id (next_list m s) s old c
+    → HoldsOldOr (with_segment s (list_contents m old)) old c
+may_hold m s old c below fresh may = ⊎_elim (λ kept. inl (same_contents m.next_segment_id old c (uncommitted_same m.next_segment_id old c kept) fresh)) (λ done. inr (committed_contents m s old below c done)) may
+
+-- the same files hold the same index
+
+abbrev next_of : Result MetaState IndexFault → ℕ
+next_of (Ok m) = m.next_segment_id
+next_of (Err fault) = 0
+
+below_next : (r : Result MetaState IndexFault) (m : MetaState) → r ≡ Ok m → m.next_segment_id ≤ next_of r
+below_next r m e = omega (arith, ap next_of e)
+
+contents_same : (a c : Files) → Same a c → contents_of c ≡ contents_of a
+contents_same a c same =
+    same_contents (next_of (list_in (a Meta))) a c (record { meta = same Meta; slots = λ slot kind. same (File slot kind); segments = λ i component lt. same (Segment i component) }) (below_next (list_in (a Meta)))
+
+module _ {D : Type 0} (moment : D → ℕ) (left_since : D → ℕ → Files → Type 0) (seen : D → Files) (old : D) where
+  -- what a run leaves that holds the old index or the wanted one
+  pub leaves_index : ((c : Files) → left_since old (moment old) c → Same (seen old) c) → (new : D) (wanted : Result IndexContents IndexFault)
+      → Elapses (moment old) (moment new) (left_since old) (left_since new) (HoldsOldOr wanted (seen old)) → LeavesOneIndex moment left_since seen old new wanted
+  leaves_index only new wanted time = record {
+    each = λ c left. ⊎_elim (λ before. inl (contents_same (seen old) c (only c before))) (λ one. one) (time.nothing_else (moment old) c (omega arith) left);
+    time = time;
+  }
+
+  -- nothing was called yet
+  pub holds_none : (wanted : Result IndexContents IndexFault) → Elapses (moment old) (moment old) (left_since old) (left_since old) (HoldsOldOr wanted (seen old))
+  holds_none wanted = elapses_none moment left_since old (HoldsOldOr wanted (seen old))
+
+  -- a segment was committed, or not
+  pub commit_time : (m : MetaState) (s : SegmentContents) (new : D) → list_all (is_segment m.next_segment_id) m.segments ≡ true → IsFresh m.next_segment_id (seen old)
+      → Elapses (moment old) (moment new) (left_since old) (left_since new) (MayBeCommitted m.next_segment_id (next_list m s) s (seen old))
+      → Elapses (moment old) (moment new) (left_since old) (left_since new) (HoldsOldOr (with_segment s (list_contents m (seen old))) (seen old))
+  commit_time m s new below fresh time = elapses_implies moment left_since old new (MayBeCommitted m.next_segment_id (next_list m s) s (seen old)) (HoldsOldOr (with_segment s (list_contents m (seen old))) (seen old)) time
+      (λ c may. may_hold m s (seen old) c below fresh may)
+
+-- an index of version 1
+
+bound : {A B : Type 0} (r : Result A IndexFault) (f : A → Result B IndexFault) (y : B) → (r >>= f) ≡ Ok y → (x : A) × (r ≡ Ok x)
+bound (Ok x) f y e = (x, refl)
+bound (Err fault) f y e = absurd cc
+
+abbrev number_unless : Bool → IndexFault → Result ℕ IndexFault → Result ℕ IndexFault
+number_unless b fault rest = if b then Err fault else rest
+
+first_number : (r : Result ℕ IndexFault) (rest : Result ℕ IndexFault) (n : ℕ) → (r >>= λ version. number_unless (not (version == 1)) (OtherVersion version) rest) ≡ Ok n → r ≡ Ok 1
+first_number (Ok zero) rest n e = absurd cc
+first_number (Ok (suc zero)) rest n e = refl
+first_number (Ok (suc (suc k))) rest n e =
+    let wrong = rw (ne_eqb (suc (suc k)) 1 (λ same. omega (arith, same))) at e in
+    absurd cc
+first_number (Err fault) rest n e = absurd cc
+
+first_meta : (meta : List ℕ) (a b c d e : Option (List ℕ)) (i : Index) → index_at meta a b c d e ≡ Ok i → version_in meta ≡ Ok 1
+unfolding index_at num_docs_in
+first_meta meta a b c d e i is =
+    let read = bound (num_docs_in meta) _ i is in
+    first_number (version_in meta) (whole_num_docs_in meta) read.0 read.1
+
+has_meta : (found : Option (List ℕ)) (kinds : Kind → Option (List ℕ)) (i : Index) → index_in found kinds ≡ Ok i → (meta : List ℕ) × (found ≡ Some meta) × (version_in meta ≡ Ok 1)
+has_meta None kinds i e = absurd cc
+has_meta (Some meta) kinds i e = (meta, refl, first_meta meta (kinds Schema) (kinds kinds_of.Terms) (kinds kinds_of.Postings) (kinds kinds_of.Positions) (kinds kinds_of.FieldNorms) i e)
+
+meta_found : (files : Files) (i : Index) → index_of files ≡ Ok i → (meta : List ℕ) × (files Meta ≡ Some meta) × (version_in meta ≡ Ok 1)
+unfolding index_of
+meta_found files i e = has_meta (files Meta) (λ kind. files (File (used_slot (files Meta)) kind)) i e
+
+first_at : (meta : List ℕ) (files : Files) (i : Index) → version_in meta ≡ Ok 1 → index_of files ≡ Ok i → contents_at meta files ≡ Ok (one_segment i)
+unfolding contents_at
+first_at meta files i version e = rw (version, e) refl
+
+first_contents : (i : Index) (files : Files) → index_of files ≡ Ok i → contents_of files ≡ Ok (one_segment i)
+unfolding contents_of contents_in
+first_contents i files e =
+    let h = meta_found files i e in
+    ap (λ (found : Option (List ℕ)). contents_in found files) h.1 ∙ first_at h.0 files i h.2 e
+
+no_list : (meta : List ℕ) (m : MetaState) → version_in meta ≡ Ok 1 → meta_of meta ≡ Ok m → ⊥
+unfolding meta_of
+no_list meta m version e =
+    let wrong = rw version at e in
+    absurd cc
+
+no_list_found : (found : Option (List ℕ)) (meta : List ℕ) (m : MetaState) → found ≡ Some meta → version_in meta ≡ Ok 1 → list_in found ≡ Ok m → ⊥
+unfolding list_in
+no_list_found found meta m is version e = no_list meta m version (rw is at e)
+
+pub first_fresh : (i : Index) (files : Files) (id : ℕ) → index_of files ≡ Ok i → IsFresh id files
+first_fresh i files id e m is = let h = meta_found files i e in absurd (no_list_found (files Meta) h.0 m h.1 h.2 is)
+
+-- a list of no segments, with a schema
+abbrev pub empty_list : List ℕ → List SegmentMeta → MetaState
+empty_list schema none = record { generation = 0; next_segment_id = 0; schema = schema; segments = map segment_view none }
+
+empty_contents : (schema : List ℕ) (none : List SegmentMeta) (files : Files) → none ≡ [] → list_contents (empty_list schema none) files ≡ Ok (record { schema = schema; segments = [] })
+unfolding list_contents segments_in
+empty_contents schema none files e = rw e refl
+
+-- an index of version 1 and a list of its one segment hold the same
+pub first_same : (schema : List ℕ) (none : List SegmentMeta) (s : SegmentContents) (i : Index) (files : Files) → none ≡ [] → i ≡ as_index schema s → index_of files ≡ Ok i
+    → with_segment s (list_contents (empty_list schema none) files) ≡ contents_of files
+first_same schema none s i files e is found =
+    ap (with_segment s) (empty_contents schema none files e) ∙ sym (first_contents (as_index schema s) files (found ∙ ap (λ (x : Index). Ok x) is))

@@ -1,0 +1,4 @@
+mod LoadLaws
+mod PutLaws
+mod CommitLaws
+mod ClearLaws

@@ -1,0 +1,71 @@
+//! Removes the files of version 1 once an index is of version 2.
+ghost use Rattle.std.specs.Prelude.{◌≡◌, IfErr, OnOk};
+ghost use Rattle.ii_store.specs.declared.name.Name.TheVariants.{Meta};
+ghost use Rattle.ii_store.specs.declared.name.Slot.TheVariants.{First, Second};
+ghost use Rattle.ii_store.specs.Directory.{Elapses};
+ghost use Rattle.ii_store.specs.Index.{Fails};
+ghost use Rattle.ii_store.specs.Segments.{list_in};
+ghost use Rattle.ii_segment_store.specs.Commits.{HasNoLists, HasNoSlot, KeepsButSlot, KeepsButSlots, LeavesOneIndex};
+ghost use Rattle.ii_segment_store.specs.Contents.{contents_of};
+
+use ii_store::segments::load_meta;
+use ii_store::{Directory, DirectoryFault, Kind, Name, Slot, StoreFault};
+use std::alloc::Global;
+
+/// Removes the files of both slots, which an index of version 2 doesn't have. What the index holds doesn't
+/// change, wherever this is stopped. Returns the errors of `load_meta`, and then removes nothing.
+pub fn remove_slots<D: Directory>(alloc: Global, directory: &mut D) -> Result<(), StoreFault>
+    ensures known { D.is_known directory.old → OnOk result (D.is_known directory.new) }
+    ensures first { D.is_known directory.old → OnOk result (HasNoSlot First (D.seen directory.new)) }
+    ensures second { D.is_known directory.old → OnOk result (HasNoSlot Second (D.seen directory.new)) }
+    ensures keeps { D.is_known directory.old → OnOk result (KeepsButSlots (D.seen directory.old) (D.seen directory.new)) }
+    ensures same { D.is_known directory.old → OnOk result (contents_of (D.seen directory.new) ≡ contents_of (D.seen directory.old)) }
+    ensures leaves_same { D.is_known directory.old → LeavesOneIndex D.moment D.left_since D.seen directory.old directory.new (contents_of (D.seen directory.old)) }
+    ensures fault { D.is_known directory.old → IfErr result (λ e. Fails e (list_in (D.seen directory.old Meta))) }
+{
+    let list = match load_meta(alloc, directory) {
+        Ok(list) => list,
+        Err(fault) => return Err(fault),
+    };
+    drop(list);
+    match remove_both(directory) {
+        Ok(()) => Ok(()),
+        Err(fault) => Err(StoreFault::Directory(fault)),
+    }
+}
+
+// Removes the files of both slots.
+fn remove_both<D: Directory>(directory: &mut D) -> Result<(), DirectoryFault>
+    ensures known { D.is_known directory.old → OnOk result (D.is_known directory.new) }
+    ensures first { D.is_known directory.old → OnOk result (HasNoSlot First (D.seen directory.new)) }
+    ensures second { D.is_known directory.old → OnOk result (HasNoSlot Second (D.seen directory.new)) }
+    ensures keeps { D.is_known directory.old → OnOk result (KeepsButSlots (D.seen directory.old) (D.seen directory.new)) }
+    ensures time { D.is_known directory.old → Elapses (D.moment directory.old) (D.moment directory.new) (D.left_since directory.old) (D.left_since directory.new) (KeepsButSlots (D.seen directory.old)) }
+{
+    remove_slot(directory, Slot::First)?;
+    remove_slot(directory, Slot::Second)
+}
+
+// Removes the files of a slot.
+fn remove_slot<D: Directory>(directory: &mut D, slot: Slot) -> Result<(), DirectoryFault>
+    ensures known { D.is_known directory.old → OnOk result (D.is_known directory.new) }
+    ensures gone { D.is_known directory.old → OnOk result (HasNoSlot slot (D.seen directory.new)) }
+    ensures keeps { D.is_known directory.old → OnOk result (KeepsButSlot slot (D.seen directory.old) (D.seen directory.new)) }
+    ensures time { D.is_known directory.old → Elapses (D.moment directory.old) (D.moment directory.new) (D.left_since directory.old) (D.left_since directory.new) (KeepsButSlot slot (D.seen directory.old)) }
+{
+    remove_lists(directory, slot)?;
+    directory.remove(Name::File(slot, Kind::Schema))
+}
+
+// Removes the files of a slot, except the schema.
+fn remove_lists<D: Directory>(directory: &mut D, slot: Slot) -> Result<(), DirectoryFault>
+    ensures known { D.is_known directory.old → OnOk result (D.is_known directory.new) }
+    ensures gone { D.is_known directory.old → OnOk result (HasNoLists slot (D.seen directory.new)) }
+    ensures keeps { D.is_known directory.old → OnOk result (KeepsButSlot slot (D.seen directory.old) (D.seen directory.new)) }
+    ensures time { D.is_known directory.old → Elapses (D.moment directory.old) (D.moment directory.new) (D.left_since directory.old) (D.left_since directory.new) (KeepsButSlot slot (D.seen directory.old)) }
+{
+    directory.remove(Name::File(slot, Kind::Terms))?;
+    directory.remove(Name::File(slot, Kind::Postings))?;
+    directory.remove(Name::File(slot, Kind::Positions))?;
+    directory.remove(Name::File(slot, Kind::FieldNorms))
+}

@@ -1,0 +1,235 @@
+//! Adds a segment to an index, so that a stop leaves the old index or the new one.
+ghost use Rattle.std.specs.Prelude.{◌≡◌, true, IfErr, IfOk, Ok, OnOk};
+ghost use Rattle.std.specs.List.{list_all};
+ghost use Rattle.ii_store.specs.declared.name.Name.TheVariants.{Meta};
+ghost use Rattle.ii_store.specs.Directory.{Elapses};
+ghost use Rattle.ii_store.specs.Index.{index_of, view};
+ghost use Rattle.ii_store.specs.IndexMeta.{IsValidMeta, is_segment, meta_view, segment_view};
+ghost use Rattle.ii_store.specs.Segments.{list_in};
+ghost use Rattle.ii_segment_store.specs.Commits.{HasList, HasSegment, HoldsOldOr, IsCommitFault, IsCommitted, IsFresh, KeepsButSegment, LeavesOneIndex, MayBeCommitted, listed_segment, next_list};
+ghost use Rattle.ii_segment_store.specs.Contents.{contents_of, list_contents, segment_contents, with_segment};
+
+use crate::faults::CommitFault;
+use crate::stored_segments::StoredSegment;
+use ii_store::commit_check::is_valid;
+use ii_store::segments::{load_meta, replace_list};
+use ii_store::{
+    Directory, DirectoryFault, FileMeta, IndexFault, IndexMeta, Name, SegmentComponent, SegmentId,
+    SegmentMeta, StoreFault, StoredIndex, load,
+};
+use std::alloc::{AllocError, Global};
+
+/// Adds a segment after those of an index of version 2: writes its files under an id that no segment had, and
+/// atomically replaces `meta`.
+///
+/// After a stop or an error the directory holds the old index or the one with the new segment. After an error,
+/// open the directory again. The files of other segments aren't read.
+///
+/// # Errors
+///
+/// The errors of `load_meta`, `OtherVersion` for an index of version 1 (see `upgrade`); `TooMany` if the index
+/// would have too many documents or segments. Nothing is written then.
+pub fn append_segment<D: Directory>(
+    alloc: Global,
+    directory: &mut D,
+    segment: &StoredSegment,
+) -> Result<(), CommitFault>
+    ensures known { D.is_known directory.old → OnOk result (D.is_known directory.new) }
+    ensures appended { D.is_known directory.old → OnOk result (contents_of (D.seen directory.new) ≡ with_segment (segment_contents segment.now) (contents_of (D.seen directory.old))) }
+    ensures leaves_one { D.is_known directory.old → LeavesOneIndex D.moment D.left_since D.seen directory.old directory.new (with_segment (segment_contents segment.now) (contents_of (D.seen directory.old))) }
+    ensures fault { D.is_known directory.old → IfErr result (λ e. IsCommitFault e (list_in (D.seen directory.old Meta)) (segment_contents segment.now)) }
+{
+    let list = match load_meta(alloc, directory) {
+        Ok(list) => list,
+        Err(fault) => return Err(CommitFault::Store(fault)),
+    };
+    commit_segment(alloc, directory, list, segment)
+}
+
+/// Makes an index of version 1 one of version 2 with one segment of the same bytes. Returns whether the index
+/// was of version 1; one of version 2 is left as it is. The files of version 1 remain until `remove_slots`.
+///
+/// What the index holds doesn't change, wherever this is stopped.
+///
+/// # Errors
+///
+/// `NoIndex` and `DamagedMeta` as `load_meta` returns them; the errors of `load` for an index of version 1;
+/// `TooMany` if it has 2^31 documents or more, or a schema of 2^32 bytes or more.
+pub fn upgrade<D: Directory>(alloc: Global, directory: &mut D) -> Result<bool, CommitFault>
+    ensures known { D.is_known directory.old → OnOk result (D.is_known directory.new) }
+    ensures same { D.is_known directory.old → OnOk result (contents_of (D.seen directory.new) ≡ contents_of (D.seen directory.old)) }
+    ensures listed { D.is_known directory.old → OnOk result (HasList (D.seen directory.new)) }
+    ensures leaves_same { D.is_known directory.old → LeavesOneIndex D.moment D.left_since D.seen directory.old directory.new (contents_of (D.seen directory.old)) }
+{
+    match load_meta(alloc, directory) {
+        Ok(_) => return Ok(false),
+        Err(StoreFault::Index(IndexFault::OtherVersion(_))) => {}
+        Err(fault) => return Err(CommitFault::Store(fault)),
+    }
+    let index = match load(alloc, directory) {
+        Ok(index) => index,
+        Err(fault) => return Err(CommitFault::Store(fault)),
+    };
+    match upgrade_from(alloc, directory, index) {
+        Ok(()) => Ok(true),
+        Err(fault) => Err(fault),
+    }
+}
+
+// Puts a list of one segment in the place of the current index of version 1.
+fn upgrade_from<D: Directory>(
+    alloc: Global,
+    directory: &mut D,
+    index: StoredIndex,
+) -> Result<(), CommitFault>
+    requires { D.is_known directory.old → index_of (D.seen directory.old) ≡ Ok (view index) }
+    ensures known { D.is_known directory.old → OnOk result (D.is_known directory.new) }
+    ensures same { D.is_known directory.old → OnOk result (contents_of (D.seen directory.new) ≡ contents_of (D.seen directory.old)) }
+    ensures listed { D.is_known directory.old → OnOk result (HasList (D.seen directory.new)) }
+    ensures time { D.is_known directory.old → Elapses (D.moment directory.old) (D.moment directory.new) (D.left_since directory.old) (D.left_since directory.new) (HoldsOldOr (contents_of (D.seen directory.old)) (D.seen directory.old)) }
+{
+    let StoredIndex {
+        num_docs,
+        schema,
+        terms,
+        postings,
+        positions,
+        fieldnorms,
+    } = index;
+    let list = IndexMeta {
+        generation: 0,
+        next_segment_id: 0,
+        schema,
+        segments: Vec::new(alloc),
+    };
+    let segment = StoredSegment {
+        num_docs,
+        terms,
+        postings,
+        positions,
+        fieldnorms,
+    };
+    let committed = commit_segment(alloc, directory, list, &segment);
+    drop(segment);
+    committed
+}
+
+// Writes a segment, and puts the list with it at its end in the place of the current one.
+fn commit_segment<D: Directory>(
+    alloc: Global,
+    directory: &mut D,
+    list: IndexMeta,
+    segment: &StoredSegment,
+) -> Result<(), CommitFault>
+    requires fresh { D.is_known directory.old → IsFresh list.next_segment_id (D.seen directory.old) }
+    requires below { D.is_known directory.old → list_all (is_segment list.next_segment_id) (meta_view list).segments ≡ true }
+    ensures known { D.is_known directory.old → OnOk result (D.is_known directory.new) }
+    ensures committed { D.is_known directory.old → OnOk result (contents_of (D.seen directory.new) ≡ with_segment (segment_contents segment.now) (list_contents (meta_view list) (D.seen directory.old))) }
+    ensures listed { D.is_known directory.old → OnOk result (list_in (D.seen directory.new Meta) ≡ Ok (next_list (meta_view list) (segment_contents segment.now))) }
+    ensures time { D.is_known directory.old → Elapses (D.moment directory.old) (D.moment directory.new) (D.left_since directory.old) (D.left_since directory.new) (HoldsOldOr (with_segment (segment_contents segment.now) (list_contents (meta_view list) (D.seen directory.old))) (D.seen directory.old)) }
+    ensures fault { IfErr result (λ e. IsCommitFault e (Ok (meta_view list)) (segment_contents segment.now)) }
+{
+    let id = list.next_segment_id;
+    let next = match with_listed(alloc, list, segment) {
+        Ok(next) => next,
+        Err(fault) => return Err(fault),
+    };
+    match put_segment(alloc, directory, id, &next, segment) {
+        Ok(()) => Ok(()),
+        Err(fault) => Err(CommitFault::from(fault)),
+    }
+}
+
+// Returns a list with one segment more, or `TooMany` if no `meta` can hold it.
+fn with_listed(
+    alloc: Global,
+    list: IndexMeta,
+    segment: &StoredSegment,
+) -> Result<IndexMeta, CommitFault>
+    ensures next { IfOk result (λ m. meta_view m ≡ next_list (meta_view list) (segment_contents segment.now)) }
+    ensures valid { IfOk result (λ m. IsValidMeta (meta_view m)) }
+    ensures fault { IfErr result (λ e. IsCommitFault e (Ok (meta_view list)) (segment_contents segment.now)) }
+{
+    let mut next = list;
+    if next.generation == u64::MAX {
+        return Err(CommitFault::TooMany);
+    }
+    if next.next_segment_id == u64::MAX {
+        return Err(CommitFault::TooMany);
+    }
+    let listed = listed_segment(alloc, next.next_segment_id, segment)?;
+    next.segments.push(listed)?;
+    next.generation += 1;
+    next.next_segment_id += 1;
+    if !is_valid(&next) {
+        return Err(CommitFault::TooMany);
+    }
+    Ok(next)
+}
+
+// Returns a segment, as `meta` lists it.
+fn listed_segment(
+    alloc: Global,
+    id: SegmentId,
+    segment: &StoredSegment,
+) -> Result<SegmentMeta, AllocError>
+    ensures { IfOk result (λ s. segment_view s ≡ listed_segment id (segment_contents segment.now)) }
+{
+    let mut files = Vec::new(alloc);
+    files.push(FileMeta::new(SegmentComponent::Terms, segment.terms.as_slice()))?;
+    files.push(FileMeta::new(SegmentComponent::Postings, segment.postings.as_slice()))?;
+    files.push(FileMeta::new(SegmentComponent::Positions, segment.positions.as_slice()))?;
+    files.push(FileMeta::new(SegmentComponent::FieldNorms, segment.fieldnorms.as_slice()))?;
+    Ok(SegmentMeta {
+        id,
+        num_docs: segment.num_docs,
+        num_living: segment.num_docs,
+        files,
+    })
+}
+
+// Writes the files of a segment, and puts a list in the place of the current one.
+fn put_segment<D: Directory>(
+    alloc: Global,
+    directory: &mut D,
+    id: SegmentId,
+    list: &IndexMeta,
+    segment: &StoredSegment,
+) -> Result<(), DirectoryFault>
+    requires { IsValidMeta (meta_view list.now) }
+    ensures known { D.is_known directory.old → OnOk result (D.is_known directory.new) }
+    ensures committed { D.is_known directory.old → OnOk result (IsCommitted id (meta_view list.now) (segment_contents segment.now) (D.seen directory.old) (D.seen directory.new)) }
+    ensures time { D.is_known directory.old → Elapses (D.moment directory.old) (D.moment directory.new) (D.left_since directory.old) (D.left_since directory.new) (MayBeCommitted id (meta_view list.now) (segment_contents segment.now) (D.seen directory.old)) }
+{
+    write_segment(directory, id, segment)?;
+    replace_list(alloc, directory, list)
+}
+
+// Writes the files of a segment.
+fn write_segment<D: Directory>(
+    directory: &mut D,
+    id: SegmentId,
+    segment: &StoredSegment,
+) -> Result<(), DirectoryFault>
+    ensures known { D.is_known directory.old → OnOk result (D.is_known directory.new) }
+    ensures there { D.is_known directory.old → OnOk result (HasSegment id (segment_contents segment.now) (D.seen directory.new)) }
+    ensures keeps { D.is_known directory.old → OnOk result (KeepsButSegment id (D.seen directory.old) (D.seen directory.new)) }
+    ensures time { D.is_known directory.old → Elapses (D.moment directory.old) (D.moment directory.new) (D.left_since directory.old) (D.left_since directory.new) (KeepsButSegment id (D.seen directory.old)) }
+{
+    directory.write(
+        Name::Segment(id, SegmentComponent::Terms),
+        segment.terms.as_slice(),
+    )?;
+    directory.write(
+        Name::Segment(id, SegmentComponent::Postings),
+        segment.postings.as_slice(),
+    )?;
+    directory.write(
+        Name::Segment(id, SegmentComponent::Positions),
+        segment.positions.as_slice(),
+    )?;
+    directory.write(
+        Name::Segment(id, SegmentComponent::FieldNorms),
+        segment.fieldnorms.as_slice(),
+    )
+}

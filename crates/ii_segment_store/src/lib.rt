@@ -1,0 +1,15 @@
+//! An index of several segments in a folder: what it holds, and how a segment is added, so that a stop leaves
+//! the old index or the new one.
+#![tactic(auto)]
+
+pub mod clearing;
+pub mod committing;
+pub mod faults;
+pub mod loading;
+pub mod stored_segments;
+
+pub use clearing::remove_slots;
+pub use committing::{append_segment, upgrade};
+pub use faults::CommitFault;
+pub use loading::{load_latest, load_segments};
+pub use stored_segments::{StoredSegment, StoredSegments};

@@ -1,0 +1,188 @@
+//! Loads all segments of an index.
+ghost use Rattle.std.specs.Prelude.{◌≡◌, IfErr, IfOk, map};
+ghost use Rattle.ii_store.specs.Faults.{of_directory};
+ghost use Rattle.ii_store.specs.declared.faults.DirectoryFault.TheVariants.{OutOfMemory};
+ghost use Rattle.ii_store.specs.Index.{AnswersFromFiles, view};
+ghost use Rattle.ii_store.specs.IndexMeta.{segment_view, meta_view};
+ghost use Rattle.ii_segment_store.specs.Contents.{bytes_in, contents_of, contents_at, contents_view, file_of, list_contents, one_segment, segment_contents, segment_in, segments_in};
+
+use crate::stored_segments::{StoredSegment, StoredSegments};
+use ii_store::index_meta_reader::decode;
+use ii_store::meta::{VERSION, version_of};
+use ii_store::segments::load_segment_file;
+use ii_store::{
+    Directory, FileMeta, IndexFault, IndexMeta, Name, SegmentComponent, SegmentMeta, StoreFault,
+    StoredIndex, load,
+};
+use std::alloc::Global;
+
+// How often an index is read again while its list changes.
+const MOST_RETRIES: u32 = 10;
+
+/// Loads the index of a directory, of either version: its schema, and exactly the bytes of each segment. An
+/// index of version 1 is one segment.
+///
+/// Returns `NoIndex` if there is no `meta`, and `OtherVersion` or `DamagedMeta` if it isn't a valid one.
+/// Otherwise returns the first fault of a file, segment by segment: missing, wrong length or wrong checksum;
+/// or `DeletedDocuments` for a segment with deleted documents.
+#[tactic(auto, unfolding(crate::specs::Contents::contents_of, crate::specs::Contents::contents_in))]
+pub fn load_segments<D: Directory>(
+    alloc: Global,
+    directory: &D,
+) -> Result<StoredSegments, StoreFault>
+    ensures { D.is_known directory.now → AnswersFromFiles contents_view result (contents_of (D.seen directory.now)) }
+{
+    let Some(meta) = directory.read(alloc, Name::Meta)? else {
+        return Err(StoreFault::Index(IndexFault::NoIndex));
+    };
+    load_by(alloc, directory, meta.as_slice())
+}
+
+/// Loads the index of a directory as `load_segments` does. If another program replaces the index meanwhile, so
+/// that files of the old one are missing or changed, the new one is loaded; so often at most 10 times.
+pub fn load_latest<D: Directory>(alloc: Global, directory: &D) -> Result<StoredSegments, StoreFault>
+    ensures { D.is_known directory.now → AnswersFromFiles contents_view result (contents_of (D.seen directory.now)) }
+{
+    for _ in 0..MOST_RETRIES {
+        let before = directory.read(alloc, Name::Meta)?;
+        let fault = match load_segments(alloc, directory) {
+            Ok(segments) => return Ok(segments),
+            Err(fault) => fault,
+        };
+        let after = directory.read(alloc, Name::Meta)?;
+        if before == after {
+            return Err(fault);
+        }
+    }
+    load_segments(alloc, directory)
+}
+
+// Loads the index that a `meta` file describes.
+#[tactic(auto, unfolding(crate::specs::Contents::contents_at))]
+fn load_by<D: Directory>(
+    alloc: Global,
+    directory: &D,
+    meta: &[u8],
+) -> Result<StoredSegments, StoreFault>
+    ensures { D.is_known directory.now → AnswersFromFiles contents_view result (contents_at meta.now (D.seen directory.now)) }
+{
+    let version = version_of(meta)?;
+    if version == VERSION {
+        let index = load(alloc, directory)?;
+        return Ok(one_segment(alloc, index)?);
+    }
+    let list = decode(alloc, meta)?;
+    load_list(alloc, directory, list)
+}
+
+// Returns an index of version 1 as one segment.
+fn one_segment(alloc: Global, index: StoredIndex) -> Result<StoredSegments, StoreFault>
+    ensures one { IfOk result (λ s. contents_view s ≡ one_segment (view index)) }
+    ensures only { IfErr result (λ e. e ≡ of_directory OutOfMemory) }
+{
+    let StoredIndex {
+        num_docs,
+        schema,
+        terms,
+        postings,
+        positions,
+        fieldnorms,
+    } = index;
+    let mut segments = Vec::new(alloc);
+    segments.push(StoredSegment {
+        num_docs,
+        terms,
+        postings,
+        positions,
+        fieldnorms,
+    })?;
+    Ok(StoredSegments { schema, segments })
+}
+
+// Loads the segments of a list.
+#[tactic(auto, unfolding(crate::specs::Contents::list_contents))]
+fn load_list<D: Directory>(
+    alloc: Global,
+    directory: &D,
+    list: IndexMeta,
+) -> Result<StoredSegments, StoreFault>
+    ensures { D.is_known directory.now → AnswersFromFiles contents_view result (list_contents (meta_view list) (D.seen directory.now)) }
+{
+    match load_each(alloc, directory, list.segments.as_slice()) {
+        Ok(segments) => Ok(StoredSegments {
+            schema: list.schema,
+            segments,
+        }),
+        Err(fault) => Err(fault),
+    }
+}
+
+// Loads segments one by one.
+fn load_each<D: Directory>(
+    alloc: Global,
+    directory: &D,
+    listed: &[SegmentMeta],
+) -> Result<Vec<StoredSegment>, StoreFault>
+    ensures { D.is_known directory.now → AnswersFromFiles (λ v. map segment_contents v.items) result (segments_in (map segment_view listed.now) (D.seen directory.now)) }
+{
+    let mut segments = Vec::new(alloc);
+    for segment in listed {
+        let loaded = load_segment(alloc, directory, segment)?;
+        segments.push(loaded)?;
+    }
+    Ok(segments)
+}
+
+// Loads the files of a segment.
+#[tactic(auto, unfolding(crate::specs::Contents::segment_in))]
+fn load_segment<D: Directory>(
+    alloc: Global,
+    directory: &D,
+    segment: &SegmentMeta,
+) -> Result<StoredSegment, StoreFault>
+    ensures { D.is_known directory.now → AnswersFromFiles segment_contents result (segment_in (segment_view segment.now) (D.seen directory.now)) }
+{
+    if segment.num_living != segment.num_docs {
+        return Err(StoreFault::Index(IndexFault::DeletedDocuments(segment.id)));
+    }
+    let terms = load_file(alloc, directory, segment, SegmentComponent::Terms)?;
+    let postings = load_file(alloc, directory, segment, SegmentComponent::Postings)?;
+    let positions = load_file(alloc, directory, segment, SegmentComponent::Positions)?;
+    let fieldnorms = load_file(alloc, directory, segment, SegmentComponent::FieldNorms)?;
+    Ok(StoredSegment {
+        num_docs: segment.num_docs,
+        terms,
+        postings,
+        positions,
+        fieldnorms,
+    })
+}
+
+// Loads the file of a component of a segment.
+#[tactic(auto, unfolding(crate::specs::Contents::found_in))]
+fn load_file<D: Directory>(
+    alloc: Global,
+    directory: &D,
+    segment: &SegmentMeta,
+    component: SegmentComponent,
+) -> Result<Vec<u8>, StoreFault>
+    ensures { D.is_known directory.now → AnswersFromFiles (λ v. v.items) result (bytes_in (segment_view segment.now) component (D.seen directory.now)) }
+{
+    let id = segment.id;
+    let Some(file) = file_of(segment.files.as_slice(), component) else {
+        return Err(StoreFault::Index(IndexFault::MissingFile(id, component)));
+    };
+    load_segment_file(alloc, directory, id, &file)
+}
+
+/// Returns the file of a component, if a segment lists one.
+pub fn file_of(files: &[FileMeta], component: SegmentComponent) -> Option<FileMeta>
+    ensures { result ≡ file_of component files.now }
+{
+    for file in files {
+        if file.component.is_same(component) {
+            return Some(*file);
+        }
+    }
+    None
+}
