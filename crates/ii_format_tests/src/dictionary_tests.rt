@@ -111,7 +111,7 @@ fn has_one_place(terms: &TermDictionary, key: &mut Vec<u8>) -> Result<[bool; 5],
 static A: [u8; 1] = *b"a";
 
 // Opens the dictionary of that key.
-fn dictionary(alloc: Global) -> Result<TermDictionary, Fault> {
+pub(crate) fn dictionary(alloc: Global) -> Result<TermDictionary, Fault> {
     TermDictionary::open(Bytes::copy_from_slice(alloc, &one())?)
 }
 

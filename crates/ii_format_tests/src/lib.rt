@@ -1,4 +1,4 @@
-//! Tests `ii_codes`, `ii_layout`, `ii_termstore` and `ii_termdict` through their public calls.
+//! Tests `ii_codes`, `ii_layout`, `ii_counts`, `ii_termstore` and `ii_termdict` through their public calls.
 #![tactic(auto)]
 
 #[cfg(test)]
@@ -11,6 +11,8 @@ mod bounds_tests;
 mod count_tests;
 #[cfg(test)]
 mod dictionary_tests;
+#[cfg(test)]
+mod merger_tests;
 #[cfg(test)]
 mod packed_tests;
 #[cfg(test)]
