@@ -29,14 +29,6 @@ first_known : {A B : Type 0} (found : Result A Part) (f : A → Result B Part) �
 first_known (Ok x) f known = refl
 first_known (Err part) f known = absurd (cc)
 
-then_known : {A B : Type 0} (found : Result A Part) (f : A → Result B Part) (x : A) → IsOk (found >>= f) → found ≡ Ok x → IsOk (f x)
-then_known (Ok y) f x known is = let same : y ≡ x = cc in rw (← same) known
-then_known (Err part) f x known is = absurd (cc)
-
-some_known : {A : Type 0} (o : Option A) (part : Part) → IsOk (ok_or o part) → IsSome o
-some_known (Some x) part known = refl
-some_known None part known = absurd (cc)
-
 pub postings_known : (recorded requested : IndexRecordOption) (n : ℕ) (bytes : List ℕ) → IsOk (docs_and_freqs recorded requested n bytes) → IsOk (postings recorded requested n bytes)
 postings_known recorded requested n bytes known = first_known (postings recorded requested n bytes) (λ (p : Postings). Ok (p.docs, p.freqs)) known
 

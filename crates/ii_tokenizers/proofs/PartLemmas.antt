@@ -3,7 +3,7 @@ use Rattle.std.proofs.Common.{◌≡◌, ℕ, zero, suc, ◌+◌, ◌<◌, Bool,
 use Rattle.std.specs.Prelude.{encode_utf8_all, Err, Ok, OnOk, Result}
 use Rattle.std.specs.Char.{encode_utf8, len_utf8}
 use Rattle.std.specs.Str.{IsUtf8}
-use Rattle.std.proofs.lemmas.Bool.{lt-ltb}
+use Rattle.std.proofs.lemmas.Bool.{and_parts, lt-ltb}
 use Rattle.std.proofs.lemmas.List.{append-nil}
 use Rattle.std.proofs.lemmas.Str.{IsUtf8-past_char, chars-append, chars-nil, chars_from_encodes, cons_from_encodes, encodes-chars, length-encode}
 use Rattle.unicode_segmentation.proofs.TextLemmas.{chars-encode_utf8}
@@ -47,15 +47,11 @@ pub record Begins (bs rest : List ℕ) (c : ℕ) : Type 0 where
   pub rest_utf8 : IsUtf8 rest
   pub one : IsUtf8 (encode_utf8 c)
 
-both_true : (a b : Bool) → (a && b) ≡ true → a ≡ true
-both_true true b is = refl
-both_true false b is = absurd (cc)
-
 pub begins : (bs rest : List ℕ) (c : ℕ) → IsUtf8 bs → bs ≡ encode_utf8 c ++ rest → Begins bs rest c
 begins bs rest c utf8 is =
     let parts = cons_from_encodes utf8.0 rest c (utf8.1.1 ∙ is) in
     let past = IsUtf8-past_char bs rest c utf8 is in
-    let first : scalar c ≡ true = both_true (scalar c) (scalars parts.0) (subst (λ (cs : List ℕ). scalars cs ≡ true) parts.1 utf8.1.0) in
+    let first : scalar c ≡ true = (and_parts (scalar c) (scalars parts.0) (subst (λ (cs : List ℕ). scalars cs ≡ true) parts.1 utf8.1.0)).0 in
     record {
       chars_are = sym (chars_from_encodes utf8.0 bs utf8 utf8.1.1) ∙ parts.1 ∙ ap (λ (cs : List ℕ). c ∷ cs) (chars_from_encodes parts.0 rest past parts.2);
       rest_utf8 = past;
