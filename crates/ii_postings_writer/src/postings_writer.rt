@@ -245,30 +245,6 @@ impl SpecializedPostingsWriter {
         at.end_position = at.end_position.max(end);
         Ok(())
     }
-
-    // Indexes the remaining words of a text.
-    fn index_words<S: TokenStream>(
-        &mut self,
-        doc: DocId,
-        token_stream: &mut S,
-        begin: u32,
-        term: &mut IndexingTerm,
-        terms: &mut TermRecorders,
-        at: &mut IndexingPosition,
-    ) -> Result<(), Fault>
-        requires low { doc < TERMINATED }
-        requires ends { AllEndBy doc terms.old }
-        ensures indexed { OnOk result (IndexesWords (text_piece doc term.old (S.to_come token_stream.old)) begin (kept_words (S.to_come token_stream.old)) (text_state terms.old self.old at.old) (text_state terms.new self.new at.new)) }
-        ensures same_term { OnOk result (term.new ≡ term.old) }
-        ensures ended { OnOk result (S.to_come token_stream.new ≡ []) }
-        ensures refused { IfErr result (λ e. RefusesWords (text_piece doc term.old (S.to_come token_stream.old)) begin (kept_words (S.to_come token_stream.old)) (text_state terms.old self.old at.old) e) }
-    {
-        while token_stream.advance() {
-            let token = token_stream.token();
-            self.index_word(doc, &token, begin, term, terms, at)?;
-        }
-        Ok(())
-    }
 }
 
 impl PostingsWriter for SpecializedPostingsWriter {
@@ -295,14 +271,17 @@ impl PostingsWriter for SpecializedPostingsWriter {
         indexing_position: &mut IndexingPosition,
     ) -> Result<(), Fault> {
         let begin = indexing_position.end_position;
-        self.index_words(
-            doc_id,
-            token_stream,
-            begin,
-            term_buffer,
-            &mut ctx.term_index,
-            indexing_position,
-        )?;
+        while token_stream.advance() {
+            let token = token_stream.token();
+            self.index_word(
+                doc_id,
+                &token,
+                begin,
+                term_buffer,
+                &mut ctx.term_index,
+                indexing_position,
+            )?;
+        }
         indexing_position.end_position = next_text(indexing_position.end_position)?;
         Ok(())
     }
