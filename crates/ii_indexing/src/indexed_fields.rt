@@ -18,8 +18,8 @@ ghost use Rattle.ii_indexing.specs.OpenPaths.{IsKnownBy, text_prefix};
 ghost use Rattle.ii_indexing.specs.Refusals.{piece_fault};
 ghost use Rattle.ii_json.specs.LeafVisit.{IsRefusedBy};
 
-use crate::finished_fields::FinishedFields;
 use crate::indexed_terms::IndexedTerms;
+use crate::indexer::FinishedFields;
 use crate::json_keys::{held_number, held_text};
 use crate::open_documents::{OpenDocument, OpenDocuments};
 use crate::open_paths::OpenPaths;

@@ -3,7 +3,6 @@
 //! JSON paths in `ii_base`.
 #![tactic(auto)]
 
-mod finished_fields;
 pub mod index_writers;
 mod indexed_calls;
 pub mod indexed_fields;

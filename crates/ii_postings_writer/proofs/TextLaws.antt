@@ -1,6 +1,6 @@
 -- What indexing a word and a text adds to a context.
 use Rattle.std.proofs.Common.{arith, append-nil, ◌==◌, ◌≤◌, ◌&&◌, ◌||◌, map, length, ◌≡◌, ℕ, ◌+◌, ◌<◌, ◌^◌, Bool, true, false, List, [], ◌∷◌, ◌++◌, Some, None, Option, Ok, Err, Result, refl, sym, ap, ◌∙◌, subst, cond, max, inl, inr, append_assoc, length-append, ⊎_elim, ◌⊎◌}
-use Rattle.std.specs.Prelude.{IfErr, OnOk, drop, slice_get, IsTrue, MatchOption, find, fold, unwrap_or, ⊤, if◌then◌else◌, nat_le, nat_lt}
+use Rattle.std.specs.Prelude.{IfErr, drop, slice_get, IsTrue, MatchOption, find, fold, unwrap_or, ⊤, if◌then◌else◌, nat_le, nat_lt}
 use Rattle.std.proofs.lemmas.Bool.{and_parts, eq-eqb, leb-true}
 use Rattle.std.proofs.lemmas.List.Folds.{find-append}
 use Rattle.std.proofs.lemmas.List.Sums.{fold-append, sum_by-append}
@@ -214,10 +214,6 @@ refused_before p begin xs ys old fault refused kind ts known =
     ⊎_elim inl (λ cause. inr (words_fault-append old.writer.option p begin old.num_tokens ts xs ys ∙ ap (λ (c : Option Fault). first_fault c later) cause)) (refused kind ts known)
 
 -- how a call ended that has one cause to be refused
-pub ok_with : {T : Type 0} (cause : Option Fault) (result : Result T Fault) (P Q : Type 0) → OnOk result P → IsRefusedBy cause result → (P → cause ≡ None → Q) → OnOk result Q
-ok_with cause (Ok x) P Q h refused f = f h refused
-ok_with cause (Err e) P Q h refused f = h
-
 pub err_with : {T : Type 0} (cause : Option Fault) (result : Result T Fault) (Q : Fault → Type 0) → IsRefusedBy cause result → ((e : Fault) → (e ≡ OutOfMemory) ⊎ (cause ≡ Some e) → Q e) → IfErr result Q
 err_with cause (Ok x) Q refused f = tt
 err_with cause (Err e) Q refused f = f e refused

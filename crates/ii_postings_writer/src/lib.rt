@@ -10,7 +10,6 @@ pub mod per_field_postings_writer;
 pub mod postings_writer;
 pub mod postings_writer_kind;
 pub mod serialize_postings;
-mod serialize_term;
 pub mod sorted_terms;
 mod term_key;
 pub mod term_recorders;

@@ -1,4 +1,4 @@
-ghost use Rattle.std.specs.Prelude.{◌≡◌, ◌≤◌, ◌<◌, ◌+◌, ◌++◌, ◌∷◌, ◌^◌, [], ℕ, List, Bool, length, max, map, nat_le, nat_lt, if◌then◌else◌, true, false, Err, Ok, Option, Some, None, IfErr, IfOk, OnErr, OnOk};
+ghost use Rattle.std.specs.Prelude.{◌≡◌, ◌≤◌, ◌<◌, ◌+◌, ◌++◌, ◌∷◌, ◌^◌, [], ℕ, List, Bool, length, max, map, nat_le, nat_lt, if◌then◌else◌, true, false, Err, Ok, Option, Some, None, IfErr, IfOk, OnErr, OnOk, IfSome};
 ghost use Rattle.std.specs.List.{AllByRecursion};
 ghost use Rattle.ii_io.specs.declared.faults.LimitName.TheVariants as limit;
 ghost use Rattle.ii_base.specs.Words.{Word, seen_word};
@@ -17,18 +17,19 @@ ghost use Rattle.ii_postings_writer.specs.PostingsWriter.{HasTokens, IndexesWord
 ghost use Rattle.ii_postings_writer.specs.Records.{Records};
 ghost use Rattle.ii_postings_writer.specs.SortedTerms.{IsTold, IsWritable, state_of, written_term};
 ghost use Rattle.ii_postings_writer.specs.WordRefusals.{gap_fault, words_fault};
-ghost use Rattle.ii_postings_writer.specs.WriteFaults.{IsTermsFaultAfter};
+ghost use Rattle.ii_postings_writer.specs.WriteFaults.{IsTermsFaultAfter, IsTermFaultAfter};
 ghost use Rattle.ii_json.specs.LeafVisit.{IsRefusedBy, first_fault};
+ghost use Rattle.ii_base.specs.Values.{json_key};
+ghost use Rattle.ii_io.specs.Faults.{OnlyMemory};
 
 use crate::indexing_context::IndexingContext;
 use crate::indexing_position::IndexingPosition;
 use crate::indexing_term::IndexingTerm;
-use crate::serialize_term::serialize_one_term;
 use crate::sorted_terms::TermOfField;
 use crate::term_recorders::TermRecorders;
 use ii_base::{DocId, Fault, IndexRecordOption, LimitName, TokenStream, TokenView};
 use ii_json::JsonTermSerializer;
-use ii_recorder::{BufferLender, FieldSerializer};
+use ii_recorder::{BufferLender, FieldSerializer, Recorder};
 use std::io::Write;
 use std::marker::Model;
 
@@ -245,30 +246,6 @@ impl SpecializedPostingsWriter {
         at.end_position = at.end_position.max(end);
         Ok(())
     }
-
-    // Indexes the remaining words of a text.
-    fn index_words<S: TokenStream>(
-        &mut self,
-        doc: DocId,
-        token_stream: &mut S,
-        begin: u32,
-        term: &mut IndexingTerm,
-        terms: &mut TermRecorders,
-        at: &mut IndexingPosition,
-    ) -> Result<(), Fault>
-        requires low { doc < TERMINATED }
-        requires ends { AllEndBy doc terms.old }
-        ensures indexed { OnOk result (IndexesWords (text_piece doc term.old (S.to_come token_stream.old)) begin (kept_words (S.to_come token_stream.old)) (text_state terms.old self.old at.old) (text_state terms.new self.new at.new)) }
-        ensures same_term { OnOk result (term.new ≡ term.old) }
-        ensures ended { OnOk result (S.to_come token_stream.new ≡ []) }
-        ensures refused { IfErr result (λ e. RefusesWords (text_piece doc term.old (S.to_come token_stream.old)) begin (kept_words (S.to_come token_stream.old)) (text_state terms.old self.old at.old) e) }
-    {
-        while token_stream.advance() {
-            let token = token_stream.token();
-            self.index_word(doc, &token, begin, term, terms, at)?;
-        }
-        Ok(())
-    }
 }
 
 impl PostingsWriter for SpecializedPostingsWriter {
@@ -295,20 +272,81 @@ impl PostingsWriter for SpecializedPostingsWriter {
         indexing_position: &mut IndexingPosition,
     ) -> Result<(), Fault> {
         let begin = indexing_position.end_position;
-        self.index_words(
-            doc_id,
-            token_stream,
-            begin,
-            term_buffer,
-            &mut ctx.term_index,
-            indexing_position,
-        )?;
+        while token_stream.advance() {
+            let token = token_stream.token();
+            self.index_word(
+                doc_id,
+                &token,
+                begin,
+                term_buffer,
+                &mut ctx.term_index,
+                indexing_position,
+            )?;
+        }
         indexing_position.end_position = next_text(indexing_position.end_position)?;
         Ok(())
     }
 
     fn total_num_tokens(&self) -> u64 {
         self.total_num_tokens
+    }
+}
+
+// Writes a term of the field. If it has a path, its key is composed in a buffer.
+fn serialize_one_term<W: Write>(
+    term: TermOfField<'_>,
+    keys: &mut JsonTermSerializer,
+    buffer_lender: &mut BufferLender,
+    serializer: &mut FieldSerializer<'_, W>,
+) -> Result<(), Fault>
+    requires open { serializer.old.index.now.closed ≡ false }
+    requires between { serializer.old.index.now.field.term_open ≡ false }
+    requires ascending { AreAscending (serializer.old.index.now.field.places.keys ++ (state_of term).key ∷ []) }
+    requires writable { IsWritable serializer.old.index.now.field.term.norms (state_of term) }
+    ensures same_reference { serializer.new.index.ghost_name ≡ serializer.old.index.ghost_name }
+    ensures writing { (initial : IndexBodiesState) (field tokens : ℕ) (norms : Option Norms) (ts : List WrittenTerm) → IsWriting initial serializer.old.index.now field tokens norms ts []
+        → OnOk result (IsWriting initial serializer.new.index.now field tokens norms (ts ++ written_term norms (option_of serializer.old.index.now.entries field) (state_of term.entry) ∷ []) []) }
+    ensures told { OnOk result (IsTold serializer.old.index.now.field.term.mode (state_of term.entry)) }
+    ensures between { OnOk result (serializer.new.index.now.field.term_open ≡ false) }
+
+    // The state afterwards, and the errors.
+    ensures ends { EndsWriting serializer.old.index.now serializer.new.index.now result }
+    ensures grow { AllGrow serializer.old.index.now.bodies serializer.new.index.now.bodies }
+    ensures fault { (initial : IndexBodiesState) (field tokens : ℕ) (norms : Option Norms) (ts : List WrittenTerm) → IsWriting initial serializer.old.index.now field tokens norms ts []
+        → IfErr result (IsTermFaultAfter initial (option_of serializer.old.index.now.entries field) tokens ts
+        (written_term norms (option_of serializer.old.index.now.entries field) (state_of term.entry))) }
+{
+    if let Err(refused) = compose_key(term, keys) {
+        serializer.shut();
+        return Err(refused);
+    }
+    let key = key_of(term, keys);
+    let doc_freq = term.recorder.term_doc_freq().unwrap_or(0);
+    serializer.new_term(key, doc_freq, term.recorder.has_term_freq())?;
+    term.recorder.serialize(buffer_lender, serializer)?;
+    serializer.close_term()
+}
+
+// Composes the key of a term in a buffer, if the term has a path.
+fn compose_key(term: TermOfField<'_>, keys: &mut JsonTermSerializer) -> Result<(), Fault>
+    ensures ok { OnOk result (IfSome term.entry.path (λ path. keys.new ≡ json_key path.now term.entry.value.now)) }
+    ensures only { OnlyMemory result }
+{
+    let Some(path) = term.path else {
+        return Ok(());
+    };
+    keys.clear();
+    keys.append_key(path, term.value)
+}
+
+// Returns the key of a term, which `keys` holds if the term has a path.
+fn key_of<'a>(term: TermOfField<'a>, keys: &'a JsonTermSerializer) -> &'a [u8]
+    requires { IfSome term.path (λ path. keys.now ≡ json_key path.now term.value.now) }
+    ensures { result.now ≡ (state_of term.entry).key }
+{
+    match term.path {
+        None => term.value,
+        Some(_) => keys.as_bytes(),
     }
 }
 

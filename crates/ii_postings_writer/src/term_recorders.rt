@@ -60,7 +60,10 @@ impl TermRecorders {
         ensures refused { IsRefusedBy (record_fault doc position (recorder_or_new option self.old term.now)) result }
     {
         match self.recorders.get_mut(TermBytes { bytes: term }) {
-            Some(recorder) => record_in(recorder, doc, position),
+            Some(recorder) => {
+                open_doc(recorder, doc)?;
+                recorder.record_position(position)
+            }
             None => {
                 let recorder = recorder_with(self.alloc, option, doc, position)?;
                 let key = TermKey::new(self.alloc, term)?;
@@ -85,18 +88,6 @@ fn recorder_with(
     recorder.new_doc(doc)?;
     recorder.record_position(position)?;
     Ok(recorder)
-}
-
-// Records one more position of a document, which is the last one or greater.
-#[tactic(auto, using(crate::proofs::RecorderSteps::recorded_refusal, crate::proofs::RecordsLaws::records_more))]
-fn record_in(recorder: &mut AnyRecorder, doc: DocId, position: u32) -> Result<(), Fault>
-    requires low { doc < TERMINATED }
-    requires ends { EndsBy doc (any_state recorder.old) }
-    ensures ok { OnOk result (any_state recorder.new ≡ recorded_at doc position (any_state recorder.old)) }
-    ensures refused { IsRefusedBy (record_fault doc position (any_state recorder.old)) result }
-{
-    open_doc(recorder, doc)?;
-    recorder.record_position(position)
 }
 
 // Starts a document, unless it is the last one.

@@ -5,7 +5,6 @@
 pub mod buffer_lender;
 pub mod held_terms;
 mod index_bodies;
-mod open_term;
 pub mod recorder;
 pub mod serializer;
 mod term_places;

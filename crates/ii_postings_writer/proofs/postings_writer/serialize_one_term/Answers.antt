@@ -16,7 +16,7 @@ use Rattle.ii_postings_writer.proofs.FaultLemmas.{ended_fault, unless_closed}
 use Rattle.ii_postings_writer.proofs.SerializeLemmas.{always_on_ok, pushed_writing, term_written, was_large, was_told}
 use Rattle.ii_postings_writer.proofs.TermIndexLemmas.{on_ok}
 use Rattle.ii_postings_writer.specs.TermLimits.{HasLargeSum}
-use Rattle.ii_postings_writer.proofs.serialize_term.serialize_one_term.Goals as goal
+use Rattle.ii_postings_writer.proofs.postings_writer.serialize_one_term.Goals as goal
 
 pub returns-clause-writing : goal.returns-clause-writing
 returns-clause-writing g c initial field tokens norms ts writing =

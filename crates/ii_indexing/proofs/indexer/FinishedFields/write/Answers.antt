@@ -13,7 +13,7 @@ use Rattle.ii_postings_writer.specs.ResolvedTerms.{HaveHeldTokens}
 use Rattle.ii_postings_writer.proofs.TermIndexLemmas.{on_ok}
 use Rattle.ii_indexing.specs.IndexFiles.{PassLimits}
 use Rattle.ii_indexing.proofs.WrittenFiles.{PassesBehind, begun_fields, files_counted, norms_refused}
-use Rattle.ii_indexing.proofs.finished_fields.FinishedFields.write.Goals as goal
+use Rattle.ii_indexing.proofs.indexer.FinishedFields.write.Goals as goal
 
 pub write_files-terms-requires-clause-fresh : goal.write_files-terms-requires-clause-fresh
 write_files-terms-requires-clause-fresh g c =
