@@ -1,5 +1,5 @@
 // Opening any four files, and checking an open index once.
-ghost use Rattle.std.specs.Prelude.{◌≡◌, ◌↔◌, ◌⊎◌, ◌<◌, ℕ, List, [], length, slice_get, None, Some, Ok, Err, IfErr, IfOk, IfSome, IsErrOf, IsOk, IsSomeAnd, OnErr, OnOk};
+ghost use Rattle.std.specs.Prelude.{◌≡◌, ◌↔◌, ◌⊎◌, ◌<◌, ℕ, List, [], length, slice_get, None, Some, Ok, Err, IfErr, IfOk, IfSome, IsErrOf, IsOk, IsSome, IsSomeAnd, OnErr, OnOk};
 ghost use Rattle.std.specs.List.{All};
 ghost use Rattle.ii_io.specs.declared.faults.Part.{Part};
 ghost use Rattle.ii_definitions.specs.Fields.{option_of};
@@ -151,7 +151,7 @@ pub fn trusted_readers_open_every_term(
     reader.read_postings(term, requested)
 }
 
-/// Four files that open as an index are checked once. If the check reports damage, the result is
+/// Four files that open as an index are checked once. If a term of any field doesn't open, the result is
 /// `None`, otherwise the lookup of a term. The only possible error is `OutOfMemory`.
 pub fn checked_files_open_every_term(
     alloc: Global,
@@ -164,7 +164,8 @@ pub fn checked_files_open_every_term(
     requested: IndexRecordOption,
 ) -> Result<Option<Option<SegmentPostings>>, Fault>
     requires { term.now.field < length schema.now }
-    ensures { (index : OpenIndexState) → index_of_files terms postings positions fieldnorms schema.now ≡ Ok index → IfErr result (λ fault. fault ≡ Fault.OutOfMemory) }
+    ensures memory { (index : OpenIndexState) → index_of_files terms postings positions fieldnorms schema.now ≡ Ok index → IfErr result (λ fault. fault ≡ Fault.OutOfMemory) }
+    ensures answered { (index : OpenIndexState) → index_of_files terms postings positions fieldnorms schema.now ≡ Ok index → IfOk result (λ answer. IsSome answer ↔ All AllOpen index.readers) }
 {
     let mut index = open_index_with_norms(alloc, terms, postings, positions, fieldnorms, schema)?;
     if index.check()?.is_some() {

@@ -6,7 +6,7 @@ ghost use Rattle.ii_docset.specs.Intersection.{has_doc};
 ghost use Rattle.ii_definitions.specs.Tokens.{IndexToken};
 ghost use Rattle.ii_reader.specs.OpenIndex.{IndexHolds};
 ghost use Rattle.ii_query_grammar.specs.Parsed.{IsReadAs, parsed};
-ghost use Rattle.ii_query_parser.specs.Queries.{has_fields, keeps_positions};
+ghost use Rattle.ii_query_parser.specs.Queries.{any_of, each_of, has_fields, keeps_positions, no_tree, tree, tree_of};
 ghost use Rattle.ii_query_parser.specs.QueryTexts.{text_matches, text_refusal};
 ghost use Rattle.ii_promises.specs.Texts.{GivesOrTells};
 
@@ -64,4 +64,20 @@ pub fn texts_open_128_parentheses(alloc: Global, text: &str) -> Result<UserInput
     ensures { IsReadAs result (parsed 128 text.now) }
 {
     parse(alloc, text)
+}
+
+/// A query that joins two by AND has them in their order, as `search --positions` prints their terms.
+pub fn and_keeps_the_order(alloc: Global, first: Query, other: Query) -> Result<Query, Fault>
+    ensures order { IfOk result (λ query. tree_of query ≡ each_of (tree (tree_of first) (tree (tree_of other) no_tree))) }
+    ensures memory { IfErr result (λ fault. fault ≡ Fault.OutOfMemory) }
+{
+    Query::and(alloc, first, other)
+}
+
+/// So has one that joins them by OR.
+pub fn or_keeps_the_order(alloc: Global, first: Query, other: Query) -> Result<Query, Fault>
+    ensures order { IfOk result (λ query. tree_of query ≡ any_of (tree (tree_of first) (tree (tree_of other) no_tree))) }
+    ensures memory { IfErr result (λ fault. fault ≡ Fault.OutOfMemory) }
+{
+    Query::or(alloc, first, other)
 }

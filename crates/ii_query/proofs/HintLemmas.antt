@@ -1,5 +1,5 @@
 -- Hints are at least as great as the numbers of remaining documents.
-use Rattle.std.proofs.Common.{◌≡◌, ℕ, zero, suc, ◌+◌, ◌-◌, ◌^◌, ◌<◌, ◌≤◌, min, Bool, List, [], ◌∷◌, add-one, drop, get_or, length, refl, sym, ap, subst, ◌∙◌, inl, inr, arith}
+use Rattle.std.proofs.Common.{◌≡◌, ℕ, zero, suc, ◌+◌, ◌-◌, ◌^◌, ◌<◌, ◌≤◌, min, Bool, List, [], ◌∷◌, add-one, get_or, length, refl, sym, ap, subst, ◌∙◌, inl, inr, arith}
 use Rattle.std.proofs.lemmas.Bool.Decides.{leb_tells}
 use Rattle.std.proofs.lemmas.List.Sums.{count_by-le-length, length-filter, sum_by-cons}
 use Rattle.std.specs.Prelude.{IsPermutation, filter, map, nat_le}
@@ -27,10 +27,6 @@ documents_long (d ∷ ds) = ap suc (documents_long ds)
 
 pub from_doc_short : (target : ℕ) (es : List Entry) → length (from_doc target es) ≤ length es
 from_doc_short target es = filter_short (λ (e : Entry). nat_le target e.doc) es
-
-pub drop_short : (es : List Entry) → length (drop 1 es) ≤ length es
-drop_short [] = omega arith
-drop_short (e ∷ es) = omega arith
 
 pub picked_short : (holds : ℕ → Bool) (es : List Entry) → length (picked holds es) ≤ length es
 picked_short holds es =

@@ -10,3 +10,4 @@ pub mod PhraseSteps
 pub mod PickedLemmas
 pub mod UnionLemmas
 pub mod WorkLemmas
+mod WorkedRows

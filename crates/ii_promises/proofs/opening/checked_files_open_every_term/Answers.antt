@@ -5,8 +5,8 @@ use Rattle.ii_reader.specs.InvertedIndexReader.{AllOpen, trusted_reader}
 use Rattle.ii_promises.proofs.CheckingLaws.{field_opens, look_up_opens}
 use Rattle.ii_promises.proofs.opening.checked_files_open_every_term.Goals as goal
 
-pub returns : goal.returns
-returns c =
+pub returns-clause-memory : goal.returns-clause-memory
+returns-clause-memory c =
     let none : c.in_ok-check.field-0 ≡ None = search rules in
     let after = rw none at c.in_ok-check.ensures.after in
     let sound = c.in_ok-check.ensures.opens.0 none in
