@@ -8,7 +8,7 @@ use Rattle.ii_store.specs.IndexMeta.{MetaState}
 use Rattle.ii_store.specs.Segments.{list_in}
 use Rattle.ii_store.proofs.SaveLaws.{elapses_implies, elapses_then}
 use Rattle.ii_segment_store.specs.Commits.{KeepsButSlot, KeepsButSlots}
-use Rattle.ii_segment_store.specs.Contents.{contents_of}
+use Rattle.ii_segment_store.specs.Contents.{index_contents}
 use Rattle.ii_segment_store.proofs.CommitLaws.{list_kept, listed_below, listed_contents}
 
 -- files of one slot are files of slots
@@ -36,7 +36,7 @@ module _ {D : Type 0} (moment : D → ℕ) (left_since : D → ℕ → Files →
       (λ c kept name other. kept name (λ kind. other two kind) ∙ keeps name (λ kind. other one kind))
 
 -- a list doesn't speak of slots
-pub slots_same : (m : MetaState) (a c : Files) → list_in (a Meta) ≡ Ok m → KeepsButSlots a c → contents_of c ≡ contents_of a
+pub slots_same : (m : MetaState) (a c : Files) → list_in (a Meta) ≡ Ok m → KeepsButSlots a c → index_contents c ≡ index_contents a
 slots_same m a c listed keeps =
     let meta : c Meta ≡ a Meta = keeps Meta (λ slot kind e. absurd cc) in
     let again : list_in (c Meta) ≡ Ok m = rw meta listed in

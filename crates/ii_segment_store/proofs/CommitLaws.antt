@@ -23,7 +23,7 @@ use Rattle.ii_store.specs.Names.{other_slot}
 use Rattle.ii_store.specs.Segments.{list_in, listed_bytes}
 use Rattle.ii_store.proofs.SaveLaws.{elapses_implies, elapses_none, index_outside}
 use Rattle.ii_segment_store.specs.Commits.{HasSegment, HoldsOldOr, IsCommitted, IsFresh, KeepsUncommitted, LeavesOneIndex, MayBeCommitted, listed_segment, next_list}
-use Rattle.ii_segment_store.specs.Contents.{IndexContents, SegmentContents, as_index, contents_at, contents_in, contents_of, file_of, found_in, list_contents, one_segment, segment_in, segments_in, with_segment}
+use Rattle.ii_segment_store.specs.Contents.{IndexContents, SegmentContents, as_index, contents_at, contents_in, index_contents, file_of, bytes_of_component, list_contents, one_segment, segment_in, all_contents, with_segment}
 
 -- lists that a `meta` file holds
 
@@ -94,8 +94,8 @@ unfolding list_in contents_in
 listed_found None m files e = absurd cc
 listed_found (Some meta) m files e = listed_at meta m files e
 
-pub listed_contents : (m : MetaState) (files : Files) → list_in (files Meta) ≡ Ok m → contents_of files ≡ list_contents m files
-unfolding contents_of
+pub listed_contents : (m : MetaState) (files : Files) → list_in (files Meta) ≡ Ok m → index_contents files ≡ list_contents m files
+unfolding index_contents
 listed_contents m files e = listed_found (files Meta) m files e
 
 inside : (x y : MetaState) → ◌≡◌ {A = Result MetaState IndexFault} (Ok x) (Ok y) → x ≡ y
@@ -111,8 +111,8 @@ fresh_id m files e other is = omega (arith, ap (λ (x : MetaState). x.next_segme
 abbrev pub KeepsBelow : ℕ → Files → Files → Type 0
 KeepsBelow id a c = (i : ℕ) (component : SegmentComponent) → i < id → c (Segment i component) ≡ a (Segment i component)
 
-found_same : (i : ℕ) (component : SegmentComponent) (found : Option FileMeta) (a c : Files) → ((component : SegmentComponent) → c (Segment i component) ≡ a (Segment i component)) → found_in i component found c ≡ found_in i component found a
-unfolding found_in
+found_same : (i : ℕ) (component : SegmentComponent) (found : Option FileMeta) (a c : Files) → ((component : SegmentComponent) → c (Segment i component) ≡ a (Segment i component)) → bytes_of_component i component found c ≡ bytes_of_component i component found a
+unfolding bytes_of_component
 found_same i component None a c each = refl
 found_same i component (Some f) a c each = rw (each f.component) refl
 
@@ -125,8 +125,8 @@ id_below : (next : ℕ) (s : SegmentState) → is_segment next s ≡ true → s.
 unfolding is_segment
 id_below next s e = ltb-true s.id next (both _ _ (both _ _ (both _ _ e).0).0).0
 
-pub segments_same : (next id : ℕ) (ss : List SegmentState) (a c : Files) → next ≤ id → KeepsBelow id a c → list_all (is_segment next) ss ≡ true → segments_in ss c ≡ segments_in ss a
-unfolding segments_in
+pub segments_same : (next id : ℕ) (ss : List SegmentState) (a c : Files) → next ≤ id → KeepsBelow id a c → list_all (is_segment next) ss ≡ true → all_contents ss c ≡ all_contents ss a
+unfolding all_contents
 segments_same next id [] a c le keeps all = refl
 segments_same next id (s ∷ ss) a c le keeps all =
     let p = both (is_segment next s) (list_all (is_segment next) ss) all in
@@ -166,8 +166,8 @@ module _ (id : ℕ) (a c : Files) (same : SameBelow id a c) where
       (each_list (meta_of meta) (λ m is. list_same m (fresh m is) (segments_below m (consistent meta m is))))
 
   -- they hold the same index
-  pub same_contents : IsFresh id a → contents_of c ≡ contents_of a
-  unfolding contents_of
+  pub same_contents : IsFresh id a → index_contents c ≡ index_contents a
+  unfolding index_contents
   same_contents fresh = ap (λ (found : Option (List ℕ)). contents_in found c) same.meta ∙ found_contents (a Meta) fresh
 
 -- the files of a new segment are read back
@@ -177,7 +177,7 @@ unfolding listed_bytes
 read_back id component bytes found is = rw is (rw (eq-eqb _ _ refl, nat_list_eq_equiv.refl (sha256 bytes)) refl)
 
 segment_again : (id : ℕ) (s : SegmentContents) (files : Files) → HasSegment id s files → segment_in (listed_segment id s) files ≡ Ok s
-unfolding segment_in found_in
+unfolding segment_in bytes_of_component
 segment_again id s files there =
     rw (
       eq-eqb s.num_docs s.num_docs refl,
@@ -193,10 +193,10 @@ one_more (Ok f) (Ok os) z = refl
 one_more (Ok f) (Err fault) z = refl
 one_more (Err fault) rs z = refl
 
-segments_more : (ss : List SegmentState) (s : SegmentState) (files : Files) (z : SegmentContents) → segment_in s files ≡ Ok z → segments_in (ss ++ s ∷ []) files ≡ (segments_in ss files >>= λ cs. Ok (cs ++ z ∷ []))
-unfolding segments_in
+segments_more : (ss : List SegmentState) (s : SegmentState) (files : Files) (z : SegmentContents) → segment_in s files ≡ Ok z → all_contents (ss ++ s ∷ []) files ≡ (all_contents ss files >>= λ cs. Ok (cs ++ z ∷ []))
+unfolding all_contents
 segments_more [] s files z e = rw e refl
-segments_more (x ∷ ss) s files z e = rw (segments_more ss s files z e) (one_more (segment_in x files) (segments_in ss files) z)
+segments_more (x ∷ ss) s files z e = rw (segments_more ss s files z e) (one_more (segment_in x files) (all_contents ss files) z)
 
 with_more : (schema : List ℕ) (rs : Result (List SegmentContents) IndexFault) (z : SegmentContents)
     → ((rs >>= λ cs. Ok (cs ++ z ∷ [])) >>= λ segments. Ok (record { schema = schema; segments = segments })) ≡ with_segment z (rs >>= λ segments. Ok (record { schema = schema; segments = segments }))
@@ -206,7 +206,7 @@ with_more schema (Err fault) z = refl
 list_more : (m : MetaState) (s : SegmentContents) (files : Files) → HasSegment m.next_segment_id s files → list_contents (next_list m s) files ≡ with_segment s (list_contents m files)
 unfolding list_contents
 list_more m s files there =
-    rw (segments_more m.segments (listed_segment m.next_segment_id s) files s (segment_again m.next_segment_id s files there)) (with_more m.schema (segments_in m.segments files) s)
+    rw (segments_more m.segments (listed_segment m.next_segment_id s) files s (segment_again m.next_segment_id s files there)) (with_more m.schema (all_contents m.segments files) s)
 
 -- a commit
 
@@ -218,7 +218,7 @@ module _ (m : MetaState) (s : SegmentContents) (old : Files) (below : list_all (
       name_id_of i component other e = cc
 
   -- the new list holds the segments of the old one, and the new one
-  pub committed_contents : (c : Files) → IsCommitted m.next_segment_id (next_list m s) s old c → contents_of c ≡ with_segment s (list_contents m old)
+  pub committed_contents : (c : Files) → IsCommitted m.next_segment_id (next_list m s) s old c → index_contents c ≡ with_segment s (list_contents m old)
   unfolding list_contents
   committed_contents c done =
       let again = segments_same m.next_segment_id m.next_segment_id m.segments old c (omega arith) (committed_below c done) below in
@@ -248,7 +248,7 @@ next_of (Err fault) = 0
 below_next : (r : Result MetaState IndexFault) (m : MetaState) → r ≡ Ok m → m.next_segment_id ≤ next_of r
 below_next r m e = omega (arith, ap next_of e)
 
-contents_same : (a c : Files) → Same a c → contents_of c ≡ contents_of a
+contents_same : (a c : Files) → Same a c → index_contents c ≡ index_contents a
 contents_same a c same =
     same_contents (next_of (list_in (a Meta))) a c (record { meta = same Meta; slots = λ slot kind. same (File slot kind); segments = λ i component lt. same (Segment i component) }) (below_next (list_in (a Meta)))
 
@@ -307,8 +307,8 @@ first_at : (meta : List ℕ) (files : Files) (i : Index) → version_in meta ≡
 unfolding contents_at
 first_at meta files i version e = rw (version, e) refl
 
-first_contents : (i : Index) (files : Files) → index_of files ≡ Ok i → contents_of files ≡ Ok (one_segment i)
-unfolding contents_of contents_in
+first_contents : (i : Index) (files : Files) → index_of files ≡ Ok i → index_contents files ≡ Ok (one_segment i)
+unfolding index_contents contents_in
 first_contents i files e =
     let h = meta_found files i e in
     ap (λ (found : Option (List ℕ)). contents_in found files) h.1 ∙ first_at h.0 files i h.2 e
@@ -331,11 +331,11 @@ abbrev pub empty_list : List ℕ → List SegmentMeta → MetaState
 empty_list schema none = record { generation = 0; next_segment_id = 0; schema = schema; segments = map segment_view none }
 
 empty_contents : (schema : List ℕ) (none : List SegmentMeta) (files : Files) → none ≡ [] → list_contents (empty_list schema none) files ≡ Ok (record { schema = schema; segments = [] })
-unfolding list_contents segments_in
+unfolding list_contents all_contents
 empty_contents schema none files e = rw e refl
 
 -- an index of version 1 and a list of its one segment hold the same
 pub first_same : (schema : List ℕ) (none : List SegmentMeta) (s : SegmentContents) (i : Index) (files : Files) → none ≡ [] → i ≡ as_index schema s → index_of files ≡ Ok i
-    → with_segment s (list_contents (empty_list schema none) files) ≡ contents_of files
+    → with_segment s (list_contents (empty_list schema none) files) ≡ index_contents files
 first_same schema none s i files e is found =
     ap (with_segment s) (empty_contents schema none files e) ∙ sym (first_contents (as_index schema s) files (found ∙ ap (λ (x : Index). Ok x) is))

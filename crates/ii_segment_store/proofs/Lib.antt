@@ -2,3 +2,4 @@ mod LoadLaws
 mod PutLaws
 mod CommitLaws
 mod ClearLaws
+mod WorkedRows

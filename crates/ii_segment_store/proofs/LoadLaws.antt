@@ -13,7 +13,7 @@ use Rattle.ii_store.specs.Directory.{Files}
 use Rattle.ii_store.specs.Index.{◌>>=◌, Fails}
 use Rattle.ii_store.specs.IndexMeta.{segment_view}
 use Rattle.ii_store.specs.Names.{same_component}
-use Rattle.ii_segment_store.specs.Contents.{SegmentContents, file_of, segment_in, segments_in}
+use Rattle.ii_segment_store.specs.Contents.{SegmentContents, file_of, segment_in, all_contents}
 
 -- a file of a component among those from an index on
 
@@ -50,14 +50,14 @@ front_fails (faults.Index fault) front others failed = rw failed refl
 
 -- the segments from an index on
 abbrev pub segments_from : ℕ → List SegmentMeta → Files → Result (List SegmentContents) IndexFault
-segments_from i ss files = segments_in (map segment_view (drop i ss)) files
+segments_from i ss files = all_contents (map segment_view (drop i ss)) files
 
 from_cons : (ss : List SegmentMeta) (i : ℕ) (s : SegmentMeta) (files : Files) → i < length ss → s ≡ get_or ss i s
     → segments_from i ss files ≡ (segment_in (segment_view s) files >>= λ first. segments_from (suc i) ss files >>= λ others. Ok (first ∷ others))
-unfolding segments_in
+unfolding all_contents
 from_cons ss i s files lt is =
     let cut : drop i ss ≡ s ∷ drop (suc i) ss = drop-cons ss i s lt ∙ ap (λ (x : SegmentMeta). x ∷ drop (suc i) ss) (sym is) in
-    ap (λ (xs : List SegmentMeta). segments_in (map segment_view xs) files) cut
+    ap (λ (xs : List SegmentMeta). all_contents (map segment_view xs) files) cut
 
 pub goes_on : (front : List SegmentContents) (ss : List SegmentMeta) (i : ℕ) (s : SegmentMeta) (files : Files) (first : SegmentContents) (all : Result (List SegmentContents) IndexFault) → i < length ss → s ≡ get_or ss i s
     → segment_in (segment_view s) files ≡ Ok first → with_front front (segments_from i ss files) ≡ all → with_front (front ++ first ∷ []) (segments_from (i + 1) ss files) ≡ all
@@ -75,9 +75,9 @@ ends fault front ss i s files all lt is failed so_far =
     subst (Fails fault) so_far (front_fails fault front (segments_from i ss files) here)
 
 pub is_done : (front : List SegmentContents) (ss : List SegmentMeta) (i : ℕ) (files : Files) (all : Result (List SegmentContents) IndexFault) → length ss ≤ i → with_front front (segments_from i ss files) ≡ all → all ≡ Ok front
-unfolding with_front segments_in
+unfolding with_front all_contents
 is_done front ss i files all le so_far =
-    let none : segments_from i ss files ≡ Ok [] = ap (λ (xs : List SegmentMeta). segments_in (map segment_view xs) files) (drop_all i ss le) in
+    let none : segments_from i ss files ≡ Ok [] = ap (λ (xs : List SegmentMeta). all_contents (map segment_view xs) files) (drop_all i ss le) in
     sym so_far ∙ ap (with_front front) none ∙ ap (λ (xs : List SegmentContents). Ok xs) (append-nil front)
 
 pub begins : (all : Result (List SegmentContents) IndexFault) → with_front [] all ≡ all

@@ -14,7 +14,7 @@ use Rattle.ii_store.specs.IndexMeta.{IsValidMeta, MetaState, SegmentState, file_
 use Rattle.ii_store.specs.Segments.{list_in}
 use Rattle.ii_segment_store.specs.declared.faults.CommitFault.{CommitFault}
 use Rattle.ii_segment_store.specs.declared.faults.CommitFault.TheVariants as faults
-use Rattle.ii_segment_store.specs.Contents.{IndexContents, SegmentContents, contents_of}
+use Rattle.ii_segment_store.specs.Contents.{IndexContents, SegmentContents, index_contents}
 
 -- a segment, as `meta` lists it
 abbrev pub listed_segment : ℕ → SegmentContents → SegmentState
@@ -95,7 +95,7 @@ pub record HasNoSlot (slot : Slot) (files : Files) : Type 0 where
 
 -- The files hold what they held, or something else.
 abbrev pub HoldsOldOr : Result IndexContents IndexFault → Files → Files → Type 0
-HoldsOldOr wanted old c = (contents_of c ≡ contents_of old) ⊎ (contents_of c ≡ wanted)
+HoldsOldOr wanted old c = (index_contents c ≡ index_contents old) ⊎ (index_contents c ≡ wanted)
 
 -- A stop at any time since old leaves the old index or the wanted one.
 pub record LeavesOneIndex {D : Type 0} (moment : D → ℕ) (left_since : D → ℕ → Files → Type 0) (seen : D → Files) (old new : D) (wanted : Result IndexContents IndexFault) : Type 0 where

@@ -47,37 +47,37 @@ abbrev pub file_of : SegmentComponent → List FileMeta → Option FileMeta
 file_of component files = find (λ (f : FileMeta). same_component f.component component) files
 
 -- the bytes of a segment's file, which may not be listed
-unfoldable pub found_in : ℕ → SegmentComponent → Option FileMeta → Files → Result (List ℕ) IndexFault
-found_in id component None files = Err (MissingFile id component)
-found_in id component (Some f) files = listed_bytes (record { id = id; file = f }) (files (Segment id f.component))
+unfoldable pub bytes_of_component : ℕ → SegmentComponent → Option FileMeta → Files → Result (List ℕ) IndexFault
+bytes_of_component id component None files = Err (MissingFile id component)
+bytes_of_component id component (Some f) files = listed_bytes (record { id = id; file = f }) (files (Segment id f.component))
 
 -- the bytes of a segment's file of a component, or its fault
-abbrev pub bytes_in : SegmentState → SegmentComponent → Files → Result (List ℕ) IndexFault
-bytes_in s component files = found_in s.id component (file_of component s.files) files
+abbrev pub component_bytes : SegmentState → SegmentComponent → Files → Result (List ℕ) IndexFault
+component_bytes s component files = bytes_of_component s.id component (file_of component s.files) files
 
 -- what a segment without deleted documents holds, or the first fault
 unfoldable pub segment_in : SegmentState → Files → Result SegmentContents IndexFault
 segment_in s files =
     if not (s.num_living == s.num_docs) then Err (DeletedDocuments s.id)
     else do
-      terms ← bytes_in s Terms files
-      postings ← bytes_in s Postings files
-      positions ← bytes_in s Positions files
-      fieldnorms ← bytes_in s FieldNorms files
+      terms ← component_bytes s Terms files
+      postings ← component_bytes s Postings files
+      positions ← component_bytes s Positions files
+      fieldnorms ← component_bytes s FieldNorms files
       Ok (record { num_docs = s.num_docs; terms = terms; postings = postings; positions = positions; fieldnorms = fieldnorms })
 
 -- what segments hold, or the first fault
-unfoldable pub segments_in : List SegmentState → Files → Result (List SegmentContents) IndexFault
-segments_in [] files = Ok []
-segments_in (s ∷ ss) files = do
+unfoldable pub all_contents : List SegmentState → Files → Result (List SegmentContents) IndexFault
+all_contents [] files = Ok []
+all_contents (s ∷ ss) files = do
   first ← segment_in s files
-  others ← segments_in ss files
+  others ← all_contents ss files
   Ok (first ∷ others)
 
 -- what the segments of a list hold, with its schema
 unfoldable pub list_contents : MetaState → Files → Result IndexContents IndexFault
 list_contents m files = do
-  segments ← segments_in m.segments files
+  segments ← all_contents m.segments files
   Ok (record { schema = m.schema; segments = segments })
 
 -- an index of version 1, as one segment
@@ -103,8 +103,8 @@ contents_in None files = Err NoIndex
 contents_in (Some meta) files = contents_at meta files
 
 -- what the index in the files of a folder holds, or the first fault
-unfoldable pub contents_of : Files → Result IndexContents IndexFault
-contents_of files = contents_in (files Meta) files
+unfoldable pub index_contents : Files → Result IndexContents IndexFault
+index_contents files = contents_in (files Meta) files
 
 -- an index with one segment more, at its end
 abbrev pub with_segment : SegmentContents → Result IndexContents IndexFault → Result IndexContents IndexFault

@@ -6,7 +6,7 @@ ghost use Rattle.ii_store.specs.Directory.{Elapses};
 ghost use Rattle.ii_store.specs.Index.{Fails};
 ghost use Rattle.ii_store.specs.Segments.{list_in};
 ghost use Rattle.ii_segment_store.specs.Commits.{HasNoLists, HasNoSlot, KeepsButSlot, KeepsButSlots, LeavesOneIndex};
-ghost use Rattle.ii_segment_store.specs.Contents.{contents_of};
+ghost use Rattle.ii_segment_store.specs.Contents.{index_contents};
 
 use ii_store::segments::load_meta;
 use ii_store::{Directory, DirectoryFault, Kind, Name, Slot, StoreFault};
@@ -19,8 +19,8 @@ pub fn remove_slots<D: Directory>(alloc: Global, directory: &mut D) -> Result<()
     ensures first { D.is_known directory.old → OnOk result (HasNoSlot First (D.seen directory.new)) }
     ensures second { D.is_known directory.old → OnOk result (HasNoSlot Second (D.seen directory.new)) }
     ensures keeps { D.is_known directory.old → OnOk result (KeepsButSlots (D.seen directory.old) (D.seen directory.new)) }
-    ensures same { D.is_known directory.old → OnOk result (contents_of (D.seen directory.new) ≡ contents_of (D.seen directory.old)) }
-    ensures leaves_same { D.is_known directory.old → LeavesOneIndex D.moment D.left_since D.seen directory.old directory.new (contents_of (D.seen directory.old)) }
+    ensures same { D.is_known directory.old → OnOk result (index_contents (D.seen directory.new) ≡ index_contents (D.seen directory.old)) }
+    ensures leaves_same { D.is_known directory.old → LeavesOneIndex D.moment D.left_since D.seen directory.old directory.new (index_contents (D.seen directory.old)) }
     ensures fault { D.is_known directory.old → IfErr result (λ e. Fails e (list_in (D.seen directory.old Meta))) }
 {
     let list = match load_meta(alloc, directory) {

@@ -7,7 +7,7 @@ ghost use Rattle.ii_store.specs.Index.{index_of, view};
 ghost use Rattle.ii_store.specs.IndexMeta.{IsValidMeta, is_segment, meta_view, segment_view};
 ghost use Rattle.ii_store.specs.Segments.{list_in};
 ghost use Rattle.ii_segment_store.specs.Commits.{HasList, HasSegment, HoldsOldOr, IsCommitFault, IsCommitted, IsFresh, KeepsButSegment, LeavesOneIndex, MayBeCommitted, listed_segment, next_list};
-ghost use Rattle.ii_segment_store.specs.Contents.{contents_of, list_contents, segment_contents, with_segment};
+ghost use Rattle.ii_segment_store.specs.Contents.{index_contents, list_contents, segment_contents, with_segment};
 
 use crate::faults::CommitFault;
 use crate::stored_segments::StoredSegment;
@@ -35,8 +35,8 @@ pub fn append_segment<D: Directory>(
     segment: &StoredSegment,
 ) -> Result<(), CommitFault>
     ensures known { D.is_known directory.old → OnOk result (D.is_known directory.new) }
-    ensures appended { D.is_known directory.old → OnOk result (contents_of (D.seen directory.new) ≡ with_segment (segment_contents segment.now) (contents_of (D.seen directory.old))) }
-    ensures leaves_one { D.is_known directory.old → LeavesOneIndex D.moment D.left_since D.seen directory.old directory.new (with_segment (segment_contents segment.now) (contents_of (D.seen directory.old))) }
+    ensures appended { D.is_known directory.old → OnOk result (index_contents (D.seen directory.new) ≡ with_segment (segment_contents segment.now) (index_contents (D.seen directory.old))) }
+    ensures leaves_one { D.is_known directory.old → LeavesOneIndex D.moment D.left_since D.seen directory.old directory.new (with_segment (segment_contents segment.now) (index_contents (D.seen directory.old))) }
     ensures fault { D.is_known directory.old → IfErr result (λ e. IsCommitFault e (list_in (D.seen directory.old Meta)) (segment_contents segment.now)) }
 {
     let list = match load_meta(alloc, directory) {
@@ -57,9 +57,9 @@ pub fn append_segment<D: Directory>(
 /// `TooMany` if it has 2^31 documents or more, or a schema of 2^32 bytes or more.
 pub fn upgrade<D: Directory>(alloc: Global, directory: &mut D) -> Result<bool, CommitFault>
     ensures known { D.is_known directory.old → OnOk result (D.is_known directory.new) }
-    ensures same { D.is_known directory.old → OnOk result (contents_of (D.seen directory.new) ≡ contents_of (D.seen directory.old)) }
+    ensures same { D.is_known directory.old → OnOk result (index_contents (D.seen directory.new) ≡ index_contents (D.seen directory.old)) }
     ensures listed { D.is_known directory.old → OnOk result (HasList (D.seen directory.new)) }
-    ensures leaves_same { D.is_known directory.old → LeavesOneIndex D.moment D.left_since D.seen directory.old directory.new (contents_of (D.seen directory.old)) }
+    ensures leaves_same { D.is_known directory.old → LeavesOneIndex D.moment D.left_since D.seen directory.old directory.new (index_contents (D.seen directory.old)) }
 {
     match load_meta(alloc, directory) {
         Ok(_) => return Ok(false),
@@ -84,9 +84,9 @@ fn upgrade_from<D: Directory>(
 ) -> Result<(), CommitFault>
     requires { D.is_known directory.old → index_of (D.seen directory.old) ≡ Ok (view index) }
     ensures known { D.is_known directory.old → OnOk result (D.is_known directory.new) }
-    ensures same { D.is_known directory.old → OnOk result (contents_of (D.seen directory.new) ≡ contents_of (D.seen directory.old)) }
+    ensures same { D.is_known directory.old → OnOk result (index_contents (D.seen directory.new) ≡ index_contents (D.seen directory.old)) }
     ensures listed { D.is_known directory.old → OnOk result (HasList (D.seen directory.new)) }
-    ensures time { D.is_known directory.old → Elapses (D.moment directory.old) (D.moment directory.new) (D.left_since directory.old) (D.left_since directory.new) (HoldsOldOr (contents_of (D.seen directory.old)) (D.seen directory.old)) }
+    ensures time { D.is_known directory.old → Elapses (D.moment directory.old) (D.moment directory.new) (D.left_since directory.old) (D.left_since directory.new) (HoldsOldOr (index_contents (D.seen directory.old)) (D.seen directory.old)) }
 {
     let StoredIndex {
         num_docs,
@@ -124,7 +124,7 @@ fn commit_segment<D: Directory>(
     requires fresh { D.is_known directory.old → IsFresh list.next_segment_id (D.seen directory.old) }
     requires below { D.is_known directory.old → list_all (is_segment list.next_segment_id) (meta_view list).segments ≡ true }
     ensures known { D.is_known directory.old → OnOk result (D.is_known directory.new) }
-    ensures committed { D.is_known directory.old → OnOk result (contents_of (D.seen directory.new) ≡ with_segment (segment_contents segment.now) (list_contents (meta_view list) (D.seen directory.old))) }
+    ensures committed { D.is_known directory.old → OnOk result (index_contents (D.seen directory.new) ≡ with_segment (segment_contents segment.now) (list_contents (meta_view list) (D.seen directory.old))) }
     ensures listed { D.is_known directory.old → OnOk result (list_in (D.seen directory.new Meta) ≡ Ok (next_list (meta_view list) (segment_contents segment.now))) }
     ensures time { D.is_known directory.old → Elapses (D.moment directory.old) (D.moment directory.new) (D.left_since directory.old) (D.left_since directory.new) (HoldsOldOr (with_segment (segment_contents segment.now) (list_contents (meta_view list) (D.seen directory.old))) (D.seen directory.old)) }
     ensures fault { IfErr result (λ e. IsCommitFault e (Ok (meta_view list)) (segment_contents segment.now)) }

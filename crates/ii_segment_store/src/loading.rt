@@ -4,7 +4,7 @@ ghost use Rattle.ii_store.specs.Faults.{of_directory};
 ghost use Rattle.ii_store.specs.declared.faults.DirectoryFault.TheVariants.{OutOfMemory};
 ghost use Rattle.ii_store.specs.Index.{AnswersFromFiles, view};
 ghost use Rattle.ii_store.specs.IndexMeta.{segment_view, meta_view};
-ghost use Rattle.ii_segment_store.specs.Contents.{bytes_in, contents_of, contents_at, contents_view, file_of, list_contents, one_segment, segment_contents, segment_in, segments_in};
+ghost use Rattle.ii_segment_store.specs.Contents.{component_bytes, index_contents, contents_at, contents_view, file_of, list_contents, one_segment, segment_contents, segment_in, all_contents};
 
 use crate::stored_segments::{StoredSegment, StoredSegments};
 use ii_store::index_meta_reader::decode;
@@ -25,12 +25,12 @@ const MOST_RETRIES: u32 = 10;
 /// Returns `NoIndex` if there is no `meta`, and `OtherVersion` or `DamagedMeta` if it isn't a valid one.
 /// Otherwise returns the first fault of a file, segment by segment: missing, wrong length or wrong checksum;
 /// or `DeletedDocuments` for a segment with deleted documents.
-#[tactic(auto, unfolding(crate::specs::Contents::contents_of, crate::specs::Contents::contents_in))]
+#[tactic(auto, unfolding(crate::specs::Contents::index_contents, crate::specs::Contents::contents_in))]
 pub fn load_segments<D: Directory>(
     alloc: Global,
     directory: &D,
 ) -> Result<StoredSegments, StoreFault>
-    ensures { D.is_known directory.now → AnswersFromFiles contents_view result (contents_of (D.seen directory.now)) }
+    ensures { D.is_known directory.now → AnswersFromFiles contents_view result (index_contents (D.seen directory.now)) }
 {
     let Some(meta) = directory.read(alloc, Name::Meta)? else {
         return Err(StoreFault::Index(IndexFault::NoIndex));
@@ -41,7 +41,7 @@ pub fn load_segments<D: Directory>(
 /// Loads the index of a directory as `load_segments` does. If another program replaces the index meanwhile, so
 /// that files of the old one are missing or changed, the new one is loaded; so often at most 10 times.
 pub fn load_latest<D: Directory>(alloc: Global, directory: &D) -> Result<StoredSegments, StoreFault>
-    ensures { D.is_known directory.now → AnswersFromFiles contents_view result (contents_of (D.seen directory.now)) }
+    ensures { D.is_known directory.now → AnswersFromFiles contents_view result (index_contents (D.seen directory.now)) }
 {
     for _ in 0..MOST_RETRIES {
         let before = directory.read(alloc, Name::Meta)?;
@@ -123,7 +123,7 @@ fn load_each<D: Directory>(
     directory: &D,
     listed: &[SegmentMeta],
 ) -> Result<Vec<StoredSegment>, StoreFault>
-    ensures { D.is_known directory.now → AnswersFromFiles (λ v. map segment_contents v.items) result (segments_in (map segment_view listed.now) (D.seen directory.now)) }
+    ensures { D.is_known directory.now → AnswersFromFiles (λ v. map segment_contents v.items) result (all_contents (map segment_view listed.now) (D.seen directory.now)) }
 {
     let mut segments = Vec::new(alloc);
     for segment in listed {
@@ -159,14 +159,14 @@ fn load_segment<D: Directory>(
 }
 
 // Loads the file of a component of a segment.
-#[tactic(auto, unfolding(crate::specs::Contents::found_in))]
+#[tactic(auto, unfolding(crate::specs::Contents::bytes_of_component))]
 fn load_file<D: Directory>(
     alloc: Global,
     directory: &D,
     segment: &SegmentMeta,
     component: SegmentComponent,
 ) -> Result<Vec<u8>, StoreFault>
-    ensures { D.is_known directory.now → AnswersFromFiles (λ v. v.items) result (bytes_in (segment_view segment.now) component (D.seen directory.now)) }
+    ensures { D.is_known directory.now → AnswersFromFiles (λ v. v.items) result (component_bytes (segment_view segment.now) component (D.seen directory.now)) }
 {
     let id = segment.id;
     let Some(file) = file_of(segment.files.as_slice(), component) else {

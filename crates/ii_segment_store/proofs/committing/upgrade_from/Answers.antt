@@ -4,7 +4,7 @@ use Rattle.ii_store.specs.declared.faults.IndexFault.{IndexFault}
 use Rattle.ii_store.specs.Directory.{Elapses}
 use Rattle.ii_store.specs.Index.{view}
 use Rattle.ii_segment_store.specs.Commits.{HoldsOldOr}
-use Rattle.ii_segment_store.specs.Contents.{IndexContents, SegmentContents, contents_of}
+use Rattle.ii_segment_store.specs.Contents.{IndexContents, SegmentContents, index_contents}
 use Rattle.ii_segment_store.proofs.CommitLaws.{first_fresh, first_same}
 use Rattle.ii_segment_store.proofs.committing.upgrade_from.Goals as goal
 
@@ -19,7 +19,7 @@ returns-clause-same g c = λ known.
     let old = d.seen c.args.directory.now in
     let new = d.seen c.commit_segment-committed.new.directory in
     let same = first_same i.schema c.new.result.items s i old c.new.ensures.items refl (c.requires known) in
-    subst (λ (r : Result IndexContents IndexFault). OnOk c.commit_segment-committed.result (contents_of new ≡ r)) same (c.commit_segment-committed.ensures.committed known)
+    subst (λ (r : Result IndexContents IndexFault). OnOk c.commit_segment-committed.result (index_contents new ≡ r)) same (c.commit_segment-committed.ensures.committed known)
 
 pub returns-clause-time : goal.returns-clause-time
 returns-clause-time g c = λ known.

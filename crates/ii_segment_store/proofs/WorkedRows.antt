@@ -1,0 +1,73 @@
+-- What segments and lists hold, computed on examples.
+use Rattle.std.proofs.Common.{◌≡◌, ℕ, List, [], ◌∷◌, Option, None, Some, Ok, Err, refl}
+use Rattle.std.specs.Prelude.{Result}
+use Rattle.ii_store.specs.declared.faults.IndexFault.{IndexFault}
+use Rattle.ii_store.specs.declared.faults.IndexFault.TheVariants.{DeletedDocuments, MissingFile}
+use Rattle.ii_store.specs.declared.index_meta.FileMeta.{FileMeta}
+use Rattle.ii_store.specs.declared.name.SegmentComponent.{SegmentComponent}
+use Rattle.ii_store.specs.declared.name.SegmentComponent.TheVariants.{FieldNorms, Positions, Postings, Terms}
+use Rattle.ii_store.specs.Directory.{Files}
+use Rattle.ii_store.specs.IndexMeta.{MetaState, SegmentState}
+use Rattle.ii_segment_store.specs.Commits.{listed_segment, next_list}
+use Rattle.ii_store.specs.Segments.{listed_bytes}
+use Rattle.ii_segment_store.specs.Contents.{IndexContents, SegmentContents, file_of, bytes_of_component, segment_in, with_segment}
+
+abbrev no_files : Files
+no_files name = None
+
+abbrev file : SegmentComponent → FileMeta
+file c = record { component = c; len = 1; digest = [] }
+
+-- the file of postings is the second of a list, and one of norms isn't listed
+
+listed_postings : file_of Postings (file Terms ∷ file Postings ∷ file Positions ∷ []) ≡ Some (file Postings)
+listed_postings = refl
+
+abbrev no_file : Option FileMeta
+no_file = None
+
+unlisted_norms : file_of FieldNorms (file Terms ∷ file Postings ∷ []) ≡ no_file
+unlisted_norms = refl
+
+-- a segment with a deleted document, one whose list has no terms, and one whose file of terms isn't there
+
+abbrev segment : ℕ → List FileMeta → SegmentState
+segment living files = record { id = 7; num_docs = 2; num_living = living; files = files }
+
+abbrev refused : IndexFault → Result SegmentContents IndexFault
+refused fault = Err fault
+
+deleted : segment_in (segment 1 (file Terms ∷ [])) no_files ≡ refused (DeletedDocuments 7)
+unfolding segment_in
+deleted = refl
+
+no_terms : segment_in (segment 2 (file Postings ∷ [])) no_files ≡ refused (MissingFile 7 Terms)
+unfolding segment_in bytes_of_component
+no_terms = refl
+
+no_file_of_terms : segment_in (segment 2 (file Terms ∷ [])) no_files ≡ refused (MissingFile 7 Terms)
+unfolding segment_in bytes_of_component listed_bytes
+no_file_of_terms = refl
+
+-- a segment more: the ids and generations rise by one, and it comes last
+
+abbrev words : ℕ → SegmentContents
+words n = record { num_docs = n; terms = n ∷ []; postings = []; positions = []; fieldnorms = [] }
+
+abbrev list : ℕ → List SegmentState → MetaState
+list number segments = record { generation = number; next_segment_id = number; schema = 9 ∷ []; segments = segments }
+
+third : next_list (list 3 (segment 2 [] ∷ [])) (words 5) ≡ list 4 (segment 2 [] ∷ listed_segment 3 (words 5) ∷ [])
+third = refl
+
+lists_terms : (listed_segment 3 (words 5)).num_living ≡ 5
+lists_terms = refl
+
+abbrev index : List SegmentContents → IndexContents
+index segments = record { schema = 9 ∷ []; segments = segments }
+
+abbrev holds : List SegmentContents → Result IndexContents IndexFault
+holds segments = Ok (index segments)
+
+comes_last : with_segment (words 5) (holds (words 2 ∷ [])) ≡ holds (words 2 ∷ words 5 ∷ [])
+comes_last = refl
