@@ -8,7 +8,7 @@ ghost use Rattle.ii_codes.specs.Blocks.{sorted_bytes, unsorted_width};
 ghost use Rattle.ii_codes.specs.Sums.{DoNotFall};
 ghost use Rattle.ii_base.specs.Entries.{are_documents};
 ghost use Rattle.ii_layout.specs.Bounds.{Covers};
-ghost use Rattle.ii_layout.specs.PostingsSerializer.{AreWhole, AreBlockFreqs, IsFullBlock, IsOpenBlock, ArePositive, IsSumTooLarge, AddsDocs, no_docs, one_doc, joined, sized, written_docs};
+ghost use Rattle.ii_layout.specs.PostingsSerializer.{AreWhole, AreBlockFreqs, IsFullBlock, IsOpenBlock, ArePositive, IsSumTooLarge, AddsDocs, no_docs, joined, sized, written_docs};
 ghost use Rattle.ii_layout.specs.Written.{entry_of_block, freq_part, packed_freqs, rest_bytes, written_postings};
 
 use super::block::Block;

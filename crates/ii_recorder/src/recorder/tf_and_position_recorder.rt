@@ -1,8 +1,7 @@
 ghost use Rattle.std.specs.Prelude.{◌≡◌, ◌^◌, ◌<◌, [], ◌∷◌, None, false, length, OnOk, IfOk};
-ghost use Rattle.std.specs.List.{AllByRecursion};
 ghost use Rattle.ii_io.specs.Faults.{OnlyMemory};
 ghost use Rattle.ii_codes.specs.Sums.{differences};
-ghost use Rattle.ii_recorder.specs.Gathered.{all_of, behind_positions, first_positions, located_at, positions_in};
+ghost use Rattle.ii_recorder.specs.Gathered.{behind_positions, first_positions, located_at};
 ghost use Rattle.ii_recorder.specs.Pushed.{MayPush, Pushes};
 ghost use Rattle.ii_base.specs.declared.schema.index_record_option.IndexRecordOption.TheVariants.{WithFreqsAndPositions};
 
