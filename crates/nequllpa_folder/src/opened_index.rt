@@ -80,6 +80,7 @@ impl OpenedIndex {
 }
 
 // Opens segments with a schema, given as bytes.
+#[tactic(auto, using(crate::proofs::OpenLemmas::making_begins, crate::proofs::OpenLemmas::making_ends))]
 fn opened_each(
     alloc: Global,
     schema: &[u8],
