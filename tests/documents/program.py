@@ -20,6 +20,7 @@ PRINTS = {
     './nequllpa index sea --schema schema.toml lines.jsonl': '2 documents indexed\n',
     """./nequllpa search sea '"the sea" NOT bird'""": '1\n',
     './nequllpa check sea': '0 damages\n',
+    r"""printf '{"body": "a bird"}\n' | ./nequllpa add sea""": '1 documents added\n',
     'rt new crates/mine start_io': None,
     'rm -f crates/mine/BUILD.bazel': '',
     "echo 'mine: nequllpa anyhow' >> crates.txt": '',

@@ -230,6 +230,71 @@ def values(user, docs):
             raise Failed(f'terms of address: no {wanted!r}')
 
 
+SEGMENT_FILES = {'term': 'terms', 'idx': 'postings', 'pos': 'positions', 'norm': 'field norms'}
+
+
+def grows(user, docs, chosen):
+    """Compares an index to which documents were added with one of all documents: each command must answer the
+    same. Then damages each file of each segment."""
+    schema = user.path('schema.toml')
+    cuts = [0] + sorted(chosen.sample(range(1, len(docs)), 3)) + [len(docs)]
+    user.wants(['index', 'grown', '--schema', schema], 0, f'{cuts[1]} documents indexed\n', given=lines(docs[:cuts[1]]).encode())
+    for begin, end in zip(cuts[1:], cuts[2:]):
+        user.write('more.jsonl', lines(docs[begin:end]))
+        user.wants(['add', 'grown', 'more.jsonl'], 0, f'{end - begin} documents added\n')
+    user.wants(['add', 'grown'], 0, '0 documents added\n')
+    words = chosen.sample(sorted(texts.lists_of(docs, 'body')), 4)
+    asked = [['fields'], ['terms', 'body'], ['terms', 'body', '--top', 9], ['terms', 'body', '--prefix', 'co'], ['terms', 'about'], ['terms', 'number', '--top', 3]]
+    for one, two in zip(words, words[1:]):
+        for query in (one, f'{one} {two}', f'{one} AND {two}', f'{one} AND -{two}', f'"{one} {two}"'):
+            asked += [['search', query, *options] for options in ([], ['--count'], ['--limit', 3], ['--positions'], ['--positions', '--json', '--limit', 7], ['--count', '--json'], ['--limit', 0])]
+        asked += [['postings', 'body', one], ['postings', 'body', one, '--positions']]
+    asked += [['postings', 'number', docs[0]['number']], ['postings', 'about', 'file.place i 3'], ['search', 'nosuchword'], ['search', 'a', '--ids'], ['postings', 'body', 'nosuchword']]
+    for words in asked:
+        whole = user.run(words[0], 'folder', *words[1:])
+        # what lists of JSON paths take isn't what one list takes
+        told = lambda done: [row.split(' terms')[0] for row in done.stdout.decode().splitlines()] if words == ['fields'] else done.stdout
+        grown = user.run(words[0], 'grown', *words[1:])
+        if grown.returncode != whole.returncode or told(grown) != told(whole) or grown.stderr != whole.stderr:
+            raise Failed(f'{words} of a grown index: status {grown.returncode}, {grown.stdout[-300:]!r}, {grown.stderr!r}; wanted {whole.returncode}, {whole.stdout[-300:]!r}, {whole.stderr!r}')
+    stats = user.wants(['stats', 'grown'], 0)
+    if f'{len(docs):>12} documents\n{4:>12} segments\n' not in stats:
+        raise Failed(f'stats: {stats!r}')
+    user.wants(['check', 'grown'], 0)
+    user.write('bad.jsonl', '{"body": 5}\n')
+    user.wants(['add', 'grown', 'bad.jsonl'], 1, '', 'bad.jsonl:1: body: not of the type of the field')
+    user.wants(['add', 'grown', 'none.jsonl'], 2, '', 'no such file: none.jsonl')
+    user.wants(['add', 'nowhere', 'more.jsonl'], 1, 'nowhere: no index here\n')
+    user.wants(['upgrade', 'grown'], 0, 'the index was of version 2 already\n')
+    damages_segments(user)
+    shutil.rmtree(user.path('grown'))
+
+
+def damages_segments(user):
+    """Changes and removes each file of each segment: the commands must name the segment and the file."""
+    for name in sorted(os.listdir(user.path('grown'))):
+        id, kind = name.split('.')[0], SEGMENT_FILES.get(name.split('.')[-1])
+        if kind is None:
+            continue
+        path = os.path.join(user.path('grown'), name)
+        with open(path, 'rb') as file:
+            text = file.read()
+        what = f'grown: the file of {kind} of segment {int(id, 16)}'
+        for changed, why in ((text[:-1], 'has another length than meta says'), (text[:-1] + bytes([text[-1] ^ 1]), 'has another checksum than meta says')):
+            with open(path, 'wb') as file:
+                file.write(changed)
+            user.wants(['search', 'grown', 'a'], 1, f'{what} {why}\n')
+            if f'{what} {why}, bytes 0..{len(changed)}\n' not in user.wants(['check', 'grown'], 1):
+                raise Failed(f'check: no {what} {why}')
+        os.remove(path)
+        user.wants(['search', 'grown', 'a'], 1, f'{what} is missing\n')
+        if f'{what} is missing\n' not in user.wants(['check', 'grown'], 1):
+            raise Failed(f'check: no {what} is missing')
+        with open(path, 'wb') as file:
+            file.write(text)
+    user.wants(['check', 'grown'], 0)
+
+
 BAD_LINES = (
     ('[1, 2]', 'not an object'),
     ('{"body": "a"', 'not JSON, at byte '),
@@ -474,6 +539,7 @@ def main():
             searches(user, docs, chosen)
             values(user, docs)
             refusals(user, docs)
+            grows(user, docs, chosen)
             ids(user)
             damages(user, chosen, 82)
             values_twice(user)

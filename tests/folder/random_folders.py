@@ -240,13 +240,17 @@ class Reader:
         if got != status or said != out:
             raise Failed(f'{words}: status {got}, {said[-400:]!r}, {err[-300:]!r}; wanted {status}, {out[-400:]!r}')
 
-    def indexes(self, fields):
+    def indexes(self, fields, cuts):
+        """Indexes the lines up to the first cut, and adds those between each two cuts as a segment."""
         with open(os.path.join(self.room, 'schema.toml'), 'w', encoding='utf-8') as file:
             file.write(schema_text(fields))
-        text = ''.join(json.dumps(line, ensure_ascii=False) + '\n' for line in self.lines)
-        self.wants(['index', 'folder', '--schema', 'schema.toml'], 0, f'{len(self.lines)} documents indexed\n', text.encode())
+        parts = [self.lines[begin:end] for begin, end in zip([0, *cuts], [*cuts, len(self.lines)])]
+        texts = [''.join(json.dumps(line, ensure_ascii=False) + '\n' for line in part).encode() for part in parts]
+        self.wants(['index', 'folder', '--schema', 'schema.toml'], 0, f'{len(parts[0])} documents indexed\n', texts[0])
+        for part, text in zip(parts[1:], texts[1:]):
+            self.wants(['add', 'folder'], 0, f'{len(part)} documents added\n', text)
         status, told, err = self.run('check', 'folder')
-        if status != 0 or not told.endswith('\n0 damages\n'):
+        if status != 0 or not told.startswith(f'{len(self.lines)} documents; each file') or not told.endswith('\n0 damages\n'):
             raise Failed(f'check: status {status}, {told!r}, {err!r}')
 
     def looks(self, chosen):
@@ -259,6 +263,8 @@ class Reader:
                 raise Failed(f'fields: {row!r}; wanted {len(field.lists)} terms, {field.tokens} tokens of {name}')
             keys = sorted(field.lists)
             self.wants(['terms', 'folder', '--', name], 0, ''.join(f'{len(field.lists[key])} {field.texts[key]}\n' for key in keys))
+            top = sorted(keys, key=lambda key: -len(field.lists[key]))[:3]
+            self.wants(['terms', 'folder', '--top', '3', '--', name], 0, ''.join(f'{len(field.lists[key])} {field.texts[key]}\n' for key in top))
             for key in chosen.sample(keys, min(6, len(keys))):
                 self.wants(['postings', 'folder', '--', name, field.texts[key]], 0, field.postings(key, False))
                 self.wants(['postings', 'folder', '--positions', '--', name, field.texts[key]], 0, field.postings(key, True))
@@ -296,6 +302,7 @@ class Reader:
 
     def finds(self, query, found):
         self.wants(['search', 'folder', '--', query], 0 if found else 1, ''.join(f'{doc}\n' for doc in sorted(found)))
+        self.wants(['search', 'folder', '--json', '--limit', '2', '--', query], 0 if found else 1, ''.join(f'{{"doc":{doc}}}\n' for doc in sorted(found)[:2]))
         self.wants(['search', 'folder', '--count', '--', query], 0 if found else 1, f'{len(found)}\n')
 
 
@@ -303,7 +310,8 @@ def one_folder(program, room, chosen, is_large):
     fields = random_schema(chosen)
     lines = [random_line(chosen, fields) for _ in range(chosen.randint(300, 900) if is_large else chosen.randint(0, 30))]
     reader = Reader(program, room, fields, lines)
-    reader.indexes(fields)
+    cuts = sorted(chosen.randint(0, len(lines)) for _ in range(chosen.choice((0, 0, 1, 2, 4))))
+    reader.indexes(fields, cuts)
     reader.looks(chosen)
     reader.searches(chosen)
     return reader.runs

@@ -1,6 +1,6 @@
 #!/usr/bin/env python3
-"""Stops `nequllpa` before each of its system calls, and runs two programs that write to one folder. The
-folder must hold the old index or the new one, and a second writer must fail at once."""
+"""Stops `nequllpa index` and `add` before each of their system calls, and runs two programs that write to one
+folder. The folder must hold the old index or the new one, and a second writer must fail at once."""
 import json
 import os
 import shutil
@@ -85,6 +85,41 @@ def stopped_everywhere(folder, old):
         folder.holds(2)
         folder.stops += 1
     raise Failed('the program makes no end of calls')
+
+
+def adds_everywhere(folder, before):
+    """Stops `add` before each of its calls, over an index with these files of lines. Returns its calls."""
+    many = len(before) + 1
+    for stop in range(1, 1000):
+        shutil.rmtree(folder.path('index'), ignore_errors=True)
+        folder.wants(folder.index(before[0])[0], 0, '1 documents indexed')
+        for lines in before[1:]:
+            folder.wants(folder.run('add', 'index', lines)[0], 0, '1 documents added')
+        done, calls = folder.run('add', 'index', 'old.jsonl', STOP_AT=stop)
+        if done.returncode == 0:
+            folder.holds(many)
+            return calls
+        if done.returncode != -signal.SIGKILL:
+            raise Failed(f'add stopped at {stop}: status {done.returncode}, {done.stderr!r}')
+        folder.holds(many - 1, many)
+        has = int(folder.run('search', 'index', 'sea', '--count')[0].stdout)
+        folder.wants(folder.run('add', 'index', 'new.jsonl')[0], 0, '2 documents added')
+        folder.holds(has + 2)
+        # files of a stopped run were removed
+        named = [name for name in os.listdir(folder.path('index')) if name.endswith('.term')]
+        if len(named) != has + 1 or os.path.exists(folder.path('index/meta.new')):
+            raise Failed(f'after an add that was stopped at {stop}: {sorted(os.listdir(folder.path("index")))}')
+        folder.stops += 1
+    raise Failed('the program makes no end of calls')
+
+
+def replaced(folder):
+    """Indexes into a folder with several segments: nothing of them must remain."""
+    folder.wants(folder.index('new.jsonl')[0], 0, '2 documents indexed')
+    folder.holds(2)
+    left = sorted(os.listdir(folder.path('index')))
+    if [name.split('.')[0] for name in left] != ['fieldnorm', 'idx', 'lock', 'meta', 'pos', 'schema', 'term']:
+        raise Failed(f'index over segments leaves {left}')
 
 
 def in_order(calls):
@@ -182,6 +217,9 @@ def main():
             in_order(stopped_everywhere(folder, None))
             refused = two_writers(folder, len(calls))
             orphans(folder)
+            adds_everywhere(folder, ['old.jsonl'])
+            adds_everywhere(folder, ['old.jsonl', 'old.jsonl'])
+            replaced(folder)
         except Failed as why:
             print(f'tests/folder: {why}')
             return 1

@@ -49,18 +49,10 @@ segment_is_no_meta id component same = omega (arith, ap name_number same)
 
 -- one call after the other
 
-pub written_is_old : (a c : Files) → Elsewhere NewMeta a c → segments_of c ≡ segments_of a
-written_is_old a c elsewhere = segments_same a c (elsewhere Meta meta_is_no_new_meta) (λ id component. elsewhere (Segment id component) (segment_is_no_new_meta id component))
-
 module _ (m : MetaState) (valid : IsValidMeta m) (old ready : Files) (put : IsPut NewMeta (Some (meta_bytes m)) old ready) where
   pub renamed_list : (new : Files) → IsRenamed NewMeta Meta ready new → list_in (new Meta) ≡ Ok m
   unfolding list_in
   renamed_list new renamed = ap list_in (renamed.there ∙ put.there) ∙ meta_again m valid
-
-  renamed_segments : (new : Files) → IsRenamed NewMeta Meta ready new → KeepsSegments old new
-  renamed_segments new renamed id component =
-      renamed.elsewhere (Segment id component) (segment_is_no_new_meta id component) (segment_is_no_meta id component)
-      ∙ put.elsewhere (Segment id component) (segment_is_no_new_meta id component)
 
   pub renamed_keeps : (new : Files) → IsRenamed NewMeta Meta ready new → KeepsOtherFiles old new
   renamed_keeps new renamed name no_meta no_new_meta = renamed.elsewhere name no_new_meta no_meta ∙ put.elsewhere name no_new_meta

@@ -1,13 +1,180 @@
 //! The command `check`.
-use crate::commands::{NO, ended, refuse_path, tell_no_index};
+use crate::commands::{NO, ended, refuse_path, status_of, tell_no_index};
 use ii_base::Schema;
-use ii_store::{Folder, IndexFault, Kind, SalvagedFile, SalvagedIndex, StoreFault, salvage};
+use ii_segment_store::loading::file_of;
+use ii_store::segments::{load_meta, load_segment_file};
+use ii_store::{
+    Directory, DirectoryFault, Folder, IndexFault, IndexMeta, Kind, Name, SalvagedFile,
+    SalvagedIndex, SegmentComponent, SegmentMeta, StoreFault, StoredIndex, salvage,
+};
 use nequllpa_folder::{Checked, check, schema_of};
 use std::io::{self, BufWriter, Write};
 use std::process::ExitCode;
 
+// The components whose files a segment has.
+const COMPONENTS: [SegmentComponent; 4] = [
+    SegmentComponent::Terms,
+    SegmentComponent::Postings,
+    SegmentComponent::Positions,
+    SegmentComponent::FieldNorms,
+];
+
 /// Checks that each file of a folder is as it was saved, and that their contents agree.
 pub fn answer_check(rt: &HostRuntime, path: &str) -> anyhow::Result<ExitCode> {
+    match load_meta(rt.alloc(), &Folder::new(rt, path)) {
+        Ok(list) => check_list(rt, path, &list),
+        Err(StoreFault::Index(IndexFault::OtherVersion(_))) => check_first_version(rt, path),
+        Err(StoreFault::Index(fault)) => Ok(ExitCode::from(tell_no_index(rt, path, fault)?)),
+        Err(StoreFault::Directory(fault)) => Ok(ExitCode::from(refuse_path(rt, path, fault)?)),
+    }
+}
+
+// Checks each segment of a list.
+fn check_list(rt: &HostRuntime, path: &str, list: &IndexMeta) -> anyhow::Result<ExitCode> {
+    let schema = match read_schema(rt, path, list.schema.as_slice())? {
+        Ok(schema) => schema,
+        Err(status) => return Ok(ExitCode::from(status)),
+    };
+    let mut sum = Sum {
+        documents: 0,
+        files: 0,
+        changed: 0,
+        checked: nothing(),
+    };
+    for segment in &list.segments {
+        if let Err(status) = check_segment(rt, path, &schema, segment, &mut sum)? {
+            return Ok(ExitCode::from(status));
+        }
+    }
+    print_checked(rt, &sum)?;
+    ended(rt, path, Ok(sum.checked.damages == 0 && sum.changed == 0))
+}
+
+// What was checked of an index.
+#[derive(Clone, Copy)]
+struct Sum {
+    documents: u64,
+    files: u64,
+    changed: u64,
+    checked: Checked,
+}
+
+// Returns that nothing was checked.
+fn nothing() -> Checked {
+    Checked {
+        terms: 0,
+        postings: 0,
+        positions: 0,
+        damages: 0,
+    }
+}
+
+impl Sum {
+    // Adds the lists of a segment.
+    fn add(&mut self, more: Checked) {
+        self.checked = Checked {
+            terms: self.checked.terms.saturating_add(more.terms),
+            postings: self.checked.postings.saturating_add(more.postings),
+            positions: self.checked.positions.saturating_add(more.positions),
+            damages: self.checked.damages.saturating_add(more.damages),
+        };
+    }
+}
+
+// Checks the files of a segment, and its lists. Returns the status if that isn't possible.
+fn check_segment(
+    rt: &HostRuntime,
+    path: &str,
+    schema: &Schema,
+    segment: &SegmentMeta,
+    sum: &mut Sum,
+) -> anyhow::Result<Result<(), u8>> {
+    sum.documents = sum.documents.saturating_add(u64::from(segment.num_docs));
+    let stored = match left_of(rt, path, segment, sum)? {
+        Ok(stored) => stored,
+        Err(fault) => return Ok(Err(refuse_path(rt, path, fault)?)),
+    };
+    let id = segment.id;
+    let place = format!(in rt.alloc(); "segment {id}: ")?;
+    let mut out = BufWriter::new(rt.alloc(), io::writer(rt))?;
+    let checked = check(rt.alloc(), &mut out, place.as_str(), schema, stored);
+    out.flush()?;
+    match checked {
+        Ok(checked) => {
+            sum.add(checked);
+            Ok(Ok(()))
+        }
+        Err(fault) => Ok(Err(status_of(rt, path, fault)?)),
+    }
+}
+
+// Prints a line for each file of a segment that isn't as it was saved, and returns what there is of the files.
+fn left_of(
+    rt: &HostRuntime,
+    path: &str,
+    segment: &SegmentMeta,
+    sum: &mut Sum,
+) -> anyhow::Result<Result<StoredIndex, DirectoryFault>> {
+    let mut left = StoredIndex {
+        num_docs: segment.num_docs,
+        schema: Vec::new(rt.alloc()),
+        terms: Vec::new(rt.alloc()),
+        postings: Vec::new(rt.alloc()),
+        positions: Vec::new(rt.alloc()),
+        fieldnorms: Vec::new(rt.alloc()),
+    };
+    for component in COMPONENTS {
+        let bytes = match left_of_file(rt, path, segment, component, sum)? {
+            Ok(bytes) => bytes,
+            Err(fault) => return Ok(Err(fault)),
+        };
+        match component {
+            SegmentComponent::Terms => left.terms = bytes,
+            SegmentComponent::Postings => left.postings = bytes,
+            SegmentComponent::Positions => left.positions = bytes,
+            _ => left.fieldnorms = bytes,
+        }
+    }
+    Ok(Ok(left))
+}
+
+// Prints a line for a file of a segment if it isn't as it was saved, and returns what there is of it.
+fn left_of_file(
+    rt: &HostRuntime,
+    path: &str,
+    segment: &SegmentMeta,
+    component: SegmentComponent,
+    sum: &mut Sum,
+) -> anyhow::Result<Result<Vec<u8>, DirectoryFault>> {
+    sum.files = sum.files.saturating_add(1);
+    let folder = Folder::new(rt, path);
+    let Some(file) = file_of(segment.files.as_slice(), component) else {
+        sum.changed = sum.changed.saturating_add(1);
+        let fault = IndexFault::MissingFile(segment.id, component);
+        println!(rt; "{path}: {fault}")?;
+        return Ok(Ok(Vec::new(rt.alloc())));
+    };
+    let fault = match load_segment_file(rt.alloc(), &folder, segment.id, &file) {
+        Ok(bytes) => return Ok(Ok(bytes)),
+        Err(StoreFault::Directory(fault)) => return Ok(Err(fault)),
+        Err(StoreFault::Index(fault)) => fault,
+    };
+    sum.changed = sum.changed.saturating_add(1);
+    match folder.read(rt.alloc(), Name::Segment(segment.id, component)) {
+        Ok(Some(bytes)) => {
+            println!(rt; "{path}: {fault}, bytes 0..{}", bytes.len())?;
+            Ok(Ok(bytes))
+        }
+        Ok(None) => {
+            println!(rt; "{path}: {fault}")?;
+            Ok(Ok(Vec::new(rt.alloc())))
+        }
+        Err(fault) => Ok(Err(fault)),
+    }
+}
+
+// Checks an index of version 1.
+fn check_first_version(rt: &HostRuntime, path: &str) -> anyhow::Result<ExitCode> {
     let left = match salvage(rt.alloc(), &Folder::new(rt, path)) {
         Ok(left) => left,
         Err(StoreFault::Index(fault)) => {
@@ -47,7 +214,12 @@ fn schema_left(
         println!(rt; "the lists were not looked at, since they can be read by the schema alone")?;
         return Ok(Err(NO));
     }
-    match schema_of(rt.alloc(), left.schema.bytes.as_slice()) {
+    read_schema(rt, path, left.schema.bytes.as_slice())
+}
+
+// Reads the schema of an index, or returns the status if its bytes are none.
+fn read_schema(rt: &HostRuntime, path: &str, bytes: &[u8]) -> anyhow::Result<Result<Schema, u8>> {
+    match schema_of(rt.alloc(), bytes) {
         Ok(schema) => Ok(Ok(schema)),
         Err(fault) => {
             if fault.is_memory() {
@@ -94,13 +266,19 @@ fn check_lists(
     left: SalvagedIndex,
     changed: u64,
 ) -> anyhow::Result<ExitCode> {
-    let num_docs = left.num_docs;
+    let mut sum = Sum {
+        documents: u64::from(left.num_docs),
+        files: u64::from(Kind::COUNT),
+        changed,
+        checked: nothing(),
+    };
     let mut out = BufWriter::new(rt.alloc(), io::writer(rt))?;
-    let checked = check(rt.alloc(), &mut out, schema, left.into_index());
+    let checked = check(rt.alloc(), &mut out, "", schema, left.into_index());
     out.flush()?;
     match checked {
         Ok(checked) => {
-            print_checked(rt, num_docs, changed, checked)?;
+            sum.add(checked);
+            print_checked(rt, &sum)?;
             ended(rt, path, Ok(checked.damages == 0 && changed == 0))
         }
         Err(fault) => ended(rt, path, Err(fault)),
@@ -108,24 +286,19 @@ fn check_lists(
 }
 
 // Prints what was checked.
-fn print_checked(
-    rt: &HostRuntime,
-    num_docs: u32,
-    changed: u64,
-    checked: Checked,
-) -> anyhow::Result<()> {
+fn print_checked(rt: &HostRuntime, sum: &Sum) -> anyhow::Result<()> {
     let Checked {
         terms,
         postings,
         positions,
         damages,
-    } = checked;
-    if changed == 0 {
-        println!(rt; "{num_docs} documents; each file is as it was saved")?;
+    } = sum.checked;
+    if sum.changed == 0 {
+        println!(rt; "{} documents; each file is as it was saved", sum.documents)?;
     } else {
         println!(rt;
-            "{num_docs} documents; {changed} of {} files are not as they were saved",
-            Kind::COUNT
+            "{} documents; {} of {} files are not as they were saved",
+            sum.documents, sum.changed, sum.files
         )?;
     }
     println!(rt; "{terms} terms, {postings} postings, {positions} positions")?;

@@ -3,9 +3,10 @@ ghost use Rattle.std.specs.Prelude.{◌<◌, IfOk, length};
 
 use clap::ArgMatches;
 use ii_base::{Field, Term};
-use ii_store::{Folder, IndexFault, Kind, StoreFault, StoredIndex, load};
+use ii_segment_store::{StoredSegment, StoredSegments, load_latest};
+use ii_store::{Folder, IndexFault, Kind, StoreFault};
 use nequllpa_folder::{
-    AnswerFault, Opened, TermChoice, term_of, write_fields, write_postings, write_stats,
+    AnswerFault, OpenedIndex, TermChoice, term_of, write_fields, write_postings, write_stats,
     write_terms,
 };
 use std::fmt::Display;
@@ -43,7 +44,7 @@ pub fn answer_terms(
 fn print_terms(
     rt: &HostRuntime,
     path: &str,
-    opened: &Opened,
+    opened: &OpenedIndex,
     given: &ArgMatches<'_>,
     choice: TermChoice<'_>,
 ) -> anyhow::Result<ExitCode> {
@@ -73,7 +74,7 @@ pub fn answer_postings(
 fn print_postings(
     rt: &HostRuntime,
     path: &str,
-    opened: &Opened,
+    opened: &OpenedIndex,
     given: &ArgMatches<'_>,
 ) -> anyhow::Result<ExitCode> {
     let field = match field_given(rt, opened, given)? {
@@ -84,25 +85,21 @@ fn print_postings(
         return Ok(ExitCode::from(REFUSED));
     };
     match term_given(rt, opened, field, text)? {
-        Ok(term) => print_list(rt, path, opened, field, &term, given.get_flag("positions")),
+        Ok(term) => print_list(rt, path, opened, &term, given.get_flag("positions")),
         Err(status) => Ok(ExitCode::from(status)),
     }
 }
 
-// Prints the list of a term of a field.
+// Prints the documents of a term.
 fn print_list(
     rt: &HostRuntime,
     path: &str,
-    opened: &Opened,
-    field: Field,
+    opened: &OpenedIndex,
     term: &Term,
     positions: bool,
-) -> anyhow::Result<ExitCode>
-    requires { field < length opened.now.schema }
-{
-    let reader = opened.reader(field);
+) -> anyhow::Result<ExitCode> {
     let mut out = BufWriter::new(rt.alloc(), io::writer(rt))?;
-    let written = write_postings(rt.alloc(), &mut out, reader, term, positions);
+    let written = write_postings(rt.alloc(), &mut out, opened, term, positions);
     out.flush()?;
     ended(rt, path, written)
 }
@@ -116,7 +113,7 @@ pub fn answer_fields(rt: &HostRuntime, path: &str) -> anyhow::Result<ExitCode> {
 }
 
 // Prints the fields of an open index.
-fn print_fields(rt: &HostRuntime, path: &str, opened: &Opened) -> anyhow::Result<ExitCode> {
+fn print_fields(rt: &HostRuntime, path: &str, opened: &OpenedIndex) -> anyhow::Result<ExitCode> {
     let mut out = BufWriter::new(rt.alloc(), io::writer(rt))?;
     let written = write_fields(rt.alloc(), &mut out, opened);
     out.flush()?;
@@ -137,26 +134,57 @@ pub fn answer_stats(rt: &HostRuntime, path: &str) -> anyhow::Result<ExitCode> {
 }
 
 // Prints the space that the lists of an open index take.
-fn print_stats(rt: &HostRuntime, path: &str, opened: &Opened) -> anyhow::Result<ExitCode> {
+fn print_stats(rt: &HostRuntime, path: &str, opened: &OpenedIndex) -> anyhow::Result<ExitCode> {
     let mut out = BufWriter::new(rt.alloc(), io::writer(rt))?;
-    let written = write_stats(&mut out, opened);
+    let written = write_stats(rt.alloc(), &mut out, opened);
     out.flush()?;
     ended(rt, path, written.map(|()| true))
 }
 
-// Prints the number of documents and the size of each file.
-fn print_files(rt: &HostRuntime, index: &StoredIndex) -> anyhow::Result<()> {
-    println!(rt; "{:>12} documents", index.num_docs)?;
-    for number in 0..Kind::COUNT {
-        let kind = Kind::at(number);
-        println!(rt; "{:>12} bytes of {kind}", index.bytes_of(kind).len())?;
+// Prints the number of documents and of segments, and how many bytes their files have of each kind.
+fn print_files(rt: &HostRuntime, index: &StoredSegments) -> anyhow::Result<()> {
+    let mut total = Total::default();
+    for segment in &index.segments {
+        total.add(segment);
     }
+    println!(rt; "{:>12} documents", total.documents)?;
+    println!(rt; "{:>12} segments", index.segments.len())?;
+    println!(rt; "{:>12} bytes of {}", index.schema.len(), Kind::Schema)?;
+    println!(rt; "{:>12} bytes of {}", total.terms, Kind::Terms)?;
+    println!(rt; "{:>12} bytes of {}", total.postings, Kind::Postings)?;
+    println!(rt; "{:>12} bytes of {}", total.positions, Kind::Positions)?;
+    println!(rt; "{:>12} bytes of {}", total.fieldnorms, Kind::FieldNorms)?;
     Ok(())
 }
 
+// The documents of segments, and the bytes of their files.
+#[derive(Clone, Copy, Default)]
+struct Total {
+    documents: u64,
+    terms: u64,
+    postings: u64,
+    positions: u64,
+    fieldnorms: u64,
+}
+
+impl Total {
+    // Adds a segment.
+    fn add(&mut self, segment: &StoredSegment) {
+        self.documents = self.documents.saturating_add(u64::from(segment.num_docs));
+        self.terms = self.terms.saturating_add(segment.terms.len() as u64);
+        self.postings = self.postings.saturating_add(segment.postings.len() as u64);
+        self.positions = self
+            .positions
+            .saturating_add(segment.positions.len() as u64);
+        self.fieldnorms = self
+            .fieldnorms
+            .saturating_add(segment.fieldnorms.len() as u64);
+    }
+}
+
 // Loads the index of a folder, or returns the status if there is none.
-fn loaded_at(rt: &HostRuntime, path: &str) -> anyhow::Result<Result<StoredIndex, u8>> {
-    match load(rt.alloc(), &Folder::new(rt, path)) {
+fn loaded_at(rt: &HostRuntime, path: &str) -> anyhow::Result<Result<StoredSegments, u8>> {
+    match load_latest(rt.alloc(), &Folder::new(rt, path)) {
         Ok(stored) => Ok(Ok(stored)),
         Err(StoreFault::Index(fault)) => Ok(Err(tell_no_index(rt, path, fault)?)),
         Err(StoreFault::Directory(fault)) => Ok(Err(refuse_path(rt, path, fault)?)),
@@ -204,9 +232,9 @@ fn tell_none(rt: &HostRuntime, path: &str) -> anyhow::Result<u8> {
 fn opened_of(
     rt: &HostRuntime,
     path: &str,
-    stored: StoredIndex,
-) -> anyhow::Result<Result<Opened, u8>> {
-    match Opened::open(rt.alloc(), stored) {
+    stored: StoredSegments,
+) -> anyhow::Result<Result<OpenedIndex, u8>> {
+    match OpenedIndex::open(rt.alloc(), stored) {
         Ok(opened) => Ok(Ok(opened)),
         Err(fault) => {
             if fault.is_memory() {
@@ -220,7 +248,7 @@ fn opened_of(
 }
 
 /// Opens the index of a folder, or returns the status if there is none.
-pub fn opened_at(rt: &HostRuntime, path: &str) -> anyhow::Result<Result<Opened, u8>> {
+pub fn opened_at(rt: &HostRuntime, path: &str) -> anyhow::Result<Result<OpenedIndex, u8>> {
     match loaded_at(rt, path)? {
         Ok(stored) => opened_of(rt, path, stored),
         Err(status) => Ok(Err(status)),
@@ -230,7 +258,7 @@ pub fn opened_at(rt: &HostRuntime, path: &str) -> anyhow::Result<Result<Opened, 
 // Returns the field given on the command line.
 fn field_given(
     rt: &HostRuntime,
-    opened: &Opened,
+    opened: &OpenedIndex,
     given: &ArgMatches<'_>,
 ) -> anyhow::Result<Result<Field, u8>>
     ensures { IfOk result (λ field. IfOk field (λ f. f < length opened.now.schema)) }
@@ -244,7 +272,7 @@ fn field_given(
 /// Returns the field with a name, or the status if there is none.
 pub fn field_named(
     rt: &HostRuntime,
-    opened: &Opened,
+    opened: &OpenedIndex,
     name: &str,
 ) -> anyhow::Result<Result<Field, u8>>
     ensures { IfOk result (λ field. IfOk field (λ f. f < length opened.now.schema)) }
@@ -261,7 +289,7 @@ pub fn field_named(
 // Returns the term of a field for a text.
 fn term_given(
     rt: &HostRuntime,
-    opened: &Opened,
+    opened: &OpenedIndex,
     field: Field,
     text: &str,
 ) -> anyhow::Result<Result<Term, u8>>
@@ -311,15 +339,20 @@ pub fn ended(
     match answer {
         Ok(true) => Ok(ExitCode::SUCCESS),
         Ok(false) => Ok(ExitCode::from(NO)),
-        Err(AnswerFault::Output(kind)) => {
-            Ok(ExitCode::from(refuse(rt, AnswerFault::Output(kind))?))
-        }
-        Err(fault) => {
+        Err(fault) => Ok(ExitCode::from(status_of(rt, path, fault)?)),
+    }
+}
+
+/// Prints why there is no answer, and returns the status.
+pub fn status_of(rt: &HostRuntime, path: &str, fault: AnswerFault) -> anyhow::Result<u8> {
+    match fault {
+        AnswerFault::Output(kind) => refuse(rt, AnswerFault::Output(kind)),
+        fault => {
             if fault.is_memory() {
-                return Ok(ExitCode::from(refuse_path(rt, path, fault)?));
+                return refuse_path(rt, path, fault);
             }
             println!(rt; "{path}: {fault}")?;
-            Ok(ExitCode::from(NO))
+            Ok(NO)
         }
     }
 }

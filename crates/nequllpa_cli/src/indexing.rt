@@ -5,7 +5,7 @@ use ii_base::{AsciiTokenizer, Field, Schema, ValueType};
 use ii_documents::{LineFault, ValueFault};
 use ii_schema_text::{SchemaFault, field_name_at, read_schema};
 use ii_store::save::{remove_unused, save};
-use ii_store::{DirectoryFault, Folder, FolderLock, StoredIndex};
+use ii_store::{Directory, DirectoryFault, Folder, FolderLock, Name, StoredIndex};
 use nequllpa_indexing::{Documents, InputFault, MAX_TOKEN_LEN, add_line, store};
 use serde_json::Error as JsonError;
 use std::fs;
@@ -28,9 +28,9 @@ const MOST_NESTING: u32 = 127;
 // The bytes that an editor may write at the start of a UTF-8 file.
 const BYTE_ORDER_MARK: &[u8] = &[0xef, 0xbb, 0xbf];
 
-// The state while input is read.
+/// The state while input is read.
 #[derive(Drop)]
-struct Intake {
+pub struct Intake {
     documents: Documents,
     skips_bad: bool,
     bad_lines: u64,
@@ -67,16 +67,16 @@ pub fn answer_index(
     save_index(rt, target, intake, text)
 }
 
-// The folder in which an index is saved, with its lock if it exists.
+/// The folder in which an index is saved, with its lock if it exists.
 #[derive(Drop)]
-struct Target<'a> {
+pub struct Target<'a> {
     path: &'a str,
     replaces_orphans: bool,
     lock: Option<FolderLock>,
 }
 
-// Locks the folder, if it exists, before any input is read. Returns the status if it can't be used.
-fn target_of<'a>(
+/// Locks the folder, if it exists, before any input is read. Returns the status if it can't be used.
+pub fn target_of<'a>(
     rt: &HostRuntime,
     path: &'a str,
     replaces_orphans: bool,
@@ -137,8 +137,8 @@ fn refuse_orphan(rt: &HostRuntime, path: &str) -> anyhow::Result<Result<(), u8>>
     }
 }
 
-// Prints how much memory indexing takes, and returns the initial state.
-fn begun(rt: &HostRuntime, given: &ArgMatches<'_>, schema: Schema) -> anyhow::Result<Intake> {
+/// Prints how much memory indexing takes, and returns the initial state.
+pub fn begun(rt: &HostRuntime, given: &ArgMatches<'_>, schema: Schema) -> anyhow::Result<Intake> {
     let begun = Instant::now(rt)?;
     eprintln!(rt;
         "{PROGRAM}: this takes up to about {MEMORY_MULTIPLE} bytes of memory for each byte of input"
@@ -185,8 +185,8 @@ fn refuse_schema(
     }
 }
 
-// Reads the lines of all inputs.
-fn take_inputs(
+/// Reads the lines of all inputs.
+pub fn take_inputs(
     rt: &HostRuntime,
     given: &ArgMatches<'_>,
     intake: &mut Intake,
@@ -245,6 +245,19 @@ fn take_lines<R: BufRead>(
 }
 
 impl Intake {
+    /// Returns the documents, and the number of lines that were left out.
+    pub fn into_documents(self) -> (Documents, u64) {
+        let Intake {
+            documents,
+            skips_bad: _,
+            bad_lines,
+            bytes: _,
+            reported: _,
+            begun: _,
+        } = self;
+        (documents, bad_lines)
+    }
+
     // Adds a line.
     fn take_line(
         &mut self,
@@ -392,8 +405,8 @@ fn nesting(line: &[u8]) -> u32 {
     most
 }
 
-// Prints how many words are too long to be indexed, if there are any.
-fn tell_long_words(rt: &HostRuntime, count: u64) -> anyhow::Result<()> {
+/// Prints how many words are too long to be indexed, if there are any.
+pub fn tell_long_words(rt: &HostRuntime, count: u64) -> anyhow::Result<()> {
     if count > 0 {
         eprintln!(rt;
             "{PROGRAM}: {count} words of more than {MAX_TOKEN_LEN} bytes are not indexed"
@@ -409,14 +422,7 @@ fn save_index(
     intake: Intake,
     schema: Vec<u8>,
 ) -> anyhow::Result<ExitCode> {
-    let Intake {
-        documents,
-        skips_bad: _,
-        bad_lines,
-        bytes: _,
-        reported: _,
-        begun: _,
-    } = intake;
+    let (documents, bad_lines) = intake.into_documents();
     match documents.num_long_words(rt.alloc(), &AsciiTokenizer) {
         Ok(count) => tell_long_words(rt, count)?,
         Err(fault) => return Ok(ExitCode::from(refuse(rt, fault)?)),
@@ -473,5 +479,19 @@ fn put(rt: &HostRuntime, path: &str, stored: &StoredIndex) -> Result<(), Directo
     let mut folder = Folder::new(rt, path);
     folder.begin_first_save()?;
     save(rt.alloc(), &mut folder, stored)?;
-    remove_unused(rt.alloc(), &mut folder)
+    remove_unused(rt.alloc(), &mut folder)?;
+    remove_segments(rt, &mut folder)
+}
+
+// Removes the files of segments, which an index of version 1 doesn't have.
+fn remove_segments(
+    rt: &HostRuntime,
+    folder: &mut Folder<'_, HostRuntime>,
+) -> Result<(), DirectoryFault> {
+    for name in folder.list(rt.alloc())? {
+        if let Name::Segment(_, _) = name {
+            folder.remove(name)?;
+        }
+    }
+    Ok(())
 }

@@ -1,6 +1,7 @@
 //! A program that indexes JSON lines into a folder, searches the index and inspects it.
 #![tactic(auto)]
 
+mod adding;
 mod checking;
 mod commands;
 mod indexing;
@@ -8,6 +9,7 @@ mod query_texts;
 mod searching;
 mod usage;
 
+use adding::{answer_add, answer_upgrade};
 use checking::answer_check;
 use clap::ArgMatches;
 use commands::{
@@ -68,6 +70,8 @@ fn answer_command(rt: &HostRuntime, matches: &ArgMatches<'_>) -> anyhow::Result<
     };
     match name {
         "index" => answer_index(rt, path, given),
+        "add" => answer_add(rt, path, given),
+        "upgrade" => answer_upgrade(rt, path),
         "search" => answer_search(rt, path, given),
         "terms" => answer_terms(rt, path, given),
         "postings" => answer_postings(rt, path, given),

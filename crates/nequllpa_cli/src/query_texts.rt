@@ -2,12 +2,12 @@
 use crate::commands::{PROGRAM, REFUSED, refuse_path};
 use ii_base::{AsciiTokens, Field, TokenStream};
 use ii_query_parser::{QueryParserError, UserInputAst, parse, unknown_field_name};
-use nequllpa_folder::Opened;
+use nequllpa_folder::OpenedIndex;
 
 /// Prints why a text is no query, with the name of the field concerned. Returns the status.
 pub(crate) fn refuse_query(
     rt: &HostRuntime,
-    opened: &Opened,
+    opened: &OpenedIndex,
     text: &str,
     error: QueryParserError,
 ) -> anyhow::Result<u8> {
@@ -28,7 +28,7 @@ pub(crate) fn refuse_query(
 // Does the same for a text with an unknown field name.
 fn refuse_name(
     rt: &HostRuntime,
-    opened: &Opened,
+    opened: &OpenedIndex,
     text: &str,
     error: QueryParserError,
 ) -> anyhow::Result<u8> {
@@ -52,7 +52,7 @@ fn refuse_name(
 /// others.
 pub(crate) fn tell_left_out(
     rt: &HostRuntime,
-    opened: &Opened,
+    opened: &OpenedIndex,
     fields: &[Field],
     text: &str,
 ) -> anyhow::Result<()> {

@@ -1,13 +1,12 @@
 //! The command `search`.
-ghost use Rattle.std.specs.Prelude.{◌≡◌, true, length};
-ghost use Rattle.ii_query_parser.specs.Queries.{has_fields};
-
 use crate::commands::{REFUSED, ended, field_named, number_given, opened_at, refuse};
 use crate::query_texts::{refuse_query, tell_left_out};
 use clap::ArgMatches;
 use ii_base::{AsciiTokenizer, Field, ValueType};
 use ii_query_parser::{Query, parse_query};
-use nequllpa_folder::{CountFormat, Listing, Opened, id_field, write_count, write_listing};
+use nequllpa_folder::{
+    CountFormat, Listing, OpenedIndex, id_field_of_all, write_count, write_listing,
+};
 use std::io::{self, BufWriter, Write};
 use std::process::ExitCode;
 
@@ -31,7 +30,7 @@ pub fn answer_search(
 fn search(
     rt: &HostRuntime,
     path: &str,
-    opened: &Opened,
+    opened: &OpenedIndex,
     given: &ArgMatches<'_>,
     limit: u32,
 ) -> anyhow::Result<ExitCode> {
@@ -68,12 +67,10 @@ fn search(
 fn print_count(
     rt: &HostRuntime,
     path: &str,
-    opened: &Opened,
+    opened: &OpenedIndex,
     query: &Query,
     format: CountFormat,
-) -> anyhow::Result<ExitCode>
-    requires { has_fields (length opened.now.schema) query.now ≡ true }
-{
+) -> anyhow::Result<ExitCode> {
     let mut out = BufWriter::new(rt.alloc(), io::writer(rt))?;
     let written = write_count(rt.alloc(), &mut out, opened, query, format);
     out.flush()?;
@@ -84,12 +81,10 @@ fn print_count(
 fn print_found(
     rt: &HostRuntime,
     path: &str,
-    opened: &Opened,
+    opened: &OpenedIndex,
     query: &Query,
     how: Listing,
-) -> anyhow::Result<ExitCode>
-    requires { has_fields (length opened.now.schema) query.now ≡ true }
-{
+) -> anyhow::Result<ExitCode> {
     let mut out = BufWriter::new(rt.alloc(), io::writer(rt))?;
     let written = write_listing(rt.alloc(), &mut out, opened, query, how);
     out.flush()?;
@@ -100,13 +95,13 @@ fn print_found(
 // index has no such values.
 fn ids_given(
     rt: &HostRuntime,
-    opened: &Opened,
+    opened: &OpenedIndex,
     given: &ArgMatches<'_>,
 ) -> anyhow::Result<Result<Option<Field>, u8>> {
     if !given.get_flag("ids") {
         return Ok(Ok(None));
     }
-    match id_field(opened) {
+    match id_field_of_all(opened) {
         Ok(Ok(field)) => Ok(Ok(Some(field))),
         Ok(Err(reason)) => Ok(Err(refuse(rt, reason)?)),
         Err(fault) => Ok(Err(refuse(rt, fault)?)),
@@ -116,7 +111,7 @@ fn ids_given(
 // Parses the query.
 fn query_given(
     rt: &HostRuntime,
-    opened: &Opened,
+    opened: &OpenedIndex,
     given: &ArgMatches<'_>,
 ) -> anyhow::Result<Result<Query, u8>> {
     let Some(text) = given.get_str("QUERY") else {
@@ -138,7 +133,7 @@ fn query_given(
 // Returns the fields for words without a field name: those given, or all indexed text fields.
 fn default_fields(
     rt: &HostRuntime,
-    opened: &Opened,
+    opened: &OpenedIndex,
     given: &ArgMatches<'_>,
 ) -> anyhow::Result<Result<Vec<Field>, u8>> {
     let mut fields = Vec::new(rt.alloc());

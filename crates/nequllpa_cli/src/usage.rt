@@ -42,7 +42,7 @@ static FOLDER: Word = Word {
     help: "The folder of the index",
 };
 
-static USAGES: [Usage; 7] = [
+static USAGES: [Usage; 9] = [
     Usage {
         name: "index",
         about: "Indexes JSON lines: the index replaces the one that the folder had. Takes 3 to 5 bytes of memory for each byte of input, up to 16 for numbers that all differ",
@@ -68,6 +68,27 @@ static USAGES: [Usage; 7] = [
                 help: "Replaces files with names of an index in a folder that has no meta",
             },
         ],
+    },
+    Usage {
+        name: "add",
+        about: "Adds JSON lines to an index, by its schema: their documents come after those that it has. Takes as much memory as index, for the new lines alone",
+        words: &[
+            Word {
+                name: "FILE",
+                given: Given::Words,
+                help: "Files of JSON lines, an object on each line; - is standard input, which is read if no file is given",
+            },
+            Word {
+                name: "skip-bad",
+                given: Given::Flag,
+                help: "Leaves out lines that are no documents, prints why for each, and counts them",
+            },
+        ],
+    },
+    Usage {
+        name: "upgrade",
+        about: "Makes an index of version 1 one of version 2, to which add can add; add does so by itself",
+        words: &[],
     },
     Usage {
         name: "search",

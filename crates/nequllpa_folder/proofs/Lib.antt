@@ -2,3 +2,4 @@ mod FindingLemmas
 mod IdsLemmas
 mod QueryLemmas
 mod WantedLemmas
+mod OpenLemmas

@@ -1,5 +1,6 @@
 pub mod Faults
 pub mod Finding
 pub mod Ids
+pub mod OpenedSegments
 pub mod Positions
 pub mod Stored

@@ -28,11 +28,12 @@ pub struct Checked {
     pub damages: u64,
 }
 
-/// Finds the damages of an index over a schema (`find_damages`) and writes a line for each: the file, field
-/// and term, what is wrong, and the bytes of the file. An index that was written from index calls has none.
+/// Finds the damages of an index over a schema (`find_damages`) and writes a line for each: `place`, the file,
+/// field and term, what is wrong, and the bytes of the file. An index that was written from index calls has none.
 pub fn check<W: Write>(
     alloc: Global,
     out: &mut W,
+    place: &str,
     schema: &Schema,
     stored: StoredIndex,
 ) -> Result<Checked, AnswerFault>
@@ -45,7 +46,7 @@ pub fn check<W: Write>(
     let mut totals = Totals::nothing();
     let found = find_damages(alloc, schema, stored, &mut totals)?;
     let damages = found.len() as u64;
-    let written = write_damages(alloc, out, schema, &found);
+    let written = write_damages(alloc, out, place, schema, &found);
     drop(found);
     written?;
     let Totals {
@@ -65,10 +66,12 @@ pub fn check<W: Write>(
 fn write_damages<W: Write>(
     alloc: Global,
     out: &mut W,
+    place: &str,
     schema: &Schema,
     found: &Vec<FoundDamage>,
 ) -> Result<(), AnswerFault> {
     for damage in found {
+        write!(out, "{place}")?;
         write_place(alloc, out, schema, damage)?;
         let bytes = damage.bytes();
         writeln!(

@@ -57,6 +57,12 @@ impl OpenFault {
     }
 }
 
+impl<T: Drop> From<AllocFailed<T>> for OpenFault {
+    fn from(_: AllocFailed<T>) -> Self {
+        OpenFault::Files(Fault::OutOfMemory)
+    }
+}
+
 impl From<Fault> for AnswerFault {
     fn from(fault: Fault) -> Self {
         AnswerFault::Index(fault)

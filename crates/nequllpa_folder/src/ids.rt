@@ -8,6 +8,7 @@ ghost use Rattle.nequllpa_folder.specs.Ids.{first_above_one as the_first_above_o
 
 use crate::faults::AnswerFault;
 use crate::opened::Opened;
+use crate::opened_index::{Bases, OpenedIndex};
 use ii_base::{Fault, Field, IndexRecordOption, ValueType};
 use ii_docset::{DocId, DocSet, TERMINATED};
 use ii_fieldnorm::FieldNormReader;
@@ -64,6 +65,29 @@ pub fn id_field(opened: &Opened) -> Result<Result<Field, NoIds>, Fault>
         },
         _ => Ok(Ok(field)),
     }
+}
+
+/// Does the same for an index of several segments. `SeveralWords` has the number of the document in the index.
+pub fn id_field_of_all(opened: &OpenedIndex) -> Result<Result<Field, NoIds>, Fault>
+    ensures { IfOk result (λ found. IfOk found (λ field. field < length opened.now.schema)) }
+{
+    let Some(field) = opened.field_named(ID_FIELD) else {
+        return Ok(Err(NoIds::NoField));
+    };
+    let mut bases = Bases::new();
+    for segment in opened.segments() {
+        let base = bases.pass(segment);
+        match id_field(segment)? {
+            Ok(_) => {}
+            Err(NoIds::SeveralWords(doc)) => {
+                let doc = base.saturating_add(u64::from(doc));
+                let doc = u32::try_from(doc).unwrap_or(u32::MAX);
+                return Ok(Err(NoIds::SeveralWords(doc)));
+            }
+            Err(reason) => return Ok(Err(reason)),
+        }
+    }
+    Ok(Ok(field))
 }
 
 // Returns the first document with several words in a text field.

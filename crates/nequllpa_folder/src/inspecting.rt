@@ -1,13 +1,14 @@
 //! Writes the contents of an index as text.
-ghost use Rattle.std.specs.Prelude.{◌≡◌, ◌<◌, length, true};
+ghost use Rattle.std.specs.Prelude.{◌<◌, length};
 ghost use Rattle.ii_docset.specs.Cursor.{IsCurrent};
-ghost use Rattle.ii_query_parser.specs.Queries.{has_fields};
 
 use crate::faults::AnswerFault;
+use crate::merged_terms::{MergedTerm, MergedTerms};
 use crate::opened::Opened;
-use ii_base::{Field, FieldEntry, IndexRecordOption, Term, ValueType};
+use crate::opened_index::{Bases, OpenedIndex, reader_of};
+use ii_base::{Fault, Field, FieldEntry, IndexRecordOption, Part, Term, ValueType};
 use ii_docset::{DocSet, Postings, TERMINATED};
-use ii_reader::{InvertedIndexFieldSpace, InvertedIndexReader, SegmentPostings};
+use ii_reader::SegmentPostings;
 use ii_schema_text::type_name;
 use ii_search::{Query, count};
 use ii_term_text::{push_key, push_path_bytes};
@@ -27,18 +28,27 @@ pub enum CountFormat {
 pub fn write_count<W: Write>(
     alloc: Global,
     out: &mut W,
-    opened: &Opened,
+    opened: &OpenedIndex,
     query: &Query,
     format: CountFormat,
-) -> Result<bool, AnswerFault>
-    requires { has_fields (length opened.now.schema) query.now ≡ true }
-{
-    let many = count(alloc, opened.index(), query)?;
+) -> Result<bool, AnswerFault> {
+    let many = count_all(alloc, opened.segments(), query)?;
     match format {
         CountFormat::Number => writeln!(out, "{many}")?,
         CountFormat::Json => writeln!(out, "{{\"count\":{many}}}")?,
     }
     Ok(many > 0)
+}
+
+/// Returns how many documents of all segments match a query. Segments without the query's fields have none.
+pub fn count_all(alloc: Global, segments: &[Opened], query: &Query) -> Result<u64, Fault> {
+    let mut many = 0u64;
+    for segment in segments {
+        if query.has_fields(segment.schema()) {
+            many = many.saturating_add(u64::from(count(alloc, segment.index(), query)?));
+        }
+    }
+    Ok(many)
 }
 
 /// The terms of a field to write.
@@ -56,7 +66,7 @@ pub struct TermChoice<'a> {
 pub fn write_terms<W: Write>(
     alloc: Global,
     out: &mut W,
-    opened: &Opened,
+    opened: &OpenedIndex,
     field: Field,
     choice: TermChoice<'_>,
 ) -> Result<(), AnswerFault>
@@ -72,44 +82,49 @@ pub fn write_terms<W: Write>(
 fn write_all_terms<W: Write>(
     alloc: Global,
     out: &mut W,
-    opened: &Opened,
+    opened: &OpenedIndex,
     field: Field,
     prefix: &str,
 ) -> Result<(), AnswerFault>
     requires { field < length opened.now.schema }
 {
     let value_type = opened.entry(field).value_type();
-    let dictionary = opened.reader(field).terms();
-    let mut terms = dictionary.stream();
+    let mut terms = MergedTerms::new(alloc, opened.segments(), field)?;
     let mut text = String::new(alloc);
-    for _ in 0..dictionary.num_terms() {
-        let Some((key, info)) = terms.next() else {
+    for _ in 0..terms.most() {
+        let Some(term) = terms.next() else {
             return Ok(());
         };
         text.clear();
-        push_key(alloc, &mut text, value_type, key)?;
+        push_key(alloc, &mut text, value_type, term.key)?;
         if text.as_str().starts_with(prefix) {
-            writeln!(out, "{} {text}", info.doc_freq)?;
+            writeln!(out, "{} {text}", term.doc_freq)?;
         }
     }
     Ok(())
 }
 
+// A term that was chosen: `u64::MAX` minus the number of its documents, and its place in the order of keys.
+type Rank = (u64, u64);
+
 // Writes the terms that are in the most documents; equal ones in the order of their keys.
 fn write_top<W: Write>(
     alloc: Global,
     out: &mut W,
-    opened: &Opened,
+    opened: &OpenedIndex,
     field: Field,
     prefix: &str,
     top: usize,
 ) -> Result<(), AnswerFault>
     requires { field < length opened.now.schema }
 {
-    let mut ranks = chosen(alloc, opened, field, prefix)?;
+    let mut keys = Vec::new(alloc);
+    let mut ranks = chosen(alloc, opened, field, prefix, &mut keys)?;
     ranks.sort_unstable();
-    let written = write_ranks(alloc, out, opened, field, &ranks, top);
+    let value_type = opened.entry(field).value_type();
+    let written = write_ranks(alloc, out, value_type, &ranks, &keys, top);
     drop(ranks);
+    drop(keys);
     written
 }
 
@@ -117,49 +132,46 @@ fn write_top<W: Write>(
 fn write_ranks<W: Write>(
     alloc: Global,
     out: &mut W,
-    opened: &Opened,
-    field: Field,
-    ranks: &[(u32, u64)],
+    value_type: ValueType,
+    ranks: &[Rank],
+    keys: &[&[u8]],
     top: usize,
-) -> Result<(), AnswerFault>
-    requires { field < length opened.now.schema }
-{
-    let value_type = opened.entry(field).value_type();
-    let dictionary = opened.reader(field).terms();
+) -> Result<(), AnswerFault> {
     let mut text = String::new(alloc);
-    for (others, ord) in ranks.iter().take(top) {
-        if *ord >= dictionary.num_terms() as u64 {
+    for (others, place) in ranks.iter().take(top) {
+        let Some(key) = keys.get(*place as usize) else {
             return Ok(());
-        }
+        };
         text.clear();
-        push_key(alloc, &mut text, value_type, dictionary.key(*ord))?;
-        writeln!(out, "{} {text}", u32::MAX - *others)?;
+        push_key(alloc, &mut text, value_type, key)?;
+        writeln!(out, "{} {text}", u64::MAX - *others)?;
     }
     Ok(())
 }
 
-// Returns for each term with the prefix `u32::MAX` minus its number of documents, and its ordinal.
-fn chosen(
+// Returns the terms with the prefix, and appends their keys in order.
+fn chosen<'a>(
     alloc: Global,
-    opened: &Opened,
+    opened: &'a OpenedIndex,
     field: Field,
     prefix: &str,
-) -> Result<Vec<(u32, u64)>, AnswerFault>
+    keys: &mut Vec<&'a [u8]>,
+) -> Result<Vec<Rank>, AnswerFault>
     requires { field < length opened.now.schema }
 {
     let value_type = opened.entry(field).value_type();
-    let dictionary = opened.reader(field).terms();
-    let mut terms = dictionary.stream();
+    let mut terms = MergedTerms::new(alloc, opened.segments(), field)?;
     let mut text = String::new(alloc);
     let mut ranks = Vec::new(alloc);
-    for ord in 0..dictionary.num_terms() as u64 {
-        let Some((key, info)) = terms.next() else {
+    for _ in 0..terms.most() {
+        let Some(term) = terms.next() else {
             return Ok(ranks);
         };
         text.clear();
-        push_key(alloc, &mut text, value_type, key)?;
+        push_key(alloc, &mut text, value_type, term.key)?;
         if text.as_str().starts_with(prefix) {
-            ranks.push((u32::MAX - info.doc_freq, ord))?;
+            ranks.push((u64::MAX - term.doc_freq, keys.len() as u64))?;
+            keys.push(term.key)?;
         }
     }
     Ok(ranks)
@@ -170,37 +182,80 @@ fn chosen(
 pub fn write_postings<W: Write>(
     alloc: Global,
     out: &mut W,
-    reader: &InvertedIndexReader,
+    opened: &OpenedIndex,
     term: &Term,
     with_positions: bool,
 ) -> Result<bool, AnswerFault> {
-    let recorded = reader.record_option();
-    let requested = requested(recorded, with_positions);
-    let Some(mut cursor) = reader.read_postings(term, requested)? else {
-        return Ok(false);
-    };
-    let written = write_all_postings(alloc, out, &mut cursor, requested);
-    drop(cursor);
+    let mut lists = lists_of(alloc, opened, term, with_positions)?;
+    let mut written = Ok(());
+    for list in lists.iter_mut() {
+        if written.is_ok() {
+            written = write_all_postings(alloc, out, list);
+        }
+    }
+    let any = !lists.is_empty();
+    drop(lists);
     match written {
-        Ok(()) => Ok(true),
+        Ok(()) => Ok(any),
         Err(fault) => Err(fault),
     }
 }
 
-// Writes the remaining documents of a cursor.
+// The list of a term in a segment.
+#[derive(Drop)]
+struct TermList {
+    cursor: SegmentPostings,
+    // what is read of it
+    requested: IndexRecordOption,
+    // the number of the segment's first document
+    base: u64,
+}
+
+// Opens the lists of a term in the segments that have it.
+fn lists_of(
+    alloc: Global,
+    opened: &OpenedIndex,
+    term: &Term,
+    with_positions: bool,
+) -> Result<Vec<TermList>, AnswerFault> {
+    let mut lists = Vec::new(alloc);
+    let mut bases = Bases::new();
+    for segment in opened.segments() {
+        let base = bases.pass(segment);
+        let Some(reader) = reader_of(segment, term.field()) else {
+            continue;
+        };
+        let requested = requested(reader.record_option(), with_positions);
+        if let Some(cursor) = reader.read_postings(term, requested)? {
+            lists.push(TermList {
+                cursor,
+                requested,
+                base,
+            })?;
+        }
+    }
+    Ok(lists)
+}
+
+// Writes the remaining documents of a list.
 fn write_all_postings<W: Write>(
     alloc: Global,
     out: &mut W,
-    cursor: &mut SegmentPostings,
-    requested: IndexRecordOption,
+    list: &mut TermList,
 ) -> Result<(), AnswerFault> {
     let mut positions = Vec::new(alloc);
-    for _ in 0..cursor.doc_freq() {
-        if cursor.doc() >= TERMINATED {
+    for _ in 0..list.cursor.doc_freq() {
+        if list.cursor.doc() >= TERMINATED {
             return Ok(());
         }
-        write_posting(out, cursor, requested, &mut positions)?;
-        cursor.advance();
+        write_posting(
+            out,
+            &mut list.cursor,
+            list.base,
+            list.requested,
+            &mut positions,
+        )?;
+        list.cursor.advance();
     }
     Ok(())
 }
@@ -217,12 +272,13 @@ fn requested(recorded: IndexRecordOption, with_positions: bool) -> IndexRecordOp
 fn write_posting<W: Write>(
     out: &mut W,
     cursor: &mut SegmentPostings,
+    base: u64,
     requested: IndexRecordOption,
     positions: &mut Vec<u32>,
 ) -> Result<(), AnswerFault>
     requires { IsCurrent cursor.old.rest }
 {
-    let doc = cursor.doc();
+    let doc = base.saturating_add(u64::from(cursor.doc()));
     if !requested.has_freq() {
         writeln!(out, "{doc}")?;
         return Ok(());
@@ -246,12 +302,11 @@ fn write_posting<W: Write>(
 pub fn write_fields<W: Write>(
     alloc: Global,
     out: &mut W,
-    opened: &Opened,
+    opened: &OpenedIndex,
 ) -> Result<(), AnswerFault> {
     for id in 0..opened.schema().num_fields() {
         let field = Field::from_field_id(id as u32);
         let entry = opened.entry(field);
-        let reader = opened.reader(field);
         write!(
             out,
             "{id} {} {}",
@@ -262,14 +317,36 @@ pub fn write_fields<W: Write>(
         writeln!(
             out,
             ": {} terms, {} tokens",
-            reader.terms().num_terms(),
-            reader.total_num_tokens()
+            num_terms(alloc, opened, field)?,
+            num_tokens(opened, field)
         )?;
         if entry.value_type() == ValueType::Json {
-            write_paths(alloc, out, reader)?;
+            write_paths(alloc, out, opened, field)?;
         }
     }
     Ok(())
+}
+
+// Returns the number of terms of a field.
+fn num_terms(alloc: Global, opened: &OpenedIndex, field: Field) -> Result<u64, AnswerFault> {
+    let mut terms = MergedTerms::new(alloc, opened.segments(), field)?;
+    for number in 0..terms.most() {
+        let Some(_) = terms.next() else {
+            return Ok(number);
+        };
+    }
+    Ok(terms.most())
+}
+
+// Returns the number of tokens of a field.
+fn num_tokens(opened: &OpenedIndex, field: Field) -> u64 {
+    let mut tokens = 0u64;
+    for segment in opened.segments() {
+        if let Some(reader) = reader_of(segment, field) {
+            tokens = tokens.saturating_add(reader.total_num_tokens());
+        }
+    }
+    tokens
 }
 
 // Writes what a field records.
@@ -302,36 +379,93 @@ fn option_name(option: IndexRecordOption) -> &'static str {
     }
 }
 
+// A path of a JSON field with a type of its values, and what its terms take.
+#[derive(Clone, Copy)]
+struct Space<'a> {
+    path: &'a [u8],
+    value_type: ValueType,
+    terms: u64,
+    postings: u64,
+    positions: u64,
+}
+
 // Writes a line for each path and type of a JSON field.
 fn write_paths<W: Write>(
     alloc: Global,
     out: &mut W,
-    reader: &InvertedIndexReader,
+    opened: &OpenedIndex,
+    field: Field,
 ) -> Result<(), AnswerFault> {
-    let spaces = reader.list_encoded_json_fields(alloc)?;
-    let written = write_spaces(alloc, out, &spaces);
-    drop(spaces);
-    written
+    let mut terms = MergedTerms::new(alloc, opened.segments(), field)?;
+    let mut space: Option<Space<'_>> = None;
+    for _ in 0..terms.most() {
+        let Some(term) = terms.next() else {
+            return write_space(alloc, out, space);
+        };
+        let Some(one) = space_of(&term) else {
+            return Err(AnswerFault::Index(Fault::Damaged(Part::JsonKey)));
+        };
+        space = match space {
+            Some(so_far) if so_far.is_same(&one) => Some(so_far.with(&one)),
+            _ => {
+                write_space(alloc, out, space)?;
+                Some(one)
+            }
+        };
+    }
+    write_space(alloc, out, space)
 }
 
-// Writes a line for each of these paths and types.
-fn write_spaces<W: Write>(
+// Returns the path and type of a term, with its size.
+fn space_of<'a>(term: &MergedTerm<'a>) -> Option<Space<'a>> {
+    let len = term.key.iter().position(|byte| *byte == 0)?;
+    let (path, rest) = term.key.split_at(len);
+    let value_type = ValueType::from_code(*rest.get(1)?)?;
+    Some(Space {
+        path,
+        value_type,
+        terms: 1,
+        postings: term.postings,
+        positions: term.positions,
+    })
+}
+
+impl<'a> Space<'a> {
+    // Returns whether another one has the same path and type.
+    fn is_same(&self, other: &Space<'_>) -> bool {
+        self.path == other.path && self.value_type == other.value_type
+    }
+
+    // Returns both together.
+    fn with(&self, other: &Space<'_>) -> Space<'a> {
+        Space {
+            path: self.path,
+            value_type: self.value_type,
+            terms: self.terms.saturating_add(other.terms),
+            postings: self.postings.saturating_add(other.postings),
+            positions: self.positions.saturating_add(other.positions),
+        }
+    }
+}
+
+// Writes a line for a path and type, if there is one.
+fn write_space<W: Write>(
     alloc: Global,
     out: &mut W,
-    spaces: &[InvertedIndexFieldSpace],
+    space: Option<Space<'_>>,
 ) -> Result<(), AnswerFault> {
+    let Some(space) = space else {
+        return Ok(());
+    };
     let mut text = String::new(alloc);
-    for space in spaces {
-        text.clear();
-        push_path_bytes(alloc, &mut text, space.field_name.as_slice())?;
-        writeln!(
-            out,
-            "  {text} {}: {} terms, {} bytes of postings, {} bytes of positions",
-            type_name(space.field_type),
-            space.num_terms,
-            space.postings_size,
-            space.positions_size
-        )?;
-    }
+    push_path_bytes(alloc, &mut text, space.path)?;
+    writeln!(
+        out,
+        "  {text} {}: {} terms, {} bytes of postings, {} bytes of positions",
+        type_name(space.value_type),
+        space.terms,
+        space.postings,
+        space.positions
+    )?;
     Ok(())
 }

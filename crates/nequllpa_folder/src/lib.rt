@@ -8,17 +8,21 @@ pub mod finding;
 pub mod ids;
 pub mod inspecting;
 pub mod listing;
+pub mod merged_terms;
 pub mod opened;
+pub mod opened_index;
 pub mod stats;
 
 pub use checking::{Checked, check};
 pub use faults::{AnswerFault, OpenFault};
 pub use finding::{FoundPlaces, TermPositions, find_places, first_docs, wanted_terms};
-pub use ids::{NoIds, id_field};
+pub use ids::{NoIds, id_field, id_field_of_all};
 pub use ii_term_text::{push_key, term_of};
 pub use inspecting::{
-    CountFormat, TermChoice, write_count, write_fields, write_postings, write_terms,
+    CountFormat, TermChoice, count_all, write_count, write_fields, write_postings, write_terms,
 };
 pub use listing::{Listing, write_listing};
+pub use merged_terms::{MergedTerm, MergedTerms};
 pub use opened::{Opened, schema_of};
+pub use opened_index::{Bases, OpenedIndex, reader_of};
 pub use stats::write_stats;

@@ -5,10 +5,12 @@ ghost use Rattle.ii_query_parser.specs.Queries.{has_fields};
 use crate::faults::AnswerFault;
 use crate::finding::{FoundPlaces, TermPositions, find_places, first_docs, wanted_terms};
 use crate::ids::{Ids, ids_of};
+use crate::inspecting::count_all;
 use crate::opened::Opened;
+use crate::opened_index::{Bases, OpenedIndex};
 use ii_base::{Fault, Field, Term};
 use ii_docset::DocId;
-use ii_search::{Query, count};
+use ii_search::Query;
 use ii_term_text::push_key;
 use serde_json::Value;
 use std::alloc::Global;
@@ -37,38 +39,89 @@ pub struct Listing {
 pub fn write_listing<W: Write>(
     alloc: Global,
     out: &mut W,
-    opened: &Opened,
+    opened: &OpenedIndex,
     query: &Query,
     how: Listing,
-) -> Result<bool, AnswerFault>
-    requires { has_fields (length opened.now.schema) query.now ≡ true }
-{
+) -> Result<bool, AnswerFault> {
     if how.limit == 0 {
-        return Ok(count(alloc, opened.index(), query)? > 0);
+        return Ok(count_all(alloc, opened.segments(), query)? > 0);
     }
-    let found = found_of(alloc, opened, query, &how)?;
-    let any = !found.docs.is_empty();
-    let written = write_found(alloc, out, opened, query, &how, &found);
-    drop(found);
+    let rows = rows_of(alloc, opened, query, &how)?;
+    let any = !rows.is_empty();
+    let written = write_all_rows(alloc, out, opened, query, &how, &rows);
+    drop(rows);
     match written {
         Ok(()) => Ok(any),
         Err(fault) => Err(fault),
     }
 }
 
-// Returns the matching documents, with the positions of the terms if they are written.
-fn found_of(
+// The documents that were found in a segment.
+#[derive(Drop)]
+struct SegmentRows {
+    found: FoundPlaces,
+    ids: Ids,
+    // the number of the segment's first document
+    base: u64,
+}
+
+// Returns the matching documents of the segments that have any, at most `limit` in all.
+fn rows_of(
     alloc: Global,
-    opened: &Opened,
+    opened: &OpenedIndex,
     query: &Query,
     how: &Listing,
+) -> Result<Vec<SegmentRows>, AnswerFault> {
+    let mut rows = Vec::new(alloc);
+    let mut bases = Bases::new();
+    let mut left = how.limit;
+    for segment in opened.segments() {
+        let base = bases.pass(segment);
+        if left == 0 {
+            continue;
+        }
+        if !query.has_fields(segment.schema()) {
+            continue;
+        }
+        let found = found_of(alloc, segment, query, how, left)?;
+        if found.docs.is_empty() {
+            continue;
+        }
+        left = left.saturating_sub(u32::try_from(found.docs.len()).unwrap_or(u32::MAX));
+        rows.push(rows_in(alloc, segment, how, found, base)?)?;
+    }
+    Ok(rows)
+}
+
+// Returns the found documents of a segment, with their ids if requested.
+fn rows_in(
+    alloc: Global,
+    segment: &Opened,
+    how: &Listing,
+    found: FoundPlaces,
+    base: u64,
+) -> Result<SegmentRows, AnswerFault> {
+    match ids_in(alloc, segment, how, &found.docs) {
+        Ok(ids) => Ok(SegmentRows { found, ids, base }),
+        Err(fault) => Err(fault),
+    }
+}
+
+// Returns the matching documents of a segment, at most `limit`, with the positions of the terms if they are
+// written.
+fn found_of(
+    alloc: Global,
+    segment: &Opened,
+    query: &Query,
+    how: &Listing,
+    limit: u32,
 ) -> Result<FoundPlaces, Fault>
-    requires { has_fields (length opened.now.schema) query.now ≡ true }
+    requires { has_fields (length segment.now.schema) query.now ≡ true }
 {
     if how.with_positions {
-        return find_places(alloc, opened.index(), query, how.limit);
+        return find_places(alloc, segment.index(), query, limit);
     }
-    match first_docs(alloc, opened.index(), query, how.limit) {
+    match first_docs(alloc, segment.index(), query, limit) {
         Ok(docs) => Ok(FoundPlaces {
             docs,
             places: Vec::new(alloc),
@@ -77,25 +130,22 @@ fn found_of(
     }
 }
 
-// Writes the found documents.
-fn write_found<W: Write>(
+// Writes the found documents of all segments.
+fn write_all_rows<W: Write>(
     alloc: Global,
     out: &mut W,
-    opened: &Opened,
+    opened: &OpenedIndex,
     query: &Query,
     how: &Listing,
-    found: &FoundPlaces,
+    rows: &Vec<SegmentRows>,
 ) -> Result<(), AnswerFault> {
     let texts = texts_of(alloc, opened, query)?;
-    let ids = ids_in(alloc, opened, how, &found.docs);
-    let written = match ids {
-        Ok(ids) => {
-            let written = write_rows(alloc, out, how, found, &texts, &ids);
-            drop(ids);
-            written
+    let mut written = Ok(());
+    for segment in rows {
+        if written.is_ok() {
+            written = write_rows(alloc, out, how, segment, &texts);
         }
-        Err(fault) => Err(fault),
-    };
+    }
     drop(texts);
     written
 }
@@ -103,40 +153,39 @@ fn write_found<W: Write>(
 // Returns the ids of documents, if requested.
 fn ids_in(
     alloc: Global,
-    opened: &Opened,
+    segment: &Opened,
     how: &Listing,
     docs: &[DocId],
 ) -> Result<Ids, AnswerFault> {
     match how.ids {
         Some(field) => {
-            if field.field_id() as usize >= opened.schema().num_fields() {
+            if field.field_id() as usize >= segment.schema().num_fields() {
                 return Ok(Ids::none(alloc));
             }
-            ids_of(alloc, opened, field, docs)
+            ids_of(alloc, segment, field, docs)
         }
         None => Ok(Ids::none(alloc)),
     }
 }
 
-// Writes a line for each document.
+// Writes a line for each document of a segment.
 fn write_rows<W: Write>(
     alloc: Global,
     out: &mut W,
     how: &Listing,
-    found: &FoundPlaces,
+    rows: &SegmentRows,
     texts: &[TermText],
-    ids: &Ids,
 ) -> Result<(), AnswerFault> {
-    for (place, doc) in found.docs.iter().enumerate() {
+    for (place, doc) in rows.found.docs.iter().enumerate() {
         let row = Row {
-            doc: *doc,
-            id: ids.at(place),
+            doc: rows.base.saturating_add(u64::from(*doc)),
+            id: rows.ids.at(place),
             place,
         };
         if how.as_json {
-            row.write_json(alloc, out, texts, &found.places, how)?;
+            row.write_json(alloc, out, texts, &rows.found.places, how)?;
         } else {
-            row.write_words(out, texts, &found.places, how)?;
+            row.write_words(out, texts, &rows.found.places, how)?;
         }
     }
     Ok(())
@@ -150,7 +199,11 @@ struct TermText {
 }
 
 // Returns the terms that a query wants, as text.
-fn texts_of(alloc: Global, opened: &Opened, query: &Query) -> Result<Vec<TermText>, AnswerFault> {
+fn texts_of(
+    alloc: Global,
+    opened: &OpenedIndex,
+    query: &Query,
+) -> Result<Vec<TermText>, AnswerFault> {
     let mut texts = Vec::new(alloc);
     for term in wanted_terms(alloc, query)? {
         texts.push(text_of(alloc, opened, term)?)?;
@@ -159,7 +212,7 @@ fn texts_of(alloc: Global, opened: &Opened, query: &Query) -> Result<Vec<TermTex
 }
 
 // Returns a term as text.
-fn text_of(alloc: Global, opened: &Opened, term: &Term) -> Result<TermText, AnswerFault> {
+fn text_of(alloc: Global, opened: &OpenedIndex, term: &Term) -> Result<TermText, AnswerFault> {
     let mut text = TermText {
         field: String::new(alloc),
         term: String::new(alloc),
@@ -181,7 +234,7 @@ fn text_of(alloc: Global, opened: &Opened, term: &Term) -> Result<TermText, Answ
 // A found document.
 #[derive(Clone, Copy)]
 struct Row<'a> {
-    doc: DocId,
+    doc: u64,
     id: Option<&'a str>,
     // its index among the found documents
     place: usize,

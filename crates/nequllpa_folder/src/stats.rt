@@ -1,10 +1,12 @@
 //! Reports how many bytes the parts of an index take.
-ghost use Rattle.std.specs.Prelude.{◌<◌, length};
+ghost use Rattle.std.specs.Prelude.{◌<◌};
 
 use crate::faults::AnswerFault;
-use crate::opened::Opened;
+use crate::merged_terms::MergedTerms;
+use crate::opened_index::OpenedIndex;
 use ii_base::Field;
 use ii_schema_text::type_name;
+use std::alloc::Global;
 use std::io::Write;
 
 // The number of size classes of lists, one for each power of two.
@@ -13,6 +15,7 @@ const SIZES: usize = 32;
 /// The space that the lists of a field take.
 #[derive(Clone, Copy)]
 struct Taken {
+    terms: u64,
     keys: u64,
     postings: u64,
     positions: u64,
@@ -21,11 +24,15 @@ struct Taken {
 }
 
 /// Writes for each field the bytes of its keys, postings and positions, the bits of postings per document,
-/// and how many lists there are of each size class.
-pub fn write_stats<W: Write>(out: &mut W, opened: &Opened) -> Result<(), AnswerFault> {
+/// and how many terms there are of each size class. What a term takes is the sum over the segments.
+pub fn write_stats<W: Write>(
+    alloc: Global,
+    out: &mut W,
+    opened: &OpenedIndex,
+) -> Result<(), AnswerFault> {
     for id in 0..opened.schema().num_fields() {
         let field = Field::from_field_id(id as u32);
-        let taken = taken_by(opened, field);
+        let taken = taken_by(alloc, opened, field)?;
         let entry = opened.entry(field);
         writeln!(out)?;
         writeln!(
@@ -34,45 +41,40 @@ pub fn write_stats<W: Write>(out: &mut W, opened: &Opened) -> Result<(), AnswerF
             entry.name(),
             type_name(entry.value_type())
         )?;
-        write_taken(out, opened.reader(field).terms().num_terms() as u64, &taken)?;
+        write_taken(out, &taken)?;
     }
     Ok(())
 }
 
 // Returns the space that the lists of a field take.
-fn taken_by(opened: &Opened, field: Field) -> Taken
-    requires { field < length opened.now.schema }
-{
-    let dictionary = opened.reader(field).terms();
-    let mut terms = dictionary.stream();
+fn taken_by(alloc: Global, opened: &OpenedIndex, field: Field) -> Result<Taken, AnswerFault> {
+    let mut terms = MergedTerms::new(alloc, opened.segments(), field)?;
     let mut taken = Taken {
+        terms: 0,
         keys: 0,
         postings: 0,
         positions: 0,
         documents: 0,
         lists: [0; SIZES],
     };
-    for _ in 0..dictionary.num_terms() {
-        let Some((key, info)) = terms.next() else {
-            return taken;
+    for _ in 0..terms.most() {
+        let Some(term) = terms.next() else {
+            return Ok(taken);
         };
-        taken.keys = taken.keys.saturating_add(key.len() as u64);
-        taken.postings = taken
-            .postings
-            .saturating_add(info.postings_range.len() as u64);
-        taken.positions = taken
-            .positions
-            .saturating_add(info.positions_range.len() as u64);
-        taken.documents = taken.documents.saturating_add(u64::from(info.doc_freq));
-        if let Some(count) = taken.lists.get_mut(size_of_list(info.doc_freq)) {
+        taken.terms = taken.terms.saturating_add(1);
+        taken.keys = taken.keys.saturating_add(term.key.len() as u64);
+        taken.postings = taken.postings.saturating_add(term.postings);
+        taken.positions = taken.positions.saturating_add(term.positions);
+        taken.documents = taken.documents.saturating_add(term.doc_freq);
+        if let Some(count) = taken.lists.get_mut(size_of_list(term.doc_freq)) {
             *count = (*count).saturating_add(1);
         }
     }
-    taken
+    Ok(taken)
 }
 
 // Returns the size class of a list: the logarithm of its length.
-fn size_of_list(doc_freq: u32) -> usize {
+fn size_of_list(doc_freq: u64) -> usize {
     match doc_freq.checked_ilog2() {
         Some(size) => size as usize,
         None => 0,
@@ -80,8 +82,8 @@ fn size_of_list(doc_freq: u32) -> usize {
 }
 
 // Writes the space that the lists of a field take.
-fn write_taken<W: Write>(out: &mut W, terms: u64, taken: &Taken) -> Result<(), AnswerFault> {
-    writeln!(out, "{:>12} terms", terms)?;
+fn write_taken<W: Write>(out: &mut W, taken: &Taken) -> Result<(), AnswerFault> {
+    writeln!(out, "{:>12} terms", taken.terms)?;
     writeln!(out, "{:>12} bytes of keys", taken.keys)?;
     writeln!(out, "{:>12} bytes of postings", taken.postings)?;
     writeln!(out, "{:>12} bytes of positions", taken.positions)?;

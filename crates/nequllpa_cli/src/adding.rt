@@ -1,0 +1,160 @@
+//! The commands `add` and `upgrade`.
+use crate::commands::{PROGRAM, REFUSED, refuse, refuse_path, tell_no_index};
+use crate::indexing::{Intake, Target, begun, take_inputs, target_of, tell_long_words};
+use clap::ArgMatches;
+use ii_base::{AsciiTokenizer, Schema};
+use ii_segment_store::{
+    CommitFault, StoredSegment, append_segment, load_latest, remove_slots, upgrade,
+};
+use ii_store::collect::collect;
+use ii_store::segments::load_meta;
+use ii_store::{Folder, IndexFault, StoreFault, StoredIndex};
+use nequllpa_folder::schema_of;
+use nequllpa_indexing::store;
+use std::process::ExitCode;
+
+/// Indexes JSON lines as a new segment of an index.
+pub fn answer_add(
+    rt: &HostRuntime,
+    path: &str,
+    given: &ArgMatches<'_>,
+) -> anyhow::Result<ExitCode> {
+    let target = match target_of(rt, path, false)? {
+        Ok(target) => target,
+        Err(status) => return Ok(ExitCode::from(status)),
+    };
+    let added = added(rt, path, given);
+    drop(target);
+    added
+}
+
+// Does it, once the folder is locked.
+fn added(rt: &HostRuntime, path: &str, given: &ArgMatches<'_>) -> anyhow::Result<ExitCode> {
+    let schema = match current_schema(rt, path)? {
+        Ok(schema) => schema,
+        Err(status) => return Ok(ExitCode::from(status)),
+    };
+    let mut intake = begun(rt, given, schema)?;
+    if let Err(status) = take_inputs(rt, given, &mut intake)? {
+        return Ok(ExitCode::from(status));
+    }
+    add_segment(rt, path, intake)
+}
+
+// Reads the schema of an index, or returns the status if there is none.
+fn current_schema(rt: &HostRuntime, path: &str) -> anyhow::Result<Result<Schema, u8>> {
+    let bytes = match schema_bytes(rt, path) {
+        Ok(bytes) => bytes,
+        Err(StoreFault::Index(fault)) => return Ok(Err(tell_no_index(rt, path, fault)?)),
+        Err(StoreFault::Directory(fault)) => return Ok(Err(refuse_path(rt, path, fault)?)),
+    };
+    match schema_of(rt.alloc(), bytes.as_slice()) {
+        Ok(schema) => Ok(Ok(schema)),
+        Err(fault) => Ok(Err(refuse_path(rt, path, fault)?)),
+    }
+}
+
+// Returns the bytes of the schema of an index of either version.
+fn schema_bytes(rt: &HostRuntime, path: &str) -> Result<Vec<u8>, StoreFault> {
+    let folder = Folder::new(rt, path);
+    match load_meta(rt.alloc(), &folder) {
+        Ok(list) => Ok(list.schema),
+        Err(StoreFault::Index(IndexFault::OtherVersion(_))) => {
+            match load_latest(rt.alloc(), &folder) {
+                Ok(index) => Ok(index.schema),
+                Err(fault) => Err(fault),
+            }
+        }
+        Err(fault) => Err(fault),
+    }
+}
+
+// Indexes the documents that were read, and adds them to the index.
+fn add_segment(rt: &HostRuntime, path: &str, intake: Intake) -> anyhow::Result<ExitCode> {
+    let (documents, bad_lines) = intake.into_documents();
+    match documents.num_long_words(rt.alloc(), &AsciiTokenizer) {
+        Ok(count) => tell_long_words(rt, count)?,
+        Err(fault) => return Ok(ExitCode::from(refuse(rt, fault)?)),
+    }
+    let stored = match store(rt.alloc(), documents, Vec::new(rt.alloc())) {
+        Ok(stored) => stored,
+        Err(fault) => return Ok(ExitCode::from(refuse(rt, fault)?)),
+    };
+    let num_docs = stored.num_docs;
+    if let Err(fault) = put(rt, path, segment_of(stored)) {
+        return Ok(ExitCode::from(refuse_commit(rt, path, fault)?));
+    }
+    if bad_lines > 0 {
+        println!(rt; "{num_docs} documents added, {bad_lines} lines left out")?;
+    } else {
+        println!(rt; "{num_docs} documents added")?;
+    }
+    Ok(ExitCode::SUCCESS)
+}
+
+// Returns an index as a segment.
+fn segment_of(stored: StoredIndex) -> StoredSegment {
+    let StoredIndex {
+        num_docs,
+        schema: _,
+        terms,
+        postings,
+        positions,
+        fieldnorms,
+    } = stored;
+    StoredSegment {
+        num_docs,
+        terms,
+        postings,
+        positions,
+        fieldnorms,
+    }
+}
+
+// Adds a segment that has documents, and removes the files that no list has.
+fn put(rt: &HostRuntime, path: &str, segment: StoredSegment) -> Result<(), CommitFault> {
+    let mut folder = Folder::new(rt, path);
+    upgrade(rt.alloc(), &mut folder)?;
+    if segment.num_docs > 0 {
+        append_segment(rt.alloc(), &mut folder, &segment)?;
+    }
+    collect(rt.alloc(), &mut folder)?;
+    remove_slots(rt.alloc(), &mut folder)?;
+    Ok(())
+}
+
+// Prints why a segment can't be added. Returns the status.
+fn refuse_commit(rt: &HostRuntime, path: &str, fault: CommitFault) -> anyhow::Result<u8> {
+    let status = match fault {
+        CommitFault::Store(StoreFault::Index(fault)) => return tell_no_index(rt, path, fault),
+        fault => refuse_path(rt, path, fault)?,
+    };
+    eprintln!(rt;
+        "{PROGRAM}: the folder still has its complete index; free some space, or make the folder writable, and try again"
+    )?;
+    Ok(status)
+}
+
+/// Makes an index of version 1 one of version 2, which can have several segments.
+pub fn answer_upgrade(rt: &HostRuntime, path: &str) -> anyhow::Result<ExitCode> {
+    let target = match target_of(rt, path, false)? {
+        Ok(target) => target,
+        Err(status) => return Ok(ExitCode::from(status)),
+    };
+    let upgraded = upgraded(rt, path);
+    drop(target);
+    match upgraded {
+        Ok(true) => println!(rt; "the index is of version 2 now")?,
+        Ok(false) => println!(rt; "the index was of version 2 already")?,
+        Err(fault) => return Ok(ExitCode::from(refuse_commit(rt, path, fault)?)),
+    }
+    Ok(ExitCode::SUCCESS)
+}
+
+// Does it, and returns whether the index was of version 1.
+fn upgraded(rt: &HostRuntime, path: &str) -> Result<bool, CommitFault> {
+    let mut folder = Folder::new(rt, path);
+    let was_first = upgrade(rt.alloc(), &mut folder)?;
+    remove_slots(rt.alloc(), &mut folder)?;
+    Ok(was_first)
+}

@@ -1,0 +1,17 @@
+-- Segments that open with the schema of their index.
+use Rattle.std.specs.Prelude.{◌≡◌, ℕ, List, Ok}
+use Rattle.ii_base.specs.Schema.{SchemaEntry}
+use Rattle.ii_definitions.specs.Tokens.{IndexToken}
+use Rattle.ii_reader.specs.OpenIndex.{IndexHolds}
+use Rattle.ii_schema_text.specs.SchemaText.{text_schema}
+use Rattle.ii_segment_store.specs.Contents.{as_index, segment_contents}
+use Rattle.ii_segment_store.specs.declared.stored_segments.StoredSegment.{StoredSegment}
+use Rattle.nequllpa_folder.specs.Stored.{HoldsTokens, readers_of}
+use Rattle.nequllpa_folder.specs.declared.opened.Opened.{Opened}
+
+-- A segment opens with the schema of an index, given as bytes: its readers are those over its files, and hold the tokens that these hold.
+pub record OpensAs (bytes : List ℕ) (s : StoredSegment) (o : Opened) : Type 0 where
+  pub schema : text_schema bytes ≡ Ok o.schema
+  pub readers : readers_of (as_index bytes (segment_contents s)) o.schema ≡ Ok o.index
+  pub docs : o.num_docs ≡ s.num_docs
+  pub holds : (entries : List SchemaEntry) (ts : List IndexToken) → text_schema bytes ≡ Ok entries → HoldsTokens entries (as_index bytes (segment_contents s)) ts → IndexHolds entries s.num_docs o.index ts

@@ -1,0 +1,138 @@
+//! An open index of several segments.
+ghost use Rattle.std.specs.Prelude.{◌≡◌, ◌<◌, IfOk, IfSome, Ok, length};
+ghost use Rattle.std.specs.List.{AllZip};
+ghost use Rattle.ii_query_parser.specs.QueryTexts.{field_named};
+ghost use Rattle.ii_schema_text.specs.SchemaText.{text_schema};
+ghost use Rattle.nequllpa_folder.specs.OpenedSegments.{OpensAs};
+
+use crate::faults::OpenFault;
+use crate::opened::{Opened, schema_of};
+use ii_base::{Fault, Field, FieldEntry, Schema};
+use ii_query_parser::field_named;
+use ii_reader::InvertedIndexReader;
+use ii_segment_store::{StoredSegment, StoredSegments};
+use std::alloc::Global;
+
+/// An open index: its schema, and its open segments in the order of their documents.
+pub struct OpenedIndex {
+    schema: Schema,
+    segments: Vec<Opened>,
+}
+
+// Makes each drop a call.
+impl Drop for OpenedIndex {
+    fn drop(self) {
+        let OpenedIndex {
+            schema: _,
+            segments: _,
+        } = self;
+    }
+}
+
+impl OpenedIndex {
+    /// Opens each segment of an index, with the schema of the index. Its readers are those over its files, and
+    /// hold the tokens that these hold. Returns the errors of `Opened::open`, of the first segment that doesn't
+    /// open.
+    pub fn open(alloc: Global, stored: StoredSegments) -> Result<OpenedIndex, OpenFault>
+        ensures schema { IfOk result (λ o. text_schema stored.schema.items ≡ Ok o.schema) }
+        ensures segments { IfOk result (λ o. AllZip (OpensAs stored.schema.items) stored.segments.items o.segments.items) }
+    {
+        let StoredSegments { schema, segments } = stored;
+        let opened = opened_each(alloc, schema.as_slice(), segments);
+        let segments = match opened {
+            Ok(segments) => segments,
+            Err(fault) => return Err(fault),
+        };
+        match schema_of(alloc, schema.as_slice()) {
+            Ok(schema) => Ok(OpenedIndex { schema, segments }),
+            Err(fault) => Err(fault),
+        }
+    }
+
+    /// Returns the schema.
+    pub fn schema(&self) -> &Schema
+        ensures { result.now ≡ self.now.schema }
+    {
+        &self.schema
+    }
+
+    /// Returns the segments, in the order of their documents.
+    pub fn segments(&self) -> &[Opened]
+        ensures { result.now ≡ self.now.segments.items }
+    {
+        self.segments.as_slice()
+    }
+
+    /// Returns the entry of a field.
+    pub fn entry(&self, field: Field) -> &FieldEntry
+        requires { field < length self.now.schema }
+    {
+        self.schema.get_field_entry(field)
+    }
+
+    /// Returns the field with a name, if there is one.
+    pub fn field_named(&self, name: &str) -> Option<Field>
+        ensures named { result ≡ field_named self.now.schema name.now }
+        ensures inside { IfSome result (λ field. field < length self.now.schema) }
+    {
+        field_named(&self.schema, name)
+    }
+}
+
+// Opens segments with a schema, given as bytes.
+#[tactic(auto, using(crate::proofs::OpenLemmas::making_begins, crate::proofs::OpenLemmas::making_ends))]
+fn opened_each(
+    alloc: Global,
+    schema: &[u8],
+    segments: Vec<StoredSegment>,
+) -> Result<Vec<Opened>, OpenFault>
+    ensures { IfOk result (λ opened. AllZip (OpensAs schema.now) segments.items opened.items) }
+{
+    let mut opened = Vec::new(alloc);
+    for segment in segments {
+        let index = match opened_segment(alloc, schema, segment) {
+            Ok(index) => index,
+            Err(fault) => return Err(fault),
+        };
+        opened.push(index)?;
+    }
+    Ok(opened)
+}
+
+// Opens a segment with a schema, given as bytes.
+fn opened_segment(alloc: Global, schema: &[u8], segment: StoredSegment) -> Result<Opened, OpenFault>
+    ensures { IfOk result (OpensAs schema.now segment) }
+{
+    match Vec::from_slice(alloc, schema) {
+        Ok(schema) => Opened::open(alloc, segment.into_index(schema)),
+        Err(_) => Err(OpenFault::Files(Fault::OutOfMemory)),
+    }
+}
+
+/// Returns the reader of a field of a segment, if the segment has the field.
+pub fn reader_of(segment: &Opened, field: Field) -> Option<&InvertedIndexReader> {
+    if field.field_id() as usize >= segment.schema().num_fields() {
+        return None;
+    }
+    Some(segment.reader(field))
+}
+
+/// The number of the first document of each segment, segment after segment.
+#[derive(Clone, Copy)]
+pub struct Bases {
+    next: u64,
+}
+
+impl Bases {
+    /// Begins with the first segment.
+    pub fn new() -> Bases {
+        Bases { next: 0 }
+    }
+
+    /// Returns the number of the first document of the next segment, and passes the segment.
+    pub fn pass(&mut self, segment: &Opened) -> u64 {
+        let base = self.next;
+        self.next = base.saturating_add(u64::from(segment.num_docs()));
+        base
+    }
+}
