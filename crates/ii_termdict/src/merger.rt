@@ -3,9 +3,9 @@ ghost use Rattle.std.specs.Option.{option_map};
 ghost use Rattle.ii_io.specs.Faults.{OnlyMemory};
 ghost use Rattle.ii_termdict.specs.TermMerger.{FirstInfosAreAll, behind_key, first_info, first_key, least_key, less_key};
 
-use ii_io::Fault;
 use crate::streamer::TermStreamer;
 use crate::termdict::TermDictionary;
+use ii_io::Fault;
 use ii_termstore::TermInfo;
 use std::cmp::Ordering;
 use std::marker::Model;
