@@ -57,6 +57,12 @@ impl OpenFault {
     }
 }
 
+impl From<AllocError> for OpenFault {
+    fn from(_: AllocError) -> OpenFault {
+        OpenFault::Files(Fault::OutOfMemory)
+    }
+}
+
 impl<T: Drop> From<AllocFailed<T>> for OpenFault {
     fn from(_: AllocFailed<T>) -> Self {
         OpenFault::Files(Fault::OutOfMemory)

@@ -7,7 +7,7 @@ ghost use Rattle.nequllpa_folder.specs.OpenedSegments.{OpensAs};
 
 use crate::faults::OpenFault;
 use crate::opened::{Opened, schema_of};
-use ii_base::{Fault, Field, FieldEntry, Schema};
+use ii_base::{Field, FieldEntry, Schema};
 use ii_query_parser::field_named;
 use ii_reader::InvertedIndexReader;
 use ii_segment_store::{StoredSegment, StoredSegments};
@@ -103,10 +103,8 @@ fn opened_each(
 fn opened_segment(alloc: Global, schema: &[u8], segment: StoredSegment) -> Result<Opened, OpenFault>
     ensures { IfOk result (OpensAs schema.now segment) }
 {
-    match Vec::from_slice(alloc, schema) {
-        Ok(schema) => Opened::open(alloc, segment.into_index(schema)),
-        Err(_) => Err(OpenFault::Files(Fault::OutOfMemory)),
-    }
+    let schema = Vec::from_slice(alloc, schema)?;
+    Opened::open(alloc, segment.into_index(schema))
 }
 
 /// Returns the reader of a field of a segment, if the segment has the field.
