@@ -92,7 +92,7 @@ fn write_all_terms<W: Write>(
     let mut terms = MergedTerms::new(alloc, opened.segments(), field)?;
     let mut text = String::new(alloc);
     for _ in 0..terms.most() {
-        let Some(term) = terms.next() else {
+        let Some(term) = terms.next()? else {
             return Ok(());
         };
         text.clear();
@@ -164,7 +164,7 @@ fn chosen<'a>(
     let mut text = String::new(alloc);
     let mut ranks = Vec::new(alloc);
     for _ in 0..terms.most() {
-        let Some(term) = terms.next() else {
+        let Some(term) = terms.next()? else {
             return Ok(ranks);
         };
         text.clear();
@@ -331,7 +331,7 @@ pub fn write_fields<W: Write>(
 fn num_terms(alloc: Global, opened: &OpenedIndex, field: Field) -> Result<u64, AnswerFault> {
     let mut terms = MergedTerms::new(alloc, opened.segments(), field)?;
     for number in 0..terms.most() {
-        let Some(_) = terms.next() else {
+        let Some(_) = terms.next()? else {
             return Ok(number);
         };
     }
@@ -399,7 +399,7 @@ fn write_paths<W: Write>(
     let mut terms = MergedTerms::new(alloc, opened.segments(), field)?;
     let mut space: Option<Space<'_>> = None;
     for _ in 0..terms.most() {
-        let Some(term) = terms.next() else {
+        let Some(term) = terms.next()? else {
             return write_space(alloc, out, space);
         };
         let Some(one) = space_of(&term) else {

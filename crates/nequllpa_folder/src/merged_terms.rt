@@ -1,8 +1,8 @@
 //! The terms of a field in all segments, in the order of their keys.
 use crate::opened::Opened;
 use crate::opened_index::reader_of;
-use ii_base::Field;
-use ii_termdict::{TermInfo, TermStreamer};
+use ii_base::{Fault, Field};
+use ii_termdict::{ComingTerms, TermInfo, TermMerger};
 use std::alloc::{AllocError, Global};
 
 /// A term of an index: its key, and what its lists in the segments take together.
@@ -18,17 +18,12 @@ pub struct MergedTerm<'a> {
     pub positions: u64,
 }
 
-// The terms of a segment that are still to come.
-#[derive(Drop)]
-struct Head<'a> {
-    terms: TermStreamer<'a>,
-    next: Option<(&'a [u8], TermInfo)>,
-}
-
 /// The terms of a field in all segments, in the order of their keys, each once.
 #[derive(Drop)]
 pub struct MergedTerms<'a> {
-    heads: Vec<Head<'a>>,
+    terms: TermMerger<'a>,
+    // The infos of the term that was passed last, for each segment that has the field.
+    infos: Vec<Option<TermInfo>>,
     most: u64,
 }
 
@@ -39,7 +34,7 @@ impl<'a> MergedTerms<'a> {
         segments: &'a [Opened],
         field: Field,
     ) -> Result<MergedTerms<'a>, AllocError> {
-        let mut heads = Vec::new(alloc);
+        let mut coming = Vec::new(alloc);
         let mut most = 0u64;
         for segment in segments {
             let Some(reader) = reader_of(segment, field) else {
@@ -47,11 +42,13 @@ impl<'a> MergedTerms<'a> {
             };
             let dictionary = reader.terms();
             most = most.saturating_add(dictionary.num_terms() as u64);
-            let mut terms = dictionary.stream();
-            let next = terms.next();
-            heads.push(Head { terms, next })?;
+            coming.push(ComingTerms::new(dictionary))?;
         }
-        Ok(MergedTerms { heads, most })
+        Ok(MergedTerms {
+            terms: TermMerger::new(coming),
+            infos: Vec::new(alloc),
+            most,
+        })
     }
 
     /// Returns a number that is not less than the number of terms.
@@ -59,71 +56,32 @@ impl<'a> MergedTerms<'a> {
         self.most
     }
 
-    /// Returns the next term, if there is one.
-    pub fn next(&mut self) -> Option<MergedTerm<'a>> {
-        let key = least_key(&self.heads)?;
+    /// Returns the next term, if there is one. Fails only with `OutOfMemory`.
+    pub fn next(&mut self) -> Result<Option<MergedTerm<'a>>, Fault> {
+        let Some(key) = self.terms.least_key() else {
+            return Ok(None);
+        };
+        self.terms.take(key, &mut self.infos)?;
         let mut term = MergedTerm {
             key,
             doc_freq: 0,
             postings: 0,
             positions: 0,
         };
-        for head in self.heads.iter_mut() {
-            head.take(&mut term);
+        for info in self.infos.iter().flatten() {
+            add(&mut term, info);
         }
-        Some(term)
+        Ok(Some(term))
     }
 }
 
-// Returns the least of the next keys, if there is one.
-fn least_key<'a>(heads: &Vec<Head<'a>>) -> Option<&'a [u8]> {
-    let mut least: Option<&'a [u8]> = None;
-    for head in heads {
-        least = lesser(least, head.key());
-    }
-    least
-}
-
-// Returns the lesser of two keys, or the one that there is.
-fn lesser<'a>(first: Option<&'a [u8]>, second: Option<&'a [u8]>) -> Option<&'a [u8]> {
-    let Some(key) = second else {
-        return first;
-    };
-    match first {
-        Some(least) => {
-            if key < least {
-                return Some(key);
-            }
-            Some(least)
-        }
-        None => Some(key),
-    }
-}
-
-impl<'a> Head<'a> {
-    // Returns the key of the next term, if there is one.
-    fn key(&self) -> Option<&'a [u8]> {
-        match self.next {
-            Some((key, _)) => Some(key),
-            None => None,
-        }
-    }
-
-    // Adds the next term to one with the same key, and passes it.
-    fn take(&mut self, term: &mut MergedTerm<'a>) {
-        let Some((key, info)) = &self.next else {
-            return;
-        };
-        if *key != term.key {
-            return;
-        }
-        term.doc_freq = term.doc_freq.saturating_add(u64::from(info.doc_freq));
-        term.postings = term
-            .postings
-            .saturating_add(info.postings_range.len() as u64);
-        term.positions = term
-            .positions
-            .saturating_add(info.positions_range.len() as u64);
-        self.next = self.terms.next();
-    }
+// Adds what the list of a segment takes.
+fn add(term: &mut MergedTerm<'_>, info: &TermInfo) {
+    term.doc_freq = term.doc_freq.saturating_add(u64::from(info.doc_freq));
+    term.postings = term
+        .postings
+        .saturating_add(info.postings_range.len() as u64);
+    term.positions = term
+        .positions
+        .saturating_add(info.positions_range.len() as u64);
 }

@@ -58,7 +58,7 @@ fn taken_by(alloc: Global, opened: &OpenedIndex, field: Field) -> Result<Taken, 
         lists: [0; SIZES],
     };
     for _ in 0..terms.most() {
-        let Some(term) = terms.next() else {
+        let Some(term) = terms.next()? else {
             return Ok(taken);
         };
         taken.terms = taken.terms.saturating_add(1);
