@@ -1,6 +1,6 @@
 #!/usr/bin/env python3
 """Runs each command of `nequllpa` once on input of a large size, with ample memory: 1,000,000 documents, 100,000 words
-and 1,000,000 numbers, 10,000 fields, a text of 10 MB, a query of 15,000 words. No command may fail with `out of
+and 1,000,000 numbers, 10,000 fields, a text of 10 MB, a query of 12,000 words. No command may fail with `out of
 memory`, which every contract allows, and each answer must be the one that the numbers of the input give.
 
     sizes.py          as the gate runs it
@@ -22,7 +22,7 @@ DOCS = 1_000_000
 WORDS = 100_000
 FIELDS = 10_000
 TEXT = 2_500_000  # words of 3 letters and a space
-ASKED = 15_000  # an argument has at most 128 KB
+ASKED = 12_000  # an argument has at most 128 KB
 SCHEMA = '[[field]]\nname = "word"\ntype = "text"\n\n[[field]]\nname = "number"\ntype = "u64"\n\n[[field]]\nname = "even"\ntype = "bool"\n'
 
 
