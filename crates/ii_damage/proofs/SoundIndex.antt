@@ -27,7 +27,7 @@ use Rattle.ii_definitions.specs.Postings.{doc_count, field_count}
 use Rattle.ii_definitions.specs.Tokens.{IndexToken}
 use Rattle.ii_definitions.proofs.GroupedLaws.{no_field}
 use Rattle.ii_reader.specs.InvertedIndexReader.{InvertedIndexReaderState, reader_of_none}
-use Rattle.ii_store.specs.declared.name.Kind.{Kind}
+use Rattle.ii_directory.specs.declared.name.Kind.{Kind}
 use Rattle.ii_damage.specs.declared.damage.ByteRange.{ByteRange}
 use Rattle.ii_damage.specs.Bodies.{body_in}
 use Rattle.ii_damage.specs.Damages.{FoundDamageState, IndexFiles, all_keep_counts, bytes_of_field, damages_of, field_damages, field_entries, field_reader, is_other_norm, is_key_of_text, norm_damage, norms_damage, other_norm, field_places, reader_damages, reader_in, table_damages, token_damage, tokens_of_doc}

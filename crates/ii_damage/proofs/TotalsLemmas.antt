@@ -8,7 +8,7 @@ use Rattle.std.proofs.lemmas.List.Sums.{sum_by_push}
 use Rattle.ii_io.specs.declared.faults.Part.{Part}
 use Rattle.ii_base.specs.Schema.{SchemaEntry}
 use Rattle.ii_reader.specs.InvertedIndexReader.{InvertedIndexReaderState}
-use Rattle.ii_store.specs.declared.name.Kind.{Kind}
+use Rattle.ii_directory.specs.declared.name.Kind.{Kind}
 use Rattle.ii_damage.specs.declared.checking.Totals.{Totals}
 use Rattle.ii_damage.specs.declared.walking.TermWalk.{TermWalk}
 use Rattle.ii_damage.specs.Damages.{FoundDamageState, IndexFiles, field_damages, field_entries, field_reader, max_u64}

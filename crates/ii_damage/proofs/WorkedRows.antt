@@ -8,7 +8,7 @@ use Rattle.ii_base.specs.Values.{json_key, text_key, typed_key}
 use Rattle.ii_base.specs.declared.schema.index_record_option.IndexRecordOption.TheVariants.{WithFreqs}
 use Rattle.ii_base.specs.declared.schema.value_type.ValueType.TheVariants.{I64, Json}
 use Rattle.ii_definitions.specs.JsonKeys.{type_in}
-use Rattle.ii_store.specs.declared.name.Kind.TheVariants.{Terms, Postings, Positions}
+use Rattle.ii_directory.specs.declared.name.Kind.TheVariants.{Terms, Postings, Positions}
 use Rattle.ii_termstore.specs.declared.term_info.TermInfo.{TermInfo}
 use Rattle.ii_damage.specs.declared.damage.Damage.TheVariants as damages
 use Rattle.ii_damage.specs.declared.damage.FieldPlaces.{FieldPlaces}

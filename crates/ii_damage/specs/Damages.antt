@@ -18,8 +18,8 @@ use Rattle.ii_termstore.specs.declared.term_info.TermInfo.{TermInfo}
 use Rattle.ii_termdict.specs.Dictionary.{TermEntry, dictionary}
 use Rattle.ii_definitions.specs.JsonKeys.{type_under}
 use Rattle.ii_reader.specs.InvertedIndexReader.{InvertedIndexReaderState, reader_of_none, reader_over, term_of_file}
-use Rattle.ii_store.specs.declared.name.Kind.{Kind}
-use Rattle.ii_store.specs.declared.name.Kind.TheVariants.{Schema, Terms, Postings, Positions, FieldNorms}
+use Rattle.ii_directory.specs.declared.name.Kind.{Kind}
+use Rattle.ii_directory.specs.declared.name.Kind.TheVariants.{Schema, Terms, Postings, Positions, FieldNorms}
 use Rattle.ii_store.specs.Index.{Index}
 use Rattle.ii_damage.specs.Bodies.{body_in}
 use Rattle.ii_damage.specs.declared.damage.ByteRange.{ByteRange}

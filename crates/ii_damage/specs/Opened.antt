@@ -2,7 +2,7 @@
 use Rattle.std.specs.Prelude.{◌≡◌, Result, Ok, Err}
 use Rattle.ii_io.specs.declared.faults.Part.{Part}
 use Rattle.ii_reader.specs.InvertedIndexReader.{InvertedIndexReaderState}
-use Rattle.ii_store.specs.declared.name.Kind.{Kind}
+use Rattle.ii_directory.specs.declared.name.Kind.{Kind}
 use Rattle.ii_damage.specs.declared.walked_files.OpenedField.{OpenedField}
 use Rattle.ii_damage.specs.declared.walked_files.OpenedField.TheVariants.{Reader, Damaged}
 

@@ -252,7 +252,7 @@ fn generation_found<D: Directory>(alloc: Global, directory: &D) -> u64 {
 
 // Returns the generation that is found when the second of two commits stops after `calls` calls.
 fn found_after_stop(alloc: Global, calls: u64) -> Result<u64, DirectoryFault> {
-    let mut directory = MemoryDirectory::new(alloc);
+    let mut directory = MemoryDirectory::create(alloc);
     write_segment(&mut directory, 1)?;
     let _ = committed(alloc, &mut directory, &list_of(alloc, 1, &[1])?)?;
     write_segment(&mut directory, 2)?;
@@ -263,8 +263,9 @@ fn found_after_stop(alloc: Global, calls: u64) -> Result<u64, DirectoryFault> {
 
 #[test]
 fn a_stop_leaves_the_old_list_or_the_new_one(rt: HostRuntime) {
-    for calls in 0..4u64 {
-        let want = if calls < 2 { 1 } else { 2 };
+    // Three calls for the list, then two for renaming.
+    for calls in 0..6u64 {
+        let want = if calls < 4 { 1 } else { 2 };
         assert!(rt;
             found_after_stop(rt.alloc(), calls).ok() == Some(want),
             "{calls} calls"
@@ -275,7 +276,7 @@ fn a_stop_leaves_the_old_list_or_the_new_one(rt: HostRuntime) {
 // Returns whether lists may be committed before there are files, with the generation of the list before it,
 // and with that after it.
 fn may_be_committed(alloc: Global) -> Result<[bool; 3], DirectoryFault> {
-    let mut directory = MemoryDirectory::new(alloc);
+    let mut directory = MemoryDirectory::create(alloc);
     let early = committed(alloc, &mut directory, &list_of(alloc, 1, &[1])?)?;
     write_segment(&mut directory, 1)?;
     let again = committed(alloc, &mut directory, &list_of(alloc, 0, &[1])?)?;
@@ -303,7 +304,7 @@ fn collected<D: Directory>(alloc: Global, directory: &mut D) -> Result<[u64; 3],
 
 #[test]
 fn files_that_no_list_has_are_removed(rt: HostRuntime) {
-    let mut directory = MemoryDirectory::new(rt.alloc());
+    let mut directory = MemoryDirectory::create(rt.alloc());
     assert!(rt; collected(rt.alloc(), &mut directory).ok() == Some([3, 0, 2]));
     let names = directory.list(rt.alloc());
     assert!(rt; names.ok().map_or(0, |names| names.len()) == 3);
@@ -327,7 +328,7 @@ fn a_folder_keeps_files_of_others(rt: HostRuntime) -> Result<(), Fail> {
 
 // Returns what loading the terms of segment 1 reports after they got these bytes, or were removed.
 fn told_of(alloc: Global, bytes: Option<&[u8]>) -> Result<String, DirectoryFault> {
-    let mut directory = MemoryDirectory::new(alloc);
+    let mut directory = MemoryDirectory::create(alloc);
     let name = Name::Segment(1, SegmentComponent::Terms);
     if let Some(bytes) = bytes {
         directory.write(name, bytes)?;

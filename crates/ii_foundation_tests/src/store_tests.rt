@@ -32,7 +32,7 @@ fn found<D: Directory>(alloc: Global, directory: &D) -> u8 {
 
 // Returns what is found when the second of two saves stops after `calls` calls.
 fn found_after_stop(alloc: Global, calls: u64) -> Result<u8, DirectoryFault> {
-    let mut directory = MemoryDirectory::new(alloc);
+    let mut directory = MemoryDirectory::create(alloc);
     save(alloc, &mut directory, &index_of(alloc, 1)?)?;
     directory.stop_after(calls);
     let _ = save(alloc, &mut directory, &index_of(alloc, 2)?);
@@ -41,8 +41,9 @@ fn found_after_stop(alloc: Global, calls: u64) -> Result<u8, DirectoryFault> {
 
 #[test]
 fn a_stop_leaves_the_old_index_or_the_new_one(rt: HostRuntime) {
-    for calls in 0..9u64 {
-        let want = if calls < 7 { 1 } else { 2 };
+    // Three calls for each of six files, then two for renaming.
+    for calls in 0..21u64 {
+        let want = if calls < 19 { 1 } else { 2 };
         assert!(rt;
             found_after_stop(rt.alloc(), calls).ok() == Some(want),
             "{calls} calls"
@@ -57,7 +58,7 @@ fn is_told(
     bytes: Option<&[u8]>,
     want: &str,
 ) -> Result<bool, DirectoryFault> {
-    let mut directory = MemoryDirectory::new(alloc);
+    let mut directory = MemoryDirectory::create(alloc);
     save(alloc, &mut directory, &index_of(alloc, 1)?)?;
     match bytes {
         Some(bytes) => directory.write(name, bytes)?,
@@ -142,7 +143,7 @@ fn push_left<D: Directory>(
 // `meta` is corrupt.
 fn all_left(alloc: Global) -> Result<String, DirectoryFault> {
     let mut told = String::new(alloc);
-    let mut directory = MemoryDirectory::new(alloc);
+    let mut directory = MemoryDirectory::create(alloc);
     push_left(alloc, &mut told, &directory)?;
     save(alloc, &mut directory, &index_of(alloc, 7)?)?;
     push_left(alloc, &mut told, &directory)?;

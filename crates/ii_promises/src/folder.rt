@@ -1,6 +1,6 @@
 // An index in a directory: what is saved is loaded.
 ghost use Rattle.std.specs.Prelude.{◌≡◌, ◌⊎◌, Ok, IfOk, OnOk};
-ghost use Rattle.ii_store.specs.Directory.{Files};
+ghost use Rattle.ii_directory.specs.Directory.{Files};
 ghost use Rattle.ii_store.specs.Index.{index_of, view};
 
 use ii_store::save::{remove_unused, save};

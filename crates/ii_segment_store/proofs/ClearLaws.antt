@@ -1,12 +1,12 @@
 -- What the removal of slots leaves.
 use Rattle.std.proofs.Common.{◌≡◌, ℕ, Ok, sym, ◌∙◌}
-use Rattle.ii_store.specs.declared.name.Kind.{Kind}
-use Rattle.ii_store.specs.declared.name.Name.TheVariants.{File, Meta, Segment}
-use Rattle.ii_store.specs.declared.name.Slot.{Slot}
-use Rattle.ii_store.specs.Directory.{Elapses, Elsewhere, Files}
+use Rattle.ii_directory.specs.declared.name.Kind.{Kind}
+use Rattle.ii_directory.specs.declared.name.Name.TheVariants.{File, Meta, Segment}
+use Rattle.ii_directory.specs.declared.name.Slot.{Slot}
+use Rattle.ii_directory.specs.Directory.{Elapses, Elsewhere, Files}
 use Rattle.ii_store.specs.IndexMeta.{MetaState}
 use Rattle.ii_store.specs.Segments.{list_in}
-use Rattle.ii_store.proofs.SaveLaws.{elapses_implies, elapses_then}
+use Rattle.ii_directory.proofs.Elapsing.{elapses_implies, elapses_then}
 use Rattle.ii_segment_store.specs.Commits.{KeepsButSlot, KeepsButSlots}
 use Rattle.ii_segment_store.specs.Contents.{index_contents}
 use Rattle.ii_segment_store.proofs.CommitLaws.{list_kept, listed_below, listed_contents}

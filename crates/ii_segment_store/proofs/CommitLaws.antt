@@ -9,19 +9,20 @@ use Rattle.ii_store.specs.declared.faults.IndexFault.{IndexFault}
 use Rattle.ii_store.specs.declared.faults.IndexFault.TheVariants.{DamagedMeta, OtherVersion}
 use Rattle.ii_store.specs.declared.index_meta.FileMeta.{FileMeta}
 use Rattle.ii_store.specs.declared.index_meta.SegmentMeta.{SegmentMeta}
-use Rattle.ii_store.specs.declared.name.Kind.{Kind}
-use Rattle.ii_store.specs.declared.name.Kind.TheVariants.{Schema}
-use Rattle.ii_store.specs.declared.name.Kind.TheVariants as kinds_of
-use Rattle.ii_store.specs.declared.name.Name.TheVariants.{File, Meta, Segment}
-use Rattle.ii_store.specs.declared.name.SegmentComponent.{SegmentComponent}
-use Rattle.ii_store.specs.declared.name.SegmentComponent.TheVariants.{FieldNorms, Positions, Postings, Terms}
-use Rattle.ii_store.specs.declared.name.Slot.{Slot}
-use Rattle.ii_store.specs.Directory.{Elapses, Files, Same}
+use Rattle.ii_directory.specs.declared.name.Kind.{Kind}
+use Rattle.ii_directory.specs.declared.name.Kind.TheVariants.{Schema}
+use Rattle.ii_directory.specs.declared.name.Kind.TheVariants as kinds_of
+use Rattle.ii_directory.specs.declared.name.Name.TheVariants.{File, Meta, Segment}
+use Rattle.ii_directory.specs.declared.name.SegmentComponent.{SegmentComponent}
+use Rattle.ii_directory.specs.declared.name.SegmentComponent.TheVariants.{FieldNorms, Positions, Postings, Terms}
+use Rattle.ii_directory.specs.declared.name.Slot.{Slot}
+use Rattle.ii_directory.specs.Directory.{Elapses, Files, Same}
 use Rattle.ii_store.specs.Index.{◌>>=◌, Index, index_at, index_in, index_of, num_docs_in, used_slot, version_in, whole_num_docs_in}
 use Rattle.ii_store.specs.IndexMeta.{MetaState, SegmentState, checked_list, file_meta, is_consistent, is_segment, list_at, meta_of, segment_view}
-use Rattle.ii_store.specs.Names.{other_slot}
+use Rattle.ii_directory.specs.Names.{other_slot}
 use Rattle.ii_store.specs.Segments.{list_in, listed_bytes}
-use Rattle.ii_store.proofs.SaveLaws.{elapses_implies, elapses_none, index_outside}
+use Rattle.ii_directory.proofs.Elapsing.{elapses_implies, elapses_none}
+use Rattle.ii_store.proofs.SaveLaws.{index_outside}
 use Rattle.ii_segment_store.specs.Commits.{HasSegment, HoldsOldOr, IsCommitted, IsFresh, KeepsUncommitted, LeavesOneIndex, MayBeCommitted, listed_segment, next_list}
 use Rattle.ii_segment_store.specs.Contents.{IndexContents, SegmentContents, as_index, contents_at, contents_in, index_contents, file_of, bytes_of_component, list_contents, one_segment, segment_in, all_contents, with_segment}
 

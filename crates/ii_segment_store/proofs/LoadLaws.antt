@@ -8,11 +8,11 @@ use Rattle.ii_store.specs.declared.faults.StoreFault.{StoreFault}
 use Rattle.ii_store.specs.declared.faults.StoreFault.TheVariants as faults
 use Rattle.ii_store.specs.declared.index_meta.FileMeta.{FileMeta}
 use Rattle.ii_store.specs.declared.index_meta.SegmentMeta.{SegmentMeta}
-use Rattle.ii_store.specs.declared.name.SegmentComponent.{SegmentComponent}
-use Rattle.ii_store.specs.Directory.{Files}
+use Rattle.ii_directory.specs.declared.name.SegmentComponent.{SegmentComponent}
+use Rattle.ii_directory.specs.Directory.{Files}
 use Rattle.ii_store.specs.Index.{◌>>=◌, Fails}
 use Rattle.ii_store.specs.IndexMeta.{segment_view}
-use Rattle.ii_store.specs.Names.{same_component}
+use Rattle.ii_directory.specs.Names.{same_component}
 use Rattle.ii_segment_store.specs.Contents.{SegmentContents, file_of, segment_in, all_contents}
 
 -- a file of a component among those from an index on

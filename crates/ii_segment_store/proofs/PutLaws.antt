@@ -1,14 +1,14 @@
 -- What the calls of a commit leave, file by file.
 use Rattle.std.proofs.Common.{◌≡◌, inl, inr, ⊎_elim, ℕ, Ok, refl, ◌∙◌}
-use Rattle.ii_store.specs.declared.name.Name.{Name}
-use Rattle.ii_store.specs.declared.name.Name.TheVariants.{File, Meta, NewMeta, Segment}
-use Rattle.ii_store.specs.declared.name.SegmentComponent.{SegmentComponent}
-use Rattle.ii_store.specs.declared.name.SegmentComponent.TheVariants.{FieldNorms, Positions, Postings, Terms}
-use Rattle.ii_store.specs.Directory.{Elapses, Files}
+use Rattle.ii_directory.specs.declared.name.Name.{Name}
+use Rattle.ii_directory.specs.declared.name.Name.TheVariants.{File, Meta, NewMeta, Segment}
+use Rattle.ii_directory.specs.declared.name.SegmentComponent.{SegmentComponent}
+use Rattle.ii_directory.specs.declared.name.SegmentComponent.TheVariants.{FieldNorms, Positions, Postings, Terms}
+use Rattle.ii_directory.specs.Directory.{Elapses, Files}
 use Rattle.ii_store.specs.IndexMeta.{MetaState}
 use Rattle.ii_store.specs.Segments.{KeepsOtherFiles, MayBeReplaced, list_in}
 use Rattle.ii_store.proofs.CommitLaws.{segment_is_no_meta, segment_is_no_new_meta}
-use Rattle.ii_store.proofs.SaveLaws.{elapses_implies, elapses_then}
+use Rattle.ii_directory.proofs.Elapsing.{elapses_implies, elapses_then}
 use Rattle.ii_segment_store.specs.Commits.{HasSegment, IsCommitted, KeepsButSegment, MayBeCommitted}
 use Rattle.ii_segment_store.specs.Contents.{SegmentContents}
 

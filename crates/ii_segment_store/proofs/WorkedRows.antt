@@ -4,9 +4,9 @@ use Rattle.std.specs.Prelude.{Result}
 use Rattle.ii_store.specs.declared.faults.IndexFault.{IndexFault}
 use Rattle.ii_store.specs.declared.faults.IndexFault.TheVariants.{DeletedDocuments, MissingFile}
 use Rattle.ii_store.specs.declared.index_meta.FileMeta.{FileMeta}
-use Rattle.ii_store.specs.declared.name.SegmentComponent.{SegmentComponent}
-use Rattle.ii_store.specs.declared.name.SegmentComponent.TheVariants.{FieldNorms, Positions, Postings, Terms}
-use Rattle.ii_store.specs.Directory.{Files}
+use Rattle.ii_directory.specs.declared.name.SegmentComponent.{SegmentComponent}
+use Rattle.ii_directory.specs.declared.name.SegmentComponent.TheVariants.{FieldNorms, Positions, Postings, Terms}
+use Rattle.ii_directory.specs.Directory.{Files}
 use Rattle.ii_store.specs.IndexMeta.{MetaState, SegmentState}
 use Rattle.ii_segment_store.specs.Commits.{listed_segment, next_list}
 use Rattle.ii_store.specs.Segments.{listed_bytes}

@@ -1,14 +1,14 @@
 -- What a commit of a segment leaves, wherever it is stopped.
 use Rattle.std.specs.Prelude.{◌≡◌, ◌⊎◌, ℕ, ◌+◌, ◌≤◌, [], ◌∷◌, ◌++◌, Result, Ok, Err, None, Some}
 use Rattle.ii_store.specs.declared.faults.IndexFault.{IndexFault}
-use Rattle.ii_store.specs.declared.name.Kind.{Kind}
-use Rattle.ii_store.specs.declared.name.Kind.TheVariants as kinds
-use Rattle.ii_store.specs.declared.name.Name.{Name}
-use Rattle.ii_store.specs.declared.name.Name.TheVariants.{File, Meta, NewMeta, Segment}
-use Rattle.ii_store.specs.declared.name.SegmentComponent.{SegmentComponent}
-use Rattle.ii_store.specs.declared.name.Slot.{Slot}
-use Rattle.ii_store.specs.declared.name.SegmentComponent.TheVariants.{FieldNorms, Positions, Postings, Terms}
-use Rattle.ii_store.specs.Directory.{Elapses, Files}
+use Rattle.ii_directory.specs.declared.name.Kind.{Kind}
+use Rattle.ii_directory.specs.declared.name.Kind.TheVariants as kinds
+use Rattle.ii_directory.specs.declared.name.Name.{Name}
+use Rattle.ii_directory.specs.declared.name.Name.TheVariants.{File, Meta, NewMeta, Segment}
+use Rattle.ii_directory.specs.declared.name.SegmentComponent.{SegmentComponent}
+use Rattle.ii_directory.specs.declared.name.Slot.{Slot}
+use Rattle.ii_directory.specs.declared.name.SegmentComponent.TheVariants.{FieldNorms, Positions, Postings, Terms}
+use Rattle.ii_directory.specs.Directory.{Elapses, Files}
 use Rattle.ii_store.specs.Index.{Fails}
 use Rattle.ii_store.specs.IndexMeta.{IsValidMeta, MetaState, SegmentState, file_meta}
 use Rattle.ii_store.specs.Segments.{list_in}

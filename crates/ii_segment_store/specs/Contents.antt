@@ -4,13 +4,13 @@ use Rattle.std.specs.List.{find}
 use Rattle.ii_store.specs.declared.faults.IndexFault.{IndexFault}
 use Rattle.ii_store.specs.declared.faults.IndexFault.TheVariants.{DeletedDocuments, MissingFile, NoIndex}
 use Rattle.ii_store.specs.declared.index_meta.FileMeta.{FileMeta}
-use Rattle.ii_store.specs.declared.name.Name.TheVariants.{Meta, Segment}
-use Rattle.ii_store.specs.declared.name.SegmentComponent.{SegmentComponent}
-use Rattle.ii_store.specs.declared.name.SegmentComponent.TheVariants.{FieldNorms, Positions, Postings, Terms}
-use Rattle.ii_store.specs.Directory.{Files}
+use Rattle.ii_directory.specs.declared.name.Name.TheVariants.{Meta, Segment}
+use Rattle.ii_directory.specs.declared.name.SegmentComponent.{SegmentComponent}
+use Rattle.ii_directory.specs.declared.name.SegmentComponent.TheVariants.{FieldNorms, Positions, Postings, Terms}
+use Rattle.ii_directory.specs.Directory.{Files}
 use Rattle.ii_store.specs.Index.{◌>>=◌, Index, index_of, version_in}
 use Rattle.ii_store.specs.IndexMeta.{MetaState, SegmentState, meta_of}
-use Rattle.ii_store.specs.Names.{same_component}
+use Rattle.ii_directory.specs.Names.{same_component}
 use Rattle.ii_store.specs.Segments.{listed_bytes}
 use Rattle.ii_segment_store.specs.declared.stored_segments.StoredSegment.{StoredSegment}
 use Rattle.ii_segment_store.specs.declared.stored_segments.StoredSegments.{StoredSegments}

@@ -1,8 +1,8 @@
 //! Removes the files of version 1 once an index is of version 2.
 ghost use Rattle.std.specs.Prelude.{◌≡◌, IfErr, OnOk};
-ghost use Rattle.ii_store.specs.declared.name.Name.TheVariants.{Meta};
-ghost use Rattle.ii_store.specs.declared.name.Slot.TheVariants.{First, Second};
-ghost use Rattle.ii_store.specs.Directory.{Elapses};
+ghost use Rattle.ii_directory.specs.declared.name.Name.TheVariants.{Meta};
+ghost use Rattle.ii_directory.specs.declared.name.Slot.TheVariants.{First, Second};
+ghost use Rattle.ii_directory.specs.Directory.{Elapses};
 ghost use Rattle.ii_store.specs.Index.{Fails};
 ghost use Rattle.ii_store.specs.Segments.{list_in};
 ghost use Rattle.ii_segment_store.specs.Commits.{HasNoLists, HasNoSlot, KeepsButSlot, KeepsButSlots, LeavesOneIndex};

@@ -1,8 +1,8 @@
 //! Adds a segment to an index, so that a stop leaves the old index or the new one.
 ghost use Rattle.std.specs.Prelude.{◌≡◌, true, IfErr, IfOk, Ok, OnOk};
 ghost use Rattle.std.specs.List.{list_all};
-ghost use Rattle.ii_store.specs.declared.name.Name.TheVariants.{Meta};
-ghost use Rattle.ii_store.specs.Directory.{Elapses};
+ghost use Rattle.ii_directory.specs.declared.name.Name.TheVariants.{Meta};
+ghost use Rattle.ii_directory.specs.Directory.{Elapses};
 ghost use Rattle.ii_store.specs.Index.{index_of, view};
 ghost use Rattle.ii_store.specs.IndexMeta.{IsValidMeta, is_segment, meta_view, segment_view};
 ghost use Rattle.ii_store.specs.Segments.{list_in};

@@ -27,7 +27,7 @@ impl From<StoreFault> for CommitFault {
 
 impl From<AllocError> for CommitFault {
     ghost use Rattle.ii_store.specs.Faults.{of_directory};
-    ghost use Rattle.ii_store.specs.declared.faults.DirectoryFault.TheVariants.{OutOfMemory};
+    ghost use Rattle.ii_directory.specs.declared.faults.DirectoryFault.TheVariants.{OutOfMemory};
 
     ghost from_gives = { λ _ e. e ≡ faults.Store (of_directory OutOfMemory) };
 
@@ -38,7 +38,7 @@ impl From<AllocError> for CommitFault {
 
 impl<T: Drop> From<AllocFailed<T>> for CommitFault {
     ghost use Rattle.ii_store.specs.Faults.{of_directory};
-    ghost use Rattle.ii_store.specs.declared.faults.DirectoryFault.TheVariants.{OutOfMemory};
+    ghost use Rattle.ii_directory.specs.declared.faults.DirectoryFault.TheVariants.{OutOfMemory};
 
     ghost from_gives = { λ _ e. e ≡ faults.Store (of_directory OutOfMemory) };
 

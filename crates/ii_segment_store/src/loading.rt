@@ -1,7 +1,7 @@
 //! Loads all segments of an index.
 ghost use Rattle.std.specs.Prelude.{◌≡◌, IfErr, IfOk, map};
 ghost use Rattle.ii_store.specs.Faults.{of_directory};
-ghost use Rattle.ii_store.specs.declared.faults.DirectoryFault.TheVariants.{OutOfMemory};
+ghost use Rattle.ii_directory.specs.declared.faults.DirectoryFault.TheVariants.{OutOfMemory};
 ghost use Rattle.ii_store.specs.Index.{AnswersFromFiles, view};
 ghost use Rattle.ii_store.specs.IndexMeta.{segment_view, meta_view};
 ghost use Rattle.ii_segment_store.specs.Contents.{component_bytes, index_contents, contents_at, contents_view, file_of, list_contents, one_segment, segment_contents, segment_in, all_contents};

@@ -11,8 +11,8 @@ use Rattle.ii_store.specs.declared.faults.StoreFault.{StoreFault}
 use Rattle.ii_store.specs.declared.faults.StoreFault.TheVariants as faults
 use Rattle.ii_store.specs.declared.index_meta.FileMeta.{FileMeta}
 use Rattle.ii_store.specs.declared.index_meta.SegmentMeta.{SegmentMeta}
-use Rattle.ii_store.specs.declared.name.Name.TheVariants.{Segment}
-use Rattle.ii_store.specs.Directory.{Files}
+use Rattle.ii_directory.specs.declared.name.Name.TheVariants.{Segment}
+use Rattle.ii_directory.specs.Directory.{Files}
 use Rattle.ii_store.specs.Index.{◌>>=◌, Fails}
 use Rattle.ii_store.specs.IndexMeta.{MetaState, segment_view}
 use Rattle.ii_store.specs.Segments.{AreThere, HasContents, ListedFile, MayCommit, SegmentedIndex, contents_of, files_of_segment, index_with, listed, listed_bytes}

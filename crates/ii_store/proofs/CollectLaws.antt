@@ -11,33 +11,20 @@ use Rattle.std.proofs.lemmas.List.Elements.{Contains-push_cases}
 use Rattle.ii_store.specs.declared.faults.IndexFault.{IndexFault}
 use Rattle.ii_store.specs.declared.index_meta.FileMeta.{FileMeta}
 use Rattle.ii_store.specs.declared.index_meta.SegmentMeta.{SegmentMeta}
-use Rattle.ii_store.specs.declared.name.Name.{Name}
-use Rattle.ii_store.specs.declared.name.Name.TheVariants.{Meta, Segment}
-use Rattle.ii_store.specs.declared.name.SegmentComponent.{SegmentComponent}
+use Rattle.ii_directory.specs.declared.name.Name.{Name}
+use Rattle.ii_directory.specs.declared.name.Name.TheVariants.{Meta, Segment}
+use Rattle.ii_directory.specs.declared.name.SegmentComponent.{SegmentComponent}
 use Rattle.ii_store.specs.Collect.{HasNoGarbage, IsCollected, IsRemoved, KeepsOthers, is_file, is_garbage}
-use Rattle.ii_store.specs.Directory.{Elapses, Elsewhere, Files, IsListing, IsPut, Same}
+use Rattle.ii_directory.specs.Directory.{Elapses, Elsewhere, Files, IsListing, IsPut, Same}
 use Rattle.ii_store.specs.IndexMeta.{MetaState, SegmentState, segment_view}
-use Rattle.ii_store.specs.Names.{component_generation, component_number, same_component, same_name}
+use Rattle.ii_directory.specs.Names.{component_generation, component_number, same_component, same_name}
 use Rattle.ii_store.specs.Segments.{LeavesSameList, ListedFile, contents_of, files_of_segment, index_with, list_in, listed, segments_of}
 use Rattle.ii_store.proofs.CommitLaws.{same_segments}
 use Rattle.ii_store.proofs.ListChecks.{list_any-map}
-use Rattle.ii_store.proofs.NameLaws.{same_is, same_itself}
-use Rattle.ii_store.proofs.SaveLaws.{elapses_implies, elapses_none, elapses_then}
-
-split : (b : Bool) → (b ≡ true) ⊎ (b ≡ false)
-split true = inl refl
-split false = inr refl
-
-not_both : (b : Bool) → b ≡ true → b ≡ false → ⊥
-not_both true p q = absurd cc
-not_both false p q = absurd cc
-
--- two names are equal or differ
-equal_or_not : (name other : Name) → (name ≡ other) ⊎ (other ≡ name → ⊥)
-equal_or_not name other = ⊎_elim
-    (λ same. inl (same_is name other same))
-    (λ differ. inr (λ e. not_both (same_name name other) (ap (same_name name) e ∙ same_itself name) differ))
-    (split (same_name name other))
+use Rattle.ii_directory.proofs.FlushLaws.{equal_or_not, not_both}
+use Rattle.ii_directory.proofs.ListingLaws.{nothing_in, split}
+use Rattle.ii_directory.proofs.NameLaws.{same_is, same_itself}
+use Rattle.ii_directory.proofs.Elapsing.{elapses_implies, elapses_none, elapses_then}
 
 -- files that a list has aren't garbage
 
@@ -110,11 +97,8 @@ removed_keeps m name a c r other kept = ⊎_elim
 
 -- one after the other
 
-nothing : (name : Name) → Contains [] name → ⊥
-nothing name found = omega (arith, found.1)
-
 pub collected_none : (m : MetaState) (a : Files) → IsCollected m [] a a
-collected_none m a = record { gone = λ name found garbage. absurd (nothing name found); kept = keeps_refl m a; shrinks = λ name. inl refl }
+collected_none m a = record { gone = λ name found garbage. absurd (nothing_in name found); kept = keeps_refl m a; shrinks = λ name. inl refl }
 
 module _ (m : MetaState) (names : List Name) (name : Name) (old mid new : Files) (so_far : IsCollected m names old mid) (r : IsRemoved m name mid new) where
   gone_here : (other : Name) → name ≡ other → is_garbage m other ≡ true → new other ≡ None

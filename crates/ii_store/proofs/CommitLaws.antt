@@ -1,15 +1,15 @@
 -- What the calls of a commit leave.
 use Rattle.std.proofs.Common.{◌≡◌, inl, inr, ⊎_elim, ℕ, List, [], ◌∷◌, Option, Some, Result, Ok, Err, refl, ap, ◌∙◌, arith}
 use Rattle.ii_store.specs.declared.faults.IndexFault.{IndexFault}
-use Rattle.ii_store.specs.declared.name.Name.TheVariants.{Meta, NewMeta, Segment}
-use Rattle.ii_store.specs.declared.name.SegmentComponent.{SegmentComponent}
-use Rattle.ii_store.specs.Directory.{Elapses, Elsewhere, Files, IsOther, IsPut, IsRenamed, MayBeRenamed, Same}
+use Rattle.ii_directory.specs.declared.name.Name.TheVariants.{Meta, NewMeta, Segment}
+use Rattle.ii_directory.specs.declared.name.SegmentComponent.{SegmentComponent}
+use Rattle.ii_directory.specs.Directory.{Elapses, Elsewhere, Files, IsOther, IsPut, IsRenamed, MayBeRenamed, Same}
 use Rattle.ii_store.specs.Index.{◌>>=◌}
 use Rattle.ii_store.specs.IndexMeta.{IsValidMeta, MetaState, meta_bytes}
-use Rattle.ii_store.specs.Names.{name_number}
+use Rattle.ii_directory.specs.Names.{name_number}
 use Rattle.ii_store.specs.Segments.{IsOldOrNewList, KeepsOtherFiles, LeavesOneList, ListedFile, MayBeReplaced, contents_of, index_with, list_in, listed, segments_of}
 use Rattle.ii_store.proofs.ListLaws.{meta_again}
-use Rattle.ii_store.proofs.SaveLaws.{elapses_implies, elapses_none, elapses_then}
+use Rattle.ii_directory.proofs.Elapsing.{elapses_implies, elapses_none, elapses_then}
 
 -- the files of segments are the same
 abbrev pub KeepsSegments : Files → Files → Type 0

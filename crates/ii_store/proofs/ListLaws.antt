@@ -11,11 +11,11 @@ use Rattle.sha2.specs.Sha256.{sha256}
 use Rattle.sha2.proofs.Facts256.{length-sha256}
 use Rattle.ii_store.specs.declared.faults.IndexFault.{IndexFault}
 use Rattle.ii_store.specs.declared.index_meta.FileMeta.{FileMeta}
-use Rattle.ii_store.specs.declared.name.SegmentComponent.{SegmentComponent}
-use Rattle.ii_store.specs.declared.name.SegmentComponent.TheVariants.{Alive, Counts, FieldNorms, Positions, Postings, Terms}
+use Rattle.ii_directory.specs.declared.name.SegmentComponent.{SegmentComponent}
+use Rattle.ii_directory.specs.declared.name.SegmentComponent.TheVariants.{Alive, Counts, FieldNorms, Positions, Postings, Terms}
 use Rattle.ii_store.specs.Index.{format, version_in}
 use Rattle.ii_store.specs.IndexMeta.{FileFits, IsValidMeta, MetaFits, MetaState, SegmentFits, SegmentState, body_bytes, bytes_at, checked_list, component_of, file_at, file_bytes, items_at, list_at, list_bytes, list_head, list_numbers, meta_bytes, meta_of, number_at, segment_at, segment_bytes, segment_head}
-use Rattle.ii_store.specs.Names.{component_generation, component_number}
+use Rattle.ii_directory.specs.Names.{component_generation, component_number}
 
 -- A width whose numbers are read back.
 record IsWide (w : Width) (limit : ℕ) : Type 0 where

@@ -5,10 +5,10 @@ use Rattle.std.specs.Int.{w64, to_le_bytes}
 use Rattle.sha2.specs.Sha256.{sha256}
 use Rattle.ii_store.specs.declared.faults.IndexFault.{IndexFault}
 use Rattle.ii_store.specs.declared.faults.IndexFault.TheVariants.{WrongLength, WrongChecksum}
-use Rattle.ii_store.specs.declared.name.Kind.{Kind}
-use Rattle.ii_store.specs.declared.name.Kind.TheVariants.{Schema, Terms, Postings, Positions, FieldNorms}
-use Rattle.ii_store.specs.declared.name.Name.TheVariants.{Meta, File}
-use Rattle.ii_store.specs.Directory.{Files}
+use Rattle.ii_directory.specs.declared.name.Kind.{Kind}
+use Rattle.ii_directory.specs.declared.name.Kind.TheVariants.{Schema, Terms, Postings, Positions, FieldNorms}
+use Rattle.ii_directory.specs.declared.name.Name.TheVariants.{Meta, File}
+use Rattle.ii_directory.specs.Directory.{Files}
 use Rattle.ii_store.specs.Index.{Index, ◌>>=◌, file_in, index_at, index_in, index_of, meta_entry_at, num_docs_in, used_slot}
 use Rattle.ii_store.specs.SalvagedIndex.{salvaged, salvaged_at, salvaged_by, salvaged_in, sound_file, sound_index}
 

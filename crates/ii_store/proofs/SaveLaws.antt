@@ -1,27 +1,19 @@
 -- What a sequence of directory calls leaves.
 use Rattle.std.proofs.Common.{◌≡◌, inl, inr, ⊎_elim, ◌<◌, ◌≤◌, ◌^◌, ℕ, zero, suc, ◌+◌, List, Option, None, Some, Result, Ok, Err, OnOk, refl, subst, sym, ap, ◌∙◌, arith}
-use Rattle.ii_store.specs.declared.name.Kind.{Kind}
-use Rattle.ii_store.specs.declared.name.Kind.TheVariants.{Schema, Terms, Postings, Positions, FieldNorms}
-use Rattle.ii_store.specs.declared.name.Name.TheVariants.{Meta, NewMeta, File}
-use Rattle.ii_store.specs.declared.name.Slot.{Slot}
-use Rattle.ii_store.specs.declared.name.Slot.TheVariants.{First, Second}
-use Rattle.ii_store.specs.Directory.{Elapses, Elsewhere, Files, IsOther, IsPut, IsRenamed, MayBeRenamed, Same}
+use Rattle.ii_directory.specs.declared.name.Kind.{Kind}
+use Rattle.ii_directory.specs.declared.name.Kind.TheVariants.{Schema, Terms, Postings, Positions, FieldNorms}
+use Rattle.ii_directory.specs.declared.name.Name.{Name}
+use Rattle.ii_directory.specs.declared.name.Name.TheVariants.{Meta, NewMeta, File}
+use Rattle.ii_directory.specs.declared.name.Slot.{Slot}
+use Rattle.ii_directory.specs.declared.name.Slot.TheVariants.{First, Second}
+use Rattle.ii_directory.specs.Directory.{Elapses, Elsewhere, Files, IsOther, IsPut, IsRenamed, MayBeRenamed, Same}
 use Rattle.ii_store.specs.Index.{Index, bytes_of_file, meta_file, index_in, index_of, slot_in, used_slot}
-use Rattle.ii_store.specs.Names.{kind_at, kind_number, name_number, other_slot}
-use Rattle.ii_store.specs.Save.{HoldsFiles, IsOldOrNew, IsOutside, LeavesOne, LeavesSame}
+use Rattle.ii_directory.specs.Names.{kind_at, kind_number, name_number, other_slot}
+use Rattle.ii_store.specs.Save.{HasNoUnused, HoldsFiles, IsOldOrNew, IsOutside, KeepsUsed, LeavesOne, LeavesSame}
 use Rattle.std.proofs.Math.Nat.{eq-or-lt_of_le}
-use Rattle.ii_store.proofs.NameLaws.{kind_below, kind_of_number}
+use Rattle.ii_directory.proofs.Elapsing.{elapses_implies, elapses_none, elapses_then}
+use Rattle.ii_directory.proofs.NameLaws.{kind_below, kind_of_number}
 use Rattle.ii_store.proofs.MetaLaws.{index_of_meta, slot_of_meta}
-
--- what holds at Ok implies what holds at Ok
-pub at_ok : {T E : Type 0} (P Q : Type 0) (result : Result T E) → (P → Q) → OnOk result P → OnOk result Q
-at_ok P Q (Ok x) implies holds = implies holds
-at_ok P Q (Err e) implies holds = tt
-
--- two facts at Ok imply one
-pub both_ok : {T E : Type 0} (P Q R : Type 0) (result : Result T E) → (P → Q → R) → OnOk result P → OnOk result Q → OnOk result R
-both_ok P Q R (Ok x) implies one two = implies one two
-both_ok P Q R (Err e) implies one two = tt
 
 -- kinds and their numbers
 
@@ -64,7 +56,7 @@ other_kind Second kind other differ same = differ (omega (arith, ap name_number 
 pub outside_refl : (slot : Slot) (a : Files) → IsOutside slot a a
 outside_refl slot a = record { meta = refl; files = λ kind. refl }
 
-outside_then : (slot : Slot) (a b c : Files) → IsOutside slot a b → IsOutside slot b c → IsOutside slot a c
+pub outside_then : (slot : Slot) (a b c : Files) → IsOutside slot a b → IsOutside slot b c → IsOutside slot a c
 outside_then slot a b c one two = record { meta = two.meta ∙ one.meta; files = λ kind. two.files kind ∙ one.files kind }
 
 outside_file : (slot : Slot) (kind : Kind) (a c : Files) → Elsewhere (File slot kind) a c → IsOutside slot a c
@@ -73,7 +65,7 @@ outside_file slot kind a c elsewhere = record {
   files = λ other. elsewhere (File (other_slot slot) other) (other_files slot kind other);
 }
 
-outside_new_meta : (slot : Slot) (a c : Files) → Elsewhere NewMeta a c → IsOutside slot a c
+pub outside_new_meta : (slot : Slot) (a c : Files) → Elsewhere NewMeta a c → IsOutside slot a c
 outside_new_meta slot a c elsewhere = record {
   meta = elsewhere Meta meta_is_not_new_meta;
   files = λ other. elsewhere (File (other_slot slot) other) (file_is_not_new_meta (other_slot slot) other);
@@ -81,6 +73,18 @@ outside_new_meta slot a c elsewhere = record {
 
 outside_same : (slot : Slot) (a c : Files) → Same a c → IsOutside slot a c
 outside_same slot a c same = record { meta = same Meta; files = λ other. same (File (other_slot slot) other) }
+
+-- the files of the other slot were removed, then `meta.new`
+
+module _ (slot used : Slot) (free : slot ≡ other_slot used) where
+  pub all_removed : (mid new : Files) → ((kind : Kind) → mid (File slot kind) ≡ None) → IsPut NewMeta None mid new → HasNoUnused used new
+  all_removed mid new gone put = record {
+    files_gone = λ kind. subst (λ (s : Slot). new (File s kind) ≡ None) free (put.elsewhere (File slot kind) (file_is_not_new_meta slot kind) ∙ gone kind);
+    new_meta_gone = put.there;
+  }
+
+  pub kept_beside : (old mid new : Files) → ((name : Name) → ((kind : Kind) → IsOther (File slot kind) name) → mid name ≡ old name) → IsPut NewMeta None mid new → KeepsUsed used old new
+  kept_beside old mid new kept put name not_new none = put.elsewhere name not_new ∙ kept name (λ kind. subst (λ (s : Slot). IsOther (File s kind) name) (sym free) (none kind))
 
 -- which index files are
 
@@ -111,34 +115,15 @@ index_of_new slot i files small holds at =
 below_next : (n count : ℕ) → n < count + 1 → n ≤ count
 below_next n count lt = omega (arith, lt)
 
--- one run after another
+-- a slot that is filled or emptied
 
 module _ {D : Type 0} (moment : D → ℕ) (left_since : D → ℕ → Files → Type 0) where
-  pub elapses_none : (old : D) (P : Files → Type 0) → Elapses (moment old) (moment old) (left_since old) (left_since old) P
-  elapses_none old P = record { later = omega arith; nothing_else = λ t c le left. inl left; keeps = λ t c le left. left }
-
-  pub elapses_then : (old mid new : D) (P Q : Files → Type 0) → Elapses (moment old) (moment mid) (left_since old) (left_since mid) P
-      → Elapses (moment mid) (moment new) (left_since mid) (left_since new) Q → ((c : Files) → Q c → P c)
-      → Elapses (moment old) (moment new) (left_since old) (left_since new) P
-  elapses_then old mid new P Q one two implies = record {
-    later = omega (arith, one.later, two.later);
-    nothing_else = λ t c le left. ⊎_elim (λ before. one.nothing_else t c le before) (λ now. inr (implies c now)) (two.nothing_else t c (omega (arith, le, one.later)) left);
-    keeps = λ t c le left. two.keeps t c (omega (arith, le, one.later)) (one.keeps t c le left);
-  }
-
-  pub elapses_implies : (old new : D) (P Q : Files → Type 0) → Elapses (moment old) (moment new) (left_since old) (left_since new) P → ((c : Files) → P c → Q c)
-      → Elapses (moment old) (moment new) (left_since old) (left_since new) Q
-  elapses_implies old new P Q one implies = record {
-    later = one.later;
-    nothing_else = λ t c le left. ⊎_elim (λ before. inl before) (λ now. inr (implies c now)) (one.nothing_else t c le left);
-    keeps = one.keeps;
-  }
-
   -- a slot that is filled, file by file
   pub record IsFilling (is_known : D → Type 0) (seen : D → Files) (slot : Slot) (content : Kind → Option (List ℕ)) (old now : D) (count : ℕ) : Type 0 where
     pub known : is_known now
     pub filled : (kind : Kind) → kind_number kind < count → seen now (File slot kind) ≡ content kind
     pub outside : IsOutside slot (seen old) (seen now)
+    pub others : (name : Name) → ((kind : Kind) → IsOther (File slot kind) name) → seen now name ≡ seen old name
     pub time : Elapses (moment old) (moment now) (left_since old) (left_since now) (IsOutside slot (seen old))
 
   module _ (is_known : D → Type 0) (seen : D → Files) (slot : Slot) (content : Kind → Option (List ℕ)) where
@@ -147,14 +132,15 @@ module _ {D : Type 0} (moment : D → ℕ) (left_since : D → ℕ → Files →
       known = known;
       filled = λ kind lt. absurd (omega (arith, lt));
       outside = outside_refl slot (seen old);
-      time = elapses_none old (IsOutside slot (seen old));
+      others = λ name none. refl;
+      time = elapses_none moment left_since old (IsOutside slot (seen old));
     }
 
     -- one more call, which may have failed
     pub filling_time : (old now new : D) (count : ℕ) (kind : Kind) → IsFilling is_known seen slot content old now count
         → Elapses (moment now) (moment new) (left_since now) (left_since new) (Elsewhere (File slot kind) (seen now))
         → Elapses (moment old) (moment new) (left_since old) (left_since new) (IsOutside slot (seen old))
-    filling_time old now new count kind so_far time = elapses_then old now new (IsOutside slot (seen old)) (Elsewhere (File slot kind) (seen now)) so_far.time time
+    filling_time old now new count kind so_far time = elapses_then moment left_since old now new (IsOutside slot (seen old)) (Elsewhere (File slot kind) (seen now)) so_far.time time
         (λ c elsewhere. outside_then slot (seen old) (seen now) c so_far.outside (outside_file slot kind (seen now) c elsewhere))
 
     pub filling_goes_on : (old now new : D) (count : ℕ) → count < 5 → IsFilling is_known seen slot content old now count → is_known new
@@ -168,6 +154,7 @@ module _ {D : Type 0} (moment : D → ℕ) (left_since : D → ℕ → Files →
           (λ same. subst (λ k. seen new (File slot k) ≡ content k) (ap kind_at (sym same) ∙ kind_of_number kind) put.there)
           (⊎_elim (λ same. inr same) (λ less. inl less) (eq-or-lt_of_le (below_next (kind_number kind) count below)));
       outside = outside_then slot (seen old) (seen now) (seen new) so_far.outside (outside_file slot (kind_at count) (seen now) (seen new) put.elsewhere);
+      others = λ name none. put.elsewhere name (none (kind_at count)) ∙ so_far.others name none;
       time = filling_time old now new count (kind_at count) so_far time;
     }
 

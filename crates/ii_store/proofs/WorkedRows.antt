@@ -1,25 +1,14 @@
--- Names and lists of segments, computed on examples.
+-- Lists of segments, computed on examples.
 use Rattle.std.proofs.Common.{◌≡◌, ℕ, true, false, List, [], ◌∷◌, Ok, Err, refl}
-use Rattle.std.specs.Prelude.{Result, codes}
+use Rattle.std.specs.Prelude.{Result}
 use Rattle.ii_store.specs.declared.faults.IndexFault.{IndexFault}
 use Rattle.ii_store.specs.declared.faults.IndexFault.TheVariants.{DamagedMeta}
 use Rattle.ii_store.specs.declared.index_meta.FileMeta.{FileMeta}
-use Rattle.ii_store.specs.declared.name.Name.TheVariants.{Meta, NewMeta, Segment}
-use Rattle.ii_store.specs.declared.name.SegmentComponent.{SegmentComponent}
-use Rattle.ii_store.specs.declared.name.SegmentComponent.TheVariants.{Alive, Counts, Positions, Terms}
+use Rattle.ii_directory.specs.declared.name.Name.TheVariants.{Meta, NewMeta, Segment}
+use Rattle.ii_directory.specs.declared.name.SegmentComponent.{SegmentComponent}
+use Rattle.ii_directory.specs.declared.name.SegmentComponent.TheVariants.{Alive, Counts, Positions, Terms}
 use Rattle.ii_store.specs.Collect.{is_garbage}
 use Rattle.ii_store.specs.IndexMeta.{MetaState, SegmentState, component_of, is_consistent, is_segment, items_at, number_at, segment_at}
-use Rattle.ii_store.specs.Names.{hex_digits, name_text}
-
--- the file names of the terms of segment 26, and of the living documents of segment 255 as of generation 16
-
-terms_26 : name_text (Segment 26 Terms) ≡ codes "000000000000001a.term"
-unfolding hex_digits
-terms_26 = refl
-
-alive_255 : name_text (Segment 255 (Alive 16)) ≡ codes "00000000000000ff.0000000000000010.alive"
-unfolding hex_digits
-alive_255 = refl
 
 -- the components of the numbers 2, 5 and 6; only living documents have a generation
 

@@ -1,12 +1,12 @@
 -- Which files of a folder no list of segments has any more, and what their removal leaves.
 use Rattle.std.specs.Prelude.{◌≡◌, ◌⊎◌, ℕ, ◌==◌, not, Bool, true, false, ◌&&◌, List, None}
 use Rattle.std.specs.List.{Contains, count_by, list_any}
-use Rattle.ii_store.specs.declared.name.Name.{Name}
-use Rattle.ii_store.specs.declared.name.Name.TheVariants.{Meta, NewMeta, File, Segment}
-use Rattle.ii_store.specs.declared.name.SegmentComponent.{SegmentComponent}
-use Rattle.ii_store.specs.Directory.{Elsewhere, Files, IsListing}
+use Rattle.ii_directory.specs.declared.name.Name.{Name}
+use Rattle.ii_directory.specs.declared.name.Name.TheVariants.{Meta, NewMeta, File, Segment}
+use Rattle.ii_directory.specs.declared.name.SegmentComponent.{SegmentComponent}
+use Rattle.ii_directory.specs.Directory.{Elsewhere, Files, IsListing}
 use Rattle.ii_store.specs.IndexMeta.{MetaState}
-use Rattle.ii_store.specs.Names.{same_component}
+use Rattle.ii_directory.specs.Names.{same_component}
 use Rattle.ii_store.specs.Segments.{ListedFile, listed}
 
 -- whether a listed file is this component of this segment

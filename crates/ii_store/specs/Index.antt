@@ -2,18 +2,18 @@
 use Rattle.std.specs.Prelude.{◌≡◌, ℕ, ◌==◌, not, List, [], ◌∷◌, ◌++◌, length, take, drop, bytes_eq, get_or, nat_lt, Option, None, Some, Result, Ok, Err, ⊤, if◌then◌else◌}
 use Rattle.std.specs.Int.{w32, w64, from_le_bytes, to_le_bytes}
 use Rattle.sha2.specs.Sha256.{sha256}
-use Rattle.ii_store.specs.declared.name.Slot.{Slot}
-use Rattle.ii_store.specs.declared.name.Slot.TheVariants.{First, Second}
-use Rattle.ii_store.specs.declared.name.Kind.{Kind}
-use Rattle.ii_store.specs.declared.name.Kind.TheVariants.{Schema, Terms, Postings, Positions, FieldNorms}
-use Rattle.ii_store.specs.declared.name.Name.TheVariants.{Meta, File}
+use Rattle.ii_directory.specs.declared.name.Slot.{Slot}
+use Rattle.ii_directory.specs.declared.name.Slot.TheVariants.{First, Second}
+use Rattle.ii_directory.specs.declared.name.Kind.{Kind}
+use Rattle.ii_directory.specs.declared.name.Kind.TheVariants.{Schema, Terms, Postings, Positions, FieldNorms}
+use Rattle.ii_directory.specs.declared.name.Name.TheVariants.{Meta, File}
 use Rattle.ii_store.specs.declared.faults.IndexFault.{IndexFault}
 use Rattle.ii_store.specs.declared.faults.IndexFault.TheVariants.{NoIndex, OtherVersion, DamagedMeta, Missing, WrongLength, WrongChecksum}
 use Rattle.ii_store.specs.declared.faults.StoreFault.{StoreFault}
 use Rattle.ii_store.specs.declared.faults.StoreFault.TheVariants as faults
 use Rattle.ii_store.specs.declared.stored_index.StoredIndex.{StoredIndex}
-use Rattle.ii_store.specs.Directory.{Files}
-use Rattle.ii_store.specs.Names.{slot_number}
+use Rattle.ii_directory.specs.Directory.{Files}
+use Rattle.ii_directory.specs.Names.{slot_number}
 
 -- an index, independent of memory
 pub record Index : Type 0 where

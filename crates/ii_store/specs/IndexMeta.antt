@@ -8,10 +8,10 @@ use Rattle.ii_store.specs.declared.faults.IndexFault.TheVariants.{OtherVersion, 
 use Rattle.ii_store.specs.declared.index_meta.FileMeta.{FileMeta}
 use Rattle.ii_store.specs.declared.index_meta.IndexMeta.{IndexMeta}
 use Rattle.ii_store.specs.declared.index_meta.SegmentMeta.{SegmentMeta}
-use Rattle.ii_store.specs.declared.name.SegmentComponent.{SegmentComponent}
-use Rattle.ii_store.specs.declared.name.SegmentComponent.TheVariants.{Alive, Counts, FieldNorms, Positions, Postings, Terms}
+use Rattle.ii_directory.specs.declared.name.SegmentComponent.{SegmentComponent}
+use Rattle.ii_directory.specs.declared.name.SegmentComponent.TheVariants.{Alive, Counts, FieldNorms, Positions, Postings, Terms}
 use Rattle.ii_store.specs.Index.{◌>>=◌, format, version_in}
-use Rattle.ii_store.specs.Names.{component_generation, component_number}
+use Rattle.ii_directory.specs.Names.{component_generation, component_number}
 
 -- a segment, independent of memory
 pub record SegmentState : Type 0 where

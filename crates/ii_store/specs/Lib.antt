@@ -1,10 +1,7 @@
 pub mod Collect
-pub mod Directory
 pub mod Faults
 pub mod Index
 pub mod IndexMeta
 pub mod SalvagedIndex
-pub mod MemoryDirectory
-pub mod Names
 pub mod Save
 pub mod Segments

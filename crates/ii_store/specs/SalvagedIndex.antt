@@ -1,14 +1,14 @@
 -- The remains of an index whose `meta` is valid: its current files, and how they differ from the saved ones.
 use Rattle.std.specs.Prelude.{ℕ, List, [], drop, unwrap_or, Option, None, Some, Result, Ok, Err}
 use Rattle.std.specs.Result.{result_err}
-use Rattle.ii_store.specs.declared.name.Kind.{Kind}
-use Rattle.ii_store.specs.declared.name.Kind.TheVariants.{Schema, Terms, Postings, Positions, FieldNorms}
-use Rattle.ii_store.specs.declared.name.Name.TheVariants.{Meta, File}
+use Rattle.ii_directory.specs.declared.name.Kind.{Kind}
+use Rattle.ii_directory.specs.declared.name.Kind.TheVariants.{Schema, Terms, Postings, Positions, FieldNorms}
+use Rattle.ii_directory.specs.declared.name.Name.TheVariants.{Meta, File}
 use Rattle.ii_store.specs.declared.faults.IndexFault.{IndexFault}
 use Rattle.ii_store.specs.declared.faults.IndexFault.TheVariants.{NoIndex}
 use Rattle.ii_store.specs.declared.salvaged_index.SalvagedFile.{SalvagedFile}
 use Rattle.ii_store.specs.declared.salvaged_index.SalvagedIndex.{SalvagedIndex}
-use Rattle.ii_store.specs.Directory.{Files}
+use Rattle.ii_directory.specs.Directory.{Files}
 use Rattle.ii_store.specs.Index.{Index, ◌>>=◌, meta_entry_at, file_in, num_docs_in, used_slot}
 
 -- the bytes of a file, and its fault

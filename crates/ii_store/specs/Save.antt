@@ -1,17 +1,27 @@
 -- What a save leaves, wherever it is stopped.
-use Rattle.std.specs.Prelude.{◌≡◌, ◌⊎◌, ℕ, Some, Result, Ok}
-use Rattle.ii_store.specs.declared.name.Slot.{Slot}
-use Rattle.ii_store.specs.declared.name.Kind.{Kind}
-use Rattle.ii_store.specs.declared.name.Name.TheVariants.{Meta, File}
+use Rattle.std.specs.Prelude.{◌≡◌, ◌⊎◌, ℕ, None, Some, Result, Ok}
+use Rattle.ii_directory.specs.declared.name.Slot.{Slot}
+use Rattle.ii_directory.specs.declared.name.Kind.{Kind}
+use Rattle.ii_directory.specs.declared.name.Name.{Name}
+use Rattle.ii_directory.specs.declared.name.Name.TheVariants.{Meta, NewMeta, File}
 use Rattle.ii_store.specs.declared.faults.IndexFault.{IndexFault}
-use Rattle.ii_store.specs.Directory.{Elapses, Files}
+use Rattle.ii_directory.specs.Directory.{Elapses, Files, IsOther}
 use Rattle.ii_store.specs.Index.{Index, bytes_of_file, index_of}
-use Rattle.ii_store.specs.Names.{other_slot}
+use Rattle.ii_directory.specs.Names.{other_slot}
 
 -- `meta` and the files of the other slot are unchanged
 pub record IsOutside (slot : Slot) (old new : Files) : Type 0 where
   pub meta : new Meta ≡ old Meta
   pub files : (kind : Kind) → new (File (other_slot slot) kind) ≡ old (File (other_slot slot) kind)
+
+-- neither the files of the other slot nor `meta.new` exist
+pub record HasNoUnused (slot : Slot) (files : Files) : Type 0 where
+  pub files_gone : (kind : Kind) → files (File (other_slot slot) kind) ≡ None
+  pub new_meta_gone : files NewMeta ≡ None
+
+-- all files but those are as they were
+abbrev pub KeepsUsed : Slot → Files → Files → Type 0
+KeepsUsed slot old new = (name : Name) → IsOther NewMeta name → ((kind : Kind) → IsOther (File (other_slot slot) kind) name) → new name ≡ old name
 
 -- a slot holds the files of an index
 abbrev pub HoldsFiles : Slot → Index → Files → Type 0

@@ -6,9 +6,9 @@ use Rattle.ii_store.specs.declared.faults.IndexFault.{IndexFault}
 use Rattle.ii_store.specs.declared.faults.IndexFault.TheVariants.{NoIndex, MissingFile, WrongFileLength, WrongFileChecksum}
 use Rattle.ii_store.specs.declared.faults.StoreFault.{StoreFault}
 use Rattle.ii_store.specs.declared.index_meta.FileMeta.{FileMeta}
-use Rattle.ii_store.specs.declared.name.Name.{Name}
-use Rattle.ii_store.specs.declared.name.Name.TheVariants.{Meta, NewMeta, Segment}
-use Rattle.ii_store.specs.Directory.{Elapses, Files}
+use Rattle.ii_directory.specs.declared.name.Name.{Name}
+use Rattle.ii_directory.specs.declared.name.Name.TheVariants.{Meta, NewMeta, Segment}
+use Rattle.ii_directory.specs.Directory.{Elapses, Files}
 use Rattle.ii_store.specs.Index.{◌>>=◌, Fails}
 use Rattle.ii_store.specs.IndexMeta.{IsValidMeta, MetaState, SegmentState, meta_of}
 

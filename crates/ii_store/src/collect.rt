@@ -1,20 +1,19 @@
 //! Removes the files that no list of segments has any more.
 ghost use Rattle.std.specs.Prelude.{◌≡◌, IfErr, IfOk, Ok, OnOk, map, if◌then◌else◌};
 ghost use Rattle.std.specs.List.{count_by, flat_map, list_any};
-ghost use Rattle.ii_store.specs.declared.name.Name.TheVariants.{Meta};
+ghost use Rattle.ii_directory.specs.declared.name.Name.TheVariants.{Meta};
 ghost use Rattle.ii_store.specs.Collect.{CountsGarbage, HasNoGarbage, IsCollected, IsRemoved, KeepsOthers, is_file, is_garbage};
 ghost use Rattle.ii_store.specs.declared.index_meta.FileMeta.{FileMeta};
-ghost use Rattle.ii_store.specs.Directory.{Elapses};
+ghost use Rattle.ii_directory.specs.Directory.{Elapses};
 ghost use Rattle.ii_store.specs.Index.{Fails};
 ghost use Rattle.ii_store.specs.IndexMeta.{MetaState, meta_view, segment_view};
-ghost use Rattle.ii_store.specs.Names.{same_component};
+ghost use Rattle.ii_directory.specs.Names.{same_component};
 ghost use Rattle.ii_store.specs.Segments.{LeavesSameList, files_of_segment, list_in, segments_of};
 
-use crate::directory::Directory;
-use crate::faults::{DirectoryFault, StoreFault};
+use crate::faults::StoreFault;
 use crate::index_meta::{FileMeta, IndexMeta, SegmentMeta};
-use crate::name::{Name, SegmentComponent, SegmentId};
 use crate::segments::load_meta;
+use ii_directory::{Directory, DirectoryFault, Name, SegmentComponent, SegmentId};
 use std::alloc::Global;
 
 /// Removes the files that no list of segments has any more: `meta.new`, and each file of a segment that the

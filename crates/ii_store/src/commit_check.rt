@@ -2,16 +2,15 @@
 ghost use Rattle.std.specs.Prelude.{false, ◌≡◌, ◌+◌, [], ◌∷◌, IfOk, IsTrue, map};
 ghost use Rattle.std.specs.List.{AllByRecursion, flat_map};
 ghost use Rattle.ii_store.specs.declared.index_meta.FileMeta.{FileMeta};
-ghost use Rattle.ii_store.specs.declared.name.Name.TheVariants.{Meta};
+ghost use Rattle.ii_directory.specs.declared.name.Name.TheVariants.{Meta};
 ghost use Rattle.ii_store.specs.IndexMeta.{FileFits, IsValidMeta, SegmentFits, meta_view, segment_view};
 ghost use Rattle.ii_store.specs.Segments.{AreThere, MayCommit, Reports, files_of_segment, generation_in, list_in};
 
-use crate::directory::Directory;
-use crate::faults::{DirectoryFault, StoreFault};
+use crate::faults::StoreFault;
 use crate::index_meta::{FileMeta, IndexMeta, SegmentMeta};
 use crate::index_meta_reader::is_consistent_list;
-use crate::name::{Generation, SegmentId};
 use crate::segments::{load_meta, load_segment_file};
+use ii_directory::{Directory, DirectoryFault, Generation, SegmentId};
 use std::alloc::Global;
 
 /// Returns whether a `meta` file can hold a list of segments: `decode` gives the conditions; and it has fewer

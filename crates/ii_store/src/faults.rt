@@ -1,22 +1,11 @@
 ghost use Rattle.std.specs.Prelude.{◌≡◌};
 ghost use Rattle.ii_store.specs.Faults.{of_directory};
-ghost use Rattle.ii_store.specs.declared.faults.DirectoryFault.TheVariants as faults;
+ghost use Rattle.ii_directory.specs.declared.faults.DirectoryFault.TheVariants as faults;
 
-use crate::name::{Kind, SegmentComponent, SegmentId};
+use ii_directory::{DirectoryFault, Kind, SegmentComponent, SegmentId};
 use std::alloc::{AllocError, AllocFailed};
 use std::io;
 use thiserror::Error;
-
-/// Why a directory call failed.
-#[derive(Clone, Copy, Debug, PartialEq, Eq, Error)]
-pub enum DirectoryFault {
-    /// Memory could not be allocated.
-    #[error("out of memory")]
-    OutOfMemory,
-    /// The operating system returned an error.
-    #[error("the folder refused: {0:?}")]
-    Refused(io::ErrorKind),
-}
 
 /// Why the files of a directory are not a valid index.
 #[derive(Clone, Copy, Debug, PartialEq, Eq, Error)]
@@ -62,22 +51,6 @@ pub enum StoreFault {
     /// The files are not a valid index.
     #[error("{0}")]
     Index(IndexFault),
-}
-
-impl From<AllocError> for DirectoryFault {
-    ghost from_gives = { λ _ e. e ≡ faults.OutOfMemory };
-
-    fn from(_: AllocError) -> Self {
-        DirectoryFault::OutOfMemory
-    }
-}
-
-impl<T: Drop> From<AllocFailed<T>> for DirectoryFault {
-    ghost from_gives = { λ _ e. e ≡ faults.OutOfMemory };
-
-    fn from(_: AllocFailed<T>) -> Self {
-        DirectoryFault::OutOfMemory
-    }
 }
 
 impl From<AllocError> for StoreFault {

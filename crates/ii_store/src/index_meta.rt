@@ -4,7 +4,7 @@ ghost use Rattle.std.specs.List.{AllByRecursion, flat_map};
 ghost use Rattle.ii_store.specs.IndexMeta.{IsValidMeta, MetaFits, MetaState, SegmentFits, body_bytes, file_bytes, file_meta, list_bytes, list_head, list_numbers, meta_bytes, meta_of, meta_view, segment_bytes, segment_head, segment_view};
 
 use crate::meta::FORMAT;
-use crate::name::{Generation, SegmentComponent, SegmentId};
+use ii_directory::{Generation, SegmentComponent, SegmentId};
 use sha2::{Digest, Sha256};
 use std::alloc::{AllocError, Global};
 

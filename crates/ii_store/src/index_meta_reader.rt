@@ -8,7 +8,7 @@ ghost use Rattle.ii_store.specs.IndexMeta.{SegmentState, ascend_from, bytes_at, 
 use crate::faults::{IndexFault, StoreFault};
 use crate::index_meta::{FileMeta, IndexMeta, SEGMENTS_VERSION, SegmentMeta};
 use crate::meta::{is_checksum, version_of};
-use crate::name::{Generation, SegmentComponent};
+use ii_directory::{Generation, SegmentComponent};
 use std::alloc::Global;
 
 // The limit of the number of documents of a segment, and of living documents of an index.

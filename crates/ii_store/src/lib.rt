@@ -4,26 +4,20 @@
 
 pub mod collect;
 pub mod commit_check;
-pub mod directory;
 pub mod faults;
-pub mod folder;
 pub mod index_meta;
 pub mod index_meta_reader;
-pub mod lock;
-pub mod memory_directory;
 pub mod meta;
-pub mod name;
 pub mod salvaged_index;
 pub mod save;
 pub mod segments;
 pub mod stored_index;
 
-pub use directory::Directory;
-pub use faults::{DirectoryFault, IndexFault, StoreFault};
-pub use folder::Folder;
+pub use faults::{IndexFault, StoreFault};
+pub use ii_directory::{
+    Directory, DirectoryFault, Folder, FolderLock, Generation, Kind, MemoryDirectory, Name,
+    SegmentComponent, SegmentId, Slot,
+};
 pub use index_meta::{FileMeta, IndexMeta, SegmentMeta};
-pub use lock::FolderLock;
-pub use memory_directory::MemoryDirectory;
-pub use name::{Generation, Kind, Name, SegmentComponent, SegmentId, Slot};
 pub use salvaged_index::{SalvagedFile, SalvagedIndex, salvage};
 pub use stored_index::{StoredIndex, load};

@@ -1,12 +1,13 @@
 //! The `meta` file of an index: 249 bytes, as described in docs/FORMATS.
-ghost use Rattle.std.specs.Prelude.{◌≡◌, ◌≤◌, ◌<◌, ◌^◌, ◌++◌, bytes_eq, length, Err, IfOk, MatchOption, Ok, OnOk, Some};
+ghost use Rattle.std.specs.Prelude.{◌≡◌, ◌≤◌, ◌<◌, ◌^◌, ◌++◌, bytes_eq, length, Err, IfErr, IfOk, MatchOption, Ok, OnOk, Some};
 ghost use Rattle.std.specs.Int.{w64, to_le_bytes};
+ghost use Rattle.ii_directory.specs.declared.faults.DirectoryFault.TheVariants.{OutOfMemory};
 ghost use Rattle.sha2.specs.Sha256.{sha256};
 ghost use Rattle.ii_store.specs.Index.{Index, entry, file_in, meta_file, meta_body, head, index_at, num_docs_in, slot_in, version_in, view, whole_num_docs_in};
 
-use crate::faults::{DirectoryFault, IndexFault};
-use crate::name::{Kind, Slot};
+use crate::faults::IndexFault;
 use crate::stored_index::StoredIndex;
+use ii_directory::{DirectoryFault, Kind, Slot};
 use sha2::{Digest, Sha256};
 use std::alloc::{AllocError, Global};
 
@@ -133,6 +134,7 @@ pub(crate) fn meta_of(
     slot: Slot,
     index: &StoredIndex,
 ) -> Result<Vec<u8>, DirectoryFault>
+    ensures only { IfErr result (λ e. e ≡ OutOfMemory) }
     ensures bytes { IfOk result (λ v. v.items ≡ meta_file slot (view index.now)) }
     ensures small { OnOk result (index.now.num_docs < 2 ^ 32) }
 {

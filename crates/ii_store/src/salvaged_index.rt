@@ -1,18 +1,17 @@
 //! The remains of an index whose files may be truncated, changed or missing.
 ghost use Rattle.std.specs.Prelude.{◌≡◌, ◌≤◌, ◌+◌, IfOk, Ok, Some, drop, length};
-ghost use Rattle.ii_store.specs.declared.name.Name.TheVariants.{File};
-ghost use Rattle.ii_store.specs.Directory.{Files};
+ghost use Rattle.ii_directory.specs.declared.name.Name.TheVariants.{File};
+ghost use Rattle.ii_directory.specs.Directory.{Files};
 ghost use Rattle.ii_store.specs.Index.{AnswersFromFiles, Index, index_of, slot_in, view};
 ghost use Rattle.ii_store.specs.SalvagedIndex.{file_of, file_view, salvaged_bytes, salvaged_by, salvaged_in, salvaged, salvaged_view, sound_index};
 
-use crate::directory::Directory;
-use crate::faults::{DirectoryFault, IndexFault, StoreFault};
+use crate::faults::{IndexFault, StoreFault};
 use crate::meta::{
     FIELDNORMS_AT, POSITIONS_AT, POSTINGS_AT, SCHEMA_AT, TERMS_AT, checked_num_docs, fault_by,
     slot_named,
 };
-use crate::name::{Kind, Name, Slot};
 use crate::stored_index::StoredIndex;
+use ii_directory::{Directory, DirectoryFault, Kind, Name, Slot};
 use std::alloc::Global;
 
 /// The current contents of a file.

@@ -1,17 +1,16 @@
 //! Commits a list of segments so that a stop leaves either the old list or the new one, and reads it back.
 ghost use Rattle.std.specs.Prelude.{◌≡◌, ◌+◌, Ok, OnOk, Some};
-ghost use Rattle.ii_store.specs.declared.name.Name.TheVariants.{Meta, Segment};
-ghost use Rattle.ii_store.specs.Directory.{Elapses};
+ghost use Rattle.ii_directory.specs.declared.name.Name.TheVariants.{Meta, Segment};
+ghost use Rattle.ii_directory.specs.Directory.{Elapses};
 ghost use Rattle.ii_store.specs.Index.{AnswersFromFiles};
 ghost use Rattle.ii_store.specs.IndexMeta.{IsValidMeta, meta_view};
 ghost use Rattle.ii_store.specs.Segments.{AreThere, KeepsOtherFiles, LeavesOneList, ListedFile, MayBeReplaced, generation_in, index_with, list_in, listed_bytes, segments_of};
 
-use crate::directory::Directory;
-use crate::faults::{DirectoryFault, IndexFault, StoreFault};
+use crate::faults::{IndexFault, StoreFault};
 use crate::index_meta::{FileMeta, IndexMeta, encode};
 use crate::index_meta_reader::decode;
 use crate::meta::is_checksum;
-use crate::name::{Name, SegmentId};
+use ii_directory::{Directory, DirectoryFault, Name, SegmentId};
 use std::alloc::Global;
 
 /// Puts a new list of segments in the place of the old one: writes it as `meta.new`, and atomically renames

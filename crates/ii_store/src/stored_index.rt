@@ -1,15 +1,16 @@
 //! The bytes of an index, and how they are loaded.
 ghost use Rattle.std.specs.Prelude.{◌≡◌, ◌≤◌, ◌+◌, Some, drop, length};
-ghost use Rattle.ii_store.specs.declared.name.Name.TheVariants.{File};
+ghost use Rattle.ii_directory.specs.declared.name.Name.TheVariants.{File};
+ghost use Rattle.ii_directory.specs.Directory.{is_obeyed};
+ghost use Rattle.ii_store.specs.Faults.{IsRefused};
 ghost use Rattle.ii_store.specs.Index.{AnswersFromFiles, bytes_of_file, file_in, index_in, index_of, slot_in, view};
 
-use crate::directory::Directory;
 use crate::faults::{IndexFault, StoreFault};
 use crate::meta::{
     FIELDNORMS_AT, POSITIONS_AT, POSTINGS_AT, SCHEMA_AT, TERMS_AT, checked_num_docs, fault_by,
     slot_named,
 };
-use crate::name::{Kind, Name, Slot};
+use ii_directory::{Directory, Kind, Name, Slot};
 use std::alloc::Global;
 
 /// The files of an index, and its number of documents.
@@ -44,10 +45,11 @@ impl StoredIndex {
 ///
 /// Returns `NoIndex` if there is no `meta`, and `OtherVersion` or `DamagedMeta` if it isn't a valid one of
 /// this version. Otherwise returns the first fault of a file, in the order of `Kind`: missing, wrong length
-/// or wrong checksum.
+/// or wrong checksum. The system may refuse a call.
 #[tactic(auto, unfolding(crate::specs::Index::index_of))]
 pub fn load<D: Directory>(alloc: Global, directory: &D) -> Result<StoredIndex, StoreFault>
-    ensures { D.is_known directory.now → AnswersFromFiles view result (index_of (D.seen directory.now)) }
+    ensures answers { D.is_known directory.now → AnswersFromFiles view result (index_of (D.seen directory.now)) }
+    ensures obeyed { is_obeyed IsRefused (D.may_refuse directory.now) result }
 {
     let Some(meta) = directory.read(alloc, Name::Meta)? else {
         return Err(StoreFault::Index(IndexFault::NoIndex));
@@ -62,7 +64,8 @@ fn load_by<D: Directory>(
     directory: &D,
     meta: &[u8],
 ) -> Result<StoredIndex, StoreFault>
-    ensures { D.is_known directory.now → AnswersFromFiles view result (index_in (Some meta.now) (λ kind. D.seen directory.now (File (slot_in meta.now) kind))) }
+    ensures obeyed { is_obeyed IsRefused (D.may_refuse directory.now) result }
+    ensures answers { D.is_known directory.now → AnswersFromFiles view result (index_in (Some meta.now) (λ kind. D.seen directory.now (File (slot_in meta.now) kind))) }
 {
     let num_docs = checked_num_docs(meta)?;
     let slot = slot_named(meta);
@@ -99,7 +102,8 @@ fn load_file<D: Directory>(
     place: usize,
 ) -> Result<Vec<u8>, StoreFault>
     requires { place + 40 ≤ length meta.now }
-    ensures { D.is_known directory.now → AnswersFromFiles (λ v. v.items) result (file_in kind (drop place meta.now) (D.seen directory.now (File slot kind))) }
+    ensures obeyed { is_obeyed IsRefused (D.may_refuse directory.now) result }
+    ensures answers { D.is_known directory.now → AnswersFromFiles (λ v. v.items) result (file_in kind (drop place meta.now) (D.seen directory.now (File slot kind))) }
 {
     let Some(bytes) = directory.read(alloc, Name::File(slot, kind))? else {
         return Err(StoreFault::Index(IndexFault::Missing(kind)));

@@ -1,4 +1,4 @@
-use Rattle.ii_store.specs.declared.name.Kind.TheVariants.{Terms, Postings, Positions, FieldNorms}
+use Rattle.ii_directory.specs.declared.name.Kind.TheVariants.{Terms, Postings, Positions, FieldNorms}
 use Rattle.ii_damage.specs.Damages.{table_damage}
 use Rattle.ii_damage.proofs.TableLists.{four}
 use Rattle.std.proofs.Common.{rules}

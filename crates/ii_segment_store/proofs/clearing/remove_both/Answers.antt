@@ -1,4 +1,4 @@
-use Rattle.ii_store.specs.declared.name.Slot.TheVariants.{First, Second}
+use Rattle.ii_directory.specs.declared.name.Slot.TheVariants.{First, Second}
 use Rattle.ii_segment_store.proofs.ClearLaws.{both_time}
 use Rattle.ii_segment_store.proofs.clearing.remove_both.Goals as goal
 

@@ -1,8 +1,8 @@
-use Rattle.ii_store.specs.declared.name.Kind.TheVariants.{Schema}
-use Rattle.ii_store.specs.declared.name.Name.TheVariants.{File}
-use Rattle.ii_store.specs.Directory.{IsPut}
+use Rattle.ii_directory.specs.declared.name.Kind.TheVariants.{Schema}
+use Rattle.ii_directory.specs.declared.name.Name.TheVariants.{File}
+use Rattle.ii_directory.specs.Directory.{IsPut}
 use Rattle.std.specs.Prelude.{None}
-use Rattle.ii_store.proofs.SaveLaws.{at_ok}
+use Rattle.ii_directory.proofs.Elapsing.{at_ok}
 use Rattle.ii_segment_store.specs.Commits.{KeepsButSlot}
 use Rattle.ii_segment_store.proofs.ClearLaws.{slot_keeps, slot_time}
 use Rattle.ii_segment_store.proofs.clearing.remove_slot.Goals as goal

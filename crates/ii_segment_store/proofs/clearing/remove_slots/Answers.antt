@@ -1,6 +1,6 @@
 use Rattle.std.proofs.Common.{inl}
 use Rattle.ii_store.specs.IndexMeta.{meta_view}
-use Rattle.ii_store.proofs.SaveLaws.{elapses_implies}
+use Rattle.ii_directory.proofs.Elapsing.{elapses_implies}
 use Rattle.ii_segment_store.specs.Commits.{HoldsOldOr, KeepsButSlots}
 use Rattle.ii_segment_store.specs.Contents.{index_contents}
 use Rattle.ii_segment_store.proofs.ClearLaws.{slots_same}

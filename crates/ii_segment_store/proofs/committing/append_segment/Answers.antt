@@ -1,8 +1,8 @@
 use Rattle.std.proofs.Common.{◌≡◌, subst, sym, Result}
 use Rattle.std.specs.Prelude.{OnOk}
 use Rattle.ii_store.specs.declared.faults.IndexFault.{IndexFault}
-use Rattle.ii_store.specs.declared.name.Name.TheVariants.{Meta}
-use Rattle.ii_store.specs.Directory.{Elapses}
+use Rattle.ii_directory.specs.declared.name.Name.TheVariants.{Meta}
+use Rattle.ii_directory.specs.Directory.{Elapses}
 use Rattle.ii_store.specs.IndexMeta.{meta_view}
 use Rattle.ii_segment_store.specs.Commits.{HoldsOldOr}
 use Rattle.ii_segment_store.specs.Contents.{IndexContents, index_contents, segment_contents, with_segment}

@@ -1,5 +1,5 @@
 use Rattle.std.proofs.Common.{subst}
-use Rattle.ii_store.specs.Directory.{Elapses}
+use Rattle.ii_directory.specs.Directory.{Elapses}
 use Rattle.ii_store.specs.IndexMeta.{MetaState, meta_view}
 use Rattle.ii_segment_store.specs.Commits.{IsCommitted, MayBeCommitted}
 use Rattle.ii_segment_store.specs.Contents.{segment_contents}

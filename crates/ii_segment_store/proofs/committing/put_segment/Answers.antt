@@ -1,8 +1,8 @@
 use Rattle.std.proofs.Common.{◌≡◌, Ok}
-use Rattle.ii_store.specs.declared.name.Name.TheVariants.{Meta}
+use Rattle.ii_directory.specs.declared.name.Name.TheVariants.{Meta}
 use Rattle.ii_store.specs.IndexMeta.{meta_view}
 use Rattle.ii_store.specs.Segments.{KeepsOtherFiles, list_in}
-use Rattle.ii_store.proofs.SaveLaws.{both_ok}
+use Rattle.ii_directory.proofs.Elapsing.{both_ok}
 use Rattle.ii_segment_store.specs.Commits.{IsCommitted}
 use Rattle.ii_segment_store.specs.Contents.{segment_contents}
 use Rattle.ii_segment_store.proofs.PutLaws.{is_committed, put_time}

@@ -1,7 +1,7 @@
 use Rattle.std.proofs.Common.{◌≡◌, refl, subst, Result}
 use Rattle.std.specs.Prelude.{OnOk}
 use Rattle.ii_store.specs.declared.faults.IndexFault.{IndexFault}
-use Rattle.ii_store.specs.Directory.{Elapses}
+use Rattle.ii_directory.specs.Directory.{Elapses}
 use Rattle.ii_store.specs.Index.{view}
 use Rattle.ii_segment_store.specs.Commits.{HoldsOldOr}
 use Rattle.ii_segment_store.specs.Contents.{IndexContents, SegmentContents, index_contents}

@@ -1,7 +1,7 @@
 use Rattle.std.proofs.Common.{ap, subst, ◌∙◌}
 use Rattle.std.specs.List.{count_by}
-use Rattle.ii_store.specs.declared.name.Name.TheVariants.{Meta}
-use Rattle.ii_store.specs.Directory.{Elapses}
+use Rattle.ii_directory.specs.declared.name.Name.TheVariants.{Meta}
+use Rattle.ii_directory.specs.Directory.{Elapses}
 use Rattle.ii_store.specs.Collect.{CountsGarbage, HasNoGarbage, IsCollected, KeepsOthers, is_garbage}
 use Rattle.ii_store.specs.IndexMeta.{meta_view}
 use Rattle.ii_store.specs.Segments.{list_in}
@@ -20,7 +20,7 @@ returns-clause-removed g c = λ known m is.
     let new = d.seen c.remove_garbage.new.directory in
     let same = one_list (meta_view c.in_ok-meta.meta) m (list_in (old Meta)) (c.in_ok-meta.ensures known) is in
     let collected = subst (λ ns. IsCollected (meta_view c.in_ok-meta.meta) ns old new) c.as_slice.ensures.value (c.in_ok-removed.ensures.collected known) in
-    subst (λ n. HasNoGarbage n new) same (collected_all (meta_view c.in_ok-meta.meta) c.in_ok-names.names.items old new (c.in_ok-names.ensures known) collected)
+    subst (λ n. HasNoGarbage n new) same (collected_all (meta_view c.in_ok-meta.meta) c.in_ok-names.names.items old new (c.in_ok-names.ensures.listed known) collected)
 
 pub returns-clause-keeps : goal.returns-clause-keeps
 returns-clause-keeps g c = λ known m is.
@@ -43,7 +43,7 @@ returns-clause-count g c = λ known m is.
     let old = d.seen c.args.directory.now in
     let same = one_list (meta_view c.in_ok-meta.meta) m (list_in (old Meta)) (c.in_ok-meta.ensures known) is in
     subst (λ n. CountsGarbage n old c.in_ok-removed.removed) same
-    (c.in_ok-names.names.items, c.in_ok-names.ensures known, c.in_ok-removed.ensures.count ∙ ap (count_by (is_garbage (meta_view c.in_ok-meta.meta))) c.as_slice.ensures.value)
+    (c.in_ok-names.names.items, c.in_ok-names.ensures.listed known, c.in_ok-removed.ensures.count ∙ ap (count_by (is_garbage (meta_view c.in_ok-meta.meta))) c.as_slice.ensures.value)
 
 pub returns-clause-leaves_same : goal.returns-clause-leaves_same
 returns-clause-leaves_same g c = λ known.

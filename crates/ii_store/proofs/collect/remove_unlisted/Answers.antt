@@ -1,9 +1,9 @@
 use Rattle.std.proofs.Common.{sym}
 use Rattle.ii_store.specs.Collect.{KeepsOthers}
-use Rattle.ii_store.specs.Directory.{Elsewhere}
+use Rattle.ii_directory.specs.Directory.{Elsewhere}
 use Rattle.ii_store.specs.IndexMeta.{meta_view}
 use Rattle.ii_store.proofs.CollectLaws.{elsewhere_keeps, removed_none, removed_one}
-use Rattle.ii_store.proofs.SaveLaws.{elapses_implies, elapses_none}
+use Rattle.ii_directory.proofs.Elapsing.{elapses_implies, elapses_none}
 use Rattle.ii_store.proofs.collect.remove_unlisted.Goals as goal
 
 pub returns-then-not-is_unlisted-clause-removed : goal.returns-then-not-is_unlisted-clause-removed

@@ -1,9 +1,9 @@
 use Rattle.std.proofs.Common.{◌≡◌, Ok}
-use Rattle.ii_store.specs.declared.name.Name.TheVariants.{Meta}
+use Rattle.ii_directory.specs.declared.name.Name.TheVariants.{Meta}
 use Rattle.ii_store.specs.IndexMeta.{meta_view}
 use Rattle.ii_store.specs.Segments.{KeepsOtherFiles, index_with, list_in, segments_of}
 use Rattle.ii_store.proofs.CommitLaws.{leaves_list, replaced_index}
-use Rattle.ii_store.proofs.SaveLaws.{both_ok}
+use Rattle.ii_directory.proofs.Elapsing.{both_ok}
 use Rattle.ii_store.proofs.segments.commit.Goals as goal
 
 pub returns-clause-index : goal.returns-clause-index

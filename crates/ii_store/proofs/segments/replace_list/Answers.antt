@@ -1,10 +1,10 @@
 use Rattle.std.proofs.Common.{◌≡◌, Ok, Some, subst, ◌∙◌}
-use Rattle.ii_store.specs.declared.name.Name.TheVariants.{Meta, NewMeta}
-use Rattle.ii_store.specs.Directory.{IsPut, IsRenamed}
+use Rattle.ii_directory.specs.declared.name.Name.TheVariants.{Meta, NewMeta}
+use Rattle.ii_directory.specs.Directory.{IsPut, IsRenamed}
 use Rattle.ii_store.specs.IndexMeta.{meta_bytes, meta_view}
 use Rattle.ii_store.specs.Segments.{KeepsOtherFiles, list_in}
 use Rattle.ii_store.proofs.CommitLaws.{renamed_keeps, renamed_list, replaced_none, replaced_renamed, replaced_written}
-use Rattle.ii_store.proofs.SaveLaws.{at_ok}
+use Rattle.ii_directory.proofs.Elapsing.{at_ok}
 use Rattle.ii_store.proofs.segments.replace_list.Goals as goal
 
 pub returns-in_err-meta-clause-time : goal.returns-in_err-meta-clause-time

@@ -1,0 +1,4 @@
+pub mod Directory
+pub mod FileSystem
+pub mod MemoryFiles
+pub mod Names

@@ -1,0 +1,133 @@
+//! The files of a real folder, by the calls of the system.
+use crate::faults::DirectoryFault;
+use crate::file_system::FileSystem;
+use crate::name::Name;
+use std::alloc::Global;
+use std::fs::{self, OpenFile};
+use std::io::{self, Write};
+use std::rt::Files;
+
+/// The files of a folder of the system.
+///
+/// No clause can describe the contents of real files, so none does. That the system behaves as `FileSystem`
+/// documents is trusted.
+#[derive(Drop)]
+pub struct SystemFiles<'a, R: Files + AllocGlobal> {
+    rt: &'a R,
+    path: &'a str,
+}
+
+impl<'a, R: Files + AllocGlobal> SystemFiles<'a, R> {
+    /// Returns the files of the folder at `path`, which must exist.
+    pub fn new(rt: &'a R, path: &'a str) -> Self {
+        SystemFiles { rt, path }
+    }
+
+    /// Returns whether the folder has a file.
+    ///
+    /// # Errors
+    ///
+    /// `Refused` if the system can't report it; `OutOfMemory`.
+    pub fn has(&self, name: Name) -> Result<bool, DirectoryFault> {
+        let path = self.path_of(name)?;
+        told(fs::exists(self.rt, path.as_str()))
+    }
+
+    // Returns the path of a file.
+    fn path_of(&self, name: Name) -> Result<String, DirectoryFault> {
+        let name = name.text(self.rt.alloc())?;
+        Ok(format!(in self.rt.alloc(); "{}/{name}", self.path)?)
+    }
+}
+
+// Writes a file.
+fn write_file<R: Files>(rt: &R, path: &str, bytes: &[u8]) -> io::Result<()> {
+    let mut file = fs::create(rt, path)?;
+    file.write_all(bytes)
+}
+
+// Flushes a file or a folder.
+fn sync<R: Files>(rt: &R, path: &str) -> io::Result<()> {
+    fs::open(rt, path)?.sync_all()
+}
+
+// Converts an I/O error to a `DirectoryFault`.
+fn told<T>(answer: io::Result<T>) -> Result<T, DirectoryFault> {
+    match answer {
+        Ok(value) => Ok(value),
+        Err(e) => Err(DirectoryFault::Refused(e.kind())),
+    }
+}
+
+impl<R: Files + AllocGlobal> FileSystem for SystemFiles<'_, R> {
+    ghost use Rattle.std.specs.Prelude.{None, ⊤};
+
+    ghost is_known = { λ _. ⊥ };
+
+    ghost may_refuse = { λ _. ⊤ };
+
+    ghost seen = { λ _ _. None };
+
+    ghost moment = { λ _. 0 };
+
+    ghost left_since = { λ _ _ _. ⊥ };
+
+    ghost counts_now = { λ d t known le. absurd known };
+
+    fn read(&self, alloc: Global, name: Name) -> Result<Option<Vec<u8>>, DirectoryFault> {
+        let path = self.path_of(name)?;
+        match fs::read(self.rt, path.as_str()) {
+            Ok(bytes) => Ok(Some(bytes)),
+            Err(e) => {
+                if e.kind() == io::ErrorKind::NotFound {
+                    return Ok(None);
+                }
+                Err(DirectoryFault::Refused(e.kind()))
+            }
+        }
+    }
+
+    fn list(&self, alloc: Global) -> Result<Vec<Name>, DirectoryFault> {
+        let mut names = Vec::new(alloc);
+        for entry in told(fs::read_dir(&self.rt, self.path))? {
+            let entry = told(entry)?;
+            if let Some(name) = Name::of_text(entry.file_name().as_bytes()) {
+                names.push(name)?;
+            }
+        }
+        Ok(names)
+    }
+
+    fn put(&mut self, name: Name, bytes: &[u8]) -> Result<(), DirectoryFault> {
+        let path = self.path_of(name)?;
+        told(write_file(self.rt, path.as_str(), bytes))
+    }
+
+    fn sync_file(&mut self, name: Name) -> Result<(), DirectoryFault> {
+        let path = self.path_of(name)?;
+        told(sync(self.rt, path.as_str()))
+    }
+
+    fn rename(&mut self, from: Name, to: Name) -> Result<(), DirectoryFault> {
+        let from = self.path_of(from)?;
+        let to = self.path_of(to)?;
+        told(fs::rename(self.rt, from.as_str(), to.as_str()))
+    }
+
+    fn remove(&mut self, name: Name) -> Result<bool, DirectoryFault> {
+        let path = self.path_of(name)?;
+        match fs::remove_file(self.rt, path.as_str()) {
+            Ok(()) => Ok(true),
+            Err(e) => {
+                if e.kind() == io::ErrorKind::NotFound {
+                    return Ok(false);
+                }
+                Err(DirectoryFault::Refused(e.kind()))
+            }
+        }
+    }
+
+    fn sync_names(&mut self) -> Result<(), DirectoryFault> {
+        told(sync(self.rt, self.path))
+    }
+}

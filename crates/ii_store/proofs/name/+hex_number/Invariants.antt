@@ -1,5 +1,0 @@
-use Rattle.std.proofs.Common.{length}
-use Rattle.ii_store.proofs.name.+hex_number.Given as goal
-
-abbrev pub decreases-hex_number : goal.decreases-hex_number
-decreases-hex_number l = length l.text.now

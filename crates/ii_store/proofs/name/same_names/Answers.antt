@@ -1,8 +1,0 @@
-use Rattle.ii_store.proofs.NameLaws.{same_is, same_itself}
-use Rattle.ii_store.proofs.name.same_names.Goals as goal
-
-pub returns-clause-same : goal.returns-clause-same
-returns-clause-same c = same_is
-
-pub returns-clause-itself : goal.returns-clause-itself
-returns-clause-itself c = same_itself
