@@ -31,7 +31,8 @@ PLACES = {
     'ii_query_parser/src/query_parser_error.rt': {'from'},
     'ii_store/src/faults.rt': {'from'},
     'ii_segment_store/src/faults.rt': {'from'},
-    'ii_store/src/memory_directory.rt': {'stop_in_write'},  # a copy of the bytes was refused
+    'ii_directory/src/faults.rt': {'from'},
+    'ii_directory/src/memory_files.rt': {'stop_in_put'},  # a copy of the bytes was refused
     'ii_term_text/src/terms.rt': {'bytes_term', 'is_memory'},  # the kit's `hex` couldn't grow
     'nequllpa_folder/src/faults.rt': {'is_memory', 'from'},
     'nequllpa_indexing/src/faults.rt': {'is_memory'},

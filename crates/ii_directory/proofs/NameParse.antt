@@ -99,7 +99,7 @@ no_fixed text a b first second (Segment id component) short e = omega (arith, se
 
 -- what comparisons of bytes tell
 
-and_true : (a b : Bool) → (a && b) ≡ true → (a ≡ true) × (b ≡ true)
+pub and_true : (a b : Bool) → (a && b) ≡ true → (a ≡ true) × (b ≡ true)
 and_true true b e = (refl, e)
 and_true false b e = absurd cc
 

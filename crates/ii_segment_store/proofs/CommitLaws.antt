@@ -21,16 +21,13 @@ use Rattle.ii_store.specs.Index.{◌>>=◌, Index, index_at, index_in, index_of,
 use Rattle.ii_store.specs.IndexMeta.{MetaState, SegmentState, checked_list, file_meta, is_consistent, is_segment, list_at, meta_of, segment_view}
 use Rattle.ii_directory.specs.Names.{other_slot}
 use Rattle.ii_store.specs.Segments.{list_in, listed_bytes}
+use Rattle.ii_directory.proofs.NameParse.{and_true}
 use Rattle.ii_directory.proofs.Elapsing.{elapses_implies, elapses_none}
 use Rattle.ii_store.proofs.SaveLaws.{index_outside}
 use Rattle.ii_segment_store.specs.Commits.{HasSegment, HoldsOldOr, IsCommitted, IsFresh, KeepsUncommitted, LeavesOneIndex, MayBeCommitted, listed_segment, next_list}
 use Rattle.ii_segment_store.specs.Contents.{IndexContents, SegmentContents, as_index, contents_at, contents_in, index_contents, file_of, bytes_of_component, list_contents, one_segment, segment_in, all_contents, with_segment}
 
 -- lists that a `meta` file holds
-
-both : (a b : Bool) → (a && b) ≡ true → (a ≡ true) × (b ≡ true)
-both true b e = (refl, e)
-both false b e = absurd cc
 
 abbrev unless : Bool → IndexFault → Result MetaState IndexFault → Result MetaState IndexFault
 unless b fault rest = if b then Err fault else rest
@@ -65,7 +62,7 @@ consistent meta m e =
 
 segments_below : (m : MetaState) → is_consistent m ≡ true → list_all (is_segment m.next_segment_id) m.segments ≡ true
 unfolding is_consistent
-segments_below m e = (both _ _ (both _ _ e).0).0
+segments_below m e = (and_true _ _ (and_true _ _ e).0).0
 
 pub listed_below : (found : Option (List ℕ)) (m : MetaState) → list_in found ≡ Ok m → list_all (is_segment m.next_segment_id) m.segments ≡ true
 unfolding list_in
@@ -124,13 +121,13 @@ segment_same s a c each =
 
 id_below : (next : ℕ) (s : SegmentState) → is_segment next s ≡ true → s.id < next
 unfolding is_segment
-id_below next s e = ltb-true s.id next (both _ _ (both _ _ (both _ _ e).0).0).0
+id_below next s e = ltb-true s.id next (and_true _ _ (and_true _ _ (and_true _ _ e).0).0).0
 
 pub segments_same : (next id : ℕ) (ss : List SegmentState) (a c : Files) → next ≤ id → KeepsBelow id a c → list_all (is_segment next) ss ≡ true → all_contents ss c ≡ all_contents ss a
 unfolding all_contents
 segments_same next id [] a c le keeps all = refl
 segments_same next id (s ∷ ss) a c le keeps all =
-    let p = both (is_segment next s) (list_all (is_segment next) ss) all in
+    let p = and_true (is_segment next s) (list_all (is_segment next) ss) all in
     rw (segment_same s a c (λ component. keeps s.id component (omega (arith, le, id_below next s p.0))), segments_same next id ss a c le keeps p.1) refl
 
 -- the same files of segments are the same list

@@ -14,6 +14,7 @@ use Rattle.ii_store.specs.Index.{◌>>=◌, Fails}
 use Rattle.ii_store.specs.IndexMeta.{segment_view}
 use Rattle.ii_directory.specs.Names.{same_component}
 use Rattle.ii_segment_store.specs.Contents.{SegmentContents, file_of, segment_in, all_contents}
+use Rattle.ii_store.proofs.Steps.{stops}
 
 -- a file of a component among those from an index on
 
@@ -27,11 +28,6 @@ that_file component fs i d lt same = ap (file_of component) (drop-cons fs i d lt
 
 pub no_file : (component : SegmentComponent) (fs : List FileMeta) (i : ℕ) → length fs ≤ i → file_of component (drop i fs) ≡ None
 no_file component fs i le = ap (file_of component) (drop_all i fs le)
-
--- a part that was not read
-stops : {A B : Type 0} (fault : StoreFault) (part : Result A IndexFault) (more : A → Result B IndexFault) → Fails fault part → Fails fault (part >>= more)
-stops (faults.Directory fault) part more failed = tt
-stops (faults.Index fault) part more failed = rw failed refl
 
 -- the segments before some others, and these
 pub with_front : List SegmentContents → Result (List SegmentContents) IndexFault → Result (List SegmentContents) IndexFault

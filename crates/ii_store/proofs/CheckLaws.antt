@@ -16,6 +16,7 @@ use Rattle.ii_directory.specs.Directory.{Files}
 use Rattle.ii_store.specs.Index.{◌>>=◌, Fails}
 use Rattle.ii_store.specs.IndexMeta.{MetaState, segment_view}
 use Rattle.ii_store.specs.Segments.{AreThere, HasContents, ListedFile, MayCommit, SegmentedIndex, contents_of, files_of_segment, index_with, listed, listed_bytes}
+use Rattle.ii_store.proofs.Steps.{stops}
 
 pub has_nothing : (files : Files) → HasContents [] files
 unfolding contents_of
@@ -87,17 +88,13 @@ more_segments segments i s files lt is so_far one =
 
 -- the first fault among files
 
-fails_bind : {A B : Type 0} (e : StoreFault) (r : Result A IndexFault) (f : A → Result B IndexFault) → Fails e r → Fails e (r >>= f)
-fails_bind (faults.Directory fault) r f failed = tt
-fails_bind (faults.Index fault) r f failed = rw failed refl
-
 pub fails_one : (e : StoreFault) (l : ListedFile) (files : Files) → Fails e (listed_bytes l (files (Segment l.id l.file.component))) → Fails e (contents_of (l ∷ []) files)
 unfolding contents_of
-fails_one e l files failed = fails_bind e (listed_bytes l (files (Segment l.id l.file.component))) (λ first. contents_of [] files >>= λ others. Ok (first ∷ others)) failed
+fails_one e l files failed = stops e (listed_bytes l (files (Segment l.id l.file.component))) (λ first. contents_of [] files >>= λ others. Ok (first ∷ others)) failed
 
 fails_cons : (e : StoreFault) (l : ListedFile) (ls : List ListedFile) (files : Files) (x : List ℕ) → listed_bytes l (files (Segment l.id l.file.component)) ≡ Ok x → Fails e (contents_of ls files) → Fails e (contents_of (l ∷ ls) files)
 unfolding contents_of
-fails_cons e l ls files x is failed = rw is (fails_bind e (contents_of ls files) (λ others. Ok (x ∷ others)) failed)
+fails_cons e l ls files x is failed = rw is (stops e (contents_of ls files) (λ others. Ok (x ∷ others)) failed)
 
 front_cases : (fault : IndexFault) (r : Result (List ℕ) IndexFault) (rest more : Result (List (List ℕ)) IndexFault) → (r >>= λ first. rest >>= λ others. Ok (first ∷ others)) ≡ Err fault
     → (rest ≡ Err fault → more ≡ Err fault) → (r >>= λ first. more >>= λ others. Ok (first ∷ others)) ≡ Err fault

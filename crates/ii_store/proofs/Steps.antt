@@ -7,7 +7,7 @@ use Rattle.ii_directory.specs.declared.name.Kind.TheVariants.{Schema, Terms, Pos
 use Rattle.ii_store.specs.Index.{◌>>=◌, Fails, file_in, index_at, num_docs_in}
 
 -- a part that was not read
-stops : {A B : Type 0} (fault : StoreFault) (part : Result A IndexFault) (more : A → Result B IndexFault) → Fails fault part → Fails fault (part >>= more)
+pub stops : {A B : Type 0} (fault : StoreFault) (part : Result A IndexFault) (more : A → Result B IndexFault) → Fails fault part → Fails fault (part >>= more)
 stops (faults.Directory fault) part more failed = tt
 stops (faults.Index fault) part more failed = rw failed refl
 
