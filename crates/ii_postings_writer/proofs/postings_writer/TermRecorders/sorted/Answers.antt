@@ -17,7 +17,7 @@ use Rattle.ii_postings_writer.specs.SortKeys.{IsKept, kept_cmp}
 use Rattle.ii_postings_writer.proofs.ResolvedOrder.{are_sorted, held_moved, seen_distinct}
 use Rattle.ii_postings_writer.proofs.SortKeyLemmas.{kept_as_held, kept_moved, kept_order}
 use Rattle.ii_postings_writer.proofs.SortedLemmas.{each_key}
-use Rattle.ii_postings_writer.proofs.term_recorders.TermRecorders.sorted.Goals as goal
+use Rattle.ii_postings_writer.proofs.postings_writer.TermRecorders.sorted.Goals as goal
 
 pub returns-clause-moved : goal.returns-clause-moved
 returns-clause-moved c =

@@ -1,4 +1,4 @@
-use Rattle.ii_postings_writer.proofs.postings_writer_kind.PostingsWriterKindPostingsWriter.index_text.Goals as goal
+use Rattle.ii_postings_writer.proofs.postings_writer.PostingsWriterKindPostingsWriter.index_text.Goals as goal
 
 pub returns-in-Specialized-clause-tokens : goal.returns-in-Specialized-clause-tokens
 returns-in-Specialized-clause-tokens g c = rw c.in-Specialized.is c.index_text.ensures.tokens

@@ -4,7 +4,7 @@ use Rattle.ii_recorder.specs.AnyRecorder.{any_state}
 use Rattle.ii_postings_writer.specs.IndexingContext.{recorded_at}
 use Rattle.ii_postings_writer.proofs.TermIndexLemmas.{ends_under, found_or_new, is_inserted, is_recorded, whole_keys, on_ok, recorder_under}
 use Rattle.ii_postings_writer.proofs.RecorderSteps.{recorded_refusal}
-use Rattle.ii_postings_writer.proofs.term_recorders.TermRecorders.record.Goals as goal
+use Rattle.ii_postings_writer.proofs.postings_writer.TermRecorders.record.Goals as goal
 
 pub open_doc-requires-clause-ends : goal.open_doc-requires-clause-ends
 open_doc-requires-clause-ends c =
