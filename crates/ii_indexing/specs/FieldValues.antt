@@ -2,8 +2,8 @@
 use Rattle.std.specs.Prelude.{ℕ, List}
 use Rattle.std.specs.Int.{bytes_high_first}
 use Rattle.ii_base.specs.Values.{u64_bytes}
-use Rattle.ii_indexing.specs.declared.indexed_calls.FieldValue.{FieldValue}
-use Rattle.ii_indexing.specs.declared.indexed_calls.FieldValue.TheVariants.{Number, Bytes, Ip}
+use Rattle.ii_indexing.specs.declared.indexed_fields.FieldValue.{FieldValue}
+use Rattle.ii_indexing.specs.declared.indexed_fields.FieldValue.TheVariants.{Number, Bytes, Ip}
 
 -- the bytes of the value
 abbrev pub key_of_value : FieldValue → List ℕ

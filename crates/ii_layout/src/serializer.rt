@@ -99,9 +99,10 @@ impl Block {
         requires { length self.old.docs < 128 }
         ensures { self.new ≡ joined self.old (one_doc doc_id term_freq) }
     {
-        self.doc_ids[self.len] = doc_id;
-        self.term_freqs[self.len] = term_freq;
-        self.len += 1;
+        let len = self.len;
+        self.doc_ids[len] = doc_id;
+        self.term_freqs[len] = term_freq;
+        self.len = len + 1;
     }
 
     /// Removes all documents.

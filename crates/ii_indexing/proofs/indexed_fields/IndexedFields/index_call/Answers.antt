@@ -6,7 +6,7 @@ use Rattle.ii_definitions.specs.Tokens.{value}
 use Rattle.ii_definitions.specs.IndexCalls.{call_with, number_in, type_of}
 use Rattle.ii_indexing.specs.FieldValues.{key_of_value}
 use Rattle.ii_definitions.specs.declared.index_call.IndexCall.{IndexCall}
-use Rattle.ii_indexing.specs.declared.indexed_calls.FieldValue.TheVariants as values
+use Rattle.ii_indexing.specs.declared.indexed_fields.FieldValue.TheVariants as values
 use Rattle.ii_indexing.proofs.CallLaws.{CallRefused, CallStored, TextRefused, TextStored, text_call, text_call_refused, value_call, value_call_refused, words_call, words_call_refused}
 use Rattle.ii_postings_writer.proofs.TermIndexLemmas.{on_both}
 use Rattle.ii_indexing.proofs.indexed_fields.IndexedFields.index_call.Goals as goal

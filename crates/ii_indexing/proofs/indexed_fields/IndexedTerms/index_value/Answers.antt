@@ -10,7 +10,7 @@ use Rattle.ii_json.specs.LeafVisit.{IsRefusedBy}
 use Rattle.ii_postings_writer.specs.ResolvedTerms.{held_token, json_fields}
 use Rattle.ii_indexing.proofs.StoreLaws.{value_refused, value_stored}
 use Rattle.ii_postings_writer.proofs.TermIndexLemmas.{on_both}
-use Rattle.ii_indexing.proofs.indexed_terms.IndexedTerms.index_value.Goals as goal
+use Rattle.ii_indexing.proofs.indexed_fields.IndexedTerms.index_value.Goals as goal
 
 pub subscribe-requires-clause-ends : goal.subscribe-requires-clause-ends
 subscribe-requires-clause-ends c = subst (λ (s : IndexedTermsState). AllEndBy c.args.doc s.terms) (sym c.self.view_is) c.requires.ends

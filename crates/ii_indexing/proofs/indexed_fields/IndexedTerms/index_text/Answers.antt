@@ -14,7 +14,7 @@ use Rattle.ii_postings_writer.specs.WordRefusals.{gap_fault}
 use Rattle.ii_indexing.proofs.HeldLaws.{words_fault_held}
 use Rattle.ii_indexing.proofs.StoreLaws.{text_known, text_stored}
 use Rattle.ii_postings_writer.proofs.TermIndexLemmas.{on_both}
-use Rattle.ii_indexing.proofs.indexed_terms.IndexedTerms.index_text.Goals as goal
+use Rattle.ii_indexing.proofs.indexed_fields.IndexedTerms.index_text.Goals as goal
 
 pub index_text-requires-clause-ends : goal.index_text-requires-clause-ends
 index_text-requires-clause-ends g c = subst (λ (s : IndexedTermsState). AllEndBy c.args.doc s.terms) (sym c.self.view_is) c.requires.ends
