@@ -16,7 +16,7 @@ ghost use Rattle.ii_postings_writer.specs.IndexingTerm.{term_bytes, AreTermBytes
 ghost use Rattle.ii_postings_writer.specs.PostingsWriter.{HasTokens, IndexesWords, PostingsWriterState, RefusesWords, TextState, subscribe_fault, term_token, text_fault, text_piece, text_state, tokens_counted};
 ghost use Rattle.ii_postings_writer.specs.Records.{Records};
 ghost use Rattle.ii_postings_writer.specs.SortedTerms.{IsTold, IsWritable, state_of, written_term};
-ghost use Rattle.ii_postings_writer.specs.WordRefusals.{gap_fault, words_fault};
+ghost use Rattle.ii_postings_writer.specs.WordRefusals.{gap_fault, u64_max, words_fault};
 ghost use Rattle.ii_postings_writer.specs.WriteFaults.{IsTermsFaultAfter, IsTermFaultAfter};
 ghost use Rattle.ii_json.specs.LeafVisit.{IsRefusedBy, first_fault};
 ghost use Rattle.ii_base.specs.Values.{json_key};
@@ -211,11 +211,9 @@ impl SpecializedPostingsWriter {
         ensures uncounted { OnErr result (self.new ≡ self.old) }
         ensures refused { IsRefusedBy (subscribe_fault option self.old.total_num_tokens doc pos (term_bytes term.now) terms.old) result }
     {
-        if self.total_num_tokens == u64::MAX {
-            return Err(Fault::Limit(LimitName::Tokens));
-        }
+        let total_num_tokens = one_more_in_all(self.total_num_tokens)?;
         terms.record(option, term.serialized_term(), doc, pos)?;
-        self.total_num_tokens += 1;
+        self.total_num_tokens = total_num_tokens;
         Ok(())
     }
 
@@ -242,10 +240,12 @@ impl SpecializedPostingsWriter {
         }
         let (position, end) = token_place(begin, token.position, token.position_length)?;
         let num_tokens = one_more(at.num_tokens)?;
+        let total_num_tokens = one_more_in_all(self.total_num_tokens)?;
         let len = term.len_bytes();
         term.add_bytes(token.text.as_bytes())?;
-        self.record(self.option, doc, position, term, terms)?;
+        terms.record(self.option, term.serialized_term(), doc, position)?;
         term.truncate_value_bytes(len);
+        self.total_num_tokens = total_num_tokens;
         at.num_tokens = num_tokens;
         at.end_position = at.end_position.max(end);
         Ok(())
@@ -380,6 +380,16 @@ fn one_more(num_tokens: u32) -> Result<u32, Fault>
         return Err(Fault::Limit(LimitName::Tokens));
     }
     Ok(num_tokens + 1)
+}
+
+// Counts one more token of a writer.
+fn one_more_in_all(total_num_tokens: u64) -> Result<u64, Fault>
+    ensures { result ≡ (if nat_le u64_max total_num_tokens then Err (Fault.Limit limit.Tokens) else Ok (total_num_tokens + 1)) }
+{
+    if total_num_tokens == u64::MAX {
+        return Err(Fault::Limit(LimitName::Tokens));
+    }
+    Ok(total_num_tokens + 1)
 }
 
 // Returns the start of the next text, after one that ends at `end`.
