@@ -16,7 +16,6 @@ ghost use Rattle.ii_definitions.specs.Norms.{HoldNorms};
 ghost use Rattle.ii_indexing.specs.OpenDocuments.{HaveNormsOf, TellsAll, with_norms};
 ghost use Rattle.ii_indexing.specs.OpenPaths.{IsKnownBy, text_prefix};
 ghost use Rattle.ii_indexing.specs.Refusals.{piece_fault, content_fault};
-ghost use Rattle.ii_indexing.specs.FieldValues.{key_of_value};
 ghost use Rattle.ii_postings_writer.specs.IndexingContext.{AllEndBy};
 ghost use Rattle.ii_postings_writer.specs.PostingsWriter.{text_fault, writers_of};
 ghost use Rattle.ii_json.specs.Paths.{AreDistinct, path_fault, path_id, with_path};
@@ -286,17 +285,7 @@ impl IndexedFields {
         self.documents.put(field, document);
         Ok(())
     }
-}
 
-/// A value that isn't text. A number or a boolean is the 64-bit number that represents it.
-#[derive(Drop)]
-enum FieldValue {
-    Number(u64),
-    Bytes(Vec<u8>),
-    Ip(u128),
-}
-
-impl IndexedFields {
     // Indexes a call to a field. `expand_dots` says whether the dots of keys are expanded.
     pub(crate) fn index_call<A: TextAnalyzer>(
         &mut self,
@@ -330,54 +319,18 @@ impl IndexedFields {
                 let mut tokens = tokens;
                 self.index_words(doc, field, &mut tokens)
             }
-            IndexCall::U64(doc, field, _) => {
-                self.index_field_value(doc, field, FieldValue::Number(number))
-            }
-            IndexCall::I64(doc, field, _) => {
-                self.index_field_value(doc, field, FieldValue::Number(number))
-            }
+            IndexCall::U64(doc, field, _) => { self.index_value(doc, field, &number.to_be_bytes()) }
+            IndexCall::I64(doc, field, _) => { self.index_value(doc, field, &number.to_be_bytes()) }
             IndexCall::Bool(doc, field, _) => {
-                self.index_field_value(doc, field, FieldValue::Number(number))
+                self.index_value(doc, field, &number.to_be_bytes())
             }
-            IndexCall::Bytes(doc, field, bytes) => {
-                self.index_field_value(doc, field, FieldValue::Bytes(bytes))
-            }
+            IndexCall::Bytes(doc, field, bytes) => self.index_value(doc, field, &bytes),
             IndexCall::Ip(doc, field, address) => {
-                self.index_field_value(doc, field, FieldValue::Ip(address))
+                self.index_value(doc, field, &address.to_be_bytes())
             }
             IndexCall::Json(doc, field, value) => {
                 index_json_value(alloc, self, doc, field, &value, expand_dots, analyzer)
             }
-        }
-    }
-
-    // Indexes a value that isn't text.
-    fn index_field_value(
-        &mut self,
-        doc: DocId,
-        field: Field,
-        value: FieldValue,
-    ) -> Result<(), Fault>
-        requires low { doc < TERMINATED }
-        requires known { field < length self.old.indexed.writers }
-        requires ends { EndsAt doc self.old }
-        ensures stored { OnOk result ((entries : List SchemaEntry) (ps : List Piece) → TakesValue entries self.old.indexed.paths field (key_of_value value) (key_of_value value) → StoresPieces entries self.old ps
-            → StoresPieces entries self.new (ps ++ value_at doc field (key_of_value value) ∷ [])) }
-
-        // Preconditions of the next call.
-        ensures ends { OnOk result (EndsAt doc self.new) }
-        ensures fields { OnOk result (length self.new.indexed.writers ≡ length self.old.indexed.writers) }
-        ensures norms { OnOk result (with_norms self.new.opened.norms ≡ with_norms self.old.opened.norms) }
-        ensures same_paths { OnOk result (self.new.indexed.paths ≡ self.old.indexed.paths) }
-
-        // Errors.
-        ensures refused { (entries : List SchemaEntry) (ps : List Piece) → TakesValue entries self.old.indexed.paths field (key_of_value value) (key_of_value value) → StoresPieces entries self.old ps
-            → IsRefusedBy (piece_fault (option_of entries field) ps (value_at doc field (key_of_value value))) result }
-    {
-        match value {
-            FieldValue::Number(number) => self.index_value(doc, field, &number.to_be_bytes()),
-            FieldValue::Bytes(bytes) => self.index_value(doc, field, &bytes),
-            FieldValue::Ip(address) => self.index_value(doc, field, &address.to_be_bytes()),
         }
     }
 }
