@@ -1,4 +1,3 @@
-pub mod FieldValues
 pub mod IndexFiles
 pub mod IndexedTerms
 pub mod Indexer

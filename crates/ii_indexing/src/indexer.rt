@@ -15,8 +15,7 @@ ghost use Rattle.ii_postings_writer.specs.ResolvedTerms.{HaveHeldTokens, MayWrit
 ghost use Rattle.ii_definitions.specs.Norms.{HoldNorms};
 
 use crate::index_writers::IndexWriters;
-use crate::indexed_fields::IndexedFields;
-use crate::indexed_terms::IndexedTerms;
+use crate::indexed_fields::{IndexedFields, IndexedTerms};
 use bytes::Bytes;
 use ii_base::{CountingWriter, DocId, Fault, Field, Schema, TextAnalyzer};
 use ii_definitions::IndexCall;

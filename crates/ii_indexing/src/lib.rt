@@ -4,9 +4,7 @@
 #![tactic(auto)]
 
 pub mod index_writers;
-mod indexed_calls;
 pub mod indexed_fields;
-mod indexed_terms;
 pub mod indexer;
 pub mod indexing_positions_per_path;
 mod json_keys;

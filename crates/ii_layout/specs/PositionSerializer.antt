@@ -8,12 +8,7 @@ use Rattle.ii_layout.specs.Each.{each}
 use Rattle.ii_layout.specs.Positions.{block_deltas}
 use Rattle.ii_layout.specs.Written.{block_of}
 
--- The deltas of the open term so far, and whether an earlier call failed.
-pub record PositionWriterState : Type 0 where
-  pub deltas : List ℕ
-  pub closed : Bool
-
--- The same state, with the writer of the positions.
+-- The writer of the positions, the deltas of the open term so far, and whether an earlier call failed.
 pub record PositionSerializerState : Type 0 where
   pub writer : CountingWriterState
   pub deltas : List ℕ

@@ -21,6 +21,14 @@ pub record PostingsSerializerState : Type 0 where
   pub freqs : List ℕ
   pub closed : Bool
 
+-- The same of the open term alone.
+pub record OpenPostingsState : Type 0 where
+  pub norms : Option Norms
+  pub mode : IndexRecordOption
+  pub skip_info : IndexRecordOption
+  pub docs : List ℕ
+  pub freqs : List ℕ
+
 -- The last document fills a block whose sum of term frequencies is kept and exceeds 32 bits.
 pub record IsSumTooLarge (skip_info : IndexRecordOption) (freqs : List ℕ) : Type 0 where
   pub kept : IsTrue (has_positions skip_info)
@@ -48,12 +56,11 @@ joined a b = record { docs = a.docs ++ b.docs; freqs = a.freqs ++ b.freqs }
 abbrev pub written_docs : Option Norms → IndexRecordOption → CountedDocs → List ℕ
 written_docs norms skip_info term = written_postings norms skip_info term.docs term.freqs
 
--- The norms of the field, the shape of entries, the documents, and whether an allocation failed.
+-- The norms of the field, the shape of entries, and the documents.
 pub record PackedBlocksState : Type 0 where
   pub norms : Option Norms
   pub skip_info : IndexRecordOption
   pub term : CountedDocs
-  pub closed : Bool
 
 -- What is kept of full blocks: the last document, or 0, the skip entries and the bytes.
 pub record KeptBlocks : Type 0 where

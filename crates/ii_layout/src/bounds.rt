@@ -4,7 +4,7 @@ ghost use Rattle.ii_fieldnorm.specs.Readers.{CoversDoc, id_of_doc};
 ghost use Rattle.ii_layout.specs.Bounds.{Covers, fieldnorm_bound, greatest, least, term_freq_bound};
 ghost use Rattle.ii_layout.specs.SkipReader.{code_of_max_tf};
 
-use super::block::Block;
+use super::serializer::Block;
 use ii_base::DocId;
 use ii_fieldnorm::FieldNormReader;
 use std::marker::Model;

@@ -2,7 +2,7 @@ ghost use Rattle.std.specs.Prelude.{◌≡◌};
 ghost use Rattle.std.specs.Borrow.{ftrue};
 ghost use Rattle.ii_layout.specs.PostingsSerializer.{CountedDocs, no_docs, joined};
 
-use super::block::Block;
+use super::serializer::Block;
 use std::marker::Model;
 
 /// Lists documents with their term frequencies, for contracts only: it takes no bytes and no code can read

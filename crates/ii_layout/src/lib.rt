@@ -2,7 +2,6 @@
 //! positions.
 #![tactic(auto)]
 
-mod block;
 mod bounds;
 mod doc_list;
 pub mod positions;
@@ -11,8 +10,7 @@ pub mod skip;
 pub mod split;
 pub mod written;
 
-pub use block::sum_of;
 pub use positions::{PositionReader, PositionSerializer, PositionWriter};
-pub use serializer::PostingsSerializer;
+pub use serializer::{OpenPostings, PostingsSerializer, sum_of};
 pub use skip::{BlockInfo, SkipReader, SkipSerializer};
 pub use split::{SkipPlaces, bytes_from, split_into_skips_and_postings};

@@ -1,4 +1,4 @@
-ghost use Rattle.std.specs.Prelude.{◌≡◌, ◌-◌, ◌^◌, ◌<◌, ◌↔◌, ◌⊎◌, ◌&&◌, if◌then◌else◌, [], ◌∷◌, ◌++◌, length, nat_lt, false, true, IsTrue, OnOk, OnErr, IfErr, IsErrOf};
+ghost use Rattle.std.specs.Prelude.{◌≡◌, ◌-◌, ◌^◌, ◌<◌, ◌≤◌, ◌==◌, ◌↔◌, ◌⊎◌, ◌&&◌, if◌then◌else◌, [], ◌∷◌, ◌++◌, length, nat_lt, slice_index, false, true, IsTrue, OnOk, OnErr, IfErr, IsErrOf};
 ghost use Rattle.std.specs.List.{sum, AllByRecursion};
 ghost use Rattle.ii_base.specs.declared.schema.index_record_option.IndexRecordOption.TheVariants.{Basic};
 ghost use Rattle.ii_base.specs.Options.{has_freq, has_positions};
@@ -8,20 +8,110 @@ ghost use Rattle.ii_codes.specs.Blocks.{sorted_bytes, unsorted_width};
 ghost use Rattle.ii_codes.specs.Sums.{DoNotFall};
 ghost use Rattle.ii_base.specs.Entries.{are_documents};
 ghost use Rattle.ii_layout.specs.Bounds.{Covers};
-ghost use Rattle.ii_layout.specs.PostingsSerializer.{AreWhole, AreBlockFreqs, IsFullBlock, IsOpenBlock, ArePositive, IsSumTooLarge, AddsDocs, no_docs, joined, sized, written_docs};
+ghost use Rattle.ii_layout.specs.PostingsSerializer.{AreWhole, AreBlockFreqs, IsFullBlock, IsOpenBlock, ArePositive, IsSumTooLarge, AddsDocs, no_docs, one_doc, joined, sized, written_docs};
 ghost use Rattle.ii_layout.specs.Written.{entry_of_block, freq_part, packed_freqs, rest_bytes, written_postings};
 
-use super::block::Block;
 use super::bounds::BlockBounds;
 use super::doc_list::DocList;
 use super::skip::SkipSerializer;
 use ii_base::{CountingWriter, DocId, Fault, IndexRecordOption, LimitName};
-use ii_codes::{BlockEncoder, VIntEncoder};
+use ii_codes::{BlockEncoder, COMPRESSION_BLOCK_SIZE, VIntEncoder};
 use ii_fieldnorm::FieldNormReader;
 use ii_io::vint::{self, MAX_LONG_VINT_SIZE};
 use std::alloc::Global;
 use std::io::Write;
 use std::marker::Model;
+
+/// Holds at most 128 documents with their term frequencies.
+#[derive(Drop)]
+pub(crate) struct Block {
+    doc_ids: [DocId; COMPRESSION_BLOCK_SIZE],
+    term_freqs: [u32; COMPRESSION_BLOCK_SIZE],
+    len: usize,
+}
+
+impl Model for Block {
+    ghost use Rattle.std.specs.Prelude.{take, ◌≤◌};
+    ghost use Rattle.ii_layout.specs.PostingsSerializer.{CountedDocs};
+
+    ghost Value = { CountedDocs };
+
+    ghost view = { λ b. record { docs = take b.len b.doc_ids; freqs = take b.len b.term_freqs } };
+
+    ghost invariant = { λ b. b.len ≤ 128 };
+}
+
+impl Block {
+    /// Creates an empty block.
+    pub(crate) fn new() -> Block
+        ensures { result ≡ no_docs }
+    {
+        Block {
+            doc_ids: [0; COMPRESSION_BLOCK_SIZE],
+            term_freqs: [0; COMPRESSION_BLOCK_SIZE],
+            len: 0,
+        }
+    }
+
+    /// Returns the documents.
+    pub(crate) fn doc_ids(&self) -> &[DocId]
+        ensures { result.now ≡ self.now.docs }
+    {
+        &self.doc_ids[..self.len]
+    }
+
+    /// Returns the term frequencies of the documents.
+    pub(crate) fn term_freqs(&self) -> &[u32]
+        ensures { result.now ≡ self.now.freqs }
+    {
+        &self.term_freqs[..self.len]
+    }
+
+    /// Returns the sum of the term frequencies.
+    pub(crate) fn term_freq_sum(&self) -> u64
+        ensures { result ≡ sum self.now.freqs }
+    {
+        let mut total = 0;
+        for i in 0..self.len {
+            total += u64::from(self.term_freqs[i]);
+        }
+        total
+    }
+
+    /// Returns the last document of a full block.
+    pub(crate) fn last_doc(&self) -> DocId
+        requires { length self.now.docs ≡ 128 }
+        ensures { result ≡ slice_index self.now.docs 127 }
+    {
+        self.doc_ids[COMPRESSION_BLOCK_SIZE - 1]
+    }
+
+    /// Returns whether the block holds 128 documents.
+    pub(crate) fn is_full(&self) -> bool
+        ensures full { result ≡ (length self.now.docs == 128) }
+        ensures few { length self.now.docs ≤ 128 }
+    {
+        self.len == COMPRESSION_BLOCK_SIZE
+    }
+
+    /// Adds a document and its term frequency to a block that isn't full.
+    pub(crate) fn append_doc(&mut self, doc_id: DocId, term_freq: u32)
+        requires { length self.old.docs < 128 }
+        ensures { self.new ≡ joined self.old (one_doc doc_id term_freq) }
+    {
+        let len = self.len;
+        self.doc_ids[len] = doc_id;
+        self.term_freqs[len] = term_freq;
+        self.len = len + 1;
+    }
+
+    /// Removes all documents.
+    pub(crate) fn clear(&mut self)
+        ensures { self.new ≡ no_docs }
+    {
+        self.len = 0;
+    }
+}
 
 /// Holds the packed full blocks of the open term and their skip list.
 #[derive(Drop)]
@@ -33,16 +123,18 @@ struct PackedBlocks {
     last_doc_id_encoded: DocId,
     bounds: BlockBounds,
     docs: DocList,
+    alloc: Global,
 }
 
 impl Model for PackedBlocks {
+    ghost use Rattle.std.specs.Prelude.{◌≡◌, false};
     ghost use Rattle.ii_layout.specs.PostingsSerializer.{ArePacked, PackedBlocksState};
 
     ghost Value = { PackedBlocksState };
 
-    ghost view = { λ b. record { norms = b.bounds; skip_info = b.skip_info; term = b.docs.term; closed = b.skip_write.closed } };
+    ghost view = { λ b. record { norms = b.bounds; skip_info = b.skip_info; term = b.docs.term } };
 
-    ghost invariant = { λ b. ArePacked b.bounds b.skip_info b.docs.term (record { last_doc = b.last_doc_id_encoded; skip = b.skip_write.bytes; postings = b.postings_write.items }) };
+    ghost invariant = { λ b. ArePacked b.bounds b.skip_info b.docs.term (record { last_doc = b.last_doc_id_encoded; skip = b.skip_write.bytes; postings = b.postings_write.items }) × (b.skip_write.closed ≡ false) };
 }
 
 impl PackedBlocks {
@@ -51,7 +143,7 @@ impl PackedBlocks {
         skip_info: IndexRecordOption,
         fieldnorm_reader: Option<FieldNormReader>,
     ) -> PackedBlocks
-        ensures { result ≡ record { norms = fieldnorm_reader; skip_info = skip_info; term = no_docs; closed = false } }
+        ensures { result ≡ record { norms = fieldnorm_reader; skip_info = skip_info; term = no_docs } }
     {
         PackedBlocks {
             block_encoder: BlockEncoder::new(),
@@ -61,6 +153,7 @@ impl PackedBlocks {
             last_doc_id_encoded: 0,
             bounds: BlockBounds::new(fieldnorm_reader),
             docs: DocList::new(),
+            alloc,
         }
     }
 
@@ -93,12 +186,10 @@ impl PackedBlocks {
         requires freqs { (length block.old.freqs ≡ 128) × ArePositive self.old.skip_info block.old.freqs }
         requires covered { AllByRecursion (Covers self.old.norms) block.old.docs }
         requires ascending { IsTrue (are_documents (self.old.term.docs ++ block.old.docs)) }
-        requires open { self.old.closed ≡ false }
         ensures block { block.new ≡ no_docs }
 
         // What stays the same, and the outcomes.
         ensures same { (self.new.norms ≡ self.old.norms) × (self.new.skip_info ≡ self.old.skip_info) }
-        ensures stays { OnOk result (self.new.closed ≡ false) }
         ensures added { AddsDocs self.old.skip_info self.old.term self.new.term block.old result }
     {
         let skip_info = self.skip_info();
@@ -124,7 +215,7 @@ impl PackedBlocks {
                 Ok(())
             }
             Err(fault) => {
-                self.skip_write.clear();
+                self.skip_write = SkipSerializer::new(self.alloc);
                 self.postings_write.clear();
                 self.last_doc_id_encoded = 0;
                 self.docs = DocList::new();
@@ -308,71 +399,64 @@ fn is_sum_too_large(skip_info: IndexRecordOption, block: &Block) -> bool
     block.term_freq_sum() > u64::from(u32::MAX)
 }
 
-/// Writes the postings of one term after the other.
-///
-/// After an error it is closed: each further call returns `SerializerClosed`.
-pub struct PostingsSerializer {
+/// Gathers the documents of one term after the other, and writes each term to a borrowed writer. Its model is
+/// the open term.
+pub struct OpenPostings {
     mode: IndexRecordOption,
     blocks: PackedBlocks,
     block: Block,
-    is_closed: bool,
 }
 
 // A drop has to be a call.
-impl Drop for PostingsSerializer {
+impl Drop for OpenPostings {
     fn drop(self) {
-        let PostingsSerializer {
+        let OpenPostings {
             mode: _,
             blocks: _,
             block: _,
-            is_closed: _,
         } = self;
     }
 }
 
-impl Model for PostingsSerializer {
-    ghost use Rattle.std.specs.Prelude.{◌≡◌, ◌++◌, false, IsTrue};
+impl Model for OpenPostings {
+    ghost use Rattle.std.specs.Prelude.{◌++◌};
     ghost use Rattle.std.specs.List.{AllByRecursion};
     ghost use Rattle.ii_layout.specs.Bounds.{Covers};
-    ghost use Rattle.ii_layout.specs.PostingsSerializer.{IsOpenBlock, PostingsSerializerState, joined, no_docs};
+    ghost use Rattle.ii_layout.specs.PostingsSerializer.{IsOpenBlock, OpenPostingsState};
 
-    ghost Value = { PostingsSerializerState };
+    ghost Value = { OpenPostingsState };
 
-    ghost view = { λ s. record {
-      norms = s.blocks.norms;
-      mode = s.mode;
-      skip_info = s.blocks.skip_info;
-      docs = s.blocks.term.docs ++ s.block.docs;
-      freqs = s.blocks.term.freqs ++ s.block.freqs;
-      closed = s.is_closed;
+    ghost view = { λ p. record {
+      norms = p.blocks.norms;
+      mode = p.mode;
+      skip_info = p.blocks.skip_info;
+      docs = p.blocks.term.docs ++ p.block.docs;
+      freqs = p.blocks.term.freqs ++ p.block.freqs;
     } };
 
-    ghost invariant = { λ s. IsOpenBlock s.blocks.skip_info s.block × AllByRecursion (Covers s.blocks.norms) s.block.docs × (IsTrue s.is_closed → joined s.blocks.term s.block ≡ no_docs) × (s.is_closed ≡ false → s.blocks.closed ≡ false) };
+    ghost invariant = { λ p. IsOpenBlock p.blocks.skip_info p.block × AllByRecursion (Covers p.blocks.norms) p.block.docs };
 }
 
-impl PostingsSerializer {
-    /// Creates a serializer of postings as the field records them.
-    ///
-    /// With the norms of the field, the skip entry of each full block holds the least norm id of its
-    /// documents and their greatest term frequency, at most 255. Without norms both are 0.
+impl OpenPostings {
+    /// Starts the terms of a field, as the field records them, with the bounds that `PostingsSerializer::new`
+    /// describes.
     pub fn new(
         alloc: Global,
         mode: IndexRecordOption,
         fieldnorm_reader: Option<FieldNormReader>,
-    ) -> PostingsSerializer
-        ensures { result ≡ record { norms = fieldnorm_reader; mode = mode; skip_info = mode; docs = []; freqs = []; closed = false } }
+    ) -> OpenPostings
+        ensures { result ≡ record { norms = fieldnorm_reader; mode = mode; skip_info = mode; docs = []; freqs = [] } }
     {
-        PostingsSerializer {
+        OpenPostings {
             mode,
             blocks: PackedBlocks::new(alloc, mode, fieldnorm_reader),
             block: Block::new(),
-            is_closed: false,
         }
     }
 
-    /// Starts a new term, as the field records it, or without term frequencies if `record_term_freq` is not
-    /// set. `write_doc` adds its documents; `close_term` writes them.
-    pub fn new_term(&mut self, _term_doc_freq: u32, record_term_freq: bool)
+    /// Drops the documents and starts a new term, as the field records it, or without term frequencies if
+    /// `record_term_freq` is not set.
+    pub fn new_term(&mut self, record_term_freq: bool)
         ensures { self.new ≡ record self.old { skip_info = if record_term_freq then self.old.mode else Basic; docs = []; freqs = [] } }
     {
         let skip_info = if record_term_freq {
@@ -389,6 +473,112 @@ impl PostingsSerializer {
     {
         self.blocks.begin(skip_info);
         self.block.clear();
+    }
+
+    /// Adds a document and its term frequency. The document must be greater than all earlier ones, less than
+    /// `TERMINATED`, and covered by the norms if the field has some. The term frequency must be at least 1 if
+    /// the term has frequencies.
+    ///
+    /// # Errors
+    ///
+    /// * `Limit(BlockFrequencySum)` if, in a term with positions, the document fills a block whose term
+    ///   frequencies sum to more than `u32::MAX`; the documents are then dropped.
+    /// * `OutOfMemory` if an allocation fails; the documents are then dropped.
+    #[inline]
+    pub fn write_doc(&mut self, doc_id: DocId, term_freq: u32) -> Result<(), Fault>
+        requires ascending { IsTrue (are_documents (self.old.docs ++ doc_id ∷ [])) }
+        requires counted { IsTrue (has_freq self.old.skip_info) → 0 < term_freq }
+        requires covered { Covers self.old.norms doc_id }
+        ensures ok { OnOk result (self.new ≡ record self.old { docs = self.old.docs ++ doc_id ∷ []; freqs = self.old.freqs ++ term_freq ∷ [] }) }
+        ensures err { OnErr result (self.new ≡ record self.old { docs = []; freqs = [] }) }
+
+        // Which error it returns, and when.
+        ensures limit { IsErrOf result (Fault.Limit LimitName.BlockFrequencySum) ↔ IsSumTooLarge self.old.skip_info (self.old.freqs ++ term_freq ∷ []) }
+        ensures only { IfErr result (λ e. (e ≡ Fault.OutOfMemory) ⊎ (e ≡ Fault.Limit LimitName.BlockFrequencySum)) }
+    {
+        // Shows the proof that complete blocks are packed.
+        let _skip_info = self.blocks.skip_info();
+        self.block.append_doc(doc_id, term_freq);
+        if !self.block.is_full() {
+            return Ok(());
+        }
+        self.blocks.push(&mut self.block)
+    }
+
+    /// Writes the postings of the term and ends it. Never allocates.
+    ///
+    /// # Errors
+    ///
+    /// * `Write` if the writer fails; a prefix of the postings is then written.
+    /// * `Limit(Offset)` if a count of the writer would exceed `u64::MAX`; a prefix is then written.
+    pub fn close_term<W: Write>(
+        &mut self,
+        output_write: &mut CountingWriter<W>,
+    ) -> Result<(), Fault>
+        requires { IsTrue (are_documents self.old.docs) }
+        ensures written { Writes output_write.old output_write.new
+            (written_postings self.old.norms self.old.skip_info self.old.docs self.old.freqs) result }
+        ensures fits { OnOk result (¬ IsFull output_write.old (length (written_postings self.old.norms self.old.skip_info self.old.docs self.old.freqs))) }
+        ensures ended { self.new ≡ record self.old { docs = []; freqs = [] } }
+    {
+        let written = self.blocks.write_with(&self.block, output_write);
+        let skip_info = self.blocks.skip_info();
+        self.begin(skip_info);
+        written
+    }
+}
+
+/// Writes the postings of one term after the other.
+///
+/// After an error it is closed: each further call returns `SerializerClosed`.
+#[derive(Drop)]
+pub struct PostingsSerializer {
+    postings: OpenPostings,
+    is_closed: bool,
+}
+
+impl Model for PostingsSerializer {
+    ghost use Rattle.std.specs.Prelude.{◌≡◌, [], IsTrue};
+    ghost use Rattle.ii_layout.specs.PostingsSerializer.{PostingsSerializerState};
+
+    ghost Value = { PostingsSerializerState };
+
+    ghost view = { λ s. record {
+      norms = s.postings.norms;
+      mode = s.postings.mode;
+      skip_info = s.postings.skip_info;
+      docs = s.postings.docs;
+      freqs = s.postings.freqs;
+      closed = s.is_closed;
+    } };
+
+    ghost invariant = { λ s. IsTrue s.is_closed → (s.postings.docs ≡ []) × (s.postings.freqs ≡ []) };
+}
+
+impl PostingsSerializer {
+    /// Creates a serializer of postings as the field records them.
+    ///
+    /// With the norms of the field, the skip entry of each full block holds the least norm id of its
+    /// documents and their greatest term frequency, at most 255. Without norms both are 0.
+    pub fn new(
+        alloc: Global,
+        mode: IndexRecordOption,
+        fieldnorm_reader: Option<FieldNormReader>,
+    ) -> PostingsSerializer
+        ensures { result ≡ record { norms = fieldnorm_reader; mode = mode; skip_info = mode; docs = []; freqs = []; closed = false } }
+    {
+        PostingsSerializer {
+            postings: OpenPostings::new(alloc, mode, fieldnorm_reader),
+            is_closed: false,
+        }
+    }
+
+    /// Starts a new term, as the field records it, or without term frequencies if `record_term_freq` is not
+    /// set. `write_doc` adds its documents; `close_term` writes them.
+    pub fn new_term(&mut self, _term_doc_freq: u32, record_term_freq: bool)
+        ensures { self.new ≡ record self.old { skip_info = if record_term_freq then self.old.mode else Basic; docs = []; freqs = [] } }
+    {
+        self.postings.new_term(record_term_freq);
     }
 
     /// Adds a document and its term frequency. The document must be greater than all earlier ones, less than
@@ -418,15 +608,9 @@ impl PostingsSerializer {
         if self.is_closed {
             return Err(Fault::SerializerClosed);
         }
-        // Shows the proof that complete blocks are packed.
-        let _skip_info = self.blocks.skip_info();
-        self.block.append_doc(doc_id, term_freq);
-        if !self.block.is_full() {
-            return Ok(());
-        }
-        let packed = self.blocks.push(&mut self.block);
-        self.is_closed = packed.is_err();
-        packed
+        let added = self.postings.write_doc(doc_id, term_freq);
+        self.is_closed = added.is_err();
+        added
     }
 
     /// Writes the postings of the term, which has `doc_freq` documents, and ends it.
@@ -452,10 +636,21 @@ impl PostingsSerializer {
         if self.is_closed {
             return Err(Fault::SerializerClosed);
         }
-        let written = self.blocks.write_with(&self.block, output_write);
-        let skip_info = self.blocks.skip_info();
-        self.begin(skip_info);
+        let written = self.postings.close_term(output_write);
         self.is_closed = written.is_err();
         written
     }
+}
+
+/// Returns the sum of at most 128 values.
+pub fn sum_of(values: &[u32]) -> u64
+    requires { length values.now ≤ 128 }
+    ensures sum { result ≡ sum values.now }
+    ensures small { result < 2 ^ 39 }
+{
+    let mut sum = 0;
+    for value in values {
+        sum += u64::from(*value);
+    }
+    sum
 }

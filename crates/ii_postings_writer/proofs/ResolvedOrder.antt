@@ -17,7 +17,7 @@ use Rattle.ii_json.specs.PathRank.{path_ranks}
 use Rattle.ii_json.specs.Paths.{AreDistinct}
 use Rattle.ii_json.proofs.KeyOrder.{sorted_alike}
 use Rattle.ii_recorder.specs.Recorded.{RecorderState}
-use Rattle.ii_recorder.specs.declared.recorder.any_recorder.AnyRecorder.{AnyRecorder}
+use Rattle.ii_recorder.specs.declared.recorder.AnyRecorder.{AnyRecorder}
 use Rattle.ii_postings_writer.specs.IndexingContext.{TermIndex, recorder_of}
 use Rattle.ii_postings_writer.specs.IndexingTerm.{AreTermBytes, field_bytes}
 use Rattle.ii_postings_writer.specs.ResolvedTerms.{AreClean, AreSorted, HoldIds, HoldsId, IsHeldTerm, held_cmp, is_json_field, resolved, resolved_terms}

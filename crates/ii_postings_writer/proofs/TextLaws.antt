@@ -47,6 +47,11 @@ pub fitting_fault : (p : Piece) (begin : ℕ) (w : Word) (s : TextState) → nat
     → kept_fault p begin w s ≡ subscribe_fault s.writer.option s.writer.total_num_tokens p.doc (begin + w.position) (word_bytes p w) s.terms
 fitting_fault p begin w s placed fits = rw (placed, fits) refl
 
+-- a position in a field that has room for one more token
+pub counted_fault : (option : IndexRecordOption) (num_tokens doc position : ℕ) (term : List ℕ) (terms : TermIndex) → nat_le u64_max num_tokens ≡ false
+    → subscribe_fault option num_tokens doc position term terms ≡ record_fault doc position (recorder_or_new option terms term)
+counted_fault option num_tokens doc position term terms fits = rw fits refl
+
 -- no document before the last one of ascending documents is that one or above it
 find_below : (least : ℕ) (es : List Entry) (last doc : ℕ) → IsTrue (ascend_from least (docs_of es ++ last ∷ [])) → last ≤ doc
     → (find (λ (e : Entry). e.doc == doc) es ≡ None) × (least ≤ last)

@@ -4,7 +4,7 @@ use Rattle.std.proofs.lemmas.List.{map-set}
 use Rattle.std.proofs.lemmas.Option.{slice_get-get_or, slice_get-map}
 use Rattle.ii_postings_writer.specs.PostingsWriter.{PostingsWriterState}
 use Rattle.ii_postings_writer.specs.PostingsWriterKind.{state_of_kind}
-use Rattle.ii_postings_writer.specs.declared.postings_writer_kind.PostingsWriterKind.{PostingsWriterKind}
+use Rattle.ii_postings_writer.specs.declared.postings_writer.PostingsWriterKind.{PostingsWriterKind}
 
 module _ (writers : List PostingsWriterKind) (states : List PostingsWriterState) (is : map state_of_kind writers ≡ states) (field : ℕ) where
   -- one of them

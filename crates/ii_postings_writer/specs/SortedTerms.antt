@@ -3,7 +3,7 @@ use Rattle.std.specs.Prelude.{MatchOption, ⊤, ◌^◌, if◌then◌else◌, Is
 use Rattle.std.specs.Borrow.{Bor}
 use Rattle.ii_base.specs.Values.{json_key}
 use Rattle.ii_recorder.specs.AnyRecorder.{any_state}
-use Rattle.ii_recorder.specs.declared.recorder.any_recorder.AnyRecorder.{AnyRecorder}
+use Rattle.ii_recorder.specs.declared.recorder.AnyRecorder.{AnyRecorder}
 use Rattle.std.specs.List.{AllByRecursion}
 use Rattle.ii_base.specs.declared.schema.index_record_option.IndexRecordOption.{IndexRecordOption}
 use Rattle.ii_base.specs.declared.schema.index_record_option.IndexRecordOption.TheVariants.{Basic}

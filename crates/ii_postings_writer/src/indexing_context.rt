@@ -1,6 +1,6 @@
 ghost use Rattle.std.specs.Prelude.{◌≡◌, []};
 
-use crate::term_recorders::TermRecorders;
+use crate::postings_writer::TermRecorders;
 use ii_json::PathToUnorderedId;
 use std::alloc::Global;
 

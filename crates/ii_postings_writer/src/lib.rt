@@ -8,18 +8,16 @@ pub mod indexing_term;
 pub mod json_postings_writer;
 pub mod per_field_postings_writer;
 pub mod postings_writer;
-pub mod postings_writer_kind;
 pub mod serialize_postings;
 pub mod sorted_terms;
 mod term_key;
-pub mod term_recorders;
 
 pub use indexing_context::IndexingContext;
 pub use indexing_position::IndexingPosition;
 pub use indexing_term::{IndexingTerm, IndexingTermRef};
 pub use json_postings_writer::JsonPostingsWriter;
 pub use per_field_postings_writer::PerFieldPostingsWriter;
-pub use postings_writer::{PostingsWriter, SpecializedPostingsWriter};
-pub use postings_writer_kind::PostingsWriterKind;
+pub use postings_writer::{
+    PostingsWriter, PostingsWriterKind, SpecializedPostingsWriter, TermRecorders,
+};
 pub use sorted_terms::TermOfField;
-pub use term_recorders::TermRecorders;

@@ -6,8 +6,7 @@ ghost use Rattle.ii_postings_writer.specs.PostingsWriter.{writer_of, writers_of}
 ghost use Rattle.ii_postings_writer.specs.PostingsWriterKind.{state_of_kind};
 
 use crate::json_postings_writer::JsonPostingsWriter;
-use crate::postings_writer::SpecializedPostingsWriter;
-use crate::postings_writer_kind::PostingsWriterKind;
+use crate::postings_writer::{PostingsWriterKind, SpecializedPostingsWriter};
 use ii_base::{Fault, Field, FieldEntry, IndexRecordOption, Schema, ValueType};
 use std::alloc::Global;
 use std::marker::Model;

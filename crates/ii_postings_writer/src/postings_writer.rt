@@ -11,25 +11,29 @@ ghost use Rattle.ii_recorder.specs.Recorded.{u32_max};
 ghost use Rattle.ii_recorder.specs.Terms.{WrittenTerm};
 ghost use Rattle.ii_definitions.specs.Fields.{option_of};
 ghost use Rattle.ii_definitions.specs.Tokens.{IndexToken, end_after, kept_words, piece_tokens_from};
-ghost use Rattle.ii_postings_writer.specs.IndexingContext.{AllEndBy, IsRecorded};
-ghost use Rattle.ii_postings_writer.specs.IndexingTerm.{term_bytes};
+ghost use Rattle.ii_postings_writer.specs.IndexingContext.{AllEndBy, IsRecorded, EndsBy, new_recorder, opened_at, record_fault, recorded_at, recorder_or_new};
+ghost use Rattle.ii_postings_writer.specs.IndexingTerm.{term_bytes, AreTermBytes};
 ghost use Rattle.ii_postings_writer.specs.PostingsWriter.{HasTokens, IndexesWords, PostingsWriterState, RefusesWords, TextState, subscribe_fault, term_token, text_fault, text_piece, text_state, tokens_counted};
 ghost use Rattle.ii_postings_writer.specs.Records.{Records};
 ghost use Rattle.ii_postings_writer.specs.SortedTerms.{IsTold, IsWritable, state_of, written_term};
-ghost use Rattle.ii_postings_writer.specs.WordRefusals.{gap_fault, words_fault};
+ghost use Rattle.ii_postings_writer.specs.WordRefusals.{gap_fault, u64_max, words_fault};
 ghost use Rattle.ii_postings_writer.specs.WriteFaults.{IsTermsFaultAfter, IsTermFaultAfter};
 ghost use Rattle.ii_json.specs.LeafVisit.{IsRefusedBy, first_fault};
 ghost use Rattle.ii_base.specs.Values.{json_key};
 ghost use Rattle.ii_io.specs.Faults.{OnlyMemory};
+ghost use Rattle.ii_recorder.specs.AnyRecorder.{any_state};
 
 use crate::indexing_context::IndexingContext;
 use crate::indexing_position::IndexingPosition;
 use crate::indexing_term::IndexingTerm;
+use crate::json_postings_writer::JsonPostingsWriter;
 use crate::sorted_terms::TermOfField;
-use crate::term_recorders::TermRecorders;
+use crate::term_key::{TermBytes, TermKey};
 use ii_base::{DocId, Fault, IndexRecordOption, LimitName, TokenStream, TokenView};
 use ii_json::JsonTermSerializer;
-use ii_recorder::{BufferLender, FieldSerializer, Recorder};
+use ii_recorder::{AnyRecorder, BufferLender, FieldSerializer, Recorder};
+use indexmap::IndexMap;
+use std::alloc::Global;
 use std::io::Write;
 use std::marker::Model;
 
@@ -207,11 +211,9 @@ impl SpecializedPostingsWriter {
         ensures uncounted { OnErr result (self.new ≡ self.old) }
         ensures refused { IsRefusedBy (subscribe_fault option self.old.total_num_tokens doc pos (term_bytes term.now) terms.old) result }
     {
-        if self.total_num_tokens == u64::MAX {
-            return Err(Fault::Limit(LimitName::Tokens));
-        }
+        let total_num_tokens = one_more_in_all(self.total_num_tokens)?;
         terms.record(option, term.serialized_term(), doc, pos)?;
-        self.total_num_tokens += 1;
+        self.total_num_tokens = total_num_tokens;
         Ok(())
     }
 
@@ -238,10 +240,12 @@ impl SpecializedPostingsWriter {
         }
         let (position, end) = token_place(begin, token.position, token.position_length)?;
         let num_tokens = one_more(at.num_tokens)?;
+        let total_num_tokens = one_more_in_all(self.total_num_tokens)?;
         let len = term.len_bytes();
         term.add_bytes(token.text.as_bytes())?;
-        self.record(self.option, doc, position, term, terms)?;
+        terms.record(self.option, term.serialized_term(), doc, position)?;
         term.truncate_value_bytes(len);
+        self.total_num_tokens = total_num_tokens;
         at.num_tokens = num_tokens;
         at.end_position = at.end_position.max(end);
         Ok(())
@@ -378,6 +382,16 @@ fn one_more(num_tokens: u32) -> Result<u32, Fault>
     Ok(num_tokens + 1)
 }
 
+// Counts one more token of a writer.
+fn one_more_in_all(total_num_tokens: u64) -> Result<u64, Fault>
+    ensures { result ≡ (if nat_le u64_max total_num_tokens then Err (Fault.Limit limit.Tokens) else Ok (total_num_tokens + 1)) }
+{
+    if total_num_tokens == u64::MAX {
+        return Err(Fault::Limit(LimitName::Tokens));
+    }
+    Ok(total_num_tokens + 1)
+}
+
 // Returns the start of the next text, after one that ends at `end`.
 fn next_text(end: u32) -> Result<u32, Fault>
     ensures { result ≡ (if nat_lt u32_max (end + 1) then Err (Fault.Limit limit.Position) else Ok (end + 1)) }
@@ -386,4 +400,152 @@ fn next_text(end: u32) -> Result<u32, Fault>
         return Err(Fault::Limit(LimitName::Position));
     }
     Ok(end + POSITION_GAP)
+}
+
+/// The postings writer of any field.
+#[derive(Drop)]
+pub enum PostingsWriterKind {
+    /// The writer of a field that holds no JSON values.
+    Specialized(SpecializedPostingsWriter),
+    /// The writer of a JSON field.
+    Json(JsonPostingsWriter),
+}
+
+impl PostingsWriter for PostingsWriterKind {
+    ghost use Rattle.ii_postings_writer.specs.PostingsWriterKind.{state_of_kind};
+
+    ghost state = { state_of_kind };
+
+    #[inline(always)]
+    fn subscribe(
+        &mut self,
+        doc: DocId,
+        pos: u32,
+        term: &IndexingTerm,
+        ctx: &mut IndexingContext,
+    ) -> Result<(), Fault> {
+        match self {
+            PostingsWriterKind::Specialized(writer) => writer.subscribe(doc, pos, term, ctx),
+            PostingsWriterKind::Json(writer) => writer.subscribe(doc, pos, term, ctx),
+        }
+    }
+
+    #[inline(always)]
+    fn index_text<S: TokenStream>(
+        &mut self,
+        doc_id: DocId,
+        token_stream: &mut S,
+        term_buffer: &mut IndexingTerm,
+        ctx: &mut IndexingContext,
+        indexing_position: &mut IndexingPosition,
+    ) -> Result<(), Fault> {
+        match self {
+            PostingsWriterKind::Specialized(writer) => {
+                writer.index_text(doc_id, token_stream, term_buffer, ctx, indexing_position)
+            }
+            PostingsWriterKind::Json(writer) => {
+                writer.index_text(doc_id, token_stream, term_buffer, ctx, indexing_position)
+            }
+        }
+    }
+
+    #[inline(always)]
+    fn total_num_tokens(&self) -> u64 {
+        match self {
+            PostingsWriterKind::Specialized(writer) => writer.total_num_tokens(),
+            PostingsWriterKind::Json(writer) => writer.total_num_tokens(),
+        }
+    }
+}
+
+/// The recorder of each term that occurred, by the term's bytes.
+#[derive(Drop)]
+pub struct TermRecorders {
+    pub(crate) recorders: IndexMap<TermKey, AnyRecorder>,
+    alloc: Global,
+}
+
+impl Model for TermRecorders {
+    ghost use Rattle.std.specs.Prelude.{All, map};
+    ghost use Rattle.ii_postings_writer.specs.IndexingTerm.{AreTermBytes};
+    ghost use Rattle.indexmap.specs.IndexMap.{keys};
+    ghost use Rattle.ii_recorder.specs.AnyRecorder.{any_state};
+    ghost use Rattle.ii_postings_writer.specs.IndexingContext.{TermIndex};
+
+    ghost Value = { TermIndex };
+
+    ghost view = { λ c. map (λ e. (e.0, any_state e.1)) c.recorders.entries };
+
+    ghost invariant = { λ c. All AreTermBytes (keys c.recorders) };
+}
+
+impl TermRecorders {
+    /// Creates an empty map.
+    pub fn new(alloc: Global) -> TermRecorders
+        ensures { result ≡ [] }
+    {
+        TermRecorders {
+            recorders: IndexMap::new(alloc),
+            alloc,
+        }
+    }
+
+    // Records a position of a document under a term. A new term gets a recorder with `option`.
+    pub(crate) fn record(
+        &mut self,
+        option: IndexRecordOption,
+        term: &[u8],
+        doc: DocId,
+        position: u32,
+    ) -> Result<(), Fault>
+        requires term { AreTermBytes term.now }
+        requires low { doc < TERMINATED }
+        requires ends { AllEndBy doc self.old }
+        ensures ok { OnOk result (IsRecorded option doc position term.now self.old self.new) }
+        ensures refused { IsRefusedBy (record_fault doc position (recorder_or_new option self.old term.now)) result }
+    {
+        match self.recorders.get_mut(TermBytes { bytes: term }) {
+            Some(recorder) => {
+                open_doc(recorder, doc)?;
+                recorder.record_position(position)
+            }
+            None => {
+                let recorder = recorder_with(self.alloc, option, doc, position)?;
+                let key = TermKey::new(self.alloc, term)?;
+                self.recorders.insert(key, recorder)?;
+                Ok(())
+            }
+        }
+    }
+}
+
+// Creates a recorder with one position.
+fn recorder_with(
+    alloc: Global,
+    option: IndexRecordOption,
+    doc: DocId,
+    position: u32,
+) -> Result<AnyRecorder, Fault>
+    ensures ok { IfOk result (λ r. any_state r ≡ recorded_at doc position (new_recorder option)) }
+    ensures refused { IsRefusedBy (record_fault doc position (new_recorder option)) result }
+{
+    let mut recorder = AnyRecorder::new(alloc, option);
+    recorder.new_doc(doc)?;
+    recorder.record_position(position)?;
+    Ok(recorder)
+}
+
+// Starts a document, unless it is the last one.
+#[tactic(auto, using(crate::proofs::RecorderSteps::opened_same, crate::proofs::RecorderSteps::opened_anew, crate::proofs::RecorderSteps::last_below))]
+fn open_doc(recorder: &mut AnyRecorder, doc: DocId) -> Result<(), Fault>
+    requires low { doc < TERMINATED }
+    requires ends { EndsBy doc (any_state recorder.old) }
+    ensures ok { OnOk result (any_state recorder.new ≡ opened_at doc (any_state recorder.old)) }
+    ensures only { OnlyMemory result }
+{
+    if recorder.current_doc() == doc {
+        return Ok(());
+    }
+    recorder.close_doc()?;
+    recorder.new_doc(doc)
 }

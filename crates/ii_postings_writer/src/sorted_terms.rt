@@ -12,8 +12,8 @@ ghost use Rattle.ii_postings_writer.specs.SortKeys.{IsKept, kept_cmp, padded_num
 ghost use Rattle.ii_postings_writer.specs.ResolvedTerms.{AreClean, AreSorted, HoldIds, behind_id, is_json_field, path_id_in, rank_of, resolved, resolved_terms, value_place};
 ghost use Rattle.ii_postings_writer.specs.SortedTerms.{IsTermBelow, SortedTerm, kept_state, seen, state_of, terms_in};
 
+use crate::postings_writer::TermRecorders;
 use crate::term_key::TermKey;
-use crate::term_recorders::TermRecorders;
 use ii_base::Fault;
 use ii_json::{OrderedPathId, PathToUnorderedId};
 use ii_recorder::AnyRecorder;

@@ -1,5 +1,5 @@
 -- What is written for the tokens of a field holds them.
-use Rattle.std.proofs.Common.{inl, inr, ◌≡◌, ℕ, zero, suc, ◌<◌, ◌^◌, ◌==◌, Bool, true, false, ◌||◌, List, [], ◌∷◌, length, map, get_or, Option, Some, None, Ok, refl, sym, ap, ◌∙◌, subst, nat_eq, arith, ⊎_elim}
+use Rattle.std.proofs.Common.{inl, inr, ◌≡◌, ℕ, zero, suc, ◌<◌, ◌==◌, Bool, true, false, ◌||◌, List, [], ◌∷◌, length, map, get_or, Option, Some, None, Ok, refl, sym, ap, ◌∙◌, subst, nat_eq, arith}
 use Rattle.std.specs.Prelude.{◌⊎◌, IsTrue, MatchOption, Result, bytes_eq, filter, is_some}
 use Rattle.std.specs.Ordering.{eq_by_cmp, nat_cmp}
 use Rattle.std.specs.Cmp.Lexicographic.{nat_list_cmp_total, slice_cmp}
@@ -24,7 +24,7 @@ use Rattle.ii_definitions.specs.Postings.{field_count, grouped, kind_of, occurs,
 use Rattle.ii_definitions.specs.Tokens.{IndexToken}
 use Rattle.ii_definitions.proofs.GroupedLaws.{none_occurs}
 use Rattle.ii_recorder.specs.HeldTerms.{HoldsKey, HoldsTerms, HoldsWritten, has_key}
-use Rattle.ii_recorder.specs.Pushed.{AreReadable, ReadsEntriesBack, pushed_deltas}
+use Rattle.ii_recorder.specs.Pushed.{AreReadable, ReadsEntriesBack}
 use Rattle.ii_recorder.specs.Terms.{FieldBodies, WrittenTerm, positions_bytes, postings_bytes}
 use Rattle.ii_recorder.specs.TokenTerms.{HoldsItsTokens, IsReadableKey, entries_term, field_keys, kept_entries, token_term}
 use Rattle.ii_recorder.proofs.Documents.{few_documents}

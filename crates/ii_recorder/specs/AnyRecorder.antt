@@ -1,6 +1,6 @@
 -- The state of a recorder for any option.
-use Rattle.ii_recorder.specs.declared.recorder.any_recorder.AnyRecorder.{AnyRecorder}
-use Rattle.ii_recorder.specs.declared.recorder.any_recorder.AnyRecorder.TheVariants.{DocId, TermFrequency, TfAndPosition}
+use Rattle.ii_recorder.specs.declared.recorder.AnyRecorder.{AnyRecorder}
+use Rattle.ii_recorder.specs.declared.recorder.AnyRecorder.TheVariants.{DocId, TermFrequency, TfAndPosition}
 use Rattle.ii_recorder.specs.Recorded.{RecorderState}
 
 -- the state of a recorder of any kind

@@ -26,7 +26,6 @@ field_terms term places term_open = record { term = term; places = places; term_
 
 -- Before any error: only an open term has a key without info, or deltas, and deltas only with positions.
 pub record IsUnrefused (s : FieldTermsState) : Type 0 where
-  pub term : s.term.closed ≡ false
   pub places : s.places.closed ≡ false
   pub between : s.term_open ≡ false → (length s.places.keys ≡ length s.places.infos) × (s.term.deltas ≡ [])
   pub plain : has_positions s.term.mode ≡ false → s.term.deltas ≡ []
@@ -34,7 +33,6 @@ pub record IsUnrefused (s : FieldTermsState) : Type 0 where
 
 -- The state that an ended term leaves.
 pub record IsLeft (old new : OpenTermState) : Type 0 where
-  pub unrefused : new.closed ≡ false
   pub mode : new.mode ≡ old.mode
   pub norms : new.norms ≡ old.norms
   pub located : has_positions old.mode ≡ true → new.deltas ≡ []

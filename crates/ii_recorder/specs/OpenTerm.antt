@@ -1,5 +1,5 @@
--- The open term of a field: options, norms, documents, frequencies, deltas, and whether a call failed.
-use Rattle.std.specs.Prelude.{ℕ, Bool, List, Option}
+-- The open term of a field: options, norms, documents, frequencies and deltas.
+use Rattle.std.specs.Prelude.{ℕ, List, Option}
 use Rattle.ii_base.specs.declared.schema.index_record_option.IndexRecordOption.{IndexRecordOption}
 use Rattle.ii_fieldnorm.specs.Readers.{Norms}
 
@@ -10,4 +10,3 @@ pub record OpenTermState : Type 0 where
   pub docs : List ℕ
   pub freqs : List ℕ
   pub deltas : List ℕ
-  pub closed : Bool

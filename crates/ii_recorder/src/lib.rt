@@ -10,10 +10,8 @@ pub mod serializer;
 mod term_places;
 
 pub use buffer_lender::BufferLender;
-pub use recorder::Recorder;
-pub use recorder::any_recorder::AnyRecorder;
-pub use recorder::doc_id_recorder::DocIdRecorder;
-pub use recorder::term_frequency_recorder::TermFrequencyRecorder;
-pub use recorder::tf_and_position_recorder::TfAndPositionRecorder;
-pub use recorder::vint32_reader::VInt32Reader;
+pub use recorder::{
+    AnyRecorder, DocIdRecorder, Recorder, TermFrequencyRecorder, TfAndPositionRecorder,
+    VInt32Reader,
+};
 pub use serializer::{FieldSerializer, InvertedIndexSerializer};

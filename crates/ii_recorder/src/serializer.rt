@@ -25,7 +25,7 @@ use super::term_places::TermPlaces;
 use ii_base::{DocId, IndexRecordOption, Schema};
 use ii_fieldnorm::FieldNormReader;
 use ii_io::{CountingWriter, Fault, Field, LimitName};
-use ii_layout::{PositionWriter, PostingsSerializer};
+use ii_layout::{OpenPostings, PositionWriter};
 use std::alloc::Global;
 use std::io::Write;
 use std::marker::Model;
@@ -363,14 +363,14 @@ impl<'a, W: Write> FieldSerializer<'a, W> {
     }
 
     /// Starts a term, as the field records it, or without term frequencies if `record_term_freq` is not set.
-    /// Its key must be greater than the previous key by its bytes, and no term may be open. `term_doc_freq`
-    /// is ignored.
+    /// Its key must be greater than the previous key by its bytes, and no term may be open. The
+    /// number of its documents is ignored.
     ///
     /// Returns `OutOfMemory` if an allocation fails; `SerializerClosed` after an earlier error.
     pub fn new_term(
         &mut self,
         term: &[u8],
-        term_doc_freq: u32,
+        _term_doc_freq: u32,
         record_term_freq: bool,
     ) -> Result<(), Fault>
         requires between { self.old.index.now.closed ≡ false → self.old.index.now.field.term_open ≡ false }
@@ -392,7 +392,7 @@ impl<'a, W: Write> FieldSerializer<'a, W> {
         }
         let added = index.places.insert_key(term);
         index.is_closed = added.is_err();
-        index.term.begin(term_doc_freq, record_term_freq);
+        index.term.begin(record_term_freq);
         index.is_term_open = true;
         added
     }
@@ -560,7 +560,7 @@ impl<'a, W: Write> FieldSerializer<'a, W> {
 // deltas of their positions.
 struct OpenTerm {
     mode: IndexRecordOption,
-    postings: PostingsSerializer,
+    postings: OpenPostings,
     positions: PositionWriter,
     doc_freq: u32,
 }
@@ -578,7 +578,7 @@ impl Drop for OpenTerm {
 }
 
 impl Model for OpenTerm {
-    ghost use Rattle.std.specs.Prelude.{◌≡◌, ◌||◌, length, IsTrue};
+    ghost use Rattle.std.specs.Prelude.{◌≡◌, length, IsTrue};
     ghost use Rattle.ii_base.specs.Entries.{are_documents};
     ghost use Rattle.ii_recorder.specs.OpenTerm.{OpenTermState};
 
@@ -590,8 +590,7 @@ impl Model for OpenTerm {
       skip_info = t.postings.skip_info;
       docs = t.postings.docs;
       freqs = t.postings.freqs;
-      deltas = t.positions.deltas;
-      closed = t.postings.closed || t.positions.closed;
+      deltas = t.positions;
     } };
 
     ghost invariant = { λ t. (t.mode ≡ t.postings.mode) × IsTrue (are_documents t.postings.docs) × (t.doc_freq ≡ length t.postings.docs) };
@@ -603,21 +602,21 @@ impl OpenTerm {
         mode: IndexRecordOption,
         fieldnorm_reader: Option<FieldNormReader>,
     ) -> OpenTerm
-        ensures { result ≡ record { norms = fieldnorm_reader; mode = mode; skip_info = mode; docs = []; freqs = []; deltas = []; closed = false } }
+        ensures { result ≡ record { norms = fieldnorm_reader; mode = mode; skip_info = mode; docs = []; freqs = []; deltas = [] } }
     {
         OpenTerm {
             mode,
-            postings: PostingsSerializer::new(alloc, mode, fieldnorm_reader),
+            postings: OpenPostings::new(alloc, mode, fieldnorm_reader),
             positions: PositionWriter::new(alloc),
             doc_freq: 0,
         }
     }
 
     // Starts a new term, as the field records it or without term frequencies.
-    fn begin(&mut self, term_doc_freq: u32, record_term_freq: bool)
+    fn begin(&mut self, record_term_freq: bool)
         ensures { self.new ≡ record self.old { skip_info = if record_term_freq then self.old.mode else Basic; docs = []; freqs = [] } }
     {
-        self.postings.new_term(term_doc_freq, record_term_freq);
+        self.postings.new_term(record_term_freq);
         self.doc_freq = 0;
     }
 
@@ -629,7 +628,7 @@ impl OpenTerm {
         postings_write: &mut CountingWriter<W>,
         positions_write: &mut CountingWriter<W>,
     ) -> Result<(), Fault>
-        requires open { (self.old.closed ≡ false) × (places.old.closed ≡ false) }
+        requires open { places.old.closed ≡ false }
         requires key { length places.old.keys ≡ length places.old.infos + 1 }
         ensures postings { OnOk result (Wrote postings_write.old postings_write.new (written_postings self.old.norms self.old.skip_info self.old.docs self.old.freqs)) }
         ensures positions { OnOk result (Wrote positions_write.old positions_write.new (positions_bytes self.old.mode self.old.deltas)) }
@@ -646,7 +645,7 @@ impl OpenTerm {
     {
         let doc_freq = self.doc_freq;
         let start = postings_write.written_bytes();
-        let written = self.postings.close_term(doc_freq, postings_write);
+        let written = self.postings.close_term(postings_write);
         self.doc_freq = 0;
         if written.is_err() {
             return written;
@@ -664,7 +663,6 @@ impl OpenTerm {
 
     // Writes the positions if the field records them, and returns how many bytes they take.
     fn write_positions<W: Write>(&mut self, writer: &mut CountingWriter<W>) -> Result<u32, Fault>
-        requires open { self.old.closed ≡ false }
         ensures ok { IfOk result (λ len. len ≡ length (positions_bytes self.old.mode self.old.deltas)) }
         ensures wrote { OnOk result (Wrote writer.old writer.new (positions_bytes self.old.mode self.old.deltas)) }
         ensures rest { OnOk result (self.new ≡ record self.old { deltas = if has_positions self.old.mode then [] else self.old.deltas }) }

@@ -6,7 +6,7 @@ ghost use Rattle.ii_layout.specs.Positions.{position_list, place_by_widths, bloc
 ghost use Rattle.ii_layout.specs.PositionReader.{AreAnchors, is_width, list_at, rest_at, deltas_at_block};
 ghost use Rattle.ii_layout.specs.Written.{block_of};
 
-use crate::block::sum_of;
+use crate::serializer::sum_of;
 use crate::split::bytes_from;
 use bytes::Bytes;
 use ii_codes::{BlockDecoder, COMPRESSION_BLOCK_SIZE, VIntDecoder, compressed_block_size};

@@ -242,14 +242,11 @@ fn pack_if_full(packed: &mut PackedDeltas, block: &mut DeltaBlock) -> Result<(),
     pushed
 }
 
-/// Writes the positions of one term after the other to a borrowed writer. The model is the deltas of the open
-/// term, and whether an earlier call failed.
-///
-/// After an error it is closed: each further call returns `SerializerClosed`.
+/// Writes the positions of one term after the other to a borrowed writer. Its model is the deltas of the open
+/// term, which an error drops.
 pub struct PositionWriter {
     packed: PackedDeltas,
     block: DeltaBlock,
-    is_closed: bool,
 }
 
 // A drop has to be a call.
@@ -258,53 +255,41 @@ impl Drop for PositionWriter {
         let PositionWriter {
             packed: _,
             block: _,
-            is_closed: _,
         } = self;
     }
 }
 
 impl Model for PositionWriter {
-    ghost use Rattle.std.specs.Prelude.{◌≡◌, ◌<◌, ◌++◌, [], length, IsTrue};
-    ghost use Rattle.ii_layout.specs.PositionSerializer.{PositionWriterState};
+    ghost use Rattle.std.specs.Prelude.{◌<◌, ◌++◌, ℕ, List, length};
 
-    ghost Value = { PositionWriterState };
+    ghost Value = { List ℕ };
 
-    ghost view = { λ w. record { deltas = w.packed ++ w.block; closed = w.is_closed } };
+    ghost view = { λ w. w.packed ++ w.block };
 
-    ghost invariant = { λ w. (length w.block < 128) × (IsTrue w.is_closed → w.packed ++ w.block ≡ []) };
+    ghost invariant = { λ w. length w.block < 128 };
 }
 
 impl PositionWriter {
     /// Creates a writer whose open term has no deltas.
     pub fn new(alloc: Global) -> PositionWriter
-        ensures { result ≡ record { deltas = []; closed = false } }
+        ensures { result ≡ [] }
     {
         PositionWriter {
             packed: PackedDeltas::new(alloc),
             block: DeltaBlock::new(),
-            is_closed: false,
         }
     }
 
     /// Adds deltas to the open term: the distance of each position of a document from the previous one, the
     /// first from 0.
     ///
-    /// # Errors
-    ///
-    /// * `OutOfMemory` if an allocation fails; the deltas are then dropped.
-    /// * `SerializerClosed` after an earlier error.
+    /// Returns `OutOfMemory` if an allocation fails; the deltas are then dropped.
     pub fn write_positions_delta(&mut self, positions_delta: &[u32]) -> Result<(), Fault>
-        ensures ok { OnOk result (self.new ≡ record { deltas = self.old.deltas ++ positions_delta.now; closed = false }) }
-        ensures err { OnErr result (self.new ≡ record { deltas = []; closed = true }) }
-        ensures closed { IsErrOf result Fault.SerializerClosed ↔ IsTrue self.old.closed }
-        ensures only { OnlyMemoryOrClosed result }
+        ensures ok { OnOk result (self.new ≡ self.old ++ positions_delta.now) }
+        ensures err { OnErr result (self.new ≡ []) }
+        ensures only { OnlyMemory result }
     {
-        if self.is_closed {
-            return Err(Fault::SerializerClosed);
-        }
-        let added = add_deltas(&mut self.packed, &mut self.block, positions_delta);
-        self.is_closed = added.is_err();
-        added
+        add_deltas(&mut self.packed, &mut self.block, positions_delta)
     }
 
     /// Writes the deltas of the term and ends it. A `PositionReader` reads them back.
@@ -316,41 +301,40 @@ impl PositionWriter {
     ///
     /// * `Write` if the writer fails; a prefix is then written.
     /// * `Limit(Offset)` if a count of the writer would exceed `u64::MAX`; a prefix is then written.
-    /// * `SerializerClosed` after an earlier error; nothing is then written.
     pub fn close_term<W: Write>(
         &mut self,
         positions_write: &mut CountingWriter<W>,
     ) -> Result<(), Fault>
-        ensures written { WritesUnlessClosed self.old.closed positions_write.old positions_write.new (written_positions self.old.deltas) result }
-        ensures holds { OnOk result (position_deltas (written_positions self.old.deltas) ≡ Some self.old.deltas) }
-        ensures ok { OnOk result (self.new ≡ record { deltas = []; closed = false }) }
-        ensures err { OnErr result (self.new ≡ record { deltas = []; closed = true }) }
+        ensures written { Writes positions_write.old positions_write.new (written_positions self.old) result }
+        ensures holds { position_deltas (written_positions self.old) ≡ Some self.old }
+        ensures ended { self.new ≡ [] }
     {
-        if self.is_closed {
-            return Err(Fault::SerializerClosed);
-        }
         let written = self.packed.write_with(self.block.deltas(), positions_write);
         self.packed.clear();
         self.block.clear();
-        self.is_closed = written.is_err();
         written
     }
 }
 
-/// Writes the positions of one term after the other to a writer that it owns, as `PositionWriter` does to a
-/// borrowed one. The model includes the writer.
+/// Writes the positions of one term after the other to a writer that it owns. The model includes the writer.
+///
+/// After an error it is closed: each further call returns `SerializerClosed`.
 #[derive(Drop)]
 pub struct PositionSerializer<W: Write> {
     positions_write: CountingWriter<W>,
     positions: PositionWriter,
+    is_closed: bool,
 }
 
 impl<W: Write> Model for PositionSerializer<W> {
+    ghost use Rattle.std.specs.Prelude.{◌≡◌, [], IsTrue};
     ghost use Rattle.ii_layout.specs.PositionSerializer.{PositionSerializerState};
 
     ghost Value = { PositionSerializerState };
 
-    ghost view = { λ s. record { writer = s.positions_write; deltas = s.positions.deltas; closed = s.positions.closed } };
+    ghost view = { λ s. record { writer = s.positions_write; deltas = s.positions; closed = s.is_closed } };
+
+    ghost invariant = { λ s. IsTrue s.is_closed → s.positions ≡ [] };
 }
 
 impl<W: Write> PositionSerializer<W> {
@@ -361,6 +345,7 @@ impl<W: Write> PositionSerializer<W> {
         PositionSerializer {
             positions_write,
             positions: PositionWriter::new(alloc),
+            is_closed: false,
         }
     }
 
@@ -383,18 +368,28 @@ impl<W: Write> PositionSerializer<W> {
         ensures closed { IsErrOf result Fault.SerializerClosed ↔ IsTrue self.old.closed }
         ensures only { OnlyMemoryOrClosed result }
     {
-        self.positions.write_positions_delta(positions_delta)
+        if self.is_closed {
+            return Err(Fault::SerializerClosed);
+        }
+        let added = self.positions.write_positions_delta(positions_delta);
+        self.is_closed = added.is_err();
+        added
     }
 
-    /// Writes the deltas of the term and ends it, with the errors of `PositionWriter::close_term`. Never
-    /// allocates.
+    /// Writes the deltas of the term and ends it, with the errors of `PositionWriter::close_term`, and
+    /// `SerializerClosed` after an earlier error. Never allocates.
     pub fn close_term(&mut self) -> Result<(), Fault>
         ensures written { WritesUnlessClosed self.old.closed self.old.writer self.new.writer (written_positions self.old.deltas) result }
         ensures holds { OnOk result (position_deltas (written_positions self.old.deltas) ≡ Some self.old.deltas) }
         ensures ok { OnOk result ((self.new.deltas ≡ []) × (self.new.closed ≡ false)) }
         ensures err { OnErr result ((self.new.deltas ≡ []) × (self.new.closed ≡ true)) }
     {
-        self.positions.close_term(&mut self.positions_write)
+        if self.is_closed {
+            return Err(Fault::SerializerClosed);
+        }
+        let written = self.positions.close_term(&mut self.positions_write);
+        self.is_closed = written.is_err();
+        written
     }
 
     /// Flushes and returns the writer. The deltas of a term that wasn't ended are dropped.
@@ -409,9 +404,10 @@ impl<W: Write> PositionSerializer<W> {
     {
         let PositionSerializer {
             mut positions_write,
-            positions,
+            positions: _,
+            is_closed,
         } = self;
-        if positions.is_closed {
+        if is_closed {
             return (positions_write, Err(Fault::SerializerClosed));
         }
         let flushed = positions_write.flush();

@@ -32,7 +32,7 @@ use Rattle.ii_layout.specs.contracts.doc_list.DocList.and as f
 use Rattle.ii_layout.proofs.doc_list.DocList.and.Statement as stated
 use Rattle.ii_layout.proofs.doc_list.DocList.and.Code as code
 use Rattle.ii_layout.specs.contracts.doc_list.DocList as list
-use Rattle.ii_layout.specs.contracts.block.Block as more
+use Rattle.ii_layout.specs.contracts.serializer.Block as more
 
 abbrev stayed : Stays (f.ended).signature.params (f.ended).kept
 stayed = (stay_none_ref (0 ∷ []) tt (plain (λ _. list.the_row)) yes, (stay_none_ref (1 ∷ []) tt (plain (λ _. more.the_row)) yes, tt))
