@@ -30,7 +30,9 @@ PLACES = {
     'ii_query_grammar/src/parse_error.rt': {'from'},
     'ii_query_parser/src/query_parser_error.rt': {'from'},
     'ii_store/src/faults.rt': {'from'},
-    'ii_segment_store/src/faults.rt': {'from'},
+    'ii_segment_store/src/faults.rt': {
+        'from',
+        'memory_fault', 'flags_fault'},  # a call that fails for nothing else was refused
     'ii_directory/src/faults.rt': {'from'},
     'ii_directory/src/memory_files.rt': {'stop_in_put'},  # a copy of the bytes was refused
     'ii_term_text/src/terms.rt': {'bytes_term', 'is_memory'},  # the kit's `hex` couldn't grow

@@ -142,6 +142,12 @@ held_flags n bytes alive held = by (nat_eq (length bytes) (8 * num_words n)) (li
     by false true size unused are = absurd (cc)
     by false false size unused are = absurd (cc)
 
+-- flags that are read have one for each document
+pub length_of_flags : (n : ℕ) (bytes : List ℕ) (alive : List Bool) → alive_of n bytes ≡ Some alive → length alive ≡ n
+length_of_flags n bytes alive held =
+    let flags = held_flags n bytes alive held in
+    ap length (sym (flags.flags)) ∙ length-take-le n (byte_bits bytes) (omega (arith, enough_words n, flags.size, length-bits_in 8 bytes))
+
 pub reads_written_flags : ReadsWrittenFlags
 unfolding alive_bytes
 reads_written_flags alive =

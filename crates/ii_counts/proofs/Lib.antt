@@ -1,1 +1,2 @@
 mod WorkedRows
+pub mod RowLaws

@@ -3,6 +3,8 @@
 
 pub mod reader;
 pub mod serializer;
+pub mod writer;
 
 pub use reader::{CountReader, CountReaders};
 pub use serializer::CountsSerializer;
+pub use writer::CountsWriter;

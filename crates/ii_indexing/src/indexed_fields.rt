@@ -37,7 +37,7 @@ use std::marker::Model;
 /// The terms of all fields of a schema, and the open document of each field.
 pub struct IndexedFields {
     terms: IndexedTerms,
-    documents: OpenDocuments,
+    pub(crate) documents: OpenDocuments,
     paths: OpenPaths,
 }
 

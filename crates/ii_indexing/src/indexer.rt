@@ -34,8 +34,8 @@ use std::marker::Model;
 pub struct Indexer {
     schema: Schema,
     num_docs: DocId,
-    last_doc: DocId,
-    fields: IndexedFields,
+    pub(crate) last_doc: DocId,
+    pub(crate) fields: IndexedFields,
     failed: bool,
     alloc: Global,
 }

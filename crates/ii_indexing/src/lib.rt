@@ -9,6 +9,7 @@ pub mod indexer;
 pub mod indexing_positions_per_path;
 mod json_keys;
 pub mod json_utils;
+pub mod last_tokens;
 mod open_documents;
 mod open_paths;
 

@@ -27,7 +27,7 @@ pub(crate) struct OpenDocument {
 
 /// The last opened document of each field, and the norms of earlier documents.
 pub(crate) struct OpenDocuments {
-    documents: Vec<OpenDocument>,
+    pub(crate) documents: Vec<OpenDocument>,
     norms: FieldNormsWriter,
 }
 

@@ -1,7 +1,9 @@
 -- What an index holds, before and after a commit.
 use Rattle.std.proofs.Common.{◌≡◌, inl, inr, ⊎_elim, ℕ, zero, suc, ◌<◌, ◌≤◌, ◌==◌, ◌-◌, ◌&&◌, length, take, drop, bytes_eq, nat_lt, Bool, true, false, not, List, [], ◌∷◌, ◌++◌, Option, None, Some, Result, Ok, Err, refl, sym, ap, subst, ◌∙◌, arith, if◌then◌else◌}
-use Rattle.std.specs.Prelude.{map}
-use Rattle.std.specs.List.{list_all}
+use Rattle.std.specs.Prelude.{IfSome, map, replicate}
+use Rattle.std.specs.List.{AllByRecursion, find, list_all}
+use Rattle.std.proofs.lemmas.List.Folds.{sum_by-replicate}
+use Rattle.ii_alive.specs.Alive.{num_living}
 use Rattle.std.proofs.lemmas.Bool.{eq-eqb, ltb-true, ne_eqb}
 use Rattle.std.proofs.lemmas.Cmp.{nat_list_eq_equiv}
 use Rattle.sha2.specs.Sha256.{sha256}
@@ -14,7 +16,7 @@ use Rattle.ii_directory.specs.declared.name.Kind.TheVariants.{Schema}
 use Rattle.ii_directory.specs.declared.name.Kind.TheVariants as kinds_of
 use Rattle.ii_directory.specs.declared.name.Name.TheVariants.{File, Meta, Segment}
 use Rattle.ii_directory.specs.declared.name.SegmentComponent.{SegmentComponent}
-use Rattle.ii_directory.specs.declared.name.SegmentComponent.TheVariants.{FieldNorms, Positions, Postings, Terms}
+use Rattle.ii_directory.specs.declared.name.SegmentComponent.TheVariants.{Counts, FieldNorms, Positions, Postings, Terms}
 use Rattle.ii_directory.specs.declared.name.Slot.{Slot}
 use Rattle.ii_directory.specs.Directory.{Elapses, Files, Same}
 use Rattle.ii_store.specs.Index.{◌>>=◌, Index, index_at, index_in, index_of, num_docs_in, used_slot, version_in, whole_num_docs_in}
@@ -24,8 +26,8 @@ use Rattle.ii_store.specs.Segments.{list_in, listed_bytes}
 use Rattle.ii_directory.proofs.NameParse.{and_true}
 use Rattle.ii_directory.proofs.Elapsing.{elapses_implies, elapses_none}
 use Rattle.ii_store.proofs.SaveLaws.{index_outside}
-use Rattle.ii_segment_store.specs.Commits.{HasSegment, HoldsOldOr, IsCommitted, IsFresh, KeepsUncommitted, LeavesOneIndex, MayBeCommitted, listed_segment, next_list}
-use Rattle.ii_segment_store.specs.Contents.{IndexContents, SegmentContents, as_index, contents_at, contents_in, index_contents, file_of, bytes_of_component, list_contents, one_segment, segment_in, all_contents, with_segment}
+use Rattle.ii_segment_store.specs.Commits.{HasSegment, HaveIdsBelow, HoldsOldOr, IsCommitted, IsFresh, KeepsUncommitted, LeavesOneIndex, MayBeCommitted, listed_counts, listed_segment, next_list}
+use Rattle.ii_segment_store.specs.Contents.{IndexContents, SegmentContents, alive_file, bytes_if_listed, contents_at, contents_in, index_contents, file_of, bytes_of_component, flags_with, list_contents, one_segment, only_segment, segment_in, all_contents, with_segment}
 
 -- lists that a `meta` file holds
 
@@ -64,10 +66,24 @@ segments_below : (m : MetaState) → is_consistent m ≡ true → list_all (is_s
 unfolding is_consistent
 segments_below m e = (and_true _ _ (and_true _ _ e).0).0
 
-pub listed_below : (found : Option (List ℕ)) (m : MetaState) → list_in found ≡ Ok m → list_all (is_segment m.next_segment_id) m.segments ≡ true
+listed_valid : (found : Option (List ℕ)) (m : MetaState) → list_in found ≡ Ok m → list_all (is_segment m.next_segment_id) m.segments ≡ true
 unfolding list_in
-listed_below None m e = absurd cc
-listed_below (Some meta) m e = segments_below m (consistent meta m e)
+listed_valid None m e = absurd cc
+listed_valid (Some meta) m e = segments_below m (consistent meta m e)
+
+id_below : (next : ℕ) (s : SegmentState) → is_segment next s ≡ true → s.id < next
+unfolding is_segment
+id_below next s e = ltb-true s.id next (and_true _ _ (and_true _ _ (and_true _ _ e).0).0).0
+
+-- the ids of valid segments are below the next one
+ids_below : (next : ℕ) (ss : List SegmentState) → list_all (is_segment next) ss ≡ true → HaveIdsBelow next ss
+ids_below next [] all = tt
+ids_below next (s ∷ ss) all =
+    let p = and_true (is_segment next s) (list_all (is_segment next) ss) all in
+    (id_below next s p.0, ids_below next ss p.1)
+
+pub listed_below : (found : Option (List ℕ)) (m : MetaState) → list_in found ≡ Ok m → HaveIdsBelow m.next_segment_id m.segments
+listed_below found m e = ids_below m.next_segment_id m.segments (listed_valid found m e)
 
 -- a list of segments is read as one
 
@@ -109,29 +125,63 @@ fresh_id m files e other is = omega (arith, ap (λ (x : MetaState). x.next_segme
 abbrev pub KeepsBelow : ℕ → Files → Files → Type 0
 KeepsBelow id a c = (i : ℕ) (component : SegmentComponent) → i < id → c (Segment i component) ≡ a (Segment i component)
 
-found_same : (i : ℕ) (component : SegmentComponent) (found : Option FileMeta) (a c : Files) → ((component : SegmentComponent) → c (Segment i component) ≡ a (Segment i component)) → bytes_of_component i component found c ≡ bytes_of_component i component found a
+-- a listed file is the same
+abbrev pub KeepsFileOf : ℕ → Files → Files → FileMeta → Type 0
+KeepsFileOf i a c f = c (Segment i f.component) ≡ a (Segment i f.component)
+
+chosen_has : (b : Bool) (f : FileMeta) (rest : Option FileMeta) (P : FileMeta → Type 0) → P f → IfSome rest P → IfSome (if b then Some f else rest) P
+chosen_has true f rest P one others = one
+chosen_has false f rest P one others = others
+
+-- what holds of all files holds of the one that is found
+pub found_has : (p : FileMeta → Bool) (P : FileMeta → Type 0) (fs : List FileMeta) → AllByRecursion P fs → IfSome (find p fs) P
+found_has p P [] all = tt
+found_has p P (f ∷ fs) all = chosen_has (p f) f (find p fs) P all.0 (found_has p P fs all.1)
+
+found_same : (i : ℕ) (component : SegmentComponent) (found : Option FileMeta) (a c : Files) → IfSome found (KeepsFileOf i a c) → bytes_of_component i component found c ≡ bytes_of_component i component found a
 unfolding bytes_of_component
-found_same i component None a c each = refl
-found_same i component (Some f) a c each = rw (each f.component) refl
+found_same i component None a c same = refl
+found_same i component (Some f) a c same = rw same refl
 
-segment_same : (s : SegmentState) (a c : Files) → ((component : SegmentComponent) → c (Segment s.id component) ≡ a (Segment s.id component)) → segment_in s c ≡ segment_in s a
+counts_same : (i : ℕ) (found : Option FileMeta) (a c : Files) → IfSome found (KeepsFileOf i a c) → bytes_if_listed i found c ≡ bytes_if_listed i found a
+unfolding bytes_if_listed
+counts_same i None a c same = refl
+counts_same i (Some f) a c same = rw same refl
+
+pub flags_same : (s : SegmentState) (found : Option FileMeta) (a c : Files) → IfSome found (KeepsFileOf s.id a c) → flags_with s found c ≡ flags_with s found a
+unfolding flags_with
+flags_same s None a c same = refl
+flags_same s (Some f) a c same = rw same refl
+
+-- the same listed files hold the same segment
+pub listed_same : (s : SegmentState) (a c : Files) → AllByRecursion (KeepsFileOf s.id a c) s.files → segment_in s c ≡ segment_in s a
 unfolding segment_in
-segment_same s a c each =
-    rw (found_same s.id Terms (file_of Terms s.files) a c each, found_same s.id Postings (file_of Postings s.files) a c each, found_same s.id Positions (file_of Positions s.files) a c each, found_same s.id FieldNorms (file_of FieldNorms s.files) a c each) refl
+listed_same s a c all =
+    let has : (p : FileMeta → Bool) → IfSome (find p s.files) (KeepsFileOf s.id a c) = λ p. found_has p (KeepsFileOf s.id a c) s.files all in
+    rw (
+      found_same s.id Terms (file_of Terms s.files) a c (has _),
+      found_same s.id Postings (file_of Postings s.files) a c (has _),
+      found_same s.id Positions (file_of Positions s.files) a c (has _),
+      found_same s.id FieldNorms (file_of FieldNorms s.files) a c (has _),
+      counts_same s.id (file_of Counts s.files) a c (has _),
+      flags_same s (alive_file s.files) a c (has _),
+    ) refl
 
-id_below : (next : ℕ) (s : SegmentState) → is_segment next s ≡ true → s.id < next
-unfolding is_segment
-id_below next s e = ltb-true s.id next (and_true _ _ (and_true _ _ (and_true _ _ e).0).0).0
+each_kept : (i : ℕ) (a c : Files) → ((component : SegmentComponent) → c (Segment i component) ≡ a (Segment i component)) → (fs : List FileMeta) → AllByRecursion (KeepsFileOf i a c) fs
+each_kept i a c each [] = tt
+each_kept i a c each (f ∷ fs) = (each f.component, each_kept i a c each fs)
 
-pub segments_same : (next id : ℕ) (ss : List SegmentState) (a c : Files) → next ≤ id → KeepsBelow id a c → list_all (is_segment next) ss ≡ true → all_contents ss c ≡ all_contents ss a
+pub segment_same : (s : SegmentState) (a c : Files) → ((component : SegmentComponent) → c (Segment s.id component) ≡ a (Segment s.id component)) → segment_in s c ≡ segment_in s a
+segment_same s a c each = listed_same s a c (each_kept s.id a c each s.files)
+
+pub segments_same : (next id : ℕ) (ss : List SegmentState) (a c : Files) → next ≤ id → KeepsBelow id a c → HaveIdsBelow next ss → all_contents ss c ≡ all_contents ss a
 unfolding all_contents
 segments_same next id [] a c le keeps all = refl
 segments_same next id (s ∷ ss) a c le keeps all =
-    let p = and_true (is_segment next s) (list_all (is_segment next) ss) all in
-    rw (segment_same s a c (λ component. keeps s.id component (omega (arith, le, id_below next s p.0))), segments_same next id ss a c le keeps p.1) refl
+    rw (segment_same s a c (λ component. keeps s.id component (omega (arith, le, all.0))), segments_same next id ss a c le keeps all.1) refl
 
 -- the same files of segments are the same list
-pub list_kept : (m : MetaState) (a c : Files) → KeepsBelow m.next_segment_id a c → list_all (is_segment m.next_segment_id) m.segments ≡ true → list_contents m c ≡ list_contents m a
+pub list_kept : (m : MetaState) (a c : Files) → KeepsBelow m.next_segment_id a c → HaveIdsBelow m.next_segment_id m.segments → list_contents m c ≡ list_contents m a
 unfolding list_contents
 list_kept m a c keeps all = rw (segments_same m.next_segment_id m.next_segment_id m.segments a c (omega arith) keeps all) refl
 
@@ -145,7 +195,7 @@ module _ (id : ℕ) (a c : Files) (same : SameBelow id a c) where
   one_same : index_of c ≡ index_of a
   one_same = index_outside a c (record { meta = same.meta; files = λ kind. same.slots (other_slot (other_slot (used_slot (a Meta)))) kind })
 
-  list_same : (m : MetaState) → m.next_segment_id ≤ id → list_all (is_segment m.next_segment_id) m.segments ≡ true → list_contents m c ≡ list_contents m a
+  list_same : (m : MetaState) → m.next_segment_id ≤ id → HaveIdsBelow m.next_segment_id m.segments → list_contents m c ≡ list_contents m a
   unfolding list_contents
   list_same m le all = rw (segments_same m.next_segment_id id m.segments a c le same.segments all) refl
 
@@ -161,7 +211,7 @@ module _ (id : ℕ) (a c : Files) (same : SameBelow id a c) where
   unfolding contents_in contents_at list_in
   found_contents None fresh = refl
   found_contents (Some meta) fresh = each_version (version_in meta) _ _ _ _ (ap (λ (r : Result Index IndexFault). r >>= λ i. Ok (one_segment i)) one_same)
-      (each_list (meta_of meta) (λ m is. list_same m (fresh m is) (segments_below m (consistent meta m is))))
+      (each_list (meta_of meta) (λ m is. list_same m (fresh m is) (ids_below m.next_segment_id m.segments (segments_below m (consistent meta m is)))))
 
   -- they hold the same index
   pub same_contents : IsFresh id a → index_contents c ≡ index_contents a
@@ -170,20 +220,39 @@ module _ (id : ℕ) (a c : Files) (same : SameBelow id a c) where
 
 -- the files of a new segment are read back
 
-read_back : (id : ℕ) (component : SegmentComponent) (bytes : List ℕ) (found : Option (List ℕ)) → found ≡ Some bytes → listed_bytes (record { id = id; file = file_meta component bytes }) found ≡ Ok bytes
+pub read_back : (id : ℕ) (component : SegmentComponent) (bytes : List ℕ) (found : Option (List ℕ)) → found ≡ Some bytes → listed_bytes (record { id = id; file = file_meta component bytes }) found ≡ Ok bytes
 unfolding listed_bytes
 read_back id component bytes found is = rw is (rw (eq-eqb _ _ refl, nat_list_eq_equiv.refl (sha256 bytes)) refl)
 
-segment_again : (id : ℕ) (s : SegmentContents) (files : Files) → HasSegment id s files → segment_in (listed_segment id s) files ≡ Ok s
+counts_again : (id : ℕ) (a b d e : List ℕ) (counts : Option (List ℕ)) (files : Files) → IfSome counts (λ bytes. files (Segment id Counts) ≡ Some bytes)
+    → bytes_if_listed id (file_of Counts (file_meta Terms a ∷ file_meta Postings b ∷ file_meta Positions d ∷ file_meta FieldNorms e ∷ listed_counts counts)) files ≡ Ok counts
+unfolding bytes_if_listed
+counts_again id a b d e None files there = refl
+counts_again id a b d e (Some bytes) files there = rw (read_back id Counts bytes (files (Segment id Counts)) there) refl
+
+no_flags : (a b d e : List ℕ) (counts : Option (List ℕ)) → alive_file (file_meta Terms a ∷ file_meta Postings b ∷ file_meta Positions d ∷ file_meta FieldNorms e ∷ listed_counts counts) ≡ None
+no_flags a b d e None = refl
+no_flags a b d e (Some bytes) = refl
+
+all_living : (n : ℕ) → num_living (replicate n true) ≡ n
+all_living n = sum_by-replicate (λ (b : Bool). if b then 1 else 0) n true ∙ omega arith
+
+flags_again : (s : SegmentState) → s.num_living ≡ s.num_docs → (files : Files) → flags_with s None files ≡ Ok (replicate s.num_docs true)
+unfolding flags_with
+flags_again s all files = rw (all_living s.num_docs, eq-eqb s.num_docs s.num_living (sym all)) refl
+
+segment_again : (id : ℕ) (s : SegmentContents) (files : Files) → s.alive ≡ replicate s.num_docs true → HasSegment id s files → segment_in (listed_segment id s) files ≡ Ok s
 unfolding segment_in bytes_of_component
-segment_again id s files there =
+segment_again id s files all there =
     rw (
-      eq-eqb s.num_docs s.num_docs refl,
       read_back id Terms s.terms (files (Segment id Terms)) there.terms,
       read_back id Postings s.postings (files (Segment id Postings)) there.postings,
       read_back id Positions s.positions (files (Segment id Positions)) there.positions,
       read_back id FieldNorms s.fieldnorms (files (Segment id FieldNorms)) there.fieldnorms,
-    ) refl
+      counts_again id s.terms s.postings s.positions s.fieldnorms s.counts files there.counts,
+      no_flags s.terms s.postings s.positions s.fieldnorms s.counts,
+      flags_again (listed_segment id s) refl files,
+    ) (ap (λ (alive : List Bool). Ok (record s { alive = alive })) (sym all))
 
 one_more : (r : Result SegmentContents IndexFault) (rs : Result (List SegmentContents) IndexFault) (z : SegmentContents)
     → (r >>= λ f. (rs >>= λ cs. Ok (cs ++ z ∷ [])) >>= λ os. Ok (f ∷ os)) ≡ ((r >>= λ f. rs >>= λ os. Ok (f ∷ os)) >>= λ cs. Ok (cs ++ z ∷ []))
@@ -201,14 +270,14 @@ with_more : (schema : List ℕ) (rs : Result (List SegmentContents) IndexFault) 
 with_more schema (Ok cs) z = refl
 with_more schema (Err fault) z = refl
 
-list_more : (m : MetaState) (s : SegmentContents) (files : Files) → HasSegment m.next_segment_id s files → list_contents (next_list m s) files ≡ with_segment s (list_contents m files)
+list_more : (m : MetaState) (s : SegmentContents) (files : Files) → s.alive ≡ replicate s.num_docs true → HasSegment m.next_segment_id s files → list_contents (next_list m s) files ≡ with_segment s (list_contents m files)
 unfolding list_contents
-list_more m s files there =
-    rw (segments_more m.segments (listed_segment m.next_segment_id s) files s (segment_again m.next_segment_id s files there)) (with_more m.schema (all_contents m.segments files) s)
+list_more m s files all there =
+    rw (segments_more m.segments (listed_segment m.next_segment_id s) files s (segment_again m.next_segment_id s files all there)) (with_more m.schema (all_contents m.segments files) s)
 
 -- a commit
 
-module _ (m : MetaState) (s : SegmentContents) (old : Files) (below : list_all (is_segment m.next_segment_id) m.segments ≡ true) where
+module _ (m : MetaState) (s : SegmentContents) (old : Files) (below : HaveIdsBelow m.next_segment_id m.segments) (all : s.alive ≡ replicate s.num_docs true) where
   committed_below : (c : Files) → IsCommitted m.next_segment_id (next_list m s) s old c → KeepsBelow m.next_segment_id old c
   committed_below c done i component lt = done.keeps (Segment i component) (λ other e. omega (arith, lt, name_id_of i component other e)) (λ e. absurd cc) (λ e. absurd cc)
     where
@@ -220,7 +289,7 @@ module _ (m : MetaState) (s : SegmentContents) (old : Files) (below : list_all (
   unfolding list_contents
   committed_contents c done =
       let again = segments_same m.next_segment_id m.next_segment_id m.segments old c (omega arith) (committed_below c done) below in
-      listed_contents (next_list m s) c done.meta ∙ list_more m s c done.there
+      listed_contents (next_list m s) c done.meta ∙ list_more m s c all done.there
       ∙ ap (λ (r : Result (List SegmentContents) IndexFault). with_segment s (r >>= λ segments. Ok (record { schema = m.schema; segments = segments }))) again
 
 uncommitted_same : (id : ℕ) (old c : Files) → KeepsUncommitted id old c → SameBelow id old c
@@ -233,9 +302,9 @@ uncommitted_same id old c keeps = record {
     id_of : (i : ℕ) (component other : SegmentComponent) → Segment i component ≡ Segment id other → i ≡ id
     id_of i component other e = cc
 
-pub may_hold : (m : MetaState) (s : SegmentContents) (old c : Files) → list_all (is_segment m.next_segment_id) m.segments ≡ true → IsFresh m.next_segment_id old → MayBeCommitted m.next_segment_id (next_list m s) s old c
+pub may_hold : (m : MetaState) (s : SegmentContents) (old c : Files) → HaveIdsBelow m.next_segment_id m.segments → s.alive ≡ replicate s.num_docs true → IsFresh m.next_segment_id old → MayBeCommitted m.next_segment_id (next_list m s) s old c
     → HoldsOldOr (with_segment s (list_contents m old)) old c
-may_hold m s old c below fresh may = ⊎_elim (λ kept. inl (same_contents m.next_segment_id old c (uncommitted_same m.next_segment_id old c kept) fresh)) (λ done. inr (committed_contents m s old below c done)) may
+may_hold m s old c below all fresh may = ⊎_elim (λ kept. inl (same_contents m.next_segment_id old c (uncommitted_same m.next_segment_id old c kept) fresh)) (λ done. inr (committed_contents m s old below all c done)) may
 
 -- the same files hold the same index
 
@@ -249,6 +318,11 @@ below_next r m e = omega (arith, ap next_of e)
 contents_same : (a c : Files) → Same a c → index_contents c ≡ index_contents a
 contents_same a c same =
     same_contents (next_of (list_in (a Meta))) a c (record { meta = same Meta; slots = λ slot kind. same (File slot kind); segments = λ i component lt. same (Segment i component) }) (below_next (list_in (a Meta)))
+
+-- the same files of segments and slots hold the same index
+pub meta_same_contents : (a c : Files) → c Meta ≡ a Meta → ((slot : Slot) (kind : Kind) → c (File slot kind) ≡ a (File slot kind)) → ((i : ℕ) (component : SegmentComponent) → c (Segment i component) ≡ a (Segment i component)) → index_contents c ≡ index_contents a
+meta_same_contents a c meta slots segments =
+    same_contents (next_of (list_in (a Meta))) a c (record { meta = meta; slots = slots; segments = λ i component lt. segments i component }) (below_next (list_in (a Meta)))
 
 module _ {D : Type 0} (moment : D → ℕ) (left_since : D → ℕ → Files → Type 0) (seen : D → Files) (old : D) where
   -- what a run leaves that holds the old index or the wanted one
@@ -264,11 +338,11 @@ module _ {D : Type 0} (moment : D → ℕ) (left_since : D → ℕ → Files →
   holds_none wanted = elapses_none moment left_since old (HoldsOldOr wanted (seen old))
 
   -- a segment was committed, or not
-  pub commit_time : (m : MetaState) (s : SegmentContents) (new : D) → list_all (is_segment m.next_segment_id) m.segments ≡ true → IsFresh m.next_segment_id (seen old)
+  pub commit_time : (m : MetaState) (s : SegmentContents) (new : D) → HaveIdsBelow m.next_segment_id m.segments → s.alive ≡ replicate s.num_docs true → IsFresh m.next_segment_id (seen old)
       → Elapses (moment old) (moment new) (left_since old) (left_since new) (MayBeCommitted m.next_segment_id (next_list m s) s (seen old))
       → Elapses (moment old) (moment new) (left_since old) (left_since new) (HoldsOldOr (with_segment s (list_contents m (seen old))) (seen old))
-  commit_time m s new below fresh time = elapses_implies moment left_since old new (MayBeCommitted m.next_segment_id (next_list m s) s (seen old)) (HoldsOldOr (with_segment s (list_contents m (seen old))) (seen old)) time
-      (λ c may. may_hold m s (seen old) c below fresh may)
+  commit_time m s new below all fresh time = elapses_implies moment left_since old new (MayBeCommitted m.next_segment_id (next_list m s) s (seen old)) (HoldsOldOr (with_segment s (list_contents m (seen old))) (seen old)) time
+      (λ c may. may_hold m s (seen old) c below all fresh may)
 
 -- an index of version 1
 
@@ -333,7 +407,5 @@ unfolding list_contents all_contents
 empty_contents schema none files e = rw e refl
 
 -- an index of version 1 and a list of its one segment hold the same
-pub first_same : (schema : List ℕ) (none : List SegmentMeta) (s : SegmentContents) (i : Index) (files : Files) → none ≡ [] → i ≡ as_index schema s → index_of files ≡ Ok i
-    → with_segment s (list_contents (empty_list schema none) files) ≡ index_contents files
-first_same schema none s i files e is found =
-    ap (with_segment s) (empty_contents schema none files e) ∙ sym (first_contents (as_index schema s) files (found ∙ ap (λ (x : Index). Ok x) is))
+pub first_same : (none : List SegmentMeta) (i : Index) (files : Files) → none ≡ [] → index_of files ≡ Ok i → with_segment (only_segment i) (list_contents (empty_list i.schema none) files) ≡ index_contents files
+first_same none i files e found = ap (with_segment (only_segment i)) (empty_contents i.schema none files e) ∙ sym (first_contents i files found)

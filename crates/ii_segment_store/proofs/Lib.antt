@@ -3,3 +3,5 @@ mod PutLaws
 mod CommitLaws
 mod ClearLaws
 mod WorkedRows
+pub mod ChangeLaws
+pub mod ListLaws

@@ -1,6 +1,7 @@
 -- How segments and their files are read one after the other.
-use Rattle.std.proofs.Common.{◌≡◌, ℕ, suc, ◌+◌, ◌<◌, ◌≤◌, false, true, List, [], ◌∷◌, ◌++◌, length, get_or, drop, Some, None, Result, Ok, Err, refl, sym, ap, subst, ◌∙◌, append-nil, append_assoc, arith}
+use Rattle.std.proofs.Common.{◌≡◌, ℕ, suc, ◌+◌, Bool, ◌<◌, ◌≤◌, false, true, List, [], ◌∷◌, ◌++◌, length, get_or, drop, Some, None, Result, Ok, Err, refl, sym, ap, subst, ◌∙◌, append-nil, append_assoc, arith}
 use Rattle.std.specs.Prelude.{map}
+use Rattle.std.specs.List.{find}
 use Rattle.std.proofs.Math.Seq.{drop-cons}
 use Rattle.std.proofs.lemmas.List.{drop_all}
 use Rattle.ii_store.specs.declared.faults.IndexFault.{IndexFault}
@@ -8,26 +9,24 @@ use Rattle.ii_store.specs.declared.faults.StoreFault.{StoreFault}
 use Rattle.ii_store.specs.declared.faults.StoreFault.TheVariants as faults
 use Rattle.ii_store.specs.declared.index_meta.FileMeta.{FileMeta}
 use Rattle.ii_store.specs.declared.index_meta.SegmentMeta.{SegmentMeta}
-use Rattle.ii_directory.specs.declared.name.SegmentComponent.{SegmentComponent}
 use Rattle.ii_directory.specs.Directory.{Files}
 use Rattle.ii_store.specs.Index.{◌>>=◌, Fails}
 use Rattle.ii_store.specs.IndexMeta.{segment_view}
-use Rattle.ii_directory.specs.Names.{same_component}
-use Rattle.ii_segment_store.specs.Contents.{SegmentContents, file_of, segment_in, all_contents}
+use Rattle.ii_segment_store.specs.Contents.{SegmentContents, segment_in, all_contents}
 use Rattle.ii_store.proofs.Steps.{stops}
 
--- a file of a component among those from an index on
+-- the first file with a property among those from an index on
 
-pub other_file : (component : SegmentComponent) (fs : List FileMeta) (i : ℕ) (d : FileMeta) → i < length fs → same_component (get_or fs i d).component component ≡ false → file_of component (drop (i + 1) fs) ≡ file_of component (drop i fs)
-other_file component fs i d lt differs =
+pub other_file : (p : FileMeta → Bool) (fs : List FileMeta) (i : ℕ) (d : FileMeta) → i < length fs → p (get_or fs i d) ≡ false → find p (drop (i + 1) fs) ≡ find p (drop i fs)
+other_file p fs i d lt differs =
     let next : i + 1 ≡ suc i = omega arith in
-    ap (λ (n : ℕ). file_of component (drop n fs)) next ∙ sym (ap (file_of component) (drop-cons fs i d lt) ∙ rw differs refl)
+    ap (λ (n : ℕ). find p (drop n fs)) next ∙ sym (ap (find p) (drop-cons fs i d lt) ∙ rw differs refl)
 
-pub that_file : (component : SegmentComponent) (fs : List FileMeta) (i : ℕ) (d : FileMeta) → i < length fs → same_component (get_or fs i d).component component ≡ true → file_of component (drop i fs) ≡ Some (get_or fs i d)
-that_file component fs i d lt same = ap (file_of component) (drop-cons fs i d lt) ∙ rw same refl
+pub that_file : (p : FileMeta → Bool) (fs : List FileMeta) (i : ℕ) (d : FileMeta) → i < length fs → p (get_or fs i d) ≡ true → find p (drop i fs) ≡ Some (get_or fs i d)
+that_file p fs i d lt same = ap (find p) (drop-cons fs i d lt) ∙ rw same refl
 
-pub no_file : (component : SegmentComponent) (fs : List FileMeta) (i : ℕ) → length fs ≤ i → file_of component (drop i fs) ≡ None
-no_file component fs i le = ap (file_of component) (drop_all i fs le)
+pub no_file : (p : FileMeta → Bool) (fs : List FileMeta) (i : ℕ) → length fs ≤ i → find p (drop i fs) ≡ None
+no_file p fs i le = ap (find p) (drop_all i fs le)
 
 -- the segments before some others, and these
 pub with_front : List SegmentContents → Result (List SegmentContents) IndexFault → Result (List SegmentContents) IndexFault

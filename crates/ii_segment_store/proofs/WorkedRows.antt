@@ -1,16 +1,16 @@
 -- What segments and lists hold, computed on examples.
 use Rattle.std.proofs.Common.{◌≡◌, ℕ, List, [], ◌∷◌, Option, None, Some, Ok, Err, refl}
-use Rattle.std.specs.Prelude.{Result}
+use Rattle.std.specs.Prelude.{Bool, Result, replicate, true, false}
 use Rattle.ii_store.specs.declared.faults.IndexFault.{IndexFault}
 use Rattle.ii_store.specs.declared.faults.IndexFault.TheVariants.{DeletedDocuments, MissingFile}
 use Rattle.ii_store.specs.declared.index_meta.FileMeta.{FileMeta}
 use Rattle.ii_directory.specs.declared.name.SegmentComponent.{SegmentComponent}
-use Rattle.ii_directory.specs.declared.name.SegmentComponent.TheVariants.{FieldNorms, Positions, Postings, Terms}
+use Rattle.ii_directory.specs.declared.name.SegmentComponent.TheVariants.{Alive, FieldNorms, Positions, Postings, Terms}
 use Rattle.ii_directory.specs.Directory.{Files}
 use Rattle.ii_store.specs.IndexMeta.{MetaState, SegmentState}
 use Rattle.ii_segment_store.specs.Commits.{listed_segment, next_list}
 use Rattle.ii_store.specs.Segments.{listed_bytes}
-use Rattle.ii_segment_store.specs.Contents.{IndexContents, SegmentContents, file_of, bytes_of_component, segment_in, with_segment}
+use Rattle.ii_segment_store.specs.Contents.{IndexContents, SegmentContents, alive_file, bytes_of_component, file_of, fitting_flags, flags_in, flags_with, segment_in, with_segment}
 
 abbrev no_files : Files
 no_files name = None
@@ -29,7 +29,7 @@ no_file = None
 unlisted_norms : file_of FieldNorms (file Terms ∷ file Postings ∷ []) ≡ no_file
 unlisted_norms = refl
 
--- a segment with a deleted document, one whose list has no terms, and one whose file of terms isn't there
+-- a segment with a deleted document but without flags, one whose list has no terms, and one whose file of terms isn't there
 
 abbrev segment : ℕ → List FileMeta → SegmentState
 segment living files = record { id = 7; num_docs = 2; num_living = living; files = files }
@@ -37,9 +37,30 @@ segment living files = record { id = 7; num_docs = 2; num_living = living; files
 abbrev refused : IndexFault → Result SegmentContents IndexFault
 refused fault = Err fault
 
-deleted : segment_in (segment 1 (file Terms ∷ [])) no_files ≡ refused (DeletedDocuments 7)
-unfolding segment_in
+abbrev known : List Bool → Result (List Bool) IndexFault
+known alive = Ok alive
+
+abbrev unknown : Result (List Bool) IndexFault
+unknown = Err (DeletedDocuments 7)
+
+deleted : flags_in (segment 1 (file Terms ∷ [])) no_files ≡ unknown
+unfolding flags_with
 deleted = refl
+
+all_alive : flags_in (segment 2 (file Terms ∷ [])) no_files ≡ known (true ∷ true ∷ [])
+unfolding flags_with
+all_alive = refl
+
+-- flags with one living document are those of a segment that has one, and of no other
+fits : fitting_flags (segment 1 []) (Some (true ∷ false ∷ [])) ≡ known (true ∷ false ∷ [])
+fits = refl
+
+does_not_fit : fitting_flags (segment 2 []) (Some (true ∷ false ∷ [])) ≡ unknown
+does_not_fit = refl
+
+-- the file of flags is found whatever its generation
+flags_of_three : alive_file (file Terms ∷ file (Alive 3) ∷ []) ≡ Some (file (Alive 3))
+flags_of_three = refl
 
 no_terms : segment_in (segment 2 (file Postings ∷ [])) no_files ≡ refused (MissingFile 7 Terms)
 unfolding segment_in bytes_of_component
@@ -52,7 +73,7 @@ no_file_of_terms = refl
 -- a segment more: the ids and generations rise by one, and it comes last
 
 abbrev words : ℕ → SegmentContents
-words n = record { num_docs = n; terms = n ∷ []; postings = []; positions = []; fieldnorms = [] }
+words n = record { num_docs = n; terms = n ∷ []; postings = []; positions = []; fieldnorms = []; counts = None; alive = replicate n true }
 
 abbrev list : ℕ → List SegmentState → MetaState
 list number segments = record { generation = number; next_segment_id = number; schema = 9 ∷ []; segments = segments }

@@ -1,13 +1,15 @@
 -- What a commit of a segment leaves, wherever it is stopped.
-use Rattle.std.specs.Prelude.{◌≡◌, ◌⊎◌, ℕ, ◌+◌, ◌≤◌, [], ◌∷◌, ◌++◌, Result, Ok, Err, None, Some}
+use Rattle.std.specs.Prelude.{◌≡◌, ◌⊎◌, ℕ, ◌+◌, ◌<◌, ◌≤◌, List, [], ◌∷◌, ◌++◌, IfSome, Option, Result, Ok, Err, None, Some}
+use Rattle.std.specs.List.{AllByRecursion}
 use Rattle.ii_store.specs.declared.faults.IndexFault.{IndexFault}
+use Rattle.ii_store.specs.declared.index_meta.FileMeta.{FileMeta}
 use Rattle.ii_directory.specs.declared.name.Kind.{Kind}
 use Rattle.ii_directory.specs.declared.name.Kind.TheVariants as kinds
 use Rattle.ii_directory.specs.declared.name.Name.{Name}
 use Rattle.ii_directory.specs.declared.name.Name.TheVariants.{File, Meta, NewMeta, Segment}
 use Rattle.ii_directory.specs.declared.name.SegmentComponent.{SegmentComponent}
 use Rattle.ii_directory.specs.declared.name.Slot.{Slot}
-use Rattle.ii_directory.specs.declared.name.SegmentComponent.TheVariants.{FieldNorms, Positions, Postings, Terms}
+use Rattle.ii_directory.specs.declared.name.SegmentComponent.TheVariants.{Counts, FieldNorms, Positions, Postings, Terms}
 use Rattle.ii_directory.specs.Directory.{Elapses, Files}
 use Rattle.ii_store.specs.Index.{Fails}
 use Rattle.ii_store.specs.IndexMeta.{IsValidMeta, MetaState, SegmentState, file_meta}
@@ -16,13 +18,18 @@ use Rattle.ii_segment_store.specs.declared.faults.CommitFault.{CommitFault}
 use Rattle.ii_segment_store.specs.declared.faults.CommitFault.TheVariants as faults
 use Rattle.ii_segment_store.specs.Contents.{IndexContents, SegmentContents, index_contents}
 
+-- a file of counts, as `meta` lists it
+abbrev pub listed_counts : Option (List ℕ) → List FileMeta
+listed_counts None = []
+listed_counts (Some bytes) = file_meta Counts bytes ∷ []
+
 -- a segment, as `meta` lists it
 abbrev pub listed_segment : ℕ → SegmentContents → SegmentState
 listed_segment id s = record {
   id = id;
   num_docs = s.num_docs;
   num_living = s.num_docs;
-  files = file_meta Terms s.terms ∷ file_meta Postings s.postings ∷ file_meta Positions s.positions ∷ file_meta FieldNorms s.fieldnorms ∷ [];
+  files = file_meta Terms s.terms ∷ file_meta Postings s.postings ∷ file_meta Positions s.positions ∷ file_meta FieldNorms s.fieldnorms ∷ listed_counts s.counts;
 }
 
 -- the next list, with one segment more under the next id
@@ -33,6 +40,10 @@ next_list m s = record {
   schema = m.schema;
   segments = m.segments ++ listed_segment m.next_segment_id s ∷ [];
 }
+
+-- The ids of segments are below the next one.
+abbrev pub HaveIdsBelow : ℕ → List SegmentState → Type 0
+HaveIdsBelow next ss = AllByRecursion (λ (s : SegmentState). s.id < next) ss
 
 -- No file of the current list has this id or a greater one.
 abbrev pub IsFresh : ℕ → Files → Type 0
@@ -52,6 +63,7 @@ pub record HasSegment (id : ℕ) (s : SegmentContents) (files : Files) : Type 0 
   pub postings : files (Segment id Postings) ≡ Some s.postings
   pub positions : files (Segment id Positions) ≡ Some s.positions
   pub fieldnorms : files (Segment id FieldNorms) ≡ Some s.fieldnorms
+  pub counts : IfSome s.counts (λ bytes. files (Segment id Counts) ≡ Some bytes)
 
 -- all files are the same, but those of one segment and the next `meta`
 abbrev pub KeepsUncommitted : ℕ → Files → Files → Type 0
@@ -70,6 +82,7 @@ MayBeCommitted id m s old new = KeepsUncommitted id old new ⊎ IsCommitted id m
 -- Why a segment isn't added to a list: there is no list, or it would hold too much.
 abbrev pub IsCommitFault : CommitFault → Result MetaState IndexFault → SegmentContents → Type 0
 IsCommitFault (faults.Store fault) wanted s = Fails fault wanted
+IsCommitFault (faults.NoCounts id) wanted s = ⊥
 IsCommitFault faults.TooMany (Ok m) s = IsValidMeta (next_list m s) → ⊥
 IsCommitFault faults.TooMany (Err fault) s = ⊥
 

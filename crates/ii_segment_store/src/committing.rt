@@ -1,16 +1,15 @@
 //! Adds a segment to an index, so that a stop leaves the old index or the new one.
-ghost use Rattle.std.specs.Prelude.{◌≡◌, true, IfErr, IfOk, Ok, OnOk};
-ghost use Rattle.std.specs.List.{list_all};
+ghost use Rattle.std.specs.Prelude.{◌≡◌, IfErr, IfOk, Ok, OnOk};
 ghost use Rattle.ii_directory.specs.declared.name.Name.TheVariants.{Meta};
 ghost use Rattle.ii_directory.specs.Directory.{Elapses};
 ghost use Rattle.ii_store.specs.Index.{index_of, view};
-ghost use Rattle.ii_store.specs.IndexMeta.{IsValidMeta, is_segment, meta_view, segment_view};
+ghost use Rattle.ii_store.specs.IndexMeta.{IsValidMeta, meta_view, segment_view};
 ghost use Rattle.ii_store.specs.Segments.{list_in};
-ghost use Rattle.ii_segment_store.specs.Commits.{HasList, HasSegment, HoldsOldOr, IsCommitFault, IsCommitted, IsFresh, KeepsButSegment, LeavesOneIndex, MayBeCommitted, listed_segment, next_list};
-ghost use Rattle.ii_segment_store.specs.Contents.{index_contents, list_contents, segment_contents, with_segment};
+ghost use Rattle.ii_segment_store.specs.Commits.{HasList, HasSegment, HaveIdsBelow, HoldsOldOr, IsCommitFault, IsCommitted, IsFresh, KeepsButSegment, LeavesOneIndex, MayBeCommitted, listed_segment, next_list};
+ghost use Rattle.ii_segment_store.specs.Contents.{index_contents, list_contents, files_contents, with_segment};
 
 use crate::faults::CommitFault;
-use crate::stored_segments::StoredSegment;
+use crate::stored_segments::SegmentFiles;
 use ii_store::commit_check::is_valid;
 use ii_store::segments::{load_meta, replace_list};
 use ii_store::{
@@ -32,12 +31,12 @@ use std::alloc::{AllocError, Global};
 pub fn append_segment<D: Directory>(
     alloc: Global,
     directory: &mut D,
-    segment: &StoredSegment,
+    segment: &SegmentFiles,
 ) -> Result<(), CommitFault>
     ensures known { D.is_known directory.old → OnOk result (D.is_known directory.new) }
-    ensures appended { D.is_known directory.old → OnOk result (index_contents (D.seen directory.new) ≡ with_segment (segment_contents segment.now) (index_contents (D.seen directory.old))) }
-    ensures leaves_one { D.is_known directory.old → LeavesOneIndex D.moment D.left_since D.seen directory.old directory.new (with_segment (segment_contents segment.now) (index_contents (D.seen directory.old))) }
-    ensures fault { D.is_known directory.old → IfErr result (λ e. IsCommitFault e (list_in (D.seen directory.old Meta)) (segment_contents segment.now)) }
+    ensures appended { D.is_known directory.old → OnOk result (index_contents (D.seen directory.new) ≡ with_segment (files_contents segment.now) (index_contents (D.seen directory.old))) }
+    ensures leaves_one { D.is_known directory.old → LeavesOneIndex D.moment D.left_since D.seen directory.old directory.new (with_segment (files_contents segment.now) (index_contents (D.seen directory.old))) }
+    ensures fault { D.is_known directory.old → IfErr result (λ e. IsCommitFault e (list_in (D.seen directory.old Meta)) (files_contents segment.now)) }
 {
     let list = match load_meta(alloc, directory) {
         Ok(list) => list,
@@ -102,12 +101,13 @@ fn upgrade_from<D: Directory>(
         schema,
         segments: Vec::new(alloc),
     };
-    let segment = StoredSegment {
+    let segment = SegmentFiles {
         num_docs,
         terms,
         postings,
         positions,
         fieldnorms,
+        counts: None,
     };
     let committed = commit_segment(alloc, directory, list, &segment);
     drop(segment);
@@ -115,19 +115,17 @@ fn upgrade_from<D: Directory>(
 }
 
 // Writes a segment, and puts the list with it at its end in the place of the current one.
-fn commit_segment<D: Directory>(
+pub(crate) fn commit_segment<D: Directory>(
     alloc: Global,
     directory: &mut D,
     list: IndexMeta,
-    segment: &StoredSegment,
+    segment: &SegmentFiles,
 ) -> Result<(), CommitFault>
-    requires fresh { D.is_known directory.old → IsFresh list.next_segment_id (D.seen directory.old) }
-    requires below { D.is_known directory.old → list_all (is_segment list.next_segment_id) (meta_view list).segments ≡ true }
     ensures known { D.is_known directory.old → OnOk result (D.is_known directory.new) }
-    ensures committed { D.is_known directory.old → OnOk result (index_contents (D.seen directory.new) ≡ with_segment (segment_contents segment.now) (list_contents (meta_view list) (D.seen directory.old))) }
-    ensures listed { D.is_known directory.old → OnOk result (list_in (D.seen directory.new Meta) ≡ Ok (next_list (meta_view list) (segment_contents segment.now))) }
-    ensures time { D.is_known directory.old → Elapses (D.moment directory.old) (D.moment directory.new) (D.left_since directory.old) (D.left_since directory.new) (HoldsOldOr (with_segment (segment_contents segment.now) (list_contents (meta_view list) (D.seen directory.old))) (D.seen directory.old)) }
-    ensures fault { IfErr result (λ e. IsCommitFault e (Ok (meta_view list)) (segment_contents segment.now)) }
+    ensures committed { D.is_known directory.old → HaveIdsBelow list.next_segment_id (meta_view list).segments → OnOk result (index_contents (D.seen directory.new) ≡ with_segment (files_contents segment.now) (list_contents (meta_view list) (D.seen directory.old))) }
+    ensures listed { D.is_known directory.old → OnOk result (list_in (D.seen directory.new Meta) ≡ Ok (next_list (meta_view list) (files_contents segment.now))) }
+    ensures time { D.is_known directory.old → IsFresh list.next_segment_id (D.seen directory.old) → HaveIdsBelow list.next_segment_id (meta_view list).segments → Elapses (D.moment directory.old) (D.moment directory.new) (D.left_since directory.old) (D.left_since directory.new) (HoldsOldOr (with_segment (files_contents segment.now) (list_contents (meta_view list) (D.seen directory.old))) (D.seen directory.old)) }
+    ensures fault { IfErr result (λ e. IsCommitFault e (Ok (meta_view list)) (files_contents segment.now)) }
 {
     let id = list.next_segment_id;
     let next = match with_listed(alloc, list, segment) {
@@ -144,11 +142,11 @@ fn commit_segment<D: Directory>(
 fn with_listed(
     alloc: Global,
     list: IndexMeta,
-    segment: &StoredSegment,
+    segment: &SegmentFiles,
 ) -> Result<IndexMeta, CommitFault>
-    ensures next { IfOk result (λ m. meta_view m ≡ next_list (meta_view list) (segment_contents segment.now)) }
+    ensures next { IfOk result (λ m. meta_view m ≡ next_list (meta_view list) (files_contents segment.now)) }
     ensures valid { IfOk result (λ m. IsValidMeta (meta_view m)) }
-    ensures fault { IfErr result (λ e. IsCommitFault e (Ok (meta_view list)) (segment_contents segment.now)) }
+    ensures fault { IfErr result (λ e. IsCommitFault e (Ok (meta_view list)) (files_contents segment.now)) }
 {
     let mut next = list;
     if next.generation == u64::MAX {
@@ -171,15 +169,18 @@ fn with_listed(
 fn listed_segment(
     alloc: Global,
     id: SegmentId,
-    segment: &StoredSegment,
+    segment: &SegmentFiles,
 ) -> Result<SegmentMeta, AllocError>
-    ensures { IfOk result (λ s. segment_view s ≡ listed_segment id (segment_contents segment.now)) }
+    ensures { IfOk result (λ s. segment_view s ≡ listed_segment id (files_contents segment.now)) }
 {
     let mut files = Vec::new(alloc);
     files.push(FileMeta::new(SegmentComponent::Terms, segment.terms.as_slice()))?;
     files.push(FileMeta::new(SegmentComponent::Postings, segment.postings.as_slice()))?;
     files.push(FileMeta::new(SegmentComponent::Positions, segment.positions.as_slice()))?;
     files.push(FileMeta::new(SegmentComponent::FieldNorms, segment.fieldnorms.as_slice()))?;
+    if let Some(counts) = &segment.counts {
+        files.push(FileMeta::new(SegmentComponent::Counts, counts.as_slice()))?;
+    }
     Ok(SegmentMeta {
         id,
         num_docs: segment.num_docs,
@@ -194,12 +195,12 @@ fn put_segment<D: Directory>(
     directory: &mut D,
     id: SegmentId,
     list: &IndexMeta,
-    segment: &StoredSegment,
+    segment: &SegmentFiles,
 ) -> Result<(), DirectoryFault>
     requires { IsValidMeta (meta_view list.now) }
     ensures known { D.is_known directory.old → OnOk result (D.is_known directory.new) }
-    ensures committed { D.is_known directory.old → OnOk result (IsCommitted id (meta_view list.now) (segment_contents segment.now) (D.seen directory.old) (D.seen directory.new)) }
-    ensures time { D.is_known directory.old → Elapses (D.moment directory.old) (D.moment directory.new) (D.left_since directory.old) (D.left_since directory.new) (MayBeCommitted id (meta_view list.now) (segment_contents segment.now) (D.seen directory.old)) }
+    ensures committed { D.is_known directory.old → OnOk result (IsCommitted id (meta_view list.now) (files_contents segment.now) (D.seen directory.old) (D.seen directory.new)) }
+    ensures time { D.is_known directory.old → Elapses (D.moment directory.old) (D.moment directory.new) (D.left_since directory.old) (D.left_since directory.new) (MayBeCommitted id (meta_view list.now) (files_contents segment.now) (D.seen directory.old)) }
 {
     write_segment(directory, id, segment)?;
     replace_list(alloc, directory, list)
@@ -209,10 +210,10 @@ fn put_segment<D: Directory>(
 fn write_segment<D: Directory>(
     directory: &mut D,
     id: SegmentId,
-    segment: &StoredSegment,
+    segment: &SegmentFiles,
 ) -> Result<(), DirectoryFault>
     ensures known { D.is_known directory.old → OnOk result (D.is_known directory.new) }
-    ensures there { D.is_known directory.old → OnOk result (HasSegment id (segment_contents segment.now) (D.seen directory.new)) }
+    ensures there { D.is_known directory.old → OnOk result (HasSegment id (files_contents segment.now) (D.seen directory.new)) }
     ensures keeps { D.is_known directory.old → OnOk result (KeepsButSegment id (D.seen directory.old) (D.seen directory.new)) }
     ensures time { D.is_known directory.old → Elapses (D.moment directory.old) (D.moment directory.new) (D.left_since directory.old) (D.left_since directory.new) (KeepsButSegment id (D.seen directory.old)) }
 {
@@ -231,5 +232,12 @@ fn write_segment<D: Directory>(
     directory.write(
         Name::Segment(id, SegmentComponent::FieldNorms),
         segment.fieldnorms.as_slice(),
-    )
+    )?;
+    match &segment.counts {
+        Some(counts) => directory.write(
+            Name::Segment(id, SegmentComponent::Counts),
+            counts.as_slice(),
+        ),
+        None => Ok(()),
+    }
 }

@@ -4,12 +4,14 @@
 
 pub mod clearing;
 pub mod committing;
+pub mod deleting;
 pub mod faults;
 pub mod loading;
 pub mod stored_segments;
 
 pub use clearing::remove_slots;
 pub use committing::{append_segment, upgrade};
+pub use deleting::commit_changes;
 pub use faults::CommitFault;
 pub use loading::{load_latest, load_segments};
-pub use stored_segments::{StoredSegment, StoredSegments};
+pub use stored_segments::{SegmentFiles, StoredSegment, StoredSegments};

@@ -1,12 +1,16 @@
 //! Loads all segments of an index.
-ghost use Rattle.std.specs.Prelude.{◌≡◌, IfErr, IfOk, map};
+ghost use Rattle.std.specs.Prelude.{◌≡◌, IfErr, IfOk, Some, map, replicate, true};
+ghost use Rattle.std.specs.Option.{option_map};
 ghost use Rattle.ii_store.specs.Faults.{of_directory};
 ghost use Rattle.ii_directory.specs.declared.faults.DirectoryFault.TheVariants.{OutOfMemory};
 ghost use Rattle.ii_store.specs.Index.{AnswersFromFiles, view};
 ghost use Rattle.ii_store.specs.IndexMeta.{segment_view, meta_view};
-ghost use Rattle.ii_segment_store.specs.Contents.{component_bytes, index_contents, contents_at, contents_view, file_of, list_contents, one_segment, segment_contents, segment_in, all_contents};
+ghost use Rattle.ii_segment_store.specs.Contents.{alive_file, all_contents, bytes_if_listed, component_bytes, contents_at, contents_view, contents_with, counts_bytes, file_of, fitting_flags, flags_in, flags_with, index_contents, list_contents, one_segment, segment_contents, segment_in};
+ghost use Rattle.ii_alive.specs.AliveBytes.{alive_of};
 
-use crate::stored_segments::{StoredSegment, StoredSegments};
+use crate::faults::{flags_fault, memory_fault};
+use crate::stored_segments::{SegmentFiles, StoredSegment, StoredSegments};
+use ii_alive::AliveBits;
 use ii_store::index_meta_reader::decode;
 use ii_store::meta::{VERSION, version_of};
 use ii_store::segments::load_segment_file;
@@ -19,12 +23,13 @@ use std::alloc::Global;
 // How often an index is read again while its list changes.
 const MOST_RETRIES: u32 = 10;
 
-/// Loads the index of a directory, of either version: its schema, and exactly the bytes of each segment. An
-/// index of version 1 is one segment.
+/// Loads the index of a directory, of either version: its schema, exactly the bytes of each segment, and which
+/// of its documents are alive. An index of version 1 is one segment.
 ///
 /// Returns `NoIndex` if there is no `meta`, and `OtherVersion` or `DamagedMeta` if it isn't a valid one.
 /// Otherwise returns the first fault of a file, segment by segment: missing, wrong length or wrong checksum;
-/// or `DeletedDocuments` for a segment with deleted documents.
+/// or `DeletedDocuments` if the flags aren't those of a segment's documents, or not as many are alive as `meta`
+/// says.
 #[tactic(auto, unfolding(crate::specs::Contents::index_contents, crate::specs::Contents::contents_in))]
 pub fn load_segments<D: Directory>(
     alloc: Global,
@@ -88,14 +93,17 @@ fn one_segment(alloc: Global, index: StoredIndex) -> Result<StoredSegments, Stor
         positions,
         fieldnorms,
     } = index;
-    let mut segments = Vec::new(alloc);
-    segments.push(StoredSegment {
+    let alive = all_alive(alloc, num_docs)?;
+    let files = SegmentFiles {
         num_docs,
         terms,
         postings,
         positions,
         fieldnorms,
-    })?;
+        counts: None,
+    };
+    let mut segments = Vec::new(alloc);
+    segments.push(StoredSegment { files, alive })?;
     Ok(StoredSegments { schema, segments })
 }
 
@@ -133,7 +141,7 @@ fn load_each<D: Directory>(
     Ok(segments)
 }
 
-// Loads the files of a segment.
+// Loads the files and flags of a segment.
 #[tactic(auto, unfolding(crate::specs::Contents::segment_in))]
 fn load_segment<D: Directory>(
     alloc: Global,
@@ -142,20 +150,89 @@ fn load_segment<D: Directory>(
 ) -> Result<StoredSegment, StoreFault>
     ensures { D.is_known directory.now → AnswersFromFiles segment_contents result (segment_in (segment_view segment.now) (D.seen directory.now)) }
 {
-    if segment.num_living != segment.num_docs {
-        return Err(StoreFault::Index(IndexFault::DeletedDocuments(segment.id)));
-    }
     let terms = load_file(alloc, directory, segment, SegmentComponent::Terms)?;
     let postings = load_file(alloc, directory, segment, SegmentComponent::Postings)?;
     let positions = load_file(alloc, directory, segment, SegmentComponent::Positions)?;
     let fieldnorms = load_file(alloc, directory, segment, SegmentComponent::FieldNorms)?;
+    let counts = load_counts(alloc, directory, segment)?;
+    let alive = load_flags(alloc, directory, segment)?;
     Ok(StoredSegment {
-        num_docs: segment.num_docs,
-        terms,
-        postings,
-        positions,
-        fieldnorms,
+        files: SegmentFiles {
+            num_docs: segment.num_docs,
+            terms,
+            postings,
+            positions,
+            fieldnorms,
+            counts,
+        },
+        alive,
     })
+}
+
+// Loads the file of counts of a segment, if it lists one.
+#[tactic(auto, unfolding(crate::specs::Contents::bytes_if_listed))]
+fn load_counts<D: Directory>(
+    alloc: Global,
+    directory: &D,
+    segment: &SegmentMeta,
+) -> Result<Option<Vec<u8>>, StoreFault>
+    ensures { D.is_known directory.now → AnswersFromFiles (option_map (λ v. v.items)) result (counts_bytes (segment_view segment.now) (D.seen directory.now)) }
+{
+    let Some(file) = file_of(segment.files.as_slice(), SegmentComponent::Counts) else {
+        return Ok(None);
+    };
+    match load_segment_file(alloc, directory, segment.id, &file) {
+        Ok(bytes) => Ok(Some(bytes)),
+        Err(fault) => Err(fault),
+    }
+}
+
+// Loads the flags of a segment's documents.
+#[tactic(auto, unfolding(crate::specs::Contents::flags_with))]
+pub(crate) fn load_flags<D: Directory>(
+    alloc: Global,
+    directory: &D,
+    segment: &SegmentMeta,
+) -> Result<AliveBits, StoreFault>
+    ensures { D.is_known directory.now → AnswersFromFiles (λ alive. alive) result (flags_in (segment_view segment.now) (D.seen directory.now)) }
+{
+    let Some(file) = alive_file(segment.files.as_slice()) else {
+        let alive = all_alive(alloc, segment.num_docs)?;
+        return fitting_flags(segment, alive);
+    };
+    let bytes = load_segment_file(alloc, directory, segment.id, &file)?;
+    open_flags(alloc, segment, bytes.as_slice())
+}
+
+// Opens the flags of a segment's documents.
+fn open_flags(alloc: Global, segment: &SegmentMeta, bytes: &[u8]) -> Result<AliveBits, StoreFault>
+    ensures { AnswersFromFiles (λ alive. alive) result (fitting_flags (segment_view segment.now) (alive_of segment.now.num_docs bytes.now)) }
+{
+    match AliveBits::open(alloc, segment.num_docs, bytes) {
+        Ok(alive) => fitting_flags(segment, alive),
+        Err(fault) => Err(flags_fault(segment.id, fault)),
+    }
+}
+
+// Returns the flags if they have as many living documents as the segment.
+fn fitting_flags(segment: &SegmentMeta, alive: AliveBits) -> Result<AliveBits, StoreFault>
+    ensures { AnswersFromFiles (λ alive. alive) result (fitting_flags (segment_view segment.now) (Some alive)) }
+{
+    if alive.num_living() != segment.num_living {
+        return Err(StoreFault::Index(IndexFault::DeletedDocuments(segment.id)));
+    }
+    Ok(alive)
+}
+
+// Returns flags of documents that are all alive.
+fn all_alive(alloc: Global, num_docs: u32) -> Result<AliveBits, StoreFault>
+    ensures all { IfOk result (λ alive. alive ≡ replicate num_docs true) }
+    ensures only { IfErr result (λ e. e ≡ of_directory OutOfMemory) }
+{
+    match AliveBits::full(alloc, num_docs) {
+        Ok(alive) => Ok(alive),
+        Err(fault) => Err(StoreFault::Directory(memory_fault(fault))),
+    }
 }
 
 // Loads the file of a component of a segment.
@@ -181,6 +258,18 @@ pub fn file_of(files: &[FileMeta], component: SegmentComponent) -> Option<FileMe
 {
     for file in files {
         if file.component.is_same(component) {
+            return Some(*file);
+        }
+    }
+    None
+}
+
+/// Returns the file of flags, if a segment lists one, of whatever generation.
+pub fn alive_file(files: &[FileMeta]) -> Option<FileMeta>
+    ensures { result ≡ alive_file files.now }
+{
+    for file in files {
+        if file.component.number() == 5 {
             return Some(*file);
         }
     }

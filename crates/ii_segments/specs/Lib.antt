@@ -1,3 +1,4 @@
 pub mod Documents
+pub mod HoldCounts
 pub mod SegmentLaws
 pub mod Segments

@@ -37,8 +37,9 @@ pub enum IndexFault {
     /// The checksum of a file of a segment differs from its checksum in `meta`.
     #[error("the file of {1} of segment {0} has another checksum than meta says")]
     WrongFileChecksum(SegmentId, SegmentComponent),
-    /// Some documents of a segment are deleted. Such a segment isn't loaded yet.
-    #[error("segment {0} has deleted documents, which are not read yet")]
+    /// The flags of a segment's deleted documents are missing, aren't those of its documents, or have another
+    /// number of living ones than `meta` says.
+    #[error("the flags of the deleted documents of segment {0} are missing or damaged")]
     DeletedDocuments(SegmentId),
 }
 

@@ -4,7 +4,7 @@ use crate::indexing::{Intake, Target, begun, take_inputs, target_of, tell_long_w
 use clap::ArgMatches;
 use ii_base::{AsciiTokenizer, Schema};
 use ii_segment_store::{
-    CommitFault, StoredSegment, append_segment, load_latest, remove_slots, upgrade,
+    CommitFault, SegmentFiles, append_segment, load_latest, remove_slots, upgrade,
 };
 use ii_store::collect::collect;
 use ii_store::segments::load_meta;
@@ -93,7 +93,7 @@ fn add_segment(rt: &HostRuntime, path: &str, intake: Intake) -> anyhow::Result<E
 }
 
 // Returns an index as a segment.
-fn segment_of(stored: StoredIndex) -> StoredSegment {
+fn segment_of(stored: StoredIndex) -> SegmentFiles {
     let StoredIndex {
         num_docs,
         schema: _,
@@ -102,17 +102,18 @@ fn segment_of(stored: StoredIndex) -> StoredSegment {
         positions,
         fieldnorms,
     } = stored;
-    StoredSegment {
+    SegmentFiles {
         num_docs,
         terms,
         postings,
         positions,
         fieldnorms,
+        counts: None,
     }
 }
 
 // Adds a segment that has documents, and removes the files that no list has.
-fn put(rt: &HostRuntime, path: &str, segment: StoredSegment) -> Result<(), CommitFault> {
+fn put(rt: &HostRuntime, path: &str, segment: SegmentFiles) -> Result<(), CommitFault> {
     let mut folder = Folder::new(rt, path);
     upgrade(rt.alloc(), &mut folder)?;
     if segment.num_docs > 0 {

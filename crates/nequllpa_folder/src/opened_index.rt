@@ -104,7 +104,7 @@ fn opened_segment(alloc: Global, schema: &[u8], segment: StoredSegment) -> Resul
     ensures { IfOk result (OpensAs schema.now segment) }
 {
     let schema = Vec::from_slice(alloc, schema)?;
-    Opened::open(alloc, segment.into_index(schema))
+    Opened::open(alloc, segment.files.into_index(schema))
 }
 
 /// Returns the reader of a field of a segment, if the segment has the field.

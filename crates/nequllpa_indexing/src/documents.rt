@@ -1,18 +1,24 @@
 //! Documents to be indexed.
-ghost use Rattle.std.specs.Prelude.{◌≡◌, ◌⊎◌, [], Err, IfErr, IfOk, IfSome, None, OnErr, OnOk};
+ghost use Rattle.std.specs.Prelude.{◌≡◌, ◌⊎◌, [], Err, IfErr, IfOk, IfSome, IsSomeAnd, None, OnErr, OnOk};
 ghost use Rattle.ii_io.specs.Faults.{OnlyMemory};
 ghost use Rattle.ii_definitions.specs.Fields.{option_of};
+ghost use Rattle.ii_definitions.specs.Files.{HoldTokens};
+ghost use Rattle.ii_definitions.specs.Norms.{HoldNorms};
 ghost use Rattle.ii_definitions.specs.Tokens.{tokens_of};
+ghost use Rattle.ii_segments.specs.HoldCounts.{HasManyTokens, HoldCounts};
+ghost use Rattle.nequllpa_indexing.specs.Counted.{IsSegmentFault};
 ghost use Rattle.ii_indexing.specs.IndexFiles.{CountsIndexFailures, FilesGrow, IsIndexFault, WroteIndex};
 ghost use Rattle.ii_indexing.specs.Refusals.{calls_fault};
 ghost use Rattle.nequllpa_indexing.specs.Documents.{AddsLine, DocumentsState, WereCalls, next_calls};
 ghost use Rattle.ii_documents.specs.JsonLines.{TellsOfLine, told_of_line};
 
+use crate::counting::{finish_counted, index_counted};
 use crate::long_words::count_long_words;
-use ii_base::{Fault, Schema, TextAnalyzer};
+use ii_base::{Fault, LimitName, Schema, TextAnalyzer};
 use ii_docset::{DocId, TERMINATED};
 use ii_documents::{LineFault, line_calls};
 use ii_indexing::{IndexCall, IndexWriters, write_index};
+use ii_segment_store::SegmentFiles;
 use std::alloc::Global;
 use std::io::Write;
 use std::marker::Model;
@@ -131,5 +137,40 @@ impl Documents {
             calls,
         } = self;
         write_index(alloc, schema, num_docs, calls, analyzer, writers)
+    }
+
+    /// Builds the files of a segment of the documents, with texts split by `analyzer`. They hold exactly the
+    /// tokens of the documents' calls, their norms, and how many tokens each document has in each field.
+    ///
+    /// # Errors
+    ///
+    /// The first fault of the calls (`Indexer::index`). Otherwise `Limit(Tokens)` if a document has 2^32 - 1
+    /// tokens in a field, or more; a limit of the written files (`Indexer::finish`); or `OutOfMemory`.
+    pub fn into_segment<A: TextAnalyzer>(
+        self,
+        alloc: Global,
+        analyzer: &A,
+    ) -> Result<SegmentFiles, Fault>
+        ensures docs { IfOk result (λ f. f.num_docs ≡ self.num_docs) }
+        ensures holds { IfOk result (λ f. HoldTokens (option_of self.schema) f.terms.items f.postings.items f.positions.items (tokens_of (A.words analyzer.now) self.calls)) }
+        ensures norms { IfOk result (λ f. HoldNorms self.schema self.num_docs f.fieldnorms.items (tokens_of (A.words analyzer.now) self.calls)) }
+        ensures counts { IfOk result (λ f. IsSomeAnd f.counts (λ v. HoldCounts self.schema self.num_docs v.items (tokens_of (A.words analyzer.now) self.calls))) }
+
+        // Errors.
+        ensures refused { IfSome (calls_fault (A.words analyzer.now) (option_of self.schema) [] self.calls) (λ fault. (result ≡ Err fault) ⊎ (result ≡ Err Fault.OutOfMemory)) }
+        ensures many { calls_fault (A.words analyzer.now) (option_of self.schema) [] self.calls ≡ None → HasManyTokens self.schema (tokens_of (A.words analyzer.now) self.calls)
+            → (result ≡ Err (Fault.Limit LimitName.Tokens)) ⊎ (result ≡ Err Fault.OutOfMemory) }
+        ensures fault { calls_fault (A.words analyzer.now) (option_of self.schema) [] self.calls ≡ None
+            → IfErr result (IsSegmentFault self.schema self.num_docs (tokens_of (A.words analyzer.now) self.calls)) }
+    {
+        let Documents {
+            schema,
+            num_docs,
+            calls,
+        } = self;
+        match index_counted(alloc, schema, num_docs, calls, analyzer) {
+            Ok(counted) => finish_counted(alloc, num_docs, counted.0, counted.1),
+            Err(fault) => Err(fault),
+        }
     }
 }

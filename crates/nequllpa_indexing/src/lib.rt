@@ -1,6 +1,7 @@
 //! Builds the index of lines of JSON, as a folder keeps it.
 #![tactic(auto)]
 
+mod counting;
 pub mod documents;
 pub mod faults;
 pub mod long_words;

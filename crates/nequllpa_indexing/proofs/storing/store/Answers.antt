@@ -1,4 +1,4 @@
-use Rattle.std.proofs.Common.{Result, rules, subst}
+use Rattle.std.proofs.Common.{Result, subst}
 use Rattle.std.specs.Prelude.{OnOk}
 use Rattle.ii_io.specs.declared.faults.Fault.{Fault}
 use Rattle.ii_base.specs.AsciiWords.{ascii_words}
