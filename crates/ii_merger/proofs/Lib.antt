@@ -1,1 +1,14 @@
-pub mod PushLemmas
+pub mod DocLemmas
+pub mod FieldKeyLemmas
+pub mod FieldLemmas
+pub mod FieldMergeLemmas
+pub mod KeyLemmas
+pub mod ListLemmas
+pub mod ListingLemmas
+pub mod MergeLemmas
+pub mod NumberLemmas
+pub mod ReadableLemmas
+pub mod SourceLemmas
+pub mod TermMergeLemmas
+pub mod UndamagedLemmas
+pub mod WriteLemmas

@@ -1,0 +1,4 @@
+pub mod MergeSources
+pub mod MergedField
+pub mod MergedTerm
+pub mod SourcesHold
