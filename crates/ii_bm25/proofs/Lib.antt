@@ -1,0 +1,4 @@
+pub mod LengthLemmas
+pub mod LogLemmas
+pub mod ScoreLemmas
+mod WorkedRows

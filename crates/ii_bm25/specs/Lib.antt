@@ -1,0 +1,3 @@
+pub mod Bm25
+pub mod Lengths
+pub mod Log
