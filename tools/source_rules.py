@@ -27,7 +27,8 @@ COUNTED = (
         'ii_layout': {'clone'},
         'ii_check': {'clone'}}),
     ('a cursor that starts again',
-     r'\b(\w+Reader|\w+Postings|PositionBlocks|Self)\s*>?\s*::\s*(open|open_known|empty|empty_by|new|reset)\b'
+     # `OpenPostings` is written, not read
+     r'\b(?!OpenPostings\b)(\w+Reader|\w+Postings|PositionBlocks|Self)\s*>?\s*::\s*(open|open_known|empty|empty_by|new|reset)\b'
      r'|\.(reset|skip_reader|anew)\(|\breopened\(', {
          'ii_reader': {'open', 'open_known', 'empty', 'empty_by', 'reset', 'clear_by', 'fill', 'open_postings', 'open_block_postings',
                        'reset_block_postings_from_terminfo', 'reset_postings_from_terminfo', 'open_bodies', 'open_field'},
