@@ -1,4 +1,6 @@
 pub mod MergeSources
 pub mod MergedField
+pub mod MergedIndex
+pub mod MergedNorms
 pub mod MergedTerm
 pub mod SourcesHold

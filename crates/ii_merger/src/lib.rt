@@ -3,9 +3,14 @@
 
 pub mod field_merge;
 pub mod field_source;
+mod index_merge;
 mod key_kinds;
+pub mod merge_source;
 mod merging;
+pub mod norms;
 mod pushing;
 
 pub use field_merge::merge_field;
 pub use field_source::FieldSource;
+pub use merge_source::MergeSource;
+pub use norms::merge_norms;
