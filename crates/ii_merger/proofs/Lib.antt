@@ -2,6 +2,7 @@ pub mod DocLemmas
 pub mod FieldKeyLemmas
 pub mod FieldLemmas
 pub mod FieldMergeLemmas
+pub mod FileLemmas
 pub mod IndexMergeLemmas
 pub mod KeyLemmas
 pub mod ListLemmas

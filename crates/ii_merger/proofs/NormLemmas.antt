@@ -1,9 +1,9 @@
 -- The norms of living documents, one segment and one field after the other.
-use Rattle.std.proofs.Common.{inl, inr, ◌≡◌, ℕ, zero, suc, ◌+◌, ◌-◌, ◌^◌, ◌<◌, ◌≤◌, ◌==◌, Bool, true, false, List, [], ◌∷◌, ◌++◌, drop, get_or, length, map, Option, Some, None, refl, sym, ap, ◌∙◌, subst, arith, append_assoc, true≢false}
-use Rattle.std.specs.Prelude.{◌⊎◌, IsSomeAnd, filter, if◌then◌else◌, slice_get, slice_index, unwrap_or}
+use Rattle.std.proofs.Common.{inl, inr, ◌≡◌, ℕ, zero, suc, ◌+◌, ◌-◌, ◌^◌, ◌<◌, ◌≤◌, ◌==◌, Bool, true, false, List, [], ◌∷◌, ◌++◌, drop, get_or, length, map, Option, Some, None, refl, sym, ap, ◌∙◌, subst, arith, append_assoc, true≢false, length-append}
+use Rattle.std.specs.Prelude.{◌⊎◌, IfSome, IsSomeAnd, filter, if◌then◌else◌, slice_get, slice_index, unwrap_or}
 use Rattle.std.specs.List.{AllByRecursion, enumerate_from, flat_map, range_with_len}
 use Rattle.std.proofs.lemmas.Bool.{eq-eqb, le-leb, ne_eqb}
-use Rattle.std.proofs.lemmas.List.{append-nil}
+use Rattle.std.proofs.lemmas.List.{append-nil, length-map}
 use Rattle.ii_io.specs.declared.faults.Fault.{Fault}
 use Rattle.ii_io.specs.declared.faults.Fault.TheVariants.{Damaged, Limit, OutOfMemory}
 use Rattle.ii_io.specs.declared.faults.LimitName.TheVariants.{Offset}
@@ -16,10 +16,16 @@ use Rattle.ii_io.proofs.WriteSteps.{wrote_nothing}
 use Rattle.std.specs.Io.KnownBytes.{Appends}
 use Rattle.ii_base.specs.Schema.{SchemaEntry, keeps_norms}
 use Rattle.ii_fieldnorm.specs.Buffers.{norm_fields}
+use Rattle.ii_fieldnorm.specs.Norms.{id_of_norm}
+use Rattle.ii_alive.specs.Alive.{num_living, rank}
+use Rattle.ii_segments.proofs.CountLaws.{ranks_of_living}
+use Rattle.ii_definitions.specs.Postings.{doc_count}
+use Rattle.std.proofs.lemmas.List.FromFn.{length-map-range_with_len, length-range_with_len}
+use Rattle.ii_io.specs.declared.faults.Part.{Part}
 use Rattle.ii_segments.specs.Segments.{Segment, index_tokens, is_living, living_docs, living_norms, num_docs_of}
 use Rattle.ii_segments.specs.SegmentLaws.{CountsOfSegments}
 use Rattle.ii_definitions.specs.Norms.{HoldNorms, has_norms, norm_file, norm_ids}
-use Rattle.ii_merger.specs.MergedIndex.{MergeSourceHolds, MergeSourceState, MergeSourcesHold, StartsBelow, segment_of}
+use Rattle.ii_merger.specs.MergedIndex.{AreNormsOf, MergeSourceHolds, MergeSourceState, MergeSourcesHold, StartsBelow, segment_of, all_living}
 use Rattle.ii_merger.specs.MergedNorms.{AddsNorms, HasNorms, HaveNorms, living_ids, merged_ids, merged_norm_file}
 use Rattle.ii_merger.specs.declared.merge_source.MergeSource.{MergeSource}
 use Rattle.ii_merger.proofs.IndexMergeLemmas.{each_segment, raised, starts_more}
@@ -255,3 +261,59 @@ in_memory_written old new bodies bytes empty now h =
 
 pub begun : (w : CountingWriterState) → HasBodies w (record { writer = w; base = w.written_bytes; starts = []; closed = false }) []
 begun w = record { writer = wrote_nothing w; base = refl; starts = refl }
+
+-- ---- the norms that were written
+living_length : (alive : List Bool) → length (living_docs alive) ≡ num_living alive
+living_length alive = sym (length-map (living_docs alive) (λ (d : ℕ). 0 + rank alive d)) ∙ ap length (ranks_of_living 0 alive) ∙ length-range_with_len 0 (num_living alive)
+
+merged_length : (field : ℕ) (ss : List MergeSourceState) → length (merged_ids field ss) ≡ all_living ss
+merged_length field [] = refl
+merged_length field (s ∷ ss) =
+    omega (arith, length-append (living_ids field s) (merged_ids field ss), merged_length field ss, length-map (living_docs s.alive) (slice_index (unwrap_or (body_of field s.index.fieldnorms) [])), living_length s.alive)
+
+pub norms_of_living : (entries : List SchemaEntry) (ss : List MergeSourceState) (bodies : List Body) → bodies ≡ merged_norm_file entries ss → AreNormsOf (all_living ss) bodies
+norms_of_living entries ss bodies are field =
+    let same : 0 + field ≡ field = omega arith in
+    let found : body_of field bodies ≡ (if has_norms entries field then Some (merged_ids field ss) else None) = ap (body_of field) are ∙ (rw same at (body_at (λ (k : ℕ). merged_ids k ss) 0 entries field)) in
+    subst (λ (o : Option (List ℕ)). IfSome o (λ ids. length ids ≡ all_living ss)) (sym found) (by (has_norms entries field))
+  where
+    by : (b : Bool) → IfSome (if b then Some (merged_ids field ss) else None) (λ ids. length ids ≡ all_living ss)
+    by true = merged_length field ss
+    by false = tt
+
+-- segments that hold tokens have norms
+norms_there : (entries : List SchemaEntry) (field : ℕ) (ss : List MergeSourceState) (gs : List Segment) → has_norms entries field ≡ true → MergeSourcesHold entries ss gs → AllByRecursion (HasNorms field) ss
+norms_there entries field [] [] has h = tt
+norms_there entries field [] (g ∷ gs) has h = absurd (h)
+norms_there entries field (s ∷ ss) [] has h = absurd (h)
+norms_there entries field (s ∷ ss) (g ∷ gs) has h = (here, norms_there entries field ss gs has h.1)
+  where
+    at : body_of field s.index.fieldnorms ≡ Some (norm_ids (length g.alive) field g.tokens)
+    at = rw has at (h.0.index.norms field)
+
+    here : HasNorms field s
+    here = subst (λ (o : Option (List ℕ)). IsSomeAnd o (λ ids. length ids ≡ length s.alive)) (sym at)
+        (length-map-range_with_len (λ (doc : ℕ). id_of_norm (doc_count doc field g.tokens)) 0 (length g.alive) ∙ ap length (sym h.0.alive))
+
+all_kept : (P : ℕ → Type 0) (first : ℕ) (entries : List SchemaEntry) → ((k : ℕ) → has_norms entries k ≡ true → P (first + k)) → AllByRecursion P (kept (enumerate_from first entries))
+all_kept P first [] each = tt
+all_kept P first (e ∷ es) each = rw (kept_first first e (enumerate_from (first + 1) es)) (by (keeps_norms e) refl (all_kept P (first + 1) es later))
+  where
+    later : (k : ℕ) → has_norms es k ≡ true → P (first + 1 + k)
+    later k has =
+        let next : first + suc k ≡ first + 1 + k = omega arith in
+        rw next at (each (suc k) has)
+
+    by : (b : Bool) → keeps_norms e ≡ b → AllByRecursion P (kept (enumerate_from (first + 1) es)) → AllByRecursion P (own_field b first ++ kept (enumerate_from (first + 1) es))
+    by true is rest =
+        let zero_more : first + 0 ≡ first = omega arith in
+        (rw zero_more at (each 0 is), rest)
+    by false is rest = rest
+
+have_norms : (entries : List SchemaEntry) (ss : List MergeSourceState) (gs : List Segment) → MergeSourcesHold entries ss gs → HaveNorms entries ss
+have_norms entries ss gs h = all_kept (λ (field : ℕ). AllByRecursion (HasNorms field) ss) 0 entries (λ k has. let same : 0 + k ≡ k = omega arith in rw same (norms_there entries k ss gs has h))
+
+pub norms_undamaged : (entries : List SchemaEntry) (ss : List MergeSourceState) (gs : List Segment) (e : Fault) (part : Part) → (e ≡ OutOfMemory) ⊎ (e ≡ Limit Offset) ⊎ (¬ HaveNorms entries ss) → MergeSourcesHold entries ss gs → ¬ (e ≡ Damaged part)
+norms_undamaged entries ss gs e part (inl memory) h is = absurd (cc)
+norms_undamaged entries ss gs e part (inr (inl limit)) h is = absurd (cc)
+norms_undamaged entries ss gs e part (inr (inr none)) h is = none (have_norms entries ss gs h)

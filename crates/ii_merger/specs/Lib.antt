@@ -1,5 +1,6 @@
 pub mod MergeSources
 pub mod MergedField
+pub mod MergedFiles
 pub mod MergedIndex
 pub mod MergedNorms
 pub mod MergedTerm
