@@ -2,10 +2,13 @@ pub mod DocLemmas
 pub mod FieldKeyLemmas
 pub mod FieldLemmas
 pub mod FieldMergeLemmas
+pub mod FileLemmas
+pub mod IndexMergeLemmas
 pub mod KeyLemmas
 pub mod ListLemmas
 pub mod ListingLemmas
 pub mod MergeLemmas
+pub mod NormLemmas
 pub mod NumberLemmas
 pub mod ReadableLemmas
 pub mod SourceLemmas

@@ -1,0 +1,27 @@
+use Rattle.std.proofs.Common.{◌∙◌, ◌++◌, ◌+◌, List, ℕ, drop, map, sym, ap, subst, append_assoc}
+use Rattle.std.specs.List.{AllByRecursion}
+use Rattle.ii_merger.specs.MergedIndex.{MergeSourceState, segment_of}
+use Rattle.ii_merger.specs.MergedNorms.{HasNorms, living_ids, merged_ids}
+use Rattle.ii_merger.proofs.IndexMergeLemmas.{segment_at}
+use Rattle.ii_merger.proofs.NormLemmas.{one_damaged}
+use Rattle.ii_merger.proofs.norms.push_all_norms.Goals as goal
+
+pub returns-in-Err-clause-fault : goal.returns-in-Err-clause-fault
+returns-in-Err-clause-fault c =
+    one_damaged c.args.field c.args.sources.now c.loop-place.place c.index-sources-place.result c.in-Err.fault c.loop-place-test.true c.index-sources-place.is c.in-Err.ensures.fault
+
+pub loop-place-preserved : goal.loop-place-preserved
+loop-place-preserved c =
+    let field = c.args.field in
+    let all = map segment_of c.args.sources.now in
+    let place = c.loop-place.place in
+    let s = segment_of c.index-sources-place.result in
+    let at = segment_at c.args.sources.now place c.index-sources-place.result c.loop-place-test.true c.index-sources-place.is in
+    let h = c.loop-place.invariant in
+    record {
+      added = ap (λ (xs : List ℕ). xs ++ merged_ids field (drop (place + 1) all)) c.in_default.ensures.ok
+          ∙ append_assoc c.loop-place.ids.items (living_ids field s) (merged_ids field (drop (place + 1) all))
+          ∙ ap (λ (ss : List MergeSourceState). c.loop-place.ids.items ++ merged_ids field ss) (sym at) ∙ h.added;
+      sound = λ rest. h.sound (subst (AllByRecursion (HasNorms field)) (sym at) (c.in_default.ensures.sound, rest));
+      whole = λ whole. (subst (AllByRecursion (HasNorms field)) at (h.whole whole)).1;
+    }

@@ -1,0 +1,135 @@
+ghost use Rattle.std.specs.Prelude.{◌≡◌, ◌+◌, ◌-◌, ◌<◌, ◌≤◌, ◌⊎◌, ◌^◌, ℕ, List, false, length, map, IfOk, IfErr, OnOk};
+ghost use Rattle.std.specs.List.{AllByRecursion, range_with_len};
+ghost use Rattle.ii_base.specs.declared.doc_id.TheConstants.{TERMINATED};
+ghost use Rattle.ii_io.specs.Faults.{OnlyMemory};
+ghost use Rattle.ii_io.specs.declared.faults.Part.{Part};
+ghost use Rattle.ii_definitions.specs.Postings.{field_count};
+ghost use Rattle.ii_segments.specs.Segments.{Segment, index_tokens};
+ghost use Rattle.ii_recorder.specs.IndexBodies.{AllGrow, CountsFailures};
+ghost use Rattle.ii_merger.specs.MergeSources.{source_of};
+ghost use Rattle.ii_merger.specs.MergedField.{IsMergedFieldFault, WroteMergedField};
+ghost use Rattle.ii_merger.specs.MergedIndex.{AreNormsOf, FieldsBelow, HasMergedFields, MergeSourcesHold, all_living, field_sources, norms_of_field, segment_of};
+ghost use Rattle.ii_merger.specs.SourcesHold.{WroteField};
+
+use crate::field_merge::merge_field;
+use crate::field_source::FieldSource;
+use crate::merge_source::MergeSource;
+use ii_base::{Fault, Field, Schema};
+use ii_fieldnorm::FieldNormReaders;
+use ii_recorder::InvertedIndexSerializer;
+use std::alloc::Global;
+use std::io::Write;
+
+// Writes all fields of segments, in ascending order. Fields without tokens are left out.
+pub(crate) fn merge_fields<W: Write>(
+    alloc: Global,
+    schema: &Schema,
+    sources: &[MergeSource<'_>],
+    num_tokens: &[u64],
+    norms: &FieldNormReaders,
+    serializer: &mut InvertedIndexSerializer<W>,
+) -> Result<(), Fault>
+    requires schema { schema.now ≡ serializer.old.entries }
+    requires open { serializer.old.closed ≡ false }
+    requires fresh { FieldsBelow 0 serializer.old.bodies }
+    requires many { length schema.now < 2 ^ 32 - 1 }
+    requires fields { AllByRecursion (λ s. length s.index.readers ≡ length schema.now) (map segment_of sources.now) }
+    requires counts { length num_tokens.now ≡ length schema.now }
+    requires few { all_living (map segment_of sources.now) ≤ TERMINATED }
+    requires norms { AreNormsOf (all_living (map segment_of sources.now)) norms.now }
+    ensures holds { (ss : List Segment) → MergeSourcesHold schema.now (map segment_of sources.now) ss → num_tokens.now ≡ map (λ field. field_count field (index_tokens ss)) (range_with_len 0 (length schema.now))
+        → HasMergedFields schema.now serializer.old.bodies serializer.old.bodies 0 (index_tokens ss) → OnOk result (HasMergedFields schema.now serializer.old.bodies serializer.new.bodies (length schema.now) (index_tokens ss)) }
+    ensures undamaged { (ss : List Segment) → MergeSourcesHold schema.now (map segment_of sources.now) ss → IfErr result (λ e. (part : Part) → ¬ (e ≡ Fault.Damaged part)) }
+    ensures entries { serializer.new.entries ≡ serializer.old.entries }
+    ensures open { OnOk result (serializer.new.closed ≡ false) }
+    ensures failures { CountsFailures serializer.old.bodies serializer.new.bodies result }
+    ensures grow { AllGrow serializer.old.bodies serializer.new.bodies }
+{
+    for place in 0..num_tokens.len() {
+        let field = Field::from_field_id(place as u32);
+        let added = add_field(
+            alloc,
+            schema,
+            field,
+            sources,
+            num_tokens[place],
+            norms,
+            serializer,
+        );
+        if added.is_err() {
+            return added;
+        }
+    }
+    Ok(())
+}
+
+// Writes a field of segments, if it has tokens.
+fn add_field<W: Write>(
+    alloc: Global,
+    schema: &Schema,
+    field: Field,
+    sources: &[MergeSource<'_>],
+    total_num_tokens: u64,
+    norms: &FieldNormReaders,
+    serializer: &mut InvertedIndexSerializer<W>,
+) -> Result<(), Fault>
+    requires schema { schema.now ≡ serializer.old.entries }
+    requires known { field < length schema.now }
+    requires open { serializer.old.closed ≡ false }
+    requires below { FieldsBelow field serializer.old.bodies }
+    requires many { length schema.now < 2 ^ 32 - 1 }
+    requires fields { AllByRecursion (λ s. length s.index.readers ≡ length schema.now) (map segment_of sources.now) }
+    requires few { all_living (map segment_of sources.now) ≤ TERMINATED }
+    requires norms { AreNormsOf (all_living (map segment_of sources.now)) norms.now }
+    ensures none { total_num_tokens ≡ 0 → OnOk result (serializer.new.bodies ≡ serializer.old.bodies) }
+    ensures holds { (ss : List Segment) → MergeSourcesHold schema.now (map segment_of sources.now) ss → total_num_tokens ≡ field_count field (index_tokens ss) → 0 < total_num_tokens
+        → OnOk result (WroteField schema.now serializer.old.bodies serializer.new.bodies field (index_tokens ss)) }
+    ensures below { OnOk result (FieldsBelow (field + 1) serializer.new.bodies) }
+
+    // The outcomes, and which errors it returns.
+    ensures fault { IfErr result (λ e. (e ≡ Fault.OutOfMemory) ⊎ IsMergedFieldFault schema.now field total_num_tokens (norms_of_field norms.now field) (field_sources field (map segment_of sources.now)) serializer.old.bodies e) }
+    ensures undamaged { (ss : List Segment) → MergeSourcesHold schema.now (map segment_of sources.now) ss → IfErr result (λ e. (part : Part) → ¬ (e ≡ Fault.Damaged part)) }
+    ensures entries { serializer.new.entries ≡ serializer.old.entries }
+    ensures open { OnOk result (serializer.new.closed ≡ false) }
+    ensures failures { CountsFailures serializer.old.bodies serializer.new.bodies result }
+    ensures grow { AllGrow serializer.old.bodies serializer.new.bodies }
+{
+    let fields = match field_sources(alloc, field, sources) {
+        Ok(fields) => fields,
+        Err(fault) => return Err(fault),
+    };
+    let fieldnorm_reader = match norms.get_field(field) {
+        Ok(reader) => reader,
+        Err(fault) => return Err(fault),
+    };
+    merge_field(
+        alloc,
+        schema,
+        field,
+        total_num_tokens,
+        fieldnorm_reader,
+        fields.as_slice(),
+        serializer,
+    )
+}
+
+// Returns a field of each segment.
+fn field_sources<'a>(
+    alloc: Global,
+    field: Field,
+    sources: &[MergeSource<'a>],
+) -> Result<Vec<FieldSource<'a>>, Fault>
+    requires fields { AllByRecursion (λ s. field < length s.index.readers) (map segment_of sources.now) }
+    ensures ok { IfOk result (λ fields. map source_of fields.items ≡ field_sources field (map segment_of sources.now)) }
+    ensures only { OnlyMemory result }
+{
+    let mut fields = Vec::new(alloc);
+    for place in 0..sources.len() {
+        let source = sources[place];
+        fields.push(FieldSource {
+            reader: source.index.reader(field),
+            alive: source.alive,
+        })?;
+    }
+    Ok(fields)
+}
