@@ -16,5 +16,6 @@ pub mod opening;
 pub mod positions;
 pub mod queries;
 pub mod searching;
+pub mod segments;
 pub mod texts;
 pub mod writing;

@@ -1,0 +1,103 @@
+// An index of segments in a directory: segments are added, documents deleted, and stops lose neither.
+ghost use Rattle.std.specs.Prelude.{◌≡◌, ◌⊎◌, Ok, IfOk, List, ℕ, OnOk, map};
+ghost use Rattle.std.specs.Option.{option_map};
+ghost use Rattle.ii_directory.specs.Directory.{Files};
+ghost use Rattle.ii_directory.specs.declared.name.Name.TheVariants.{Meta};
+ghost use Rattle.ii_store.specs.IndexMeta.{MetaState, meta_view};
+ghost use Rattle.ii_store.specs.Segments.{index_with, list_in, segments_of};
+ghost use Rattle.ii_segment_store.specs.Contents.{IndexContents, changed_index, contents_view, files_contents, index_contents, with_segment};
+
+use ii_base::DocId;
+use ii_segment_store::{
+    CommitFault, SegmentFiles, StoredSegments, append_segment, commit_changes, load_segments,
+    upgrade,
+};
+use ii_store::collect::collect;
+use ii_store::commit_check::may_commit;
+use ii_store::segments::commit;
+use ii_store::{Directory, DirectoryFault, IndexMeta, StoreFault};
+use std::alloc::Global;
+
+/// What is loaded is what the index of the directory holds.
+pub fn what_the_index_holds_is_loaded<D: Directory>(
+    alloc: Global,
+    directory: &D,
+) -> Result<StoredSegments, StoreFault>
+    requires { D.is_known directory.now }
+    ensures { IfOk result (λ loaded. index_contents (D.seen directory.now) ≡ Ok (contents_view loaded)) }
+{
+    load_segments(alloc, directory)
+}
+
+/// After a segment was added, the index holds what it held, and this segment at its end. Wherever adding it is
+/// stopped, it holds this, or what it held.
+pub fn segments_are_added_at_once<D: Directory>(
+    alloc: Global,
+    directory: &mut D,
+    segment: &SegmentFiles,
+) -> Result<(), CommitFault>
+    requires { D.is_known directory.old }
+    ensures added { OnOk result (index_contents (D.seen directory.new) ≡ with_segment (files_contents segment.now) (index_contents (D.seen directory.old))) }
+    ensures stopped { (files : Files) → D.left_since directory.new (D.moment directory.old) files
+        → (index_contents files ≡ index_contents (D.seen directory.old)) ⊎ (index_contents files ≡ with_segment (files_contents segment.now) (index_contents (D.seen directory.old))) }
+{
+    append_segment(alloc, directory, segment)
+}
+
+/// Documents are deleted, and a segment is added, all at once, wherever this is stopped.
+pub fn changes_are_made_at_once<D: Directory>(
+    alloc: Global,
+    directory: &mut D,
+    deleted: &[Vec<DocId>],
+    added: Option<&SegmentFiles>,
+) -> Result<(), CommitFault>
+    requires { D.is_known directory.old }
+    ensures changed { OnOk result (index_contents (D.seen directory.new) ≡ changed_index (map (λ v. v.items) deleted.now) (option_map (λ f. files_contents f.now) added.entry) (index_contents (D.seen directory.old))) }
+    ensures stopped { (files : Files) → D.left_since directory.new (D.moment directory.old) files
+        → (index_contents files ≡ index_contents (D.seen directory.old)) ⊎ (index_contents files ≡ changed_index (map (λ v. v.items) deleted.now) (option_map (λ f. files_contents f.now) added.entry) (index_contents (D.seen directory.old))) }
+{
+    commit_changes(alloc, directory, deleted, added)
+}
+
+/// An index of version 1 becomes one of version 2 that holds the same, wherever this is stopped.
+pub fn upgrading_keeps_the_index<D: Directory>(
+    alloc: Global,
+    directory: &mut D,
+) -> Result<bool, CommitFault>
+    requires { D.is_known directory.old }
+    ensures keeps { OnOk result (index_contents (D.seen directory.new) ≡ index_contents (D.seen directory.old)) }
+    ensures stopped { (files : Files) → D.left_since directory.new (D.moment directory.old) files → index_contents files ≡ index_contents (D.seen directory.old) }
+{
+    upgrade(alloc, directory)
+}
+
+/// Removing the files that no list of segments names keeps the index, wherever it is stopped.
+pub fn collecting_keeps_the_segments<D: Directory>(
+    alloc: Global,
+    directory: &mut D,
+) -> Result<u64, StoreFault>
+    requires { D.is_known directory.old }
+    ensures keeps { OnOk result (segments_of (D.seen directory.new) ≡ segments_of (D.seen directory.old)) }
+    ensures stopped { (files : Files) → D.left_since directory.new (D.moment directory.old) files → segments_of files ≡ segments_of (D.seen directory.old) }
+{
+    collect(alloc, directory)
+}
+
+/// A list of segments replaces another one if it follows it and its files are there. Wherever this is stopped,
+/// the directory has the old list or the new one, with its files.
+pub fn lists_are_replaced_at_once<D: Directory>(
+    alloc: Global,
+    directory: &mut D,
+    list: &IndexMeta,
+) -> Result<bool, DirectoryFault>
+    requires { D.is_known directory.old }
+    ensures replaced { IfOk result (λ done. done ≡ true → list_in (D.seen directory.new Meta) ≡ Ok (meta_view list.now)) }
+    ensures stopped { (files : Files) → D.left_since directory.new (D.moment directory.old) files
+        → (segments_of files ≡ segments_of (D.seen directory.old)) ⊎ (segments_of files ≡ index_with (meta_view list.now) (D.seen directory.old)) }
+{
+    if !may_commit(alloc, directory, list)? {
+        return Ok(false);
+    }
+    commit(alloc, directory, list)?;
+    Ok(true)
+}
