@@ -1,6 +1,6 @@
 -- What segments and lists hold, computed on examples.
 use Rattle.std.proofs.Common.{◌≡◌, ℕ, List, [], ◌∷◌, Option, None, Some, Ok, Err, refl}
-use Rattle.std.specs.Prelude.{Bool, Result, replicate, true, false}
+use Rattle.std.specs.Prelude.{Bool, Result, map, replicate, true, false}
 use Rattle.ii_store.specs.declared.faults.IndexFault.{IndexFault}
 use Rattle.ii_store.specs.declared.faults.IndexFault.TheVariants.{DeletedDocuments, MissingFile}
 use Rattle.ii_store.specs.declared.index_meta.FileMeta.{FileMeta}
@@ -8,6 +8,7 @@ use Rattle.ii_directory.specs.declared.name.SegmentComponent.{SegmentComponent}
 use Rattle.ii_directory.specs.declared.name.SegmentComponent.TheVariants.{Alive, FieldNorms, Positions, Postings, Terms}
 use Rattle.ii_directory.specs.Directory.{Files}
 use Rattle.ii_store.specs.IndexMeta.{MetaState, SegmentState}
+use Rattle.ii_segment_store.specs.Changes.{first_uncounted, latest_file, segments_without, without}
 use Rattle.ii_segment_store.specs.Commits.{listed_segment, next_list}
 use Rattle.ii_store.specs.Segments.{listed_bytes}
 use Rattle.ii_segment_store.specs.Contents.{IndexContents, SegmentContents, alive_file, bytes_of_component, file_of, fitting_flags, flags_in, flags_with, segment_in, with_segment}
@@ -92,3 +93,34 @@ holds segments = Ok (index segments)
 
 comes_last : with_segment (words 5) (holds (words 2 ∷ [])) ≡ holds (words 2 ∷ words 5 ∷ [])
 comes_last = refl
+
+-- the first and the third of three documents are deleted, and one that isn't there; a deleted one stays deleted
+
+without_two : without (2 ∷ 0 ∷ 9 ∷ []) (true ∷ true ∷ true ∷ []) ≡ false ∷ true ∷ false ∷ []
+without_two = refl
+
+stays_deleted : without (1 ∷ []) (false ∷ true ∷ []) ≡ false ∷ false ∷ []
+stays_deleted = refl
+
+abbrev flags : List SegmentContents → List (List Bool)
+flags ss = map (λ (s : SegmentContents). s.alive) ss
+
+-- documents of the second segment alone
+deletes_by_segment : flags (segments_without ([] ∷ (1 ∷ []) ∷ []) (words 1 ∷ words 2 ∷ words 1 ∷ [])) ≡ (true ∷ []) ∷ (true ∷ false ∷ []) ∷ (true ∷ []) ∷ []
+deletes_by_segment = refl
+
+-- the greatest generation of three files, and a segment without counts
+latest_of_three : latest_file (file Terms ∷ file (Alive 7) ∷ file Postings ∷ []) ≡ 7
+latest_of_three = refl
+
+abbrev first_of : List (List ℕ) → Option ℕ
+first_of deleted = first_uncounted deleted (segment 2 (file Terms ∷ []) ∷ [])
+
+uncounted : first_of ((0 ∷ []) ∷ []) ≡ Some 7
+uncounted = refl
+
+abbrev no_id : Option ℕ
+no_id = None
+
+nothing_deleted : first_of ([] ∷ []) ≡ no_id
+nothing_deleted = refl

@@ -187,9 +187,12 @@ fn load_counts<D: Directory>(
     }
 }
 
-// Loads the flags of a segment's documents.
+/// Loads the flags of a segment's documents, which are all alive if it lists no file of flags.
+///
+/// Returns the fault of the file: missing, wrong length or wrong checksum; or `DeletedDocuments` if the flags aren't
+/// those of the segment's documents, or not as many are alive as `meta` says.
 #[tactic(auto, unfolding(crate::specs::Contents::flags_with))]
-pub(crate) fn load_flags<D: Directory>(
+pub fn load_flags<D: Directory>(
     alloc: Global,
     directory: &D,
     segment: &SegmentMeta,
@@ -225,7 +228,7 @@ fn fitting_flags(segment: &SegmentMeta, alive: AliveBits) -> Result<AliveBits, S
 }
 
 // Returns flags of documents that are all alive.
-fn all_alive(alloc: Global, num_docs: u32) -> Result<AliveBits, StoreFault>
+pub(crate) fn all_alive(alloc: Global, num_docs: u32) -> Result<AliveBits, StoreFault>
     ensures all { IfOk result (λ alive. alive ≡ replicate num_docs true) }
     ensures only { IfErr result (λ e. e ≡ of_directory OutOfMemory) }
 {
