@@ -1,63 +1,100 @@
 -- Documents found by a search, and the positions of terms in them.
-use Rattle.std.proofs.Common.{◌≡◌, ◌≢◌, ◌∙◌, ◌==◌, ◌<◌, ◌≤◌, ◌+◌, ◌-◌, ℕ, zero, suc, Bool, true, false, cond, List, [], ◌∷◌, ◌++◌, add-one, append-nil, append_assoc, get_or, map, take, drop, length, nat_le, Option, None, Some, refl, sym, ap, arith}
+use Rattle.std.proofs.Common.{◌≡◌, ◌≢◌, ◌∙◌, ◌==◌, ◌<◌, ◌≤◌, ◌+◌, ◌-◌, ℕ, zero, suc, Bool, true, false, cond, List, [], ◌∷◌, ◌++◌, add-one, append-nil, append_assoc, get_or, map, take, drop, length, nat_le, Option, None, Some, refl, sym, ap, arith, length-append}
 use Rattle.std.specs.List.{find}
 use Rattle.std.specs.Option.{option_map}
-use Rattle.std.specs.Prelude.{Vec}
+use Rattle.std.specs.Prelude.{Vec, filter}
 use Rattle.std.specs.declared.alloc.Global.{Global}
 use Rattle.std.proofs.Math.Nat.{le_refl}
 use Rattle.std.proofs.Math.Seq.{drop-cons}
 use Rattle.std.proofs.lemmas.Bool.{leb-true, leb-false}
-use Rattle.std.proofs.lemmas.List.{map-append}
+use Rattle.std.proofs.lemmas.List.{map-append, take_all, take_at}
+use Rattle.ii_segments.specs.Segments.{is_living}
 use Rattle.ii_base.specs.declared.doc_id.TheConstants.{TERMINATED}
 use Rattle.ii_base.specs.Entries.{Entry, docs_of, document}
 use Rattle.ii_docset.specs.Cursor.{IsAscending, IsSound, doc_at, from_doc, positions_at}
 use Rattle.ii_docset.proofs.CursorLemmas.{doc_below, from_doc_here, nothing_left}
 use Rattle.nequllpa_folder.specs.Positions.{positions_in_doc}
 
--- the documents taken so far, in front of those that are still taken of what is left, are all
-abbrev pub IsTaking : List Entry → ℕ → ℕ → List ℕ → List Entry → Type 0
-IsTaking all limit i docs rest = docs ++ docs_of (take (limit - i) rest) ≡ docs_of (take limit all)
+-- the living documents
+abbrev pub living_of : List Bool → List Entry → List ℕ
+living_of alive es = filter (is_living alive) (docs_of es)
 
-taken_more : (all rest : List Entry) (limit n m : ℕ) (docs : List ℕ) → n ≡ suc m → doc_at rest < TERMINATED → docs ++ docs_of (take n rest) ≡ docs_of (take limit all) → (docs ++ doc_at rest ∷ []) ++ docs_of (take m (drop 1 rest)) ≡ docs_of (take limit all)
-taken_more all [] limit n m docs n_is here taking = absurd (omega arith)
-taken_more all (e ∷ es) limit n m docs n_is here taking =
-    let f : docs ++ docs_of (take (suc m) (e ∷ es)) ≡ docs_of (take limit all) = rw n_is at taking in
-    append_assoc docs (e.doc ∷ []) (docs_of (take m es)) ∙ f
+-- The documents taken so far, in front of the living ones that are left, are all, and not more than the limit.
+pub record IsTaking (alive : List Bool) (limit : ℕ) (all rest : List Entry) (doc : ℕ) (docs : List ℕ) : Type 0 where
+  pub here : doc ≡ doc_at rest
+  pub sound : IsSound rest
+  pub whole : docs ++ living_of alive rest ≡ living_of alive all
+  pub few : length docs ≤ limit
 
-pub taking_first : (all : List Entry) (limit : ℕ) → IsTaking all limit 0 [] all
-taking_first all limit = let e : limit - 0 ≡ limit = omega arith in rw e refl
+pub taking_first : (alive : List Bool) (limit : ℕ) (es : List Entry) (doc : ℕ) (docs : List ℕ) → doc ≡ doc_at es → IsSound es → docs ≡ [] → IsTaking alive limit es es doc docs
+taking_first alive limit es doc docs here sound none = record { here = here; sound = sound; whole = ap (λ (ds : List ℕ). ds ++ living_of alive es) none; few = omega (arith, ap length none) }
 
-pub taking_next : (all rest now : List Entry) (limit i doc : ℕ) (docs more : List ℕ) → i < limit → doc ≡ doc_at rest → doc < TERMINATED → more ≡ docs ++ doc ∷ [] → now ≡ drop 1 rest → IsTaking all limit i docs rest → IsTaking all limit (i + 1) more now
-taking_next all rest now limit i doc docs more inside doc_is here more_is now_is taking =
-    let n_is : limit - i ≡ suc (limit - (i + 1)) = omega arith in
-    let low : doc_at rest < TERMINATED = omega arith in
-    rw (more_is, now_is, doc_is) (taken_more all rest limit (limit - i) (limit - (i + 1)) docs n_is low taking)
+living_next : (alive : List Bool) (rest : List Entry) (doc : ℕ) → doc ≡ doc_at rest → doc < TERMINATED → living_of alive rest ≡ filter (is_living alive) (doc ∷ []) ++ living_of alive (drop 1 rest)
+living_next alive [] doc here low = absurd (omega (arith, here, low))
+living_next alive (e ∷ es) doc here low = first (is_living alive e.doc) refl ∙ ap (λ (d : ℕ). filter (is_living alive) (d ∷ []) ++ living_of alive es) (sym here)
+  where
+    first : (b : Bool) → is_living alive e.doc ≡ b → living_of alive (e ∷ es) ≡ filter (is_living alive) (e.doc ∷ []) ++ living_of alive es
+    first true is = rw is refl
+    first false is = rw is refl
 
-nothing_of : (n : ℕ) → docs_of (take n []) ≡ []
-nothing_of zero = refl
-nothing_of (suc n) = refl
+length_one : (alive : List Bool) (doc : ℕ) → length (filter (is_living alive) (doc ∷ [])) ≤ 1
+length_one alive doc = by (is_living alive doc) refl
+  where
+    by : (b : Bool) → is_living alive doc ≡ b → length (filter (is_living alive) (doc ∷ [])) ≤ 1
+    by true is = rw is (omega arith)
+    by false is = rw is (omega arith)
 
-pub taking_ended : (all rest : List Entry) (limit i doc : ℕ) (docs : List ℕ) → IsSound rest → doc ≡ doc_at rest → TERMINATED ≤ doc → IsTaking all limit i docs rest → docs ≡ docs_of (take limit all)
-taking_ended all rest limit i doc docs sound doc_is end taking =
-    let none : docs_of (take (limit - i) rest) ≡ [] = ap (λ (es : List Entry). docs_of (take (limit - i) es)) (sym (nothing_left rest sound.ascending (omega arith))) ∙ nothing_of (limit - i) in
-    sym (append-nil docs) ∙ ap (λ (ds : List ℕ). docs ++ ds) (sym none) ∙ taking
+pub taking_next : (alive : List Bool) (limit : ℕ) (all rest now : List Entry) (doc next : ℕ) (docs more : List ℕ) → doc < TERMINATED → length docs < limit → more ≡ docs ++ filter (is_living alive) (doc ∷ []) → now ≡ drop 1 rest → next ≡ doc_at now → IsSound now
+    → IsTaking alive limit all rest doc docs → IsTaking alive limit all now next more
+taking_next alive limit all rest now doc next docs more low short more_is now_is next_is sound h =
+    let one = filter (is_living alive) (doc ∷ []) in
+    record {
+      here = next_is;
+      sound = sound;
+      whole = ap (λ (ds : List ℕ). ds ++ living_of alive now) more_is ∙ ap (λ (es : List Entry). (docs ++ one) ++ living_of alive es) now_is
+          ∙ append_assoc docs one (living_of alive (drop 1 rest)) ∙ ap (λ (ds : List ℕ). docs ++ ds) (sym (living_next alive rest doc h.here low)) ∙ h.whole;
+      few = omega (arith, short, ap length more_is, length-append docs one, length_one alive doc);
+    }
 
-pub taking_all : (all rest : List Entry) (limit i : ℕ) (docs : List ℕ) → limit ≤ i → IsTaking all limit i docs rest → docs ≡ docs_of (take limit all)
-taking_all all rest limit i docs whole taking =
-    let none : limit - i ≡ 0 = omega arith in
-    let e : docs ++ docs_of (take 0 rest) ≡ docs_of (take limit all) = ap (λ (n : ℕ). docs ++ docs_of (take n rest)) (sym none) ∙ taking in
-    sym (append-nil docs) ∙ e
+pub taking_ended : (alive : List Bool) (limit : ℕ) (all rest : List Entry) (doc : ℕ) (docs : List ℕ) → TERMINATED ≤ doc → IsTaking alive limit all rest doc docs → docs ≡ take limit (living_of alive all)
+taking_ended alive limit all rest doc docs end h =
+    let none : rest ≡ [] = sym (nothing_left rest h.sound.ascending (omega (arith, end, h.here))) in
+    let all_of : docs ≡ living_of alive all = sym (append-nil docs) ∙ ap (λ (es : List Entry). docs ++ living_of alive es) (sym none) ∙ h.whole in
+    all_of ∙ sym (take_all limit (living_of alive all) (omega (arith, h.few, ap length all_of)))
 
-next_doc : (n : ℕ) (es : List Entry) → IsAscending es → doc_at es ≤ doc_at (map document (docs_of (take n es)))
-next_doc zero es h = doc_below es h
-next_doc (suc n) [] h = le_refl TERMINATED
-next_doc (suc n) (e ∷ es) h = le_refl e.doc
+pub taking_full : (alive : List Bool) (limit : ℕ) (all rest : List Entry) (doc : ℕ) (docs : List ℕ) → limit ≤ length docs → IsTaking alive limit all rest doc docs → docs ≡ take limit (living_of alive all)
+taking_full alive limit all rest doc docs full h = sym (ap (take limit) (sym h.whole) ∙ take_at docs (living_of alive rest) limit (omega (arith, full, h.few)))
 
--- documents from the front of ascending entries ascend
-pub docs_ascend : (n : ℕ) (es : List Entry) → IsAscending es → IsAscending (map document (docs_of (take n es)))
-docs_ascend zero es h = tt
-docs_ascend (suc n) [] h = tt
-docs_ascend (suc n) (e ∷ es) h = let first = h.0 in let next = next_doc n es h.1 in (omega arith, docs_ascend n es h.1)
+-- documents that are kept of ascending ones ascend
+
+kept_here : (p : ℕ → Bool) (e : Entry) (es : List Entry) (b : Bool) → p e.doc ≡ b → e.doc < doc_at es → doc_at es ≤ doc_at (map document (filter p (docs_of es))) → e.doc ≤ doc_at (map document (filter p (docs_of (e ∷ es))))
+kept_here p e es true is lt later = rw is (le_refl e.doc)
+kept_here p e es false is lt later = rw is (omega (arith, lt, later))
+
+kept_doc : (p : ℕ → Bool) (es : List Entry) → IsAscending es → doc_at es ≤ doc_at (map document (filter p (docs_of es)))
+kept_doc p [] h = le_refl TERMINATED
+kept_doc p (e ∷ es) h = kept_here p e es (p e.doc) refl h.0 (kept_doc p es h.1)
+
+kept_more : (p : ℕ → Bool) (e : Entry) (es : List Entry) (b : Bool) → p e.doc ≡ b → e.doc < doc_at es → doc_at es ≤ doc_at (map document (filter p (docs_of es))) → IsAscending (map document (filter p (docs_of es))) → IsAscending (map document (filter p (docs_of (e ∷ es))))
+kept_more p e es true is lt later rest = rw is (omega (arith, lt, later), rest)
+kept_more p e es false is lt later rest = rw is rest
+
+kept_ascend : (p : ℕ → Bool) (es : List Entry) → IsAscending es → IsAscending (map document (filter p (docs_of es)))
+kept_ascend p [] h = tt
+kept_ascend p (e ∷ es) h = kept_more p e es (p e.doc) refl h.0 (kept_doc p es h.1) (kept_ascend p es h.1)
+
+take_below : (n : ℕ) (docs : List ℕ) → IsAscending (map document docs) → doc_at (map document docs) ≤ doc_at (map document (take n docs))
+take_below zero docs h = doc_below (map document docs) h
+take_below (suc n) [] h = le_refl TERMINATED
+take_below (suc n) (d ∷ ds) h = le_refl d
+
+take_ascend : (n : ℕ) (docs : List ℕ) → IsAscending (map document docs) → IsAscending (map document (take n docs))
+take_ascend zero docs h = tt
+take_ascend (suc n) [] h = tt
+take_ascend (suc n) (d ∷ ds) h = (omega (arith, h.0, take_below n ds h.1), take_ascend n ds h.1)
+
+pub living_ascend : (alive : List Bool) (limit : ℕ) (es : List Entry) → IsAscending es → IsAscending (map document (take limit (living_of alive es)))
+living_ascend alive limit es h = take_ascend limit (living_of alive es) (kept_ascend (is_living alive) es h)
 
 eqb_of : (a b : ℕ) → a ≡ b → (a == b) ≡ true
 eqb_of a b e = grind (arith)

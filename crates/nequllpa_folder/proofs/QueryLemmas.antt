@@ -11,7 +11,7 @@ use Rattle.ii_io.specs.declared.faults.Part.{Part}
 use Rattle.ii_io.specs.Parts.{◌>>=◌}
 use Rattle.ii_base.specs.Entries.{Entry, docs_of, document}
 use Rattle.ii_base.specs.Terms.{TermState}
-use Rattle.ii_base.specs.declared.schema.index_record_option.IndexRecordOption.TheVariants.{WithFreqsAndPositions}
+use Rattle.ii_base.specs.declared.schema.index_record_option.IndexRecordOption.TheVariants.{Basic, WithFreqsAndPositions}
 use Rattle.ii_docset.specs.Cursor.{IsAscending, IsSound}
 use Rattle.ii_reader.specs.InvertedIndexReader.{IsRefusal}
 use Rattle.ii_reader.specs.OpenIndex.{OpenIndexState, all_or_first}
@@ -21,8 +21,8 @@ use Rattle.ii_query_parser.specs.declared.query.Query.{Query}
 use Rattle.ii_search.specs.Found.{docs_of_term, found_in}
 use Rattle.ii_query_parser.specs.Queries.{QueryTree, QueryTrees, all_below, any_of, each_of, has_fields, hold_for_all, holds_for_all, is_within, no_tree, nothing, one_phrase, one_term, phrase_is_within, tree, tree_of, without}
 use Rattle.nequllpa_folder.specs.declared.finding.TermPositions.{TermPositions}
-use Rattle.nequllpa_folder.specs.Finding.{first_docs, found_places, places_view, term_places, tree_terms, trees_terms, wanted_terms}
-use Rattle.nequllpa_folder.proofs.FindingLemmas.{docs_ascend}
+use Rattle.nequllpa_folder.specs.Finding.{docs_with_term, first_docs, found_places, places_view, term_places, tree_terms, trees_terms, wanted_terms}
+use Rattle.nequllpa_folder.proofs.FindingLemmas.{living_ascend, living_of}
 use Rattle.nequllpa_folder.specs.Positions.{positions_in_doc}
 
 -- what is refused, is refused with all that comes after it
@@ -34,15 +34,22 @@ refused_then found after fault (inr (part, why, err)) = inr (part, why, rw err r
 pub refused_memory : {A : Type 0} (found : Result A Part) (fault : Fault) → fault ≡ OutOfMemory → IsRefusal found fault
 refused_memory found fault memory = inl memory
 
--- the first documents, of all that were found
-pub docs_found : (index : OpenIndexState) (query : Query) (limit : ℕ) (es : List Entry) (docs : List ℕ) → found_in index query ≡ Ok es → docs ≡ docs_of (take limit es) → first_docs index query limit ≡ Ok docs
-docs_found index query limit es docs found docs_is = rw (found, docs_is) refl
+-- the first living documents, of all that were found
+pub docs_found : (index : OpenIndexState) (alive : List Bool) (query : Query) (limit : ℕ) (es : List Entry) (docs : List ℕ) → found_in index query ≡ Ok es → docs ≡ take limit (living_of alive es) → first_docs index alive query limit ≡ Ok docs
+docs_found index alive query limit es docs found docs_is = rw (found, docs_is) refl
 
-pub docs_found_ascend : (limit : ℕ) (es : List Entry) (docs : List ℕ) → IsSound es → docs ≡ docs_of (take limit es) → IsAscending (map document docs)
-docs_found_ascend limit es docs sound docs_is = rw docs_is (docs_ascend limit es sound.ascending)
+pub docs_found_ascend : (alive : List Bool) (limit : ℕ) (es : List Entry) (docs : List ℕ) → IsSound es → docs ≡ take limit (living_of alive es) → IsAscending (map document docs)
+docs_found_ascend alive limit es docs sound docs_is = rw docs_is (living_ascend alive limit es sound.ascending)
 
-pub docs_refused : (index : OpenIndexState) (query : Query) (limit : ℕ) (fault : Fault) → IsRefusal (found_in index query) fault → IsRefusal (first_docs index query limit) fault
-docs_refused index query limit fault refused = refused_then (found_in index query) (λ (es : List Entry). Ok (docs_of (take limit es))) fault refused
+pub docs_refused : (index : OpenIndexState) (alive : List Bool) (query : Query) (limit : ℕ) (fault : Fault) → IsRefusal (found_in index query) fault → IsRefusal (first_docs index alive query limit) fault
+docs_refused index alive query limit fault refused = refused_then (found_in index query) (λ (es : List Entry). Ok (take limit (living_of alive es))) fault refused
+
+-- the living documents of a term
+pub term_docs : (index : OpenIndexState) (alive : List Bool) (term : TermState) (es : List Entry) (docs : List ℕ) → docs_of_term Basic index term ≡ Ok es → docs ≡ take 4294967295 (living_of alive es) → docs_with_term index alive term ≡ Ok docs
+term_docs index alive term es docs found docs_is = rw (found, docs_is) refl
+
+pub term_docs_refused : (index : OpenIndexState) (alive : List Bool) (term : TermState) (fault : Fault) → IsRefusal (docs_of_term Basic index term) fault → IsRefusal (docs_with_term index alive term) fault
+term_docs_refused index alive term fault refused = refused_then (docs_of_term Basic index term) (λ (es : List Entry). Ok (take 4294967295 (living_of alive es))) fault refused
 
 -- the positions of a term, by its list
 pub term_found : (index : OpenIndexState) (docs : List ℕ) (term : TermState) (es : List Entry) (places : List (Option (List ℕ))) → docs_of_term WithFreqsAndPositions index term ≡ Ok es → places ≡ map (positions_in_doc es) docs → term_places index docs term ≡ Ok places
@@ -149,15 +156,15 @@ pub ascend_slice : (docs slice : List ℕ) → slice ≡ docs → IsAscending (m
 ascend_slice docs slice same h = rw same h
 
 -- what a search finds, of its parts
-pub found_all : (index : OpenIndexState) (query : Query) (limit : ℕ) (docs slice : List ℕ) (places : List (List (Option (List ℕ)))) → first_docs index query limit ≡ Ok docs → slice ≡ docs
-    → all_or_first (map (term_places index slice) (wanted_terms query)) ≡ Ok places → found_places index query limit ≡ Ok (record { docs = docs; places = places })
-found_all index query limit docs slice places first same placed =
+pub found_all : (index : OpenIndexState) (alive : List Bool) (query : Query) (limit : ℕ) (docs slice : List ℕ) (places : List (List (Option (List ℕ)))) → first_docs index alive query limit ≡ Ok docs → slice ≡ docs
+    → all_or_first (map (term_places index slice) (wanted_terms query)) ≡ Ok places → found_places index alive query limit ≡ Ok (record { docs = docs; places = places })
+found_all index alive query limit docs slice places first same placed =
     let e : all_or_first (map (term_places index docs) (wanted_terms query)) ≡ Ok places = ap (λ (ds : List ℕ). all_or_first (map (term_places index ds) (wanted_terms query))) (sym same) ∙ placed in
     rw (first, e) refl
 
-pub found_refused : (index : OpenIndexState) (query : Query) (limit : ℕ) (docs slice : List ℕ) (fault : Fault) → first_docs index query limit ≡ Ok docs → slice ≡ docs
-    → IsRefusal (all_or_first (map (term_places index slice) (wanted_terms query))) fault → IsRefusal (found_places index query limit) fault
-found_refused index query limit docs slice fault first same (inl memory) = inl memory
-found_refused index query limit docs slice fault first same (inr (part, why, err)) =
+pub found_refused : (index : OpenIndexState) (alive : List Bool) (query : Query) (limit : ℕ) (docs slice : List ℕ) (fault : Fault) → first_docs index alive query limit ≡ Ok docs → slice ≡ docs
+    → IsRefusal (all_or_first (map (term_places index slice) (wanted_terms query))) fault → IsRefusal (found_places index alive query limit) fault
+found_refused index alive query limit docs slice fault first same (inl memory) = inl memory
+found_refused index alive query limit docs slice fault first same (inr (part, why, err)) =
     let e : all_or_first (map (term_places index docs) (wanted_terms query)) ≡ Err part = ap (λ (ds : List ℕ). all_or_first (map (term_places index ds) (wanted_terms query))) (sym same) ∙ err in
     inr (part, why, rw (first, e) refl)

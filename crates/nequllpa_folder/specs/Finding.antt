@@ -1,15 +1,16 @@
 -- What a search finds: documents, and the positions of the query's terms in them.
-use Rattle.std.specs.Prelude.{ℕ, List, [], ◌∷◌, ◌++◌, map, take, Option, Result, Ok}
+use Rattle.std.specs.Prelude.{ℕ, Bool, List, [], ◌∷◌, ◌++◌, filter, map, take, Option, Result, Ok}
 use Rattle.std.specs.Option.{option_map}
 use Rattle.ii_io.specs.Parts.{◌>>=◌}
 use Rattle.ii_io.specs.declared.faults.Part.{Part}
 use Rattle.ii_base.specs.Entries.{docs_of}
 use Rattle.ii_base.specs.Terms.{TermState}
-use Rattle.ii_base.specs.declared.schema.index_record_option.IndexRecordOption.TheVariants.{WithFreqsAndPositions}
+use Rattle.ii_base.specs.declared.schema.index_record_option.IndexRecordOption.TheVariants.{Basic, WithFreqsAndPositions}
 use Rattle.ii_reader.specs.OpenIndex.{OpenIndexState, all_or_first}
 use Rattle.ii_query_parser.specs.declared.query.PhraseTerm.{PhraseTerm}
 use Rattle.ii_query_parser.specs.declared.query.Query.{Query}
 use Rattle.ii_query_parser.specs.Queries.{QueryTree, QueryTrees, all_below, any_of, each_of, no_tree, nothing, one_phrase, one_term, tree, tree_of, without}
+use Rattle.ii_segments.specs.Segments.{is_living}
 use Rattle.ii_search.specs.Found.{docs_of_term, found_in}
 use Rattle.nequllpa_folder.specs.Positions.{positions_in_doc}
 use Rattle.nequllpa_folder.specs.declared.finding.FoundPlaces.{FoundPlaces}
@@ -40,11 +41,17 @@ term_places index docs term = do
   es ← docs_of_term WithFreqsAndPositions index term
   Ok (map (positions_in_doc es) docs)
 
--- the first `limit` documents that match a query, or the first corrupt part
-abbrev pub first_docs : OpenIndexState → Query → ℕ → Result (List ℕ) Part
-first_docs index query limit = do
+-- the first `limit` living documents that match a query, or the first corrupt part
+abbrev pub first_docs : OpenIndexState → List Bool → Query → ℕ → Result (List ℕ) Part
+first_docs index alive query limit = do
   es ← found_in index query
-  Ok (docs_of (take limit es))
+  Ok (take limit (filter (is_living alive) (docs_of es)))
+
+-- the first 2^32 - 1 living documents that have a term, or the first corrupt part of its list
+abbrev pub docs_with_term : OpenIndexState → List Bool → TermState → Result (List ℕ) Part
+docs_with_term index alive term = do
+  es ← docs_of_term Basic index term
+  Ok (take 4294967295 (filter (is_living alive) (docs_of es)))
 
 -- documents, and for each term its positions in each of them
 pub record FoundState : Type 0 where
@@ -52,9 +59,9 @@ pub record FoundState : Type 0 where
   pub places : List (List (Option (List ℕ)))
 
 -- what a search finds, or the first corrupt part
-abbrev pub found_places : OpenIndexState → Query → ℕ → Result FoundState Part
-found_places index query limit = do
-  docs ← first_docs index query limit
+abbrev pub found_places : OpenIndexState → List Bool → Query → ℕ → Result FoundState Part
+found_places index alive query limit = do
+  docs ← first_docs index alive query limit
   places ← all_or_first (map (term_places index docs) (wanted_terms query))
   Ok (record { docs = docs; places = places })
 

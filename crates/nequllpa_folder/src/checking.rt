@@ -9,10 +9,13 @@ ghost use Rattle.ii_definitions.specs.Tokens.{tokens_of};
 ghost use Rattle.ii_definitions.specs.declared.index_call.IndexCall.{IndexCall};
 ghost use Rattle.ii_damage.specs.Damages.{damages_of, index_files};
 ghost use Rattle.ii_damage.specs.Totals.{HasTotals, opened_readers};
+ghost use Rattle.ii_io.specs.Faults.{OnlyMemory};
 ghost use Rattle.ii_store.specs.Index.{view};
 
 use crate::faults::AnswerFault;
-use ii_base::{Field, FieldEntry, Schema};
+use bytes::Bytes;
+use ii_base::{Fault, Field, FieldEntry, Part, Schema};
+use ii_counts::CountReaders;
 use ii_damage::{FoundDamage, Totals, find_damages};
 use ii_store::StoredIndex;
 use ii_term_text::push_key;
@@ -60,6 +63,32 @@ pub fn check<W: Write>(
         positions,
         damages,
     })
+}
+
+/// Returns why bytes aren't a file of the counts of `num_docs` documents in each field of a schema, if they aren't.
+/// Fails only with `OutOfMemory`.
+pub fn counts_damage(
+    alloc: Global,
+    schema: &Schema,
+    num_docs: u32,
+    bytes: Vec<u8>,
+) -> Result<Option<Fault>, Fault>
+    ensures only { OnlyMemory result }
+{
+    let counts = match CountReaders::open(alloc, Bytes::from_vec(bytes)?) {
+        Ok(counts) => counts,
+        Err(Fault::Damaged(part)) => return Ok(Some(Fault::Damaged(part))),
+        Err(fault) => return Err(fault),
+    };
+    for (field, _entry) in schema.fields() {
+        match counts.get_field(field, num_docs) {
+            Ok(Some(_)) => {}
+            Ok(None) => return Ok(Some(Fault::Damaged(Part::TokenCount))),
+            Err(Fault::Damaged(part)) => return Ok(Some(Fault::Damaged(part))),
+            Err(fault) => return Err(fault),
+        }
+    }
+    Ok(None)
 }
 
 // Writes a line for each damage.

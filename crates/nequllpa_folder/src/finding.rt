@@ -1,5 +1,5 @@
 //! Finds the documents that match a query, and the positions of its terms in them.
-ghost use Rattle.std.specs.Prelude.{◌≡◌, ◌<◌, ◌++◌, IfErr, IfOk, Ok, OnOk, flat_map, length, map, nat_lt, take, true};
+ghost use Rattle.std.specs.Prelude.{◌≡◌, ◌<◌, ◌++◌, ◌∷◌, [], IfErr, IfOk, Ok, OnOk, filter, flat_map, length, map, nat_lt, take, true};
 ghost use Rattle.std.specs.List.{list_all};
 ghost use Rattle.std.specs.Option.{option_map};
 ghost use Rattle.ii_base.specs.declared.schema.index_record_option.IndexRecordOption.TheVariants.{WithFreqsAndPositions};
@@ -8,11 +8,14 @@ ghost use Rattle.ii_docset.specs.Cursor.{IsAscending, from_doc};
 ghost use Rattle.ii_io.specs.Faults.{OnlyMemory};
 ghost use Rattle.ii_reader.specs.InvertedIndexReader.{IsRefusal};
 ghost use Rattle.ii_reader.specs.OpenIndex.{all_or_first};
+ghost use Rattle.ii_segments.specs.Segments.{is_living};
 ghost use Rattle.ii_search.specs.Found.{docs_of_term};
 ghost use Rattle.ii_query_parser.specs.Queries.{has_fields};
 ghost use Rattle.nequllpa_folder.specs.Finding.{first_docs, found_places, found_view, places_view, term_places, wanted_terms};
 ghost use Rattle.nequllpa_folder.specs.Positions.{positions_in_doc};
 
+use crate::opened::is_living;
+use ii_alive::AliveBits;
 use ii_base::{Fault, IndexRecordOption, Term};
 use ii_docset::{DocId, DocSet, Postings, SeekDangerResult, TERMINATED};
 use ii_reader::{OpenIndex, SegmentPostings};
@@ -36,7 +39,7 @@ pub struct FoundPlaces {
     pub places: Vec<TermPositions>,
 }
 
-/// Returns at most `limit` documents that match a query, and in them the positions of each term that the
+/// Returns at most `limit` living documents that match a query, and in them the positions of each term that the
 /// query wants. The terms of the query must belong to fields of the index (`Query::has_fields`).
 ///
 /// # Errors
@@ -47,14 +50,15 @@ pub struct FoundPlaces {
 pub fn find_places(
     alloc: Global,
     index: &OpenIndex,
+    alive: &AliveBits,
     query: &Query,
     limit: u32,
 ) -> Result<FoundPlaces, Fault>
     requires { has_fields (length index.now.readers) query.now ≡ true }
-    ensures found { IfOk result (λ found. found_places index.now query.now limit ≡ Ok (found_view found)) }
-    ensures refused { IfErr result (IsRefusal (found_places index.now query.now limit)) }
+    ensures found { IfOk result (λ found. found_places index.now alive.now query.now limit ≡ Ok (found_view found)) }
+    ensures refused { IfErr result (IsRefusal (found_places index.now alive.now query.now limit)) }
 {
-    let docs = match first_docs(alloc, index, query, limit) {
+    let docs = match first_docs(alloc, index, alive, query, limit) {
         Ok(docs) => docs,
         Err(fault) => return Err(fault),
     };
@@ -64,25 +68,26 @@ pub fn find_places(
     }
 }
 
-/// Returns at most `limit` documents that match a query, in ascending order. Requirements and errors are
+/// Returns at most `limit` living documents that match a query, in ascending order. Requirements and errors are
 /// those of `find_places`.
 #[tactic(auto, using(crate::proofs::QueryLemmas::docs_found, crate::proofs::QueryLemmas::docs_found_ascend, crate::proofs::QueryLemmas::docs_refused, crate::proofs::QueryLemmas::refused_memory))]
 pub fn first_docs(
     alloc: Global,
     index: &OpenIndex,
+    alive: &AliveBits,
     query: &Query,
     limit: u32,
 ) -> Result<Vec<DocId>, Fault>
     requires { has_fields (length index.now.readers) query.now ≡ true }
-    ensures found { IfOk result (λ docs. first_docs index.now query.now limit ≡ Ok docs.items) }
+    ensures found { IfOk result (λ docs. first_docs index.now alive.now query.now limit ≡ Ok docs.items) }
     ensures ascending { IfOk result (λ docs. IsAscending (map document docs.items)) }
-    ensures refused { IfErr result (IsRefusal (first_docs index.now query.now limit)) }
+    ensures refused { IfErr result (IsRefusal (first_docs index.now alive.now query.now limit)) }
 {
     let mut cursor = match search(alloc, index, query) {
         Ok(cursor) => cursor,
         Err(fault) => return Err(fault),
     };
-    let docs = take_docs(alloc, &mut cursor, limit);
+    let docs = take_docs(alloc, &mut cursor, alive, limit);
     drop(cursor);
     match docs {
         Ok(docs) => Ok(docs),
@@ -90,22 +95,39 @@ pub fn first_docs(
     }
 }
 
-// Returns at most `limit` of the remaining documents of a cursor.
-#[tactic(auto, using(crate::proofs::FindingLemmas::taking_first, crate::proofs::FindingLemmas::taking_next, crate::proofs::FindingLemmas::taking_ended, crate::proofs::FindingLemmas::taking_all))]
-fn take_docs<C: DocSet>(alloc: Global, cursor: &mut C, limit: u32) -> Result<Vec<DocId>, Fault>
-    ensures taken { IfOk result (λ docs. docs.items ≡ docs_of (take limit (C.rest cursor.old))) }
+// Returns at most `limit` of the remaining documents of a cursor, those that are alive.
+#[tactic(auto, using(crate::proofs::FindingLemmas::taking_first, crate::proofs::FindingLemmas::taking_next, crate::proofs::FindingLemmas::taking_ended, crate::proofs::FindingLemmas::taking_full))]
+pub(crate) fn take_docs<C: DocSet>(
+    alloc: Global,
+    cursor: &mut C,
+    alive: &AliveBits,
+    limit: u32,
+) -> Result<Vec<DocId>, Fault>
+    ensures taken { IfOk result (λ docs. docs.items ≡ take limit (filter (is_living alive.now) (docs_of (C.rest cursor.old)))) }
     ensures only { OnlyMemory result }
 {
     let mut docs = Vec::new(alloc);
-    for _i in 0..limit {
-        let doc = cursor.doc();
-        if doc >= TERMINATED {
+    let mut doc = cursor.doc();
+    while doc < TERMINATED {
+        if docs.len() >= limit as usize {
             return Ok(docs);
         }
-        docs.push(doc)?;
-        cursor.advance();
+        push_living(&mut docs, alive, doc)?;
+        doc = cursor.advance();
     }
     Ok(docs)
+}
+
+// Appends a document if it is alive.
+fn push_living(docs: &mut Vec<DocId>, alive: &AliveBits, doc: DocId) -> Result<(), Fault>
+    ensures pushed { OnOk result (docs.new.items ≡ docs.old.items ++ filter (is_living alive.now) (doc ∷ [])) }
+    ensures only { OnlyMemory result }
+{
+    if !is_living(alive, doc) {
+        return Ok(());
+    }
+    docs.push(doc)?;
+    Ok(())
 }
 
 /// Returns the terms that a query wants, in its order: those of its words and phrases, except excluded ones.

@@ -1,14 +1,16 @@
 //! Reads the values of the field `id`.
-ghost use Rattle.std.specs.Prelude.{◌≡◌, ◌⊎◌, ◌<◌, IfErr, IfOk, Ok, length};
+ghost use Rattle.std.specs.Prelude.{◌≡◌, ◌⊎◌, ◌<◌, ◌&&◌, IfErr, IfOk, Ok, length, nat_lt};
+ghost use Rattle.ii_segments.specs.Segments.{is_living};
 ghost use Rattle.std.specs.Option.{option_map};
 ghost use Rattle.ii_io.specs.Composite.{body_of};
 ghost use Rattle.ii_io.specs.declared.faults.Part.{Part};
-ghost use Rattle.ii_fieldnorm.specs.Readers.{norms_of_ids};
+ghost use Rattle.ii_fieldnorm.specs.Readers.{id_of_doc, norms_of_ids};
 ghost use Rattle.nequllpa_folder.specs.Ids.{first_above_one as the_first_above_one, first_of_several as the_first_of_several, id_field_of};
 
 use crate::faults::AnswerFault;
-use crate::opened::Opened;
+use crate::opened::{Opened, is_living};
 use crate::opened_index::{Bases, OpenedIndex};
+use ii_alive::AliveBits;
 use ii_base::{Fault, Field, IndexRecordOption, ValueType};
 use ii_docset::{DocId, DocSet, TERMINATED};
 use ii_fieldnorm::FieldNormReader;
@@ -45,7 +47,7 @@ pub enum NoIds {
 ///
 /// `Damaged` if the field's norms don't open; `OutOfMemory`.
 pub fn id_field(opened: &Opened) -> Result<Result<Field, NoIds>, Fault>
-    ensures found { IfOk result (λ found. found ≡ id_field_of opened.now.schema opened.now.index.fieldnorms) }
+    ensures found { IfOk result (λ found. found ≡ id_field_of opened.now.schema opened.now.alive opened.now.index.fieldnorms) }
     ensures inside { IfOk result (λ found. IfOk found (λ field. field < length opened.now.schema)) }
     ensures only { IfErr result (λ fault. (fault ≡ Fault.OutOfMemory) ⊎ (fault ≡ Fault.Damaged Part.FieldNorms)) }
 {
@@ -80,7 +82,8 @@ pub fn id_field_of_all(opened: &OpenedIndex) -> Result<Result<Field, NoIds>, Fau
         match id_field(segment)? {
             Ok(_) => {}
             Err(NoIds::SeveralWords(doc)) => {
-                let doc = base.saturating_add(u64::from(doc));
+                let number = segment.number_of(doc).unwrap_or(doc);
+                let doc = base.saturating_add(u64::from(number));
                 let doc = u32::try_from(doc).unwrap_or(u32::MAX);
                 return Ok(Err(NoIds::SeveralWords(doc)));
             }
@@ -90,14 +93,14 @@ pub fn id_field_of_all(opened: &OpenedIndex) -> Result<Result<Field, NoIds>, Fau
     Ok(Ok(field))
 }
 
-// Returns the first document with several words in a text field.
+// Returns the first living document with several words in a text field.
 fn first_of_several(opened: &Opened, field: Field) -> Result<Result<Option<DocId>, NoIds>, Fault>
-    ensures found { IfOk result (λ found. found ≡ the_first_of_several (option_map norms_of_ids (body_of field opened.now.index.fieldnorms))) }
+    ensures found { IfOk result (λ found. found ≡ the_first_of_several opened.now.alive (option_map norms_of_ids (body_of field opened.now.index.fieldnorms))) }
     ensures only { IfErr result (λ fault. (fault ≡ Fault.OutOfMemory) ⊎ (fault ≡ Fault.Damaged Part.FieldNorms)) }
 {
     match opened.index().get_fieldnorms_reader(field)? {
         Some(norms) => {
-            let first = first_above_one(&norms);
+            let first = first_above_one(&norms, opened.alive());
             drop(norms);
             Ok(Ok(first))
         }
@@ -105,16 +108,27 @@ fn first_of_several(opened: &Opened, field: Field) -> Result<Result<Option<DocId
     }
 }
 
-// Returns the first document whose norm is above that of one token.
-fn first_above_one(norms: &FieldNormReader) -> Option<DocId>
-    ensures { result ≡ the_first_above_one norms.now }
+// Returns the first living document whose norm is above that of one token.
+fn first_above_one(norms: &FieldNormReader, alive: &AliveBits) -> Option<DocId>
+    ensures { result ≡ the_first_above_one norms.now alive.now }
 {
     for doc in 0..norms.num_docs() {
-        if norms.fieldnorm_id(doc) > 1 {
+        if is_long(norms, alive, doc) {
             return Some(doc);
         }
     }
     None
+}
+
+// Returns whether a document is alive and has a norm above that of one token.
+fn is_long(norms: &FieldNormReader, alive: &AliveBits, doc: DocId) -> bool
+    requires { doc < norms.now.num_docs }
+    ensures { result ≡ (is_living alive.now doc && nat_lt 1 (id_of_doc norms.now doc)) }
+{
+    if !is_living(alive, doc) {
+        return false;
+    }
+    norms.fieldnorm_id(doc) > 1
 }
 
 /// The ids of some documents.

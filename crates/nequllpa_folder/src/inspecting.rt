@@ -1,8 +1,10 @@
 //! Writes the contents of an index as text.
-ghost use Rattle.std.specs.Prelude.{◌<◌, length};
+ghost use Rattle.std.specs.Prelude.{◌≡◌, ◌<◌, length, true};
+ghost use Rattle.ii_query_parser.specs.Queries.{has_fields};
 ghost use Rattle.ii_docset.specs.Cursor.{IsCurrent};
 
 use crate::faults::AnswerFault;
+use crate::finding::first_docs;
 use crate::merged_terms::{MergedTerm, MergedTerms};
 use crate::opened::Opened;
 use crate::opened_index::{Bases, OpenedIndex, reader_of};
@@ -40,14 +42,28 @@ pub fn write_count<W: Write>(
     Ok(many > 0)
 }
 
-/// Returns how many documents of all segments match a query. Segments without the query's fields have none.
+/// Returns how many living documents of all segments match a query. Segments without the query's fields have
+/// none.
 pub fn count_all(alloc: Global, segments: &[Opened], query: &Query) -> Result<u64, Fault> {
     let mut many = 0u64;
     for segment in segments {
         if query.has_fields(segment.schema()) {
-            many = many.saturating_add(u64::from(count(alloc, segment.index(), query)?));
+            many = many.saturating_add(count_in(alloc, segment, query)?);
         }
     }
+    Ok(many)
+}
+
+// Returns how many living documents of a segment match a query.
+fn count_in(alloc: Global, segment: &Opened, query: &Query) -> Result<u64, Fault>
+    requires { has_fields (length segment.now.schema) query.now ≡ true }
+{
+    if !segment.has_deletes() {
+        return Ok(u64::from(count(alloc, segment.index(), query)?));
+    }
+    let docs = first_docs(alloc, segment.index(), segment.alive(), query, u32::MAX)?;
+    let many = docs.len() as u64;
+    drop(docs);
     Ok(many)
 }
 
@@ -187,13 +203,13 @@ pub fn write_postings<W: Write>(
     with_positions: bool,
 ) -> Result<bool, AnswerFault> {
     let mut lists = lists_of(alloc, opened, term, with_positions)?;
+    let mut any = false;
     let mut written = Ok(());
     for list in lists.iter_mut() {
         if written.is_ok() {
-            written = write_all_postings(alloc, out, list);
+            written = write_all_postings(alloc, out, list, &mut any);
         }
     }
-    let any = !lists.is_empty();
     drop(lists);
     match written {
         Ok(()) => Ok(any),
@@ -203,21 +219,22 @@ pub fn write_postings<W: Write>(
 
 // The list of a term in a segment.
 #[derive(Drop)]
-struct TermList {
+struct TermList<'a> {
+    segment: &'a Opened,
     cursor: SegmentPostings,
     // what is read of it
     requested: IndexRecordOption,
-    // the number of the segment's first document
+    // the number of the segment's first living document
     base: u64,
 }
 
 // Opens the lists of a term in the segments that have it.
-fn lists_of(
+fn lists_of<'a>(
     alloc: Global,
-    opened: &OpenedIndex,
+    opened: &'a OpenedIndex,
     term: &Term,
     with_positions: bool,
-) -> Result<Vec<TermList>, AnswerFault> {
+) -> Result<Vec<TermList<'a>>, AnswerFault> {
     let mut lists = Vec::new(alloc);
     let mut bases = Bases::new();
     for segment in opened.segments() {
@@ -228,6 +245,7 @@ fn lists_of(
         let requested = requested(reader.record_option(), with_positions);
         if let Some(cursor) = reader.read_postings(term, requested)? {
             lists.push(TermList {
+                segment,
                 cursor,
                 requested,
                 base,
@@ -237,24 +255,23 @@ fn lists_of(
     Ok(lists)
 }
 
-// Writes the remaining documents of a list.
+// Writes the remaining living documents of a list, and sets `any` if there are some.
 fn write_all_postings<W: Write>(
     alloc: Global,
     out: &mut W,
-    list: &mut TermList,
+    list: &mut TermList<'_>,
+    any: &mut bool,
 ) -> Result<(), AnswerFault> {
     let mut positions = Vec::new(alloc);
     for _ in 0..list.cursor.doc_freq() {
         if list.cursor.doc() >= TERMINATED {
             return Ok(());
         }
-        write_posting(
-            out,
-            &mut list.cursor,
-            list.base,
-            list.requested,
-            &mut positions,
-        )?;
+        if let Some(number) = list.segment.number_of(list.cursor.doc()) {
+            *any = true;
+            let doc = list.base.saturating_add(u64::from(number));
+            write_posting(out, &mut list.cursor, doc, list.requested, &mut positions)?;
+        }
         list.cursor.advance();
     }
     Ok(())
@@ -268,17 +285,16 @@ fn requested(recorded: IndexRecordOption, with_positions: bool) -> IndexRecordOp
     recorded.downgrade(IndexRecordOption::WithFreqs)
 }
 
-// Writes the current document.
+// Writes the current document under its number.
 fn write_posting<W: Write>(
     out: &mut W,
     cursor: &mut SegmentPostings,
-    base: u64,
+    doc: u64,
     requested: IndexRecordOption,
     positions: &mut Vec<u32>,
 ) -> Result<(), AnswerFault>
     requires { IsCurrent cursor.old.rest }
 {
-    let doc = base.saturating_add(u64::from(cursor.doc()));
     if !requested.has_freq() {
         writeln!(out, "{doc}")?;
         return Ok(());
@@ -318,7 +334,7 @@ pub fn write_fields<W: Write>(
             out,
             ": {} terms, {} tokens",
             num_terms(alloc, opened, field)?,
-            num_tokens(opened, field)
+            num_tokens(opened, field)?
         )?;
         if entry.value_type() == ValueType::Json {
             write_paths(alloc, out, opened, field)?;
@@ -338,15 +354,15 @@ fn num_terms(alloc: Global, opened: &OpenedIndex, field: Field) -> Result<u64, A
     Ok(terms.most())
 }
 
-// Returns the number of tokens of a field.
-fn num_tokens(opened: &OpenedIndex, field: Field) -> u64 {
+// Returns the number of tokens that the living documents have in a field.
+fn num_tokens(opened: &OpenedIndex, field: Field) -> Result<u64, Fault> {
     let mut tokens = 0u64;
     for segment in opened.segments() {
-        if let Some(reader) = reader_of(segment, field) {
-            tokens = tokens.saturating_add(reader.total_num_tokens());
+        if (field.field_id() as usize) < segment.schema().num_fields() {
+            tokens = tokens.saturating_add(segment.num_tokens(field)?);
         }
     }
-    tokens
+    Ok(tokens)
 }
 
 // Writes what a field records.

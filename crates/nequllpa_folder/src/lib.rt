@@ -3,6 +3,7 @@
 #![tactic(auto)]
 
 pub mod checking;
+pub mod deleting;
 pub mod faults;
 pub mod finding;
 pub mod ids;
@@ -13,7 +14,8 @@ pub mod opened;
 pub mod opened_index;
 pub mod stats;
 
-pub use checking::{Checked, check};
+pub use checking::{Checked, check, counts_damage};
+pub use deleting::{docs_to_delete, docs_with_term};
 pub use faults::{AnswerFault, OpenFault};
 pub use finding::{FoundPlaces, TermPositions, find_places, first_docs, wanted_terms};
 pub use ids::{NoIds, id_field, id_field_of_all};

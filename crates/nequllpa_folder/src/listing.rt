@@ -61,8 +61,8 @@ pub fn write_listing<W: Write>(
 struct SegmentRows {
     found: FoundPlaces,
     ids: Ids,
-    // the number of the segment's first document
-    base: u64,
+    // the number of each document in the index
+    numbers: Vec<u64>,
 }
 
 // Returns the matching documents of the segments that have any, at most `limit` in all.
@@ -101,13 +101,36 @@ fn rows_in(
     found: FoundPlaces,
     base: u64,
 ) -> Result<SegmentRows, AnswerFault> {
+    let numbers = numbers_of(alloc, segment, &found.docs, base)?;
     match ids_in(alloc, segment, how, &found.docs) {
-        Ok(ids) => Ok(SegmentRows { found, ids, base }),
-        Err(fault) => Err(fault),
+        Ok(ids) => Ok(SegmentRows {
+            found,
+            ids,
+            numbers,
+        }),
+        Err(fault) => {
+            drop(numbers);
+            Err(fault)
+        }
     }
 }
 
-// Returns the matching documents of a segment, at most `limit`, with the positions of the terms if they are
+// Returns the numbers of living documents in the index, given that of the segment's first one.
+fn numbers_of(
+    alloc: Global,
+    segment: &Opened,
+    docs: &[DocId],
+    base: u64,
+) -> Result<Vec<u64>, Fault> {
+    let mut numbers = Vec::new(alloc);
+    for doc in docs {
+        let number = segment.number_of(*doc).unwrap_or(*doc);
+        numbers.push(base.saturating_add(u64::from(number)))?;
+    }
+    Ok(numbers)
+}
+
+// Returns the matching living documents of a segment, at most `limit`, with the positions of the terms if they are
 // written.
 fn found_of(
     alloc: Global,
@@ -119,9 +142,9 @@ fn found_of(
     requires { has_fields (length segment.now.schema) query.now ≡ true }
 {
     if how.with_positions {
-        return find_places(alloc, segment.index(), query, limit);
+        return find_places(alloc, segment.index(), segment.alive(), query, limit);
     }
-    match first_docs(alloc, segment.index(), query, limit) {
+    match first_docs(alloc, segment.index(), segment.alive(), query, limit) {
         Ok(docs) => Ok(FoundPlaces {
             docs,
             places: Vec::new(alloc),
@@ -176,9 +199,9 @@ fn write_rows<W: Write>(
     rows: &SegmentRows,
     texts: &[TermText],
 ) -> Result<(), AnswerFault> {
-    for (place, doc) in rows.found.docs.iter().enumerate() {
+    for (place, number) in rows.numbers.iter().enumerate() {
         let row = Row {
-            doc: rows.base.saturating_add(u64::from(*doc)),
+            doc: *number,
             id: rows.ids.at(place),
             place,
         };

@@ -1,5 +1,9 @@
 //! An open index.
-ghost use Rattle.std.specs.Prelude.{◌≡◌, ◌<◌, ℕ, IfErr, IfOk, IfSome, List, Ok, Some, length, slice_get};
+ghost use Rattle.std.specs.Prelude.{◌≡◌, ◌<◌, ℕ, IfErr, IfOk, IfSome, List, None, Ok, Some, if◌then◌else◌, length, slice_get};
+ghost use Rattle.std.specs.Option.{option_map};
+ghost use Rattle.ii_alive.specs.Alive.{num_living, rank};
+ghost use Rattle.ii_io.specs.Composite.{composite};
+ghost use Rattle.ii_segments.specs.Segments.{is_living};
 ghost use Rattle.ii_base.specs.Schema.{SchemaEntry};
 ghost use Rattle.ii_definitions.specs.Fields.{option_of};
 ghost use Rattle.ii_definitions.specs.Files.{HoldTokens};
@@ -14,18 +18,23 @@ ghost use Rattle.nequllpa_folder.specs.Stored.{HoldsTokens, IsOpenRefusal, IsSch
 
 use crate::faults::OpenFault;
 use bytes::Bytes;
-use ii_base::{Fault, Field, FieldEntry, Schema};
+use ii_alive::AliveBits;
+use ii_base::{DocId, Fault, Field, FieldEntry, Part, Schema};
+use ii_counts::{CountReader, CountReaders};
 use ii_query_parser::field_named;
 use ii_reader::{InvertedIndexReader, OpenIndex, open_index_with_norms};
 use ii_schema_text::read_schema;
 use ii_store::StoredIndex;
 use std::alloc::Global;
 
-/// An open index: its schema, and a reader for each field.
+/// An open index: its schema, a reader for each field, which of its documents are alive, and how many tokens each
+/// document has, if that was recorded.
 pub struct Opened {
     schema: Schema,
     index: OpenIndex,
     num_docs: u32,
+    alive: AliveBits,
+    counts: Option<CountReaders>,
     ghost many: { length index.readers ≡ length schema },
 }
 
@@ -36,19 +45,23 @@ impl Drop for Opened {
             schema: _,
             index: _,
             num_docs: _,
+            alive: _,
+            counts: _,
         } = self;
     }
 }
 
 impl Opened {
-    /// Opens an index from its bytes, with the schema that they contain. If they hold tokens of the schema's
-    /// fields, the readers hold the same tokens.
+    /// Opens an index from its bytes, with the schema that they contain, and with these flags of its documents. If
+    /// the bytes hold tokens of the schema's fields, the readers hold the same tokens.
     ///
     /// # Errors
     ///
     /// `SchemaBytes` if the schema isn't UTF-8, `Schema` if it is no schema. Otherwise `Files`, with
     /// `Damaged` for the first corrupt part or with `OutOfMemory`.
-    pub fn open(alloc: Global, stored: StoredIndex) -> Result<Opened, OpenFault>
+    pub fn open(alloc: Global, stored: StoredIndex, alive: AliveBits) -> Result<Opened, OpenFault>
+        ensures alive { IfOk result (λ o. o.alive ≡ alive) }
+        ensures none { IfOk result (λ o. o.counts ≡ None) }
         ensures docs { IfOk result (λ o. o.num_docs ≡ stored.num_docs) }
         ensures schema { IfOk result (λ o. text_schema stored.schema.items ≡ Ok o.schema) }
         ensures readers { IfOk result (λ o. readers_of (view stored) o.schema ≡ Ok o.index) }
@@ -79,6 +92,8 @@ impl Opened {
                 schema,
                 index,
                 num_docs,
+                alive,
+                counts: None,
             }),
             Err(fault) => {
                 drop(schema);
@@ -87,7 +102,76 @@ impl Opened {
         }
     }
 
-    /// Returns the number of documents.
+    /// Adds a file of counts. Returns `Damaged(Composite)` if its table is corrupt.
+    pub fn with_counts(self, alloc: Global, bytes: Vec<u8>) -> Result<Opened, Fault>
+        ensures counts { IfOk result (λ o. option_map Some o.counts ≡ Some (composite bytes.items)) }
+        ensures same { IfOk result (λ o. (o.schema ≡ self.schema) × (o.index ≡ self.index) × (o.num_docs ≡ self.num_docs) × (o.alive ≡ self.alive)) }
+    {
+        let counts = CountReaders::open(alloc, Bytes::from_vec(bytes)?)?;
+        let Opened {
+            schema,
+            index,
+            num_docs,
+            alive,
+            counts: _,
+        } = self;
+        Ok(Opened {
+            schema,
+            index,
+            num_docs,
+            alive,
+            counts: Some(counts),
+        })
+    }
+
+    /// Returns which documents are alive.
+    pub fn alive(&self) -> &AliveBits
+        ensures { result.now ≡ self.now.alive }
+    {
+        &self.alive
+    }
+
+    /// Returns how many documents are alive.
+    pub fn num_living(&self) -> u32
+        ensures { result ≡ num_living self.now.alive }
+    {
+        self.alive.num_living()
+    }
+
+    /// Returns whether a document was deleted.
+    pub fn has_deletes(&self) -> bool {
+        self.alive.num_living() < self.alive.num_docs()
+    }
+
+    /// Returns how many documents before a document are alive, or `None` if it isn't alive itself.
+    pub fn number_of(&self, doc: DocId) -> Option<u32>
+        ensures { result ≡ (if is_living self.now.alive doc then Some (rank self.now.alive doc) else None) }
+    {
+        if is_living(&self.alive, doc) {
+            return Some(self.alive.rank(doc));
+        }
+        None
+    }
+
+    /// Returns the number of tokens that the living documents have in a field. Returns `Damaged(TokenCount)` if
+    /// it isn't known from the file of counts.
+    pub fn num_tokens(&self, field: Field) -> Result<u64, Fault>
+        requires { field < length self.now.schema }
+    {
+        if !self.has_deletes() {
+            return Ok(self.reader(field).total_num_tokens());
+        }
+        let Some(counts) = &self.counts else {
+            return Err(Fault::Damaged(Part::TokenCount));
+        };
+        match counts.get_field(field, self.alive.num_docs()) {
+            Ok(Some(reader)) => Ok(sum_of_living(reader, &self.alive)),
+            Ok(None) => Err(Fault::Damaged(Part::TokenCount)),
+            Err(fault) => Err(fault),
+        }
+    }
+
+    /// Returns the number of documents, deleted ones included.
     pub fn num_docs(&self) -> u32
         ensures { result ≡ self.now.num_docs }
     {
@@ -132,6 +216,37 @@ impl Opened {
     {
         field_named(&self.schema, name)
     }
+}
+
+/// Returns whether a document is alive; one that the flags don't cover isn't.
+pub fn is_living(alive: &AliveBits, doc: DocId) -> bool
+    ensures { result ≡ is_living alive.now doc }
+{
+    if doc >= alive.num_docs() {
+        return false;
+    }
+    alive.is_alive(doc)
+}
+
+// Returns the sum of the numbers of tokens of living documents.
+fn sum_of_living(counts: CountReader, alive: &AliveBits) -> u64 {
+    let mut counts = counts;
+    let mut sum = 0u64;
+    for doc in 0..counts.num_docs() {
+        sum = sum.saturating_add(count_if_living(&mut counts, alive, doc));
+    }
+    sum
+}
+
+// Returns the number of tokens of a document, 0 if it isn't alive.
+fn count_if_living(counts: &mut CountReader, alive: &AliveBits, doc: DocId) -> u64
+    requires { doc < length counts.old.counts }
+    ensures { counts.new.counts ≡ counts.old.counts }
+{
+    if !is_living(alive, doc) {
+        return 0;
+    }
+    u64::from(counts.count(doc))
 }
 
 /// Reads the schema of an index. Returns `SchemaBytes` if the bytes aren't UTF-8, and `Schema` if the text is

@@ -1,5 +1,7 @@
 //! An open index of several segments.
-ghost use Rattle.std.specs.Prelude.{◌≡◌, ◌<◌, IfOk, IfSome, Ok, length};
+ghost use Rattle.std.specs.Prelude.{◌≡◌, ◌<◌, IfOk, IfSome, Ok, Some, length};
+ghost use Rattle.std.specs.Option.{option_map};
+ghost use Rattle.ii_io.specs.Composite.{composite};
 ghost use Rattle.std.specs.List.{AllZip};
 ghost use Rattle.ii_query_parser.specs.QueryTexts.{field_named};
 ghost use Rattle.ii_schema_text.specs.SchemaText.{text_schema};
@@ -10,7 +12,8 @@ use crate::opened::{Opened, schema_of};
 use ii_base::{Field, FieldEntry, Schema};
 use ii_query_parser::field_named;
 use ii_reader::InvertedIndexReader;
-use ii_segment_store::{StoredSegment, StoredSegments};
+use ii_segment_store::{SegmentFiles, StoredSegment, StoredSegments};
+use ii_store::StoredIndex;
 use std::alloc::Global;
 
 /// An open index: its schema, and its open segments in the order of their documents.
@@ -104,7 +107,42 @@ fn opened_segment(alloc: Global, schema: &[u8], segment: StoredSegment) -> Resul
     ensures { IfOk result (OpensAs schema.now segment) }
 {
     let schema = Vec::from_slice(alloc, schema)?;
-    Opened::open(alloc, segment.files.into_index(schema))
+    let StoredSegment { files, alive } = segment;
+    let SegmentFiles {
+        num_docs,
+        terms,
+        postings,
+        positions,
+        fieldnorms,
+        counts,
+    } = files;
+    let index = StoredIndex {
+        num_docs,
+        schema,
+        terms,
+        postings,
+        positions,
+        fieldnorms,
+    };
+    let opened = match Opened::open(alloc, index, alive) {
+        Ok(opened) => opened,
+        Err(fault) => return Err(fault),
+    };
+    match counts {
+        Some(bytes) => with_counts(alloc, opened, bytes),
+        None => Ok(opened),
+    }
+}
+
+// Adds a file of counts to an open segment.
+fn with_counts(alloc: Global, opened: Opened, bytes: Vec<u8>) -> Result<Opened, OpenFault>
+    ensures counts { IfOk result (λ o. option_map Some o.counts ≡ Some (composite bytes.items)) }
+    ensures same { IfOk result (λ o. (o.schema ≡ opened.schema) × (o.index ≡ opened.index) × (o.num_docs ≡ opened.num_docs) × (o.alive ≡ opened.alive)) }
+{
+    match opened.with_counts(alloc, bytes) {
+        Ok(opened) => Ok(opened),
+        Err(fault) => Err(OpenFault::Files(fault)),
+    }
 }
 
 /// Returns the reader of a field of a segment, if the segment has the field.
@@ -115,7 +153,7 @@ pub fn reader_of(segment: &Opened, field: Field) -> Option<&InvertedIndexReader>
     Some(segment.reader(field))
 }
 
-/// The number of the first document of each segment, segment after segment.
+/// The number of the first living document of each segment, segment after segment.
 #[derive(Clone, Copy)]
 pub struct Bases {
     next: u64,
@@ -127,10 +165,10 @@ impl Bases {
         Bases { next: 0 }
     }
 
-    /// Returns the number of the first document of the next segment, and passes the segment.
+    /// Returns the number of the first living document of the next segment, and passes the segment.
     pub fn pass(&mut self, segment: &Opened) -> u64 {
         let base = self.next;
-        self.next = base.saturating_add(u64::from(segment.num_docs()));
+        self.next = base.saturating_add(u64::from(segment.num_living()));
         base
     }
 }
