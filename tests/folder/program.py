@@ -230,7 +230,7 @@ def values(user, docs):
             raise Failed(f'terms of address: no {wanted!r}')
 
 
-SEGMENT_FILES = {'term': 'terms', 'idx': 'postings', 'pos': 'positions', 'norm': 'field norms'}
+SEGMENT_FILES = {'term': 'terms', 'idx': 'postings', 'pos': 'positions', 'norm': 'field norms', 'count': 'counts'}
 
 
 def grows(user, docs, chosen):
@@ -268,6 +268,98 @@ def grows(user, docs, chosen):
     user.wants(['upgrade', 'grown'], 0, 'the index was of version 2 already\n')
     damages_segments(user)
     shutil.rmtree(user.path('grown'))
+
+
+DELETED_SCHEMA = '[[field]]\nname = "id"\ntype = "bytes"\n[[field]]\nname = "body"\ntype = "text"\n[[field]]\nname = "flag"\ntype = "text"\nrecord = "basic"\nfieldnorms = false\n'
+
+
+def started(user, name):
+    """Creates an index without documents."""
+    user.write('deleted.toml', DELETED_SCHEMA)
+    user.wants(['index', name, '--schema', 'deleted.toml'], 0, '0 documents indexed\n')
+
+
+def adds(user, name, *docs):
+    user.wants(['add', name], 0, f'{len(docs)} documents added\n', given=lines(docs).encode())
+
+
+def deletes(user):
+    """Deletes documents by terms. All numbers are those of the documents that are left, at once."""
+    started(user, 'three')
+    adds(user, 'three', {'id': '00', 'body': 'a'}, {'id': '01', 'body': 'a b'}, {'id': '02', 'body': 'b'})
+    user.wants(['delete', 'three', 'id', '01'], 0, '1 documents deleted\n')
+    user.wants(['postings', 'three', 'body', 'a', '--positions'], 0, '0 1 0\n')
+    user.wants(['postings', 'three', 'body', 'b', '--positions'], 0, '1 1 0\n')
+    user.wants(['terms', 'three', 'body'], 0, '1 a\n1 b\n')
+    user.wants(['postings', 'three', 'id', '01'], 1, '')
+    if '1 body text position fieldnorms: 2 terms, 2 tokens\n' not in user.wants(['fields', 'three'], 0):
+        raise Failed('fields of three documents, one of them deleted')
+    # the index of no lines is a segment too
+    if f'{2:>12} documents\n{2:>12} segments\n' not in user.wants(['stats', 'three'], 0):
+        raise Failed('stats of three documents, one of them deleted')
+    user.wants(['check', 'three'], 0)
+    # a delete reaches the documents before it alone
+    started(user, 'later')
+    adds(user, 'later', {'body': 'a'})
+    user.wants(['delete', 'later', 'body', 'a'], 0, '1 documents deleted\n')
+    adds(user, 'later', {'body': 'a'})
+    user.wants(['search', 'later', 'a'], 0, '0\n')
+    user.wants(['search', 'later', 'a', '--count'], 0, '1\n')
+    # tokens of a field that keeps no counts
+    started(user, 'flags')
+    adds(user, 'flags', {'id': '00', 'flag': 'a a'}, {'id': '01', 'flag': 'a'})
+    user.wants(['delete', 'flags', 'id', '01'], 0, '1 documents deleted\n')
+    user.wants(['postings', 'flags', 'flag', 'a'], 0, '0\n')
+    if '2 flag text basic: 1 terms, 2 tokens\n' not in user.wants(['fields', 'flags'], 0):
+        raise Failed('fields of a field without counts')
+    # a phrase and a difference over two segments
+    started(user, 'two')
+    adds(user, 'two', {'id': '00', 'body': 'a b'})
+    adds(user, 'two', {'id': '01', 'body': 'a b'})
+    user.wants(['delete', 'two', 'id', '00'], 0, '1 documents deleted\n')
+    for query in ('"a b"', 'a NOT x', 'a OR x'):
+        user.wants(['search', 'two', query], 0, '0\n')
+    user.wants(['search', 'two', 'a', '--ids', '--positions'], 0, '01\tbody:a 0\n')
+    # no document is left
+    started(user, 'none')
+    adds(user, 'none', {'body': 'a'})
+    user.wants(['delete', 'none', 'body', 'a'], 0, '1 documents deleted\n')
+    user.wants(['terms', 'none', 'body'], 0, '')
+    user.wants(['search', 'none', 'a', '--count'], 1, '0\n')
+    # a deleted document stays deleted
+    started(user, 'kept')
+    adds(user, 'kept', {'id': '00', 'body': 'a'}, {'id': '01', 'body': 'a'})
+    user.wants(['delete', 'kept', 'id', '00'], 0, '1 documents deleted\n')
+    adds(user, 'kept', {'id': '02', 'body': 'a'})
+    user.wants(['delete', 'kept', 'body', 'a'], 0, '2 documents deleted\n')
+    user.wants(['search', 'kept', 'a', '--count'], 1, '0\n')
+    # no such field or term, and an index without counts
+    user.wants(['delete', 'kept', 'nothing', 'a'], 2, '', 'no field nothing')
+    user.wants(['delete', 'kept', 'body', 'b'], 0, '0 documents deleted\n')
+    user.wants(['delete', 'nowhere', 'body', 'b'], 1, 'nowhere: no index here\n')
+    user.wants(['index', 'first', '--schema', 'deleted.toml'], 0, '1 documents indexed\n', given=b'{"body": "a"}\n')
+    user.wants(['delete', 'first', 'body', 'a'], 2, '', 'segment 0 has no counts of tokens, so that none of its documents can be deleted')
+    user.wants(['search', 'first', 'a'], 0, '0\n')
+    # files of counts and of flags
+    for kind, what in (('count', 'counts'), ('alive', 'living documents')):
+        damages_file(user, kind, what)
+
+
+def damages_file(user, kind, what):
+    """Changes a file of a segment with deleted documents: it must be named."""
+    name, = (name for name in sorted(os.listdir(user.path('three'))) if name.endswith('.' + kind))
+    path = os.path.join(user.path('three'), name)
+    with open(path, 'rb') as file:
+        text = file.read()
+    with open(path, 'wb') as file:
+        file.write(text[:-1] + bytes([text[-1] ^ 1]))
+    said = f'three: the file of {what} of segment 1 has another checksum than meta says'
+    user.wants(['search', 'three', 'a'], 1, said + '\n')
+    if f'{said}, bytes 0..{len(text)}\n' not in user.wants(['check', 'three'], 1):
+        raise Failed(f'check: no {said}')
+    with open(path, 'wb') as file:
+        file.write(text)
+    user.wants(['check', 'three'], 0)
 
 
 def damages_segments(user):
@@ -540,6 +632,7 @@ def main():
             values(user, docs)
             refusals(user, docs)
             grows(user, docs, chosen)
+            deletes(user)
             ids(user)
             damages(user, chosen, 82)
             values_twice(user)

@@ -224,8 +224,12 @@ class Reader:
     """A folder that the program wrote, and a plain reading of its lines."""
 
     def __init__(self, program, room, fields, lines):
-        self.program, self.room, self.lines, self.runs = program, room, lines, 0
-        self.fields = [Field(field) for field in fields]
+        self.program, self.room, self.settings, self.runs = program, room, fields, 0
+        self.read(lines)
+
+    def read(self, lines):
+        """Reads the lines of an index anew."""
+        self.lines, self.fields = lines, [Field(field) for field in self.settings]
         for doc, line in enumerate(lines):
             for field in self.fields:
                 field.add(doc, line.get(field.setting['name']))
@@ -240,15 +244,22 @@ class Reader:
         if got != status or said != out:
             raise Failed(f'{words}: status {got}, {said[-400:]!r}, {err[-300:]!r}; wanted {status}, {out[-400:]!r}')
 
-    def indexes(self, fields, cuts):
-        """Indexes the lines up to the first cut, and adds those between each two cuts as a segment."""
+    def indexes(self, fields, cuts, only_adds):
+        """Indexes the lines up to the first cut, and adds those between each two cuts as a segment. Or indexes
+        nothing, and adds all lines."""
         with open(os.path.join(self.room, 'schema.toml'), 'w', encoding='utf-8') as file:
             file.write(schema_text(fields))
         parts = [self.lines[begin:end] for begin, end in zip([0, *cuts], [*cuts, len(self.lines)])]
         texts = [''.join(json.dumps(line, ensure_ascii=False) + '\n' for line in part).encode() for part in parts]
+        if only_adds:
+            parts, texts = [[], *parts], [b'', *texts]
         self.wants(['index', 'folder', '--schema', 'schema.toml'], 0, f'{len(parts[0])} documents indexed\n', texts[0])
         for part, text in zip(parts[1:], texts[1:]):
             self.wants(['add', 'folder'], 0, f'{len(part)} documents added\n', text)
+        self.is_sound()
+
+    def is_sound(self):
+        """Looks that the index has the number of its lines, and no damage."""
         status, told, err = self.run('check', 'folder')
         if status != 0 or not told.startswith(f'{len(self.lines)} documents; each file') or not told.endswith('\n0 damages\n'):
             raise Failed(f'check: status {status}, {told!r}, {err!r}')
@@ -268,6 +279,19 @@ class Reader:
             for key in chosen.sample(keys, min(6, len(keys))):
                 self.wants(['postings', 'folder', '--', name, field.texts[key]], 0, field.postings(key, False))
                 self.wants(['postings', 'folder', '--positions', '--', name, field.texts[key]], 0, field.postings(key, True))
+
+    def deletes(self, chosen):
+        """Deletes the documents of some terms: the others have the numbers that they have without these."""
+        for _ in range(chosen.randint(1, 3)):
+            field = chosen.choice(self.fields)
+            if not field.lists:
+                continue
+            key = chosen.choice(sorted(field.lists))
+            gone = field.lists[key]
+            self.wants(['delete', 'folder', '--', field.setting['name'], field.texts[key]], 0, f'{len(gone)} documents deleted\n')
+            self.wants(['delete', 'folder', '--', field.setting['name'], field.texts[key]], 0, '0 documents deleted\n')
+            self.read([line for doc, line in enumerate(self.lines) if doc not in gone])
+        self.is_sound()
 
     def docs_of(self, field, word):
         """Returns the documents with a word in a text field."""
@@ -311,9 +335,14 @@ def one_folder(program, room, chosen, is_large):
     lines = [random_line(chosen, fields) for _ in range(chosen.randint(300, 900) if is_large else chosen.randint(0, 30))]
     reader = Reader(program, room, fields, lines)
     cuts = sorted(chosen.randint(0, len(lines)) for _ in range(chosen.choice((0, 0, 1, 2, 4))))
-    reader.indexes(fields, cuts)
+    only_adds = chosen.random() < 0.6
+    reader.indexes(fields, cuts, only_adds)
     reader.looks(chosen)
     reader.searches(chosen)
+    if only_adds:
+        reader.deletes(chosen)
+        reader.looks(chosen)
+        reader.searches(chosen)
     return reader.runs
 
 

@@ -1,5 +1,5 @@
 #!/usr/bin/env python3
-"""Stops `nequllpa index` and `add` before each of their system calls, and runs two programs that write to one
+"""Stops `nequllpa index`, `add` and `delete` before each of their system calls, and runs two programs that write to one
 folder. The folder must hold the old index or the new one, and a second writer must fail at once."""
 import json
 import os
@@ -113,6 +113,35 @@ def adds_everywhere(folder, before):
     raise Failed('the program makes no end of calls')
 
 
+def deletes_everywhere(folder):
+    """Stops `delete` before each of its calls, of a word that documents of two segments have: all of them are
+    deleted, or none."""
+    with open(folder.path('none.jsonl'), 'wb'):
+        pass
+    for stop in range(1, 1000):
+        shutil.rmtree(folder.path('index'), ignore_errors=True)
+        folder.wants(folder.index('none.jsonl')[0], 0, '0 documents indexed')
+        folder.wants(folder.run('add', 'index', 'old.jsonl')[0], 0, '1 documents added')
+        folder.wants(folder.run('add', 'index', 'new.jsonl')[0], 0, '2 documents added')
+        folder.wants(folder.run('delete', 'index', 'body', 'bird')[0], 0, '1 documents deleted')
+        done, calls = folder.run('delete', 'index', 'body', 'sea', STOP_AT=stop)
+        if done.returncode not in (0, -signal.SIGKILL):
+            raise Failed(f'delete stopped at {stop}: status {done.returncode}, {done.stderr!r}')
+        folder.holds(*((0,) if done.returncode == 0 else (0, 2)))
+        folder.run('delete', 'index', 'body', 'sea')
+        folder.holds(0)
+        # an add removes the files of a stopped run, and the flags that no list has any more
+        folder.wants(folder.run('add', 'index', 'old.jsonl')[0], 0, '1 documents added')
+        folder.holds(1)
+        named = [name for name in os.listdir(folder.path('index')) if name.endswith('.alive')]
+        if len(named) != 2 or os.path.exists(folder.path('index/meta.new')):
+            raise Failed(f'after a delete that was stopped at {stop}: {sorted(os.listdir(folder.path("index")))}')
+        if done.returncode == 0:
+            return calls
+        folder.stops += 1
+    raise Failed('the program makes no end of calls')
+
+
 def replaced(folder):
     """Indexes into a folder with several segments: nothing of them must remain."""
     folder.wants(folder.index('new.jsonl')[0], 0, '2 documents indexed')
@@ -219,6 +248,7 @@ def main():
             orphans(folder)
             adds_everywhere(folder, ['old.jsonl'])
             adds_everywhere(folder, ['old.jsonl', 'old.jsonl'])
+            deletes_everywhere(folder)
             replaced(folder)
         except Failed as why:
             print(f'tests/folder: {why}')

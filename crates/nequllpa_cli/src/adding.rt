@@ -8,9 +8,8 @@ use ii_segment_store::{
 };
 use ii_store::collect::collect;
 use ii_store::segments::load_meta;
-use ii_store::{Folder, IndexFault, StoreFault, StoredIndex};
+use ii_store::{Folder, IndexFault, StoreFault};
 use nequllpa_folder::schema_of;
-use nequllpa_indexing::store;
 use std::process::ExitCode;
 
 /// Indexes JSON lines as a new segment of an index.
@@ -76,12 +75,12 @@ fn add_segment(rt: &HostRuntime, path: &str, intake: Intake) -> anyhow::Result<E
         Ok(count) => tell_long_words(rt, count)?,
         Err(fault) => return Ok(ExitCode::from(refuse(rt, fault)?)),
     }
-    let stored = match store(rt.alloc(), documents, Vec::new(rt.alloc())) {
-        Ok(stored) => stored,
+    let segment = match documents.into_segment(rt.alloc(), &AsciiTokenizer) {
+        Ok(segment) => segment,
         Err(fault) => return Ok(ExitCode::from(refuse(rt, fault)?)),
     };
-    let num_docs = stored.num_docs;
-    if let Err(fault) = put(rt, path, segment_of(stored)) {
+    let num_docs = segment.num_docs;
+    if let Err(fault) = put(rt, path, segment) {
         return Ok(ExitCode::from(refuse_commit(rt, path, fault)?));
     }
     if bad_lines > 0 {
@@ -90,26 +89,6 @@ fn add_segment(rt: &HostRuntime, path: &str, intake: Intake) -> anyhow::Result<E
         println!(rt; "{num_docs} documents added")?;
     }
     Ok(ExitCode::SUCCESS)
-}
-
-// Returns an index as a segment.
-fn segment_of(stored: StoredIndex) -> SegmentFiles {
-    let StoredIndex {
-        num_docs,
-        schema: _,
-        terms,
-        postings,
-        positions,
-        fieldnorms,
-    } = stored;
-    SegmentFiles {
-        num_docs,
-        terms,
-        postings,
-        positions,
-        fieldnorms,
-        counts: None,
-    }
 }
 
 // Adds a segment that has documents, and removes the files that no list has.
@@ -124,8 +103,8 @@ fn put(rt: &HostRuntime, path: &str, segment: SegmentFiles) -> Result<(), Commit
     Ok(())
 }
 
-// Prints why a segment can't be added. Returns the status.
-fn refuse_commit(rt: &HostRuntime, path: &str, fault: CommitFault) -> anyhow::Result<u8> {
+/// Prints why an index can't be changed. Returns the status.
+pub fn refuse_commit(rt: &HostRuntime, path: &str, fault: CommitFault) -> anyhow::Result<u8> {
     let status = match fault {
         CommitFault::Store(StoreFault::Index(fault)) => return tell_no_index(rt, path, fault),
         fault => refuse_path(rt, path, fault)?,

@@ -1,17 +1,17 @@
 //! The command `check`.
 use crate::commands::{NO, ended, refuse_path, status_of, tell_no_index};
 use ii_base::Schema;
-use ii_segment_store::loading::file_of;
+use ii_segment_store::loading::{alive_file, file_of, load_flags};
 use ii_store::segments::{load_meta, load_segment_file};
 use ii_store::{
     Directory, DirectoryFault, Folder, IndexFault, IndexMeta, Kind, Name, SalvagedFile,
     SalvagedIndex, SegmentComponent, SegmentMeta, StoreFault, StoredIndex, salvage,
 };
-use nequllpa_folder::{Checked, check, schema_of};
+use nequllpa_folder::{Checked, check, counts_damage, schema_of};
 use std::io::{self, BufWriter, Write};
 use std::process::ExitCode;
 
-// The components whose files a segment has.
+// The components whose files each segment has.
 const COMPONENTS: [SegmentComponent; 4] = [
     SegmentComponent::Terms,
     SegmentComponent::Postings,
@@ -89,11 +89,14 @@ fn check_segment(
     segment: &SegmentMeta,
     sum: &mut Sum,
 ) -> anyhow::Result<Result<(), u8>> {
-    sum.documents = sum.documents.saturating_add(u64::from(segment.num_docs));
+    sum.documents = sum.documents.saturating_add(u64::from(segment.num_living));
     let stored = match left_of(rt, path, segment, sum)? {
         Ok(stored) => stored,
         Err(fault) => return Ok(Err(refuse_path(rt, path, fault)?)),
     };
+    if let Err(status) = check_others(rt, path, schema, segment, sum)? {
+        return Ok(Err(status));
+    }
     let id = segment.id;
     let place = format!(in rt.alloc(); "segment {id}: ")?;
     let mut out = BufWriter::new(rt.alloc(), io::writer(rt))?;
@@ -170,6 +173,72 @@ fn left_of_file(
             Ok(Ok(Vec::new(rt.alloc())))
         }
         Err(fault) => Ok(Err(fault)),
+    }
+}
+
+// Checks the counts and the flags of a segment, if it lists them. Returns the status if that isn't possible.
+fn check_others(
+    rt: &HostRuntime,
+    path: &str,
+    schema: &Schema,
+    segment: &SegmentMeta,
+    sum: &mut Sum,
+) -> anyhow::Result<Result<(), u8>> {
+    if let Some(file) = file_of(segment.files.as_slice(), SegmentComponent::Counts) {
+        let bytes = match left_of_file(rt, path, segment, file.component, sum)? {
+            Ok(bytes) => bytes,
+            Err(fault) => return Ok(Err(refuse_path(rt, path, fault)?)),
+        };
+        if let Err(status) = check_counts(rt, path, schema, segment, bytes, sum)? {
+            return Ok(Err(status));
+        }
+    }
+    if let Some(file) = alive_file(segment.files.as_slice()) {
+        if let Err(fault) = left_of_file(rt, path, segment, file.component, sum)? {
+            return Ok(Err(refuse_path(rt, path, fault)?));
+        }
+    }
+    check_flags(rt, path, segment, sum)
+}
+
+// Prints a line if the file of counts of a segment isn't one of its documents and fields.
+fn check_counts(
+    rt: &HostRuntime,
+    path: &str,
+    schema: &Schema,
+    segment: &SegmentMeta,
+    bytes: Vec<u8>,
+    sum: &mut Sum,
+) -> anyhow::Result<Result<(), u8>> {
+    let id = segment.id;
+    let len = bytes.len();
+    match counts_damage(rt.alloc(), schema, segment.num_docs, bytes) {
+        Ok(None) => Ok(Ok(())),
+        Ok(Some(damage)) => {
+            sum.checked.damages = sum.checked.damages.saturating_add(1);
+            println!(rt; "segment {id}: the file of counts: {damage}, bytes 0..{len}")?;
+            Ok(Ok(()))
+        }
+        Err(fault) => Ok(Err(refuse_path(rt, path, fault)?)),
+    }
+}
+
+// Prints a line if the flags of a segment aren't those of its documents.
+fn check_flags(
+    rt: &HostRuntime,
+    path: &str,
+    segment: &SegmentMeta,
+    sum: &mut Sum,
+) -> anyhow::Result<Result<(), u8>> {
+    match load_flags(rt.alloc(), &Folder::new(rt, path), segment) {
+        Ok(_) => Ok(Ok(())),
+        Err(StoreFault::Index(IndexFault::DeletedDocuments(id))) => {
+            sum.changed = sum.changed.saturating_add(1);
+            println!(rt; "{path}: {}", IndexFault::DeletedDocuments(id))?;
+            Ok(Ok(()))
+        }
+        Err(StoreFault::Index(_)) => Ok(Ok(())),
+        Err(StoreFault::Directory(fault)) => Ok(Err(refuse_path(rt, path, fault)?)),
     }
 }
 

@@ -4,7 +4,7 @@ ghost use Rattle.std.specs.Prelude.{◌<◌, IfOk, length};
 use clap::ArgMatches;
 use ii_base::{Field, Term};
 use ii_segment_store::{StoredSegment, StoredSegments, load_latest};
-use ii_store::{Folder, IndexFault, Kind, StoreFault};
+use ii_store::{Folder, IndexFault, Kind, SegmentComponent, StoreFault};
 use nequllpa_folder::{
     AnswerFault, OpenedIndex, TermChoice, term_of, write_fields, write_postings, write_stats,
     write_terms,
@@ -147,29 +147,49 @@ fn print_files(rt: &HostRuntime, index: &StoredSegments) -> anyhow::Result<()> {
     for segment in &index.segments {
         total.add(segment);
     }
-    println!(rt; "{:>12} documents", total.documents)?;
+    println!(rt; "{:>12} documents", total.living)?;
     println!(rt; "{:>12} segments", index.segments.len())?;
     println!(rt; "{:>12} bytes of {}", index.schema.len(), Kind::Schema)?;
     println!(rt; "{:>12} bytes of {}", total.terms, Kind::Terms)?;
     println!(rt; "{:>12} bytes of {}", total.postings, Kind::Postings)?;
     println!(rt; "{:>12} bytes of {}", total.positions, Kind::Positions)?;
     println!(rt; "{:>12} bytes of {}", total.fieldnorms, Kind::FieldNorms)?;
+    if total.counts > 0 {
+        println!(rt;
+            "{:>12} bytes of {}",
+            total.counts,
+            SegmentComponent::Counts
+        )?;
+    }
+    if total.living < total.documents {
+        let deleted = total.documents.saturating_sub(total.living);
+        println!(rt; "{deleted:>12} deleted documents that still take room")?;
+    }
     Ok(())
 }
 
 // The documents of segments, and the bytes of their files.
 #[derive(Clone, Copy, Default)]
 struct Total {
+    // deleted ones included
     documents: u64,
+    living: u64,
     terms: u64,
     postings: u64,
     positions: u64,
     fieldnorms: u64,
+    counts: u64,
 }
 
 impl Total {
     // Adds a segment.
-    fn add(&mut self, segment: &StoredSegment) {
+    fn add(&mut self, stored: &StoredSegment) {
+        let living = u64::from(stored.alive.num_living());
+        self.living = self.living.saturating_add(living);
+        let segment = &stored.files;
+        if let Some(counts) = &segment.counts {
+            self.counts = self.counts.saturating_add(counts.len() as u64);
+        }
         self.documents = self.documents.saturating_add(u64::from(segment.num_docs));
         self.terms = self.terms.saturating_add(segment.terms.len() as u64);
         self.postings = self.postings.saturating_add(segment.postings.len() as u64);
@@ -255,8 +275,8 @@ pub fn opened_at(rt: &HostRuntime, path: &str) -> anyhow::Result<Result<OpenedIn
     }
 }
 
-// Returns the field given on the command line.
-fn field_given(
+/// Returns the field given on the command line.
+pub fn field_given(
     rt: &HostRuntime,
     opened: &OpenedIndex,
     given: &ArgMatches<'_>,
@@ -286,8 +306,8 @@ pub fn field_named(
     }
 }
 
-// Returns the term of a field for a text.
-fn term_given(
+/// Returns the term of a field for a text.
+pub fn term_given(
     rt: &HostRuntime,
     opened: &OpenedIndex,
     field: Field,

@@ -4,6 +4,7 @@
 mod adding;
 mod checking;
 mod commands;
+mod deleting;
 mod indexing;
 mod query_texts;
 mod searching;
@@ -15,6 +16,7 @@ use clap::ArgMatches;
 use commands::{
     PROGRAM, REFUSED, answer_fields, answer_postings, answer_stats, answer_terms, refuse,
 };
+use deleting::answer_delete;
 use indexing::answer_index;
 use searching::answer_search;
 use std::io;
@@ -71,6 +73,7 @@ fn answer_command(rt: &HostRuntime, matches: &ArgMatches<'_>) -> anyhow::Result<
     match name {
         "index" => answer_index(rt, path, given),
         "add" => answer_add(rt, path, given),
+        "delete" => answer_delete(rt, path, given),
         "upgrade" => answer_upgrade(rt, path),
         "search" => answer_search(rt, path, given),
         "terms" => answer_terms(rt, path, given),

@@ -42,7 +42,7 @@ static FOLDER: Word = Word {
     help: "The folder of the index",
 };
 
-static USAGES: [Usage; 9] = [
+static USAGES: [Usage; 10] = [
     Usage {
         name: "index",
         about: "Indexes JSON lines: the index replaces the one that the folder had. Takes 3 to 5 bytes of memory for each byte of input, up to 16 for numbers that all differ",
@@ -82,6 +82,22 @@ static USAGES: [Usage; 9] = [
                 name: "skip-bad",
                 given: Given::Flag,
                 help: "Leaves out lines that are no documents, prints why for each, and counts them",
+            },
+        ],
+    },
+    Usage {
+        name: "delete",
+        about: "Deletes the documents that have a term, and prints how many there were. Documents that are added later stay",
+        words: &[
+            Word {
+                name: "FIELD",
+                given: Given::Word,
+                help: "The name of a field",
+            },
+            Word {
+                name: "TERM",
+                given: Given::WordOrNumber,
+                help: "The term, as the command terms prints it",
             },
         ],
     },

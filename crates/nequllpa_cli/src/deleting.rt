@@ -1,0 +1,97 @@
+//! The command `delete`.
+use crate::adding::refuse_commit;
+use crate::commands::{REFUSED, field_given, opened_at, status_of, term_given};
+use crate::indexing::target_of;
+use clap::ArgMatches;
+use ii_base::{DocId, Term};
+use ii_segment_store::{CommitFault, commit_changes, remove_slots, upgrade};
+use ii_store::Folder;
+use ii_store::collect::collect;
+use nequllpa_folder::{AnswerFault, OpenedIndex, docs_to_delete};
+use std::process::ExitCode;
+
+/// Deletes the documents that have a term.
+pub fn answer_delete(
+    rt: &HostRuntime,
+    path: &str,
+    given: &ArgMatches<'_>,
+) -> anyhow::Result<ExitCode> {
+    let target = match target_of(rt, path, false)? {
+        Ok(target) => target,
+        Err(status) => return Ok(ExitCode::from(status)),
+    };
+    let deleted = deleted(rt, path, given);
+    drop(target);
+    deleted
+}
+
+// Does it, once the folder is locked.
+fn deleted(rt: &HostRuntime, path: &str, given: &ArgMatches<'_>) -> anyhow::Result<ExitCode> {
+    match opened_at(rt, path)? {
+        Ok(opened) => delete_given(rt, path, &opened, given),
+        Err(status) => Ok(ExitCode::from(status)),
+    }
+}
+
+// Deletes the documents that have the term given on the command line.
+fn delete_given(
+    rt: &HostRuntime,
+    path: &str,
+    opened: &OpenedIndex,
+    given: &ArgMatches<'_>,
+) -> anyhow::Result<ExitCode> {
+    let field = match field_given(rt, opened, given)? {
+        Ok(field) => field,
+        Err(status) => return Ok(ExitCode::from(status)),
+    };
+    let Some(text) = given.get_str("TERM") else {
+        return Ok(ExitCode::from(REFUSED));
+    };
+    match term_given(rt, opened, field, text)? {
+        Ok(term) => delete_term(rt, path, opened, &term),
+        Err(status) => Ok(ExitCode::from(status)),
+    }
+}
+
+// Deletes the documents that have a term, and prints their number.
+fn delete_term(
+    rt: &HostRuntime,
+    path: &str,
+    opened: &OpenedIndex,
+    term: &Term,
+) -> anyhow::Result<ExitCode> {
+    let docs = match docs_to_delete(rt.alloc(), opened, term) {
+        Ok(docs) => docs,
+        Err(fault) => return Ok(ExitCode::from(status_of(rt, path, AnswerFault::Index(fault))?)),
+    };
+    let count = total(&docs);
+    if count > 0 {
+        let committed = commit(rt, path, &docs);
+        if let Err(fault) = committed {
+            drop(docs);
+            return Ok(ExitCode::from(refuse_commit(rt, path, fault)?));
+        }
+    }
+    drop(docs);
+    println!(rt; "{count} documents deleted")?;
+    Ok(ExitCode::SUCCESS)
+}
+
+// Returns how many documents there are.
+fn total(docs: &[Vec<DocId>]) -> u64 {
+    let mut count = 0u64;
+    for some in docs {
+        count = count.saturating_add(some.len() as u64);
+    }
+    count
+}
+
+// Deletes documents of an index, and removes the files that no list has.
+fn commit(rt: &HostRuntime, path: &str, docs: &[Vec<DocId>]) -> Result<(), CommitFault> {
+    let mut folder = Folder::new(rt, path);
+    upgrade(rt.alloc(), &mut folder)?;
+    commit_changes(rt.alloc(), &mut folder, docs, None)?;
+    collect(rt.alloc(), &mut folder)?;
+    remove_slots(rt.alloc(), &mut folder)?;
+    Ok(())
+}
