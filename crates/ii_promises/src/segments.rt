@@ -1,11 +1,12 @@
 // An index of segments in a directory: segments are added, documents deleted, and stops lose neither.
-ghost use Rattle.std.specs.Prelude.{◌≡◌, ◌⊎◌, Ok, IfOk, List, ℕ, OnOk, map};
+ghost use Rattle.std.specs.Prelude.{◌≡◌, ◌⊎◌, Ok, IfOk, IsTrue, OnOk, map};
 ghost use Rattle.std.specs.Option.{option_map};
 ghost use Rattle.ii_directory.specs.Directory.{Files};
 ghost use Rattle.ii_directory.specs.declared.name.Name.TheVariants.{Meta};
-ghost use Rattle.ii_store.specs.IndexMeta.{MetaState, meta_view};
+ghost use Rattle.ii_store.specs.IndexMeta.{meta_view};
 ghost use Rattle.ii_store.specs.Segments.{index_with, list_in, segments_of};
-ghost use Rattle.ii_segment_store.specs.Contents.{IndexContents, changed_index, contents_view, files_contents, index_contents, with_segment};
+ghost use Rattle.ii_segment_store.specs.Changes.{changed_index};
+ghost use Rattle.ii_segment_store.specs.Contents.{contents_view, files_contents, index_contents, with_segment};
 
 use ii_base::DocId;
 use ii_segment_store::{
@@ -91,7 +92,7 @@ pub fn lists_are_replaced_at_once<D: Directory>(
     list: &IndexMeta,
 ) -> Result<bool, DirectoryFault>
     requires { D.is_known directory.old }
-    ensures replaced { IfOk result (λ done. done ≡ true → list_in (D.seen directory.new Meta) ≡ Ok (meta_view list.now)) }
+    ensures replaced { IfOk result (λ done. IsTrue done → list_in (D.seen directory.new Meta) ≡ Ok (meta_view list.now)) }
     ensures stopped { (files : Files) → D.left_since directory.new (D.moment directory.old) files
         → (segments_of files ≡ segments_of (D.seen directory.old)) ⊎ (segments_of files ≡ index_with (meta_view list.now) (D.seen directory.old)) }
 {
