@@ -45,7 +45,7 @@ fn push_lines(
     dead: Option<DocId>,
 ) -> Result<(), Fault> {
     for place in 0..lines.len() {
-        if dead == Some(place as u32) {
+        if dead == Some(place.min(1000) as u32) {
             continue;
         }
         if documents.push_line(alloc, lines[place]).is_err() {
@@ -103,7 +103,7 @@ fn segment(alloc: Global, lines: &[&'static str]) -> Result<OpenIndex, Fault>
 
 // Returns which documents are alive.
 fn alive(alloc: Global, lines: &[&'static str], dead: Option<DocId>) -> Result<AliveBits, Fault> {
-    let mut alive = AliveBits::full(alloc, lines.len() as u32)?;
+    let mut alive = AliveBits::full(alloc, lines.len().min(1000) as u32)?;
     if let Some(doc) = dead {
         if doc < alive.num_docs() {
             alive.kill(doc);
