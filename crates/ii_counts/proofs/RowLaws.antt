@@ -1,7 +1,7 @@
 -- Rows of counts, and the file that holds them.
-use Rattle.std.proofs.Common.{◌≡◌, ℕ, zero, suc, ◌+◌, ◌-◌, ◌<◌, ◌≤◌, ◌^◌, false, List, [], ◌∷◌, ◌++◌, length, map, take, replicate, get_or, Option, Some, None, Result, Ok, Err, refl, sym, ap, ◌∙◌, subst, arith, inl, inr, ⊎_elim}
-use Rattle.std.specs.Prelude.{IfSome, OnOk, is_err, slice_get}
-use Rattle.std.specs.List.{AllByRecursion, range_with_len}
+use Rattle.std.proofs.Common.{◌≡◌, ℕ, zero, suc, ◌+◌, ◌-◌, ◌<◌, ◌≤◌, ◌^◌, false, List, [], ◌∷◌, ◌++◌, length, map, take, get_or, Option, Some, None, Result, Err, refl, sym, ap, ◌∙◌, subst, arith, inl, inr, ⊎_elim}
+use Rattle.std.specs.Prelude.{IfSome, slice_get}
+use Rattle.std.specs.List.{AllByRecursion}
 use Rattle.std.specs.Option.{option_map}
 use Rattle.std.specs.Io.KnownBytes.{Appends}
 use Rattle.std.proofs.lemmas.List.{take_more}
@@ -18,6 +18,7 @@ use Rattle.ii_fieldnorm.specs.Buffers.{AreUnwritten, Buffers, WroteNorms, buffer
 use Rattle.ii_fieldnorm.proofs.WrittenNorms.{body_of-norm_bodies}
 use Rattle.ii_counts.specs.Counts.{written_counts}
 use Rattle.ii_counts.specs.CountsWriter.{HoldRows, IsReadBack, IsRowsFault, count_bodies, count_bodies_from, first_counts, row_buffers}
+use Rattle.ii_fieldnorm.proofs.FilledLaws.{filled_is}
 
 bodies_from : (field : ℕ) (rows : List (List ℕ)) → norm_bodies_from field (row_buffers rows) ≡ count_bodies_from field rows
 bodies_from field [] = refl
@@ -38,37 +39,8 @@ read_at (row ∷ rows) (suc field) all = read_at rows field all.1
 
 -- a row resized to a number of documents
 
-filled_none : (n : ℕ) → filled (suc n) [] ≡ 0 ∷ filled n []
-filled_none zero = refl
-filled_none (suc n) =
-    let same : suc (suc n) - 0 ≡ suc (suc n) = omega arith in
-    let less : suc n - 0 ≡ suc n = omega arith in
-    ap (λ (m : ℕ). replicate m 0) same ∙ ap (λ (m : ℕ). 0 ∷ replicate m 0) (sym less)
-
-filled_more : (n id : ℕ) (ids : List ℕ) → filled (suc n) (id ∷ ids) ≡ id ∷ filled n ids
-filled_more n id ids =
-    let same : suc n - suc (length ids) ≡ n - length ids = omega arith in
-    ap (λ (m : ℕ). id ∷ (take n ids ++ replicate m 0)) same
-
-filled_zero : (ids : List ℕ) → filled 0 ids ≡ []
-filled_zero [] = refl
-filled_zero (id ∷ ids) =
-    let same : 0 - suc (length ids) ≡ 0 = omega arith in
-    ap (λ (m : ℕ). replicate {A = ℕ} m 0) same
-
-filled_is : (f : ℕ → ℕ) (n first : ℕ) (ids : List ℕ) → ((x : ℕ) → get_or ids x 0 ≡ f (first + x)) → filled n ids ≡ map f (range_with_len first n)
-filled_is f zero first ids h = filled_zero ids
-filled_is f (suc n) first [] h =
-    let here : 0 ≡ f first = h 0 ∙ ap f (omega arith) in
-    let rest = filled_is f n (first + 1) [] (λ x. h (suc x) ∙ ap f (omega arith)) in
-    filled_none n ∙ ap (λ (y : ℕ). y ∷ filled n []) here ∙ ap (λ (xs : List ℕ). f first ∷ xs) rest
-filled_is f (suc n) first (id ∷ ids) h =
-    let here : id ≡ f first = h 0 ∙ ap f (omega arith) in
-    let rest = filled_is f n (first + 1) ids (λ x. h (suc x) ∙ ap f (omega arith)) in
-    filled_more n id ids ∙ ap (λ (y : ℕ). y ∷ filled n ids) here ∙ ap (λ (xs : List ℕ). f first ∷ xs) rest
-
 pub filled_row : (n : ℕ) (row : List ℕ) → filled n row ≡ first_counts n row
-filled_row n row = filled_is (λ (doc : ℕ). get_or row doc 0) n 0 row (λ x. ap (λ (i : ℕ). get_or row i 0) (omega arith))
+filled_row n row = filled_is (λ (doc : ℕ). get_or row doc 0) n 0 row (λ x low. ap (λ (i : ℕ). get_or row i 0) (omega arith))
 
 pub rows_filled : (n : ℕ) (rows : List (List ℕ)) → map (filled n) rows ≡ map (first_counts n) rows
 rows_filled n [] = refl
@@ -99,11 +71,6 @@ read_more (r ∷ rows) all row one = (all.0, read_more rows all.1 row one)
 
 pub read_next : (rows : List (List ℕ)) (i : ℕ) (row : List ℕ) → i < length rows → row ≡ get_or rows i row → AllByRecursion IsReadBack (take i rows) → IsReadBack row → AllByRecursion IsReadBack (take (i + 1) rows)
 read_next rows i row lt is all one = subst (AllByRecursion IsReadBack) (sym (take_more rows i row lt ∙ ap (λ (r : List ℕ). take i rows ++ r ∷ []) (sym is))) (read_more (take i rows) all row one)
-
--- what a call ensures that wasn't refused
-pub not_refused : {P : Type 0} (result : Result (Unit {0}) Fault) → false ≡ is_err result → OnOk result P → P
-not_refused (Ok u) went p = p
-not_refused (Err fault) went p = absurd (cc)
 
 -- the file of rows
 

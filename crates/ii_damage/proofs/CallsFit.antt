@@ -14,10 +14,9 @@ use Rattle.ii_base.specs.declared.schema.value_type.ValueType.TheVariants.{Str, 
 use Rattle.ii_definitions.specs.declared.index_call.IndexCall.{IndexCall}
 use Rattle.ii_definitions.specs.declared.index_call.IndexCall.TheVariants as calls
 use Rattle.ii_definitions.specs.IndexCalls.{MayAllBeIndexed, MayBeIndexed, call_of, call_with, doc_of, expands_dots_in, field_of, type_of}
-use Rattle.ii_definitions.specs.JsonKeys.{type_of_code, type_under}
+use Rattle.ii_definitions.specs.JsonKeys.{is_key_of_text, type_of_code, type_under}
 use Rattle.ii_definitions.specs.Tokens.{Piece, begin_after, call_pieces, kept_words, leaf_pieces, piece_tokens, piece_tokens_from, pieces_of, tokens_after, tokens_of, word_token}
 use Rattle.ii_definitions.proofs.KeyLaws.{type_in_key}
-use Rattle.ii_damage.specs.Damages.{is_key_of_text}
 use Rattle.ii_damage.specs.Fits.{AllFit, Fits}
 use Rattle.ii_damage.proofs.JsonLeaves.{IsCleanLeaf, clean_leaves}
 use Rattle.ii_definitions.proofs.ListLaws.{all_both}

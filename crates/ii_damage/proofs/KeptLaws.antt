@@ -1,15 +1,13 @@
 -- Entries that are kept for the tokens of a key.
-use Rattle.std.proofs.Common.{◌≡◌, ◌<◌, ◌==◌, ℕ, Bool, true, false, List, [], ◌∷◌, map, nat_eq, nat_le, None, refl}
-use Rattle.std.specs.Prelude.{filter, bytes_eq}
+use Rattle.std.proofs.Common.{◌≡◌, ◌<◌, ◌==◌, ℕ, Bool, true, false, List, [], ◌∷◌, map, nat_le, None, refl}
+use Rattle.std.specs.Prelude.{bytes_eq}
 use Rattle.std.specs.List.{AllByRecursion, find}
 use Rattle.std.specs.Cmp.Lexicographic.{bytes_decides}
 use Rattle.std.proofs.lemmas.Bool.{and_parts, eqb-true, lt-leb}
 use Rattle.ii_base.specs.Entries.{Entry}
-use Rattle.ii_base.specs.Options.{downgrade}
 use Rattle.ii_base.specs.declared.schema.index_record_option.IndexRecordOption.{IndexRecordOption}
-use Rattle.ii_base.specs.declared.schema.index_record_option.IndexRecordOption.TheVariants.{Basic, WithFreqs, WithFreqsAndPositions}
 use Rattle.ii_definitions.specs.Cut.{cut_entry}
-use Rattle.ii_definitions.specs.Postings.{grouped, is_at, kind_of, occurs, tokens_at, with_token}
+use Rattle.ii_definitions.specs.Postings.{is_at, kind_of, occurs, tokens_at}
 use Rattle.ii_definitions.specs.Tokens.{IndexToken}
 
 -- of a key whose tokens are of texts the field's option is kept
@@ -27,27 +25,7 @@ at_parts field key t is =
     let parts = and_parts (t.field == field) (bytes_eq t.key key) is in
     (eqb-true t.field field parts.0, (bytes_decides t.key key).0 parts.1)
 
--- documents of tokens stay below where they are filtered, grouped and cut
-pub filter_below : (n : ℕ) (p : IndexToken → Bool) (ts : List IndexToken) → AllByRecursion (λ (t : IndexToken). t.doc < n) ts → AllByRecursion (λ (t : IndexToken). t.doc < n) (filter p ts)
-filter_below n p [] below = tt
-filter_below n p (t ∷ ts) below = by_case (p t) refl (filter_below n p ts below.1)
-  where
-    by_case : (b : Bool) → p t ≡ b → AllByRecursion (λ (u : IndexToken). u.doc < n) (filter p ts) → AllByRecursion (λ (u : IndexToken). u.doc < n) (filter p (t ∷ ts))
-    by_case true is rest = rw is (below.0, rest)
-    by_case false is rest = rw is rest
-
-with_below : (n : ℕ) (t : IndexToken) (es : List Entry) → t.doc < n → AllByRecursion (λ (e : Entry). e.doc < n) es → AllByRecursion (λ (e : Entry). e.doc < n) (with_token t es)
-with_below n t [] low below = (low, tt)
-with_below n t (e ∷ es) low below = by_case (nat_eq e.doc t.doc) refl
-  where
-    by_case : (b : Bool) → nat_eq e.doc t.doc ≡ b → AllByRecursion (λ (x : Entry). x.doc < n) (with_token t (e ∷ es))
-    by_case true same = rw same (below.0, below.1)
-    by_case false other = rw other (low, below)
-
-pub grouped_below : (n : ℕ) (ts : List IndexToken) → AllByRecursion (λ (t : IndexToken). t.doc < n) ts → AllByRecursion (λ (e : Entry). e.doc < n) (grouped ts)
-grouped_below n [] below = tt
-grouped_below n (t ∷ ts) below = with_below n t (grouped ts) below.0 (grouped_below n ts below.1)
-
+-- documents of entries stay below where they are cut
 pub cut_below : (n : ℕ) (option : IndexRecordOption) (es : List Entry) → AllByRecursion (λ (e : Entry). e.doc < n) es → AllByRecursion (λ (e : Entry). e.doc < n) (map (cut_entry option) es)
 cut_below n option [] below = tt
 cut_below n option (e ∷ es) below = (below.0, cut_below n option es below.1)

@@ -1,12 +1,10 @@
 -- A field whose files hold its tokens has no damages.
-use Rattle.std.proofs.Common.{◌≡◌, ◌∙◌, ◌<◌, ◌≤◌, ◌==◌, ℕ, Bool, true, false, cond, List, [], ◌∷◌, Option, None, Some, Ok, refl, sym, ap, subst, arith, Less}
+use Rattle.std.proofs.Common.{◌≡◌, ◌∙◌, ◌<◌, ◌≤◌, ◌==◌, ℕ, Bool, true, false, cond, List, [], ◌∷◌, Option, None, Some, Ok, refl, sym, ap, subst, arith}
 use Rattle.std.specs.Prelude.{IfSome, MatchOption, bytes_eq}
 use Rattle.std.specs.List.{AllByRecursion, filter_map, list_all, sum_by}
 use Rattle.std.specs.List.Sorted.{IsStrictlySortedBy}
-use Rattle.std.specs.Cmp.Lexicographic.{bytes_decides, slice_cmp}
-use Rattle.std.specs.Ordering.{is_eq, nat_cmp}
+use Rattle.std.specs.Cmp.Lexicographic.{bytes_decides}
 use Rattle.std.proofs.lemmas.Bool.{and_parts, eq-eqb, le-leb}
-use Rattle.std.proofs.lemmas.Map.Text.{is_eq-slice_cmp}
 use Rattle.ii_base.specs.Entries.{Entry}
 use Rattle.ii_base.specs.Options.{downgrade, has_freq}
 use Rattle.ii_base.specs.Schema.{SchemaEntry}
@@ -15,17 +13,19 @@ use Rattle.ii_termstore.specs.declared.term_info.TermInfo.{TermInfo}
 use Rattle.ii_termdict.specs.Dictionary.{TermEntry, entry_keys, info_under}
 use Rattle.ii_termdict.specs.ReadBack.{AreAscending}
 use Rattle.ii_definitions.specs.Files.{HoldsTerm}
+use Rattle.ii_definitions.specs.JsonKeys.{is_key_of_text}
 use Rattle.ii_definitions.specs.Postings.{doc_count, grouped, is_at, key_postings, kind_of, occurs, tokens_at}
 use Rattle.ii_definitions.specs.Tokens.{IndexToken}
-use Rattle.ii_definitions.proofs.GroupedLaws.{grouped_counted}
+use Rattle.ii_definitions.proofs.GroupedLaws.{grouped_counted, filter_below, grouped_below}
 use Rattle.ii_reader.specs.InvertedIndexReader.{InvertedIndexReaderState, ReaderHolds, term_of_file}
 use Rattle.ii_reader.proofs.ReaderLemmas.{list_held}
 use Rattle.ii_damage.specs.declared.damage.FieldPlaces.{FieldPlaces}
-use Rattle.ii_damage.specs.Damages.{all_keep_counts, field_entries, freqs_where, is_key_of_text, keeps_counts, list_damage, may_have, stray_in, term_damage, term_damages, term_entries, num_occurrences, tokens_of_doc}
+use Rattle.ii_damage.specs.Damages.{all_keep_counts, field_entries, freqs_where, keeps_counts, list_damage, may_have, stray_in, term_damage, term_damages, term_entries, num_occurrences, tokens_of_doc}
 use Rattle.ii_base.proofs.OptionLemmas.{downgrade_same}
-use Rattle.ii_damage.proofs.KeptLaws.{at_parts, cut_below, filter_below, grouped_below, kind_kept, none_stray, occurs_at}
-use Rattle.ii_reader.proofs.DamageLemmas.{none_above}
+use Rattle.ii_damage.proofs.KeptLaws.{at_parts, cut_below, kind_kept, none_stray, occurs_at}
+use Rattle.ii_termdict.proofs.LeastKey.{none_above}
 use Rattle.ii_damage.proofs.SumLaws.{HaveKeys, cut_less, cut_same, doc_weight, grouped_weight, keys_weight, sum_equal, sum_less, sum_parts, token_weight, weight, weight_in}
+use Rattle.ii_definitions.proofs.ListLaws.{all_weaker}
 
 -- A reader has the tokens of a field, which fit its entry.
 pub record IsSoundField (num_docs field : ℕ) (entry : SchemaEntry) (reader : InvertedIndexReaderState) (ts : List IndexToken) : Type 0 where
@@ -51,11 +51,6 @@ each_by_key P (e ∷ es) ascending known =
     later key false other =
         let there : IfSome (cond (bytes_eq key e.0) (Some e.1) (info_under key es)) (P key) = known key in
         rw other at there
-
--- what implies another for each item implies it for all
-pub all_map : {X : Type 0} (P Q : X → Type 0) (xs : List X) → ((x : X) → P x → Q x) → AllByRecursion P xs → AllByRecursion Q xs
-all_map P Q [] more all = tt
-all_map P Q (x ∷ xs) more all = (more x all.0, all_map P Q xs more all.1)
 
 -- An entry of the dictionary gives the postings of its key.
 abbrev pub GivesKey : ℕ → InvertedIndexReaderState → List IndexToken → TermEntry → Type 0
@@ -92,12 +87,12 @@ none_of f (x ∷ xs) all = rw (all.0, none_of f xs all.1) refl
 pub no_term_damages : (num_docs field : ℕ) (entry : SchemaEntry) (reader : InvertedIndexReaderState) (ts : List IndexToken) (places : FieldPlaces) → IsSoundField num_docs field entry reader ts → term_damages num_docs places reader ≡ []
 no_term_damages num_docs field entry reader ts places sound =
     none_of (term_damage num_docs places reader) reader.terms
-    (all_map (GivesKey field reader ts) (λ e. term_damage num_docs places reader e ≡ None) reader.terms (λ e gives. none_damaged num_docs field reader ts places e sound.below gives) (gives_keys num_docs field entry reader ts sound))
+    (all_weaker (GivesKey field reader ts) (λ e. term_damage num_docs places reader e ≡ None) reader.terms (λ e gives. none_damaged num_docs field reader ts places e sound.below gives) (gives_keys num_docs field entry reader ts sound))
 
 -- each token of a sound field is under a key of its terms
 keys_there : (num_docs field : ℕ) (entry : SchemaEntry) (reader : InvertedIndexReaderState) (ts : List IndexToken) → IsSoundField num_docs field entry reader ts → HaveKeys field reader.terms ts
 keys_there num_docs field entry reader ts sound =
-    all_map (λ (t : IndexToken). (t.field == field) ≡ true → occurs field t.key ts ≡ true) (λ (t : IndexToken). (t.field == field) ≡ true → (info : TermInfo) × (info_under t.key reader.terms ≡ Some info)) ts
+    all_weaker (λ (t : IndexToken). (t.field == field) ≡ true → occurs field t.key ts ≡ true) (λ (t : IndexToken). (t.field == field) ≡ true → (info : TermInfo) × (info_under t.key reader.terms ≡ Some info)) ts
     (λ t has is. by_look_up t.key (info_under t.key reader.terms) refl (sound.holds.exact t.key) (has is)) (occurs_at field ts)
   where
     by_look_up : (key : List ℕ) (o : Option TermInfo) → info_under key reader.terms ≡ o → MatchOption o (occurs field key ts ≡ false) (HoldsTerm reader.option field key reader.postings reader.positions ts)
@@ -112,7 +107,7 @@ listed_less test num_docs field entry reader ts sound =
     let parts = sum_parts (weight test) (term_entries reader) reader.terms in
     let less : sum_by (λ (e : TermEntry). sum_by (weight test) (term_entries reader e)) reader.terms ≤ sum_by (λ (e : TermEntry). sum_by (token_weight test) (tokens_at field e.0 ts)) reader.terms =
     sum_less (λ (e : TermEntry). sum_by (weight test) (term_entries reader e)) (λ (e : TermEntry). sum_by (token_weight test) (tokens_at field e.0 ts)) reader.terms
-    (all_map (GivesKey field reader ts) (λ (e : TermEntry). sum_by (weight test) (term_entries reader e) ≤ sum_by (token_weight test) (tokens_at field e.0 ts)) reader.terms each (gives_keys num_docs field entry reader ts sound)) in
+    (all_weaker (GivesKey field reader ts) (λ (e : TermEntry). sum_by (weight test) (term_entries reader e) ≤ sum_by (token_weight test) (tokens_at field e.0 ts)) reader.terms each (gives_keys num_docs field entry reader ts sound)) in
     let keys = keys_weight test field reader.terms sound.ascending ts (keys_there num_docs field entry reader ts sound) in
     omega (arith, parts, less, keys)
   where
@@ -128,7 +123,7 @@ listed_less test num_docs field entry reader ts sound =
 texts_at : (num_docs field : ℕ) (entry : SchemaEntry) (reader : InvertedIndexReaderState) (ts : List IndexToken) (key : List ℕ) → IsSoundField num_docs field entry reader ts → is_key_of_text entry.value_type key ≡ true
     → AllByRecursion (λ (t : IndexToken). is_at field key t ≡ true → t.of_text ≡ true) ts
 texts_at num_docs field entry reader ts key sound text =
-    all_map (λ (t : IndexToken). t.field ≡ field → t.of_text ≡ is_key_of_text entry.value_type t.key) (λ (t : IndexToken). is_at field key t ≡ true → t.of_text ≡ true) ts
+    all_weaker (λ (t : IndexToken). t.field ≡ field → t.of_text ≡ is_key_of_text entry.value_type t.key) (λ (t : IndexToken). is_at field key t ≡ true → t.of_text ≡ true) ts
     (λ t told is.
     let parts = at_parts field key t is in
     told parts.0 ∙ ap (is_key_of_text entry.value_type) parts.1 ∙ text)
@@ -146,7 +141,7 @@ listed_same : (test : ℕ → Bool) (num_docs field : ℕ) (entry : SchemaEntry)
 listed_same test num_docs field entry reader ts sound kept =
     sum_parts (weight test) (term_entries reader) reader.terms
     ∙ sum_equal (λ (e : TermEntry). sum_by (weight test) (term_entries reader e)) (λ (e : TermEntry). sum_by (token_weight test) (tokens_at field e.0 ts)) reader.terms
-    (all_map (λ (e : TermEntry). (keeps_counts entry e.0 ≡ true) × GivesKey field reader ts e) (λ (e : TermEntry). sum_by (weight test) (term_entries reader e) ≡ sum_by (token_weight test) (tokens_at field e.0 ts)) reader.terms each
+    (all_weaker (λ (e : TermEntry). (keeps_counts entry e.0 ≡ true) × GivesKey field reader ts e) (λ (e : TermEntry). sum_by (weight test) (term_entries reader e) ≡ sum_by (token_weight test) (tokens_at field e.0 ts)) reader.terms each
     (all_and (λ (e : TermEntry). keeps_counts entry e.0) (GivesKey field reader ts) reader.terms kept (gives_keys num_docs field entry reader ts sound)))
     ∙ keys_weight test field reader.terms sound.ascending ts (keys_there num_docs field entry reader ts sound)
   where

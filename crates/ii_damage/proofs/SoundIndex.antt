@@ -5,7 +5,7 @@ use Rattle.std.specs.List.{AllByRecursion, enumerate_from, find, flat_map, range
 use Rattle.std.specs.declared.alloc.Global.{Global}
 use Rattle.std.specs.List.Sorted.{IsStrictlySortedBy}
 use Rattle.std.specs.Option.{option_map}
-use Rattle.std.proofs.lemmas.Bool.{eq-eqb, ltb-false}
+use Rattle.std.proofs.lemmas.Bool.{eq-eqb}
 use Rattle.std.proofs.lemmas.List.Concat.{flat_map-cons}
 use Rattle.std.proofs.lemmas.List.Folds.{find-append}
 use Rattle.std.proofs.lemmas.List.FromFn.{get_or-map-range_with_len, length-map-range_with_len}
@@ -23,6 +23,7 @@ use Rattle.ii_termdict.proofs.OrderLemmas.{keys_are_ascending}
 use Rattle.ii_definitions.specs.Fields.{option_of}
 use Rattle.ii_definitions.specs.Files.{HoldTokens, HoldsField}
 use Rattle.ii_definitions.specs.Norms.{HoldNorms, has_norms, norm_file, norm_ids}
+use Rattle.ii_definitions.specs.JsonKeys.{is_key_of_text}
 use Rattle.ii_definitions.specs.Postings.{doc_count, field_count}
 use Rattle.ii_definitions.specs.Tokens.{IndexToken}
 use Rattle.ii_definitions.proofs.GroupedLaws.{no_field}
@@ -30,10 +31,11 @@ use Rattle.ii_reader.specs.InvertedIndexReader.{InvertedIndexReaderState, reader
 use Rattle.ii_directory.specs.declared.name.Kind.{Kind}
 use Rattle.ii_damage.specs.declared.damage.ByteRange.{ByteRange}
 use Rattle.ii_damage.specs.Bodies.{body_in}
-use Rattle.ii_damage.specs.Damages.{FoundDamageState, IndexFiles, all_keep_counts, bytes_of_field, damages_of, field_damages, field_entries, field_reader, is_other_norm, is_key_of_text, norm_damage, norms_damage, other_norm, field_places, reader_damages, reader_in, table_damages, token_damage, tokens_of_doc}
+use Rattle.ii_damage.specs.Damages.{FoundDamageState, IndexFiles, all_keep_counts, bytes_of_field, damages_of, field_damages, field_entries, field_reader, is_other_norm, norm_damage, norms_damage, other_norm, field_places, reader_damages, reader_in, table_damages, token_damage, tokens_of_doc}
 use Rattle.ii_damage.specs.Fits.{AllFit, Fits}
 use Rattle.ii_reader.proofs.IndexLemmas.{no_body}
-use Rattle.ii_damage.proofs.SoundFields.{IsSoundField, all_map, doc_tokens, no_term_damages, tokens_fit}
+use Rattle.ii_damage.proofs.SoundFields.{IsSoundField, doc_tokens, no_term_damages, tokens_fit}
+use Rattle.ii_definitions.proofs.ListLaws.{all_weaker}
 
 -- what is made of something is made of something
 some_mapped : {A B : Type 0} (f : A → B) (o : Option A) (b : B) → option_map f o ≡ Some b → is_some o ≡ true
@@ -131,7 +133,7 @@ sound_bodies num_docs field entry ts (Some t) (Some p) (Some q) below texts has_
 texts_of : (entries : List SchemaEntry) (num_docs field : ℕ) (entry : SchemaEntry) (ts : List IndexToken) → slice_get entries field ≡ Some entry → AllFit entries num_docs ts
     → AllByRecursion (λ (u : IndexToken). u.field ≡ field → u.of_text ≡ is_key_of_text entry.value_type u.key) ts
 texts_of entries num_docs field entry ts at fit =
-    all_map (Fits entries num_docs) (λ (u : IndexToken). u.field ≡ field → u.of_text ≡ is_key_of_text entry.value_type u.key) ts
+    all_weaker (Fits entries num_docs) (λ (u : IndexToken). u.field ≡ field → u.of_text ≡ is_key_of_text entry.value_type u.key) ts
     (λ u fits same.
     let there : slice_get entries u.field ≡ Some entry = ap (slice_get entries) same ∙ at in
     rw there at fits.kind)
@@ -143,7 +145,7 @@ sound_reader entries files ts field entry hold fit at =
     let option : option_of entries field ≡ entry.option = rw at refl in
     let has = hold.present field in
     let found = sound_bodies files.num_docs field entry ts (body_of field hold.term_bodies) (body_of field hold.postings_bodies) (body_of field hold.positions_bodies)
-    (all_map (Fits entries files.num_docs) (λ (u : IndexToken). u.doc < files.num_docs) ts (λ u fits. fits.below) fit) (texts_of entries files.num_docs field entry ts at fit) has.0 has.1 has.2
+    (all_weaker (Fits entries files.num_docs) (λ (u : IndexToken). u.doc < files.num_docs) ts (λ u fits. fits.below) fit) (texts_of entries files.num_docs field entry ts at fit) has.0 has.1 has.2
     (λ t p q in_terms in_postings in_positions. subst (λ (o : IndexRecordOption). HoldsField o field t p q ts) option (hold.fields field t p q in_terms in_postings in_positions)) in
     rw (hold.opened_terms, hold.opened_postings, hold.opened_positions) found
 

@@ -7,16 +7,13 @@ use Rattle.ii_io.specs.declared.faults.Part.{Part}
 use Rattle.ii_io.specs.declared.faults.Part.TheVariants as parts
 use Rattle.ii_io.specs.Composite.{composite, table_of}
 use Rattle.ii_base.specs.declared.schema.index_record_option.IndexRecordOption.{IndexRecordOption}
-use Rattle.ii_base.specs.declared.schema.value_type.ValueType.{ValueType}
-use Rattle.ii_base.specs.declared.schema.value_type.ValueType.TheVariants.{Str}
 use Rattle.ii_base.specs.Entries.{Entry}
 use Rattle.ii_base.specs.Options.{has_freq}
 use Rattle.ii_base.specs.Schema.{SchemaEntry, keeps_norms}
-use Rattle.ii_base.specs.ValueTypes.{code_of}
 use Rattle.ii_fieldnorm.specs.Norms.{id_of_norm}
 use Rattle.ii_termstore.specs.declared.term_info.TermInfo.{TermInfo}
 use Rattle.ii_termdict.specs.Dictionary.{TermEntry, dictionary}
-use Rattle.ii_definitions.specs.JsonKeys.{type_under}
+use Rattle.ii_definitions.specs.JsonKeys.{is_key_of_text}
 use Rattle.ii_reader.specs.InvertedIndexReader.{InvertedIndexReaderState, reader_of_none, reader_over, term_of_file}
 use Rattle.ii_directory.specs.declared.name.Kind.{Kind}
 use Rattle.ii_directory.specs.declared.name.Kind.TheVariants.{Schema, Terms, Postings, Positions, FieldNorms}
@@ -190,10 +187,6 @@ num_occurrences es = freqs_where (λ _. Bool.true) es
 -- the number of tokens of one document
 abbrev pub tokens_of_doc : ℕ → List Entry → ℕ
 tokens_of_doc doc es = freqs_where (λ d. d == doc) es
-
--- whether a key belongs to a text
-abbrev pub is_key_of_text : ValueType → List ℕ → Bool
-is_key_of_text value_type key = code_of (type_under value_type key) == code_of Str
 
 -- whether counts are stored for a key: only for a text, in a field that records counts
 abbrev pub keeps_counts : SchemaEntry → List ℕ → Bool

@@ -6,7 +6,7 @@ use Rattle.ii_base.specs.Words.{Word}
 use Rattle.ii_definitions.specs.IndexCalls.{MayAllBeIndexed, call_of}
 use Rattle.ii_definitions.specs.Tokens.{IndexToken, tokens_of}
 use Rattle.ii_definitions.specs.declared.index_call.IndexCall.{IndexCall}
-use Rattle.ii_damage.specs.Damages.{is_key_of_text}
+use Rattle.ii_definitions.specs.JsonKeys.{is_key_of_text}
 
 -- The token's document is in the index, and its key belongs to a text if and only if the token does.
 pub record Fits (entries : List SchemaEntry) (num_docs : ℕ) (t : IndexToken) : Type 0 where

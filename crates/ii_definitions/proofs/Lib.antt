@@ -3,3 +3,4 @@ pub mod GroupedLaws
 mod JsonRows
 pub mod KeyLaws
 pub mod ListLaws
+pub mod PieceLaws

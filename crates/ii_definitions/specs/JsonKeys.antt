@@ -29,3 +29,7 @@ type_in key = slice_get key (length (path_in key) + 1) >>= type_of_code
 -- the type of a key's values by the type of its field; in a JSON field the key determines it
 abbrev pub type_under : ValueType → List ℕ → ValueType
 type_under t key = if is_json t then unwrap_or (type_in key) t else t
+
+-- whether a key of a field with values of a type belongs to a text
+abbrev pub is_key_of_text : ValueType → List ℕ → Bool
+is_key_of_text t key = code_of (type_under t key) == code_of Str

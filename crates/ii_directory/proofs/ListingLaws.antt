@@ -10,7 +10,8 @@ use Rattle.ii_directory.specs.declared.name.Name.{Name}
 use Rattle.ii_directory.specs.Directory.{Files, IsListing}
 use Rattle.ii_directory.specs.MemoryFiles.{Lists, after, changed, files_after, target}
 use Rattle.ii_directory.specs.Names.{same_name}
-use Rattle.ii_directory.proofs.NameLaws.{not_true, same_is, same_itself}
+use Rattle.std.proofs.lemmas.Bool.{false_from_ne_true}
+use Rattle.ii_directory.proofs.NameLaws.{same_is, same_itself}
 
 pub split : (b : Bool) → (b ≡ true) ⊎ (b ≡ false)
 split true = inl refl
@@ -42,7 +43,7 @@ contains_named (n ∷ names) name found = ⊎_elim
     (or_true (same_name name n) (list_any (same_name name) names) found)
 
 other_way : (name other : Name) → same_name name other ≡ false → same_name other name ≡ false
-other_way name other differ = not_true (same_name other name) (λ same.
+other_way name other differ = false_from_ne_true (same_name other name) (λ same.
     let e : same_name name other ≡ true = ap (same_name name) (same_is other name same) ∙ same_itself name in
     let wrong : true ≡ false = sym e ∙ differ in
     absurd cc)

@@ -2,7 +2,7 @@
 use Rattle.std.proofs.Common.{◌≡◌, ◌⊎◌, inl, inr, ⊎_elim, ℕ, true, false, List, [], ◌∷◌, ◌++◌, length, take, Option, None, Some, Vec, Result, Ok, Err, OnOk, OnErr, IfOk, refl, sym, ap, ◌∙◌, subst, arith}
 use Rattle.std.specs.Prelude.{IsSome}
 use Rattle.std.proofs.Math.Nat.{le_refl}
-use Rattle.std.proofs.lemmas.Bool.{cases_lt}
+use Rattle.std.proofs.lemmas.Bool.{cases_lt, false_from_ne_true}
 use Rattle.std.proofs.lemmas.List.{length-append, take-append-le}
 use Rattle.std.specs.declared.alloc.Global.{Global}
 use Rattle.ii_directory.specs.declared.memory_files.Change.{Change}
@@ -12,7 +12,7 @@ use Rattle.ii_directory.specs.Directory.{Elapses, Elsewhere, Files, IsOther, IsP
 use Rattle.ii_directory.specs.FileSystem.{HasFlushedNames, IsFlushed, IsMoved, IsUnflushed, MayBeLeft, MayBeMoved, MayBeRemoved}
 use Rattle.ii_directory.specs.MemoryFiles.{MayBePut, WereSince, after, all_taken, changed, counts_now, files_after, left_after, left_by, left_of, seen_left}
 use Rattle.ii_directory.proofs.Elapsing.{at_ok}
-use Rattle.ii_directory.proofs.NameLaws.{not_true, same_is, same_itself}
+use Rattle.ii_directory.proofs.NameLaws.{same_is, same_itself}
 use Rattle.ii_directory.specs.Names.{same_name}
 
 -- the last change applies to what the others leave
@@ -22,7 +22,7 @@ after_last files [] last = refl
 after_last files (change ∷ changes) last = after_last (changed change files) changes last
 
 other_name : (name other : Name) → IsOther name other → same_name name other ≡ false
-other_name name other differ = not_true (same_name name other) (λ same. differ (sym (same_is name other same)))
+other_name name other differ = false_from_ne_true (same_name name other) (λ same. differ (sym (same_is name other same)))
 
 put_changes : (name : Name) (bytes : Vec ℕ Global) (files : Files) → IsPut name (Some bytes.items) files (changed (Put name bytes) files)
 put_changes name bytes files = record {
@@ -43,7 +43,7 @@ renamed_changes from to files = record {
 }
 
 gone_changes : (from to : Name) (files : Files) → IsOther from to → changed (Renamed from to) files from ≡ None
-gone_changes from to files differ = rw (not_true (same_name to from) (λ same. differ (same_is to from same)), same_itself from) refl
+gone_changes from to files differ = rw (false_from_ne_true (same_name to from) (λ same. differ (same_is to from same)), same_itself from) refl
 
 -- the same of lists of changes
 

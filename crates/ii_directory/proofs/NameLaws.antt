@@ -1,7 +1,7 @@
 -- Different names differ in their numbers and in their texts.
 use Rattle.std.proofs.Common.{◌≡◌, ℕ, zero, suc, ◌+◌, ◌-◌, ◌/◌, ◌%◌, ◌^◌, ◌<◌, ◌≤◌, Bool, true, false, ◌==◌, ◌&&◌, List, [], ◌∷◌, ◌++◌, length, get_or, refl, sym, ap, ◌∙◌, arith}
 use Rattle.std.specs.Prelude.{codes}
-use Rattle.std.proofs.lemmas.Bool.{eqb-true, eq-eqb}
+use Rattle.std.proofs.lemmas.Bool.{and_parts, eqb-true, eq-eqb}
 use Rattle.std.proofs.lemmas.List.{length-append}
 use Rattle.std.proofs.Math.Nat.{pow-suc}
 use Rattle.ii_directory.specs.declared.name.Kind.{Kind}
@@ -13,16 +13,6 @@ use Rattle.ii_directory.specs.declared.name.SegmentComponent.TheVariants as comp
 use Rattle.ii_directory.specs.declared.name.Slot.{Slot}
 use Rattle.ii_directory.specs.declared.name.Slot.TheVariants.{First, Second}
 use Rattle.ii_directory.specs.Names.{HasWords, component_generation, component_number, component_text, hex_digit, hex_digits, kind_at, kind_number, name_generation, name_id, name_number, name_text, same_name, slot_number}
-
-pub not_true : (b : Bool) → (b ≡ true → ⊥) → b ≡ false
-not_true true differ = absurd (differ refl)
-not_true false differ = refl
-
-both : (a b c : Bool) → (a && b && c) ≡ true → (a ≡ true) × (b ≡ true) × (c ≡ true)
-both true true true e = (refl, refl, refl)
-both true true false e = absurd cc
-both true false c e = absurd cc
-both false b c e = absurd cc
 
 -- kinds and their numbers
 
@@ -88,8 +78,9 @@ same_numbers (Segment segment component) (Segment segment_2 component_2) number 
 
 pub same_is : (name other : Name) → same_name name other ≡ true → name ≡ other
 same_is name other same =
-    let three = both (name_number name == name_number other) (name_id name == name_id other) (name_generation name == name_generation other) same in
-    same_numbers name other (eqb-true (name_number name) (name_number other) three.0) (eqb-true (name_id name) (name_id other) three.1) (eqb-true (name_generation name) (name_generation other) three.2)
+    let all = and_parts (name_number name == name_number other && (name_id name == name_id other)) (name_generation name == name_generation other) same in
+    let two = and_parts (name_number name == name_number other) (name_id name == name_id other) all.0 in
+    same_numbers name other (eqb-true (name_number name) (name_number other) two.0) (eqb-true (name_id name) (name_id other) two.1) (eqb-true (name_generation name) (name_generation other) all.1)
 
 pub same_itself : (name : Name) → same_name name name ≡ true
 same_itself name = rw (eq-eqb (name_number name) (name_number name) refl, eq-eqb (name_id name) (name_id name) refl, eq-eqb (name_generation name) (name_generation name) refl) refl

@@ -1,7 +1,8 @@
 -- Names are read back from their texts.
 use Rattle.std.proofs.Common.{◌≡◌, ◌==◌, ◌&&◌, Bool, true, false, ℕ, suc, ◌+◌, ◌*◌, ◌/◌, ◌%◌, ◌^◌, ◌<◌, ◌≤◌, List, [], ◌∷◌, ◌++◌, length, take, drop, refl, sym, ap, ◌∙◌, append_assoc, arith, lit<}
 use Rattle.std.specs.Prelude.{bytes_eq, codes, not}
-use Rattle.std.proofs.lemmas.Bool.{eqb-true, not-false}
+use Rattle.std.proofs.lemmas.Bool.{not-false}
+use Rattle.std.proofs.lemmas.Slice.Eq.{bytes_eq-Decides}
 use Rattle.std.proofs.lemmas.Cmp.{nat_list_eq_equiv}
 use Rattle.std.proofs.lemmas.List.{take_at, drop_at, take-append-drop, length-append}
 use Rattle.std.proofs.Math.Nat.{pow-le-pow_right, pow-suc}
@@ -99,22 +100,8 @@ no_fixed text a b first second (Segment id component) short e = omega (arith, se
 
 -- what comparisons of bytes tell
 
-pub and_true : (a b : Bool) → (a && b) ≡ true → (a ≡ true) × (b ≡ true)
-and_true true b e = (refl, e)
-and_true false b e = absurd cc
-
-equal_bytes : (a b : List ℕ) → bytes_eq a b ≡ true → a ≡ b
-equal_bytes [] [] e = refl
-equal_bytes (x ∷ a) (y ∷ b) e =
-    let parts = and_true (x == y) (bytes_eq a b) e in
-    let first : x ≡ y = eqb-true x y parts.0 in
-    let others : a ≡ b = equal_bytes a b parts.1 in
-    cc
-equal_bytes [] (y ∷ b) e = absurd cc
-equal_bytes (x ∷ a) [] e = absurd cc
-
 pub bytes_same : (a b : List ℕ) → false ≡ not (bytes_eq a b) → a ≡ b
-bytes_same a b e = equal_bytes a b (not-false (bytes_eq a b) (sym e))
+bytes_same a b e = (bytes_eq-Decides a b).0 (not-false (bytes_eq a b) (sym e))
 
 pub bytes_unequal : (a b : List ℕ) → false ≡ bytes_eq a b → a ≡ b → ⊥
 bytes_unequal a b differ same =

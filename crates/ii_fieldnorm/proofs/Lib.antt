@@ -1,3 +1,4 @@
 pub mod BufferLemmas
+pub mod FilledLaws
 pub mod NormLemmas
 pub mod WrittenNorms

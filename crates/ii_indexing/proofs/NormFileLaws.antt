@@ -1,7 +1,7 @@
 -- The norms of all documents, as they are written in the end.
-use Rattle.std.proofs.Common.{◌≡◌, ℕ, zero, suc, ◌+◌, ◌-◌, ◌*◌, ◌^◌, ◌<◌, ◌≤◌, ◌==◌, Bool, true, false, List, [], ◌∷◌, ◌++◌, map, length, take, replicate, get_or, filter, Option, Some, None, refl, sym, ap, ◌∙◌, subst, arith, length-append, ⊎_elim}
+use Rattle.std.proofs.Common.{◌≡◌, ℕ, zero, suc, ◌+◌, ◌-◌, ◌*◌, ◌^◌, ◌<◌, ◌≤◌, ◌==◌, Bool, true, false, List, [], ◌∷◌, ◌++◌, map, length, take, filter, Option, Some, None, refl, sym, ap, ◌∙◌, subst, arith, length-append, ⊎_elim}
 use Rattle.std.specs.Prelude.{IfSome, is_some, slice_get, if◌then◌else◌}
-use Rattle.std.specs.List.{enumerate_from, range_with_len}
+use Rattle.std.specs.List.{enumerate_from}
 use Rattle.std.specs.Option.{option_map}
 use Rattle.std.proofs.lemmas.Bool.{eqb-true, eqb-false}
 use Rattle.std.proofs.lemmas.List.{length-map}
@@ -30,6 +30,7 @@ use Rattle.ii_indexing.specs.OpenDocuments.{AreBehind, AreClosed, OpenDocumentsS
 use Rattle.ii_indexing.specs.declared.open_documents.OpenDocument.{OpenDocument}
 use Rattle.ii_indexing.proofs.FinishLaws.{with_length}
 use Rattle.ii_indexing.proofs.DocumentLaws.{buffer_other, buffer_set, norms_recorded}
+use Rattle.ii_fieldnorm.proofs.FilledLaws.{filled_is, length_filled}
 
 take_here : {A : Type 0} (xs : List A) (k : ℕ) (x : A) → slice_get xs k ≡ Some x → slice_get (take (suc k) xs) k ≡ Some x
 take_here [] k x is = absurd (cc)
@@ -69,36 +70,6 @@ module _ (ds : List OpenDocument) (old now : Buffers) (k : ℕ) (d : OpenDocumen
       by false other =
           buffer_other now k field (option_map (recorded d.doc d.norm) (buffer_of k now)) other ∙ closes field
           ∙ sym (ap (λ (o : Option OpenDocument). closed_norms o (buffer_of field old)) (take_other ds k field other))
-
--- norms that are filled up, item by item
-filled_none : (n : ℕ) → filled (suc n) [] ≡ 0 ∷ filled n []
-filled_none zero = refl
-filled_none (suc n) =
-    let same : suc (suc n) - 0 ≡ suc (suc n) = omega arith in
-    let less : suc n - 0 ≡ suc n = omega arith in
-    ap (λ (m : ℕ). replicate m 0) same ∙ ap (λ (m : ℕ). 0 ∷ replicate m 0) (sym less)
-
-filled_more : (n id : ℕ) (ids : List ℕ) → filled (suc n) (id ∷ ids) ≡ id ∷ filled n ids
-filled_more n id ids =
-    let same : suc n - suc (length ids) ≡ n - length ids = omega arith in
-    ap (λ (m : ℕ). id ∷ (take n ids ++ replicate m 0)) same
-
-filled_zero : (ids : List ℕ) → filled 0 ids ≡ []
-filled_zero [] = refl
-filled_zero (id ∷ ids) =
-    let same : 0 - suc (length ids) ≡ 0 = omega arith in
-    ap (λ (m : ℕ). replicate {A = ℕ} m 0) same
-
-filled_is : (f : ℕ → ℕ) (n first : ℕ) (ids : List ℕ) → ((x : ℕ) → x < n → get_or ids x 0 ≡ f (first + x)) → filled n ids ≡ map f (range_with_len first n)
-filled_is f zero first ids h = filled_zero ids
-filled_is f (suc n) first [] h =
-    let here : 0 ≡ f first = h 0 (omega arith) ∙ ap f (omega arith) in
-    let rest = filled_is f n (first + 1) [] (λ x low. h (suc x) (omega (arith, low)) ∙ ap f (omega arith)) in
-    filled_none n ∙ ap (λ (y : ℕ). y ∷ filled n []) here ∙ ap (λ (xs : List ℕ). f first ∷ xs) rest
-filled_is f (suc n) first (id ∷ ids) h =
-    let here : id ≡ f first = h 0 (omega arith) ∙ ap f (omega arith) in
-    let rest = filled_is f n (first + 1) ids (λ x low. h (suc x) (omega (arith, low)) ∙ ap f (omega arith)) in
-    filled_more n id ids ∙ ap (λ (y : ℕ). y ∷ filled n ids) here ∙ ap (λ (xs : List ℕ). f first ∷ xs) rest
 
 -- the norms of a field once its open document is closed
 closed_ids : (field : ℕ) (ps : List Piece) (ts : List IndexToken) (d : OpenDocument) (ids : List ℕ) (n : ℕ) → length ids ≤ d.doc → Tells field ps ts d (Some ids) → filled n (recorded d.doc d.norm ids) ≡ norm_ids n field ts
@@ -180,11 +151,6 @@ holds_norms bs entries n bytes ts same each written reads =
       opened = reads ∙ ap (λ (bodies : List Body). Some bodies) are;
       exact = λ field. ap (body_of field) (sym are) ∙ body_of-norm_bodies field bs ∙ each field;
     }
-
-length_filled : (n : ℕ) (ids : List ℕ) → length (filled n ids) ≡ n
-length_filled zero ids = ap length (filled_zero ids)
-length_filled (suc n) [] = ap length (filled_none n) ∙ ap (λ (m : ℕ). suc m) (length_filled n [])
-length_filled (suc n) (id ∷ ids) = ap length (filled_more n id ids) ∙ ap (λ (m : ℕ). suc m) (length_filled n ids)
 
 -- how many bytes norms have
 norms_small : (n first : ℕ) (bs : Buffers) → n ≤ TERMINATED

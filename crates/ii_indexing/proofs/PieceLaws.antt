@@ -26,7 +26,7 @@ use Rattle.ii_json.specs.LeafVisit.{IsRefusedBy}
 use Rattle.ii_postings_writer.specs.declared.indexing_position.IndexingPosition.{IndexingPosition}
 use Rattle.ii_indexing.specs.declared.open_documents.OpenDocument.{OpenDocument}
 use Rattle.ii_indexing.proofs.DocumentLaws.{at_other, at_same, set_value}
-use Rattle.ii_postings_writer.proofs.PostingsLaws.{tokens_after-append}
+use Rattle.ii_definitions.proofs.PieceLaws.{tokens_after-append}
 use Rattle.ii_indexing.proofs.StoreLaws.{set_other}
 use Rattle.std.proofs.Math.Bool.{and-false}
 

@@ -8,7 +8,7 @@ use Rattle.std.specs.List.{AllByRecursion, IsDistinct, count_by, dedup, dedup_fr
 use Rattle.std.specs.List.Sorted.{IsPartitionPoint, IsPartitionedBy, IsPermutation, IsSorted, IsStrictlySortedBy}
 use Rattle.std.proofs.lemmas.Bool.{cases_eq}
 use Rattle.std.proofs.lemmas.Cmp.{nat_list_cmp_total, nat_list_eq_equiv, on_total}
-use Rattle.std.proofs.lemmas.List.{ext_get_or, get_or-map, length-map, map-append}
+use Rattle.std.proofs.lemmas.List.{ext_get_or, get_or-map, length-map, map-append, get_or_default}
 use Rattle.std.proofs.lemmas.List.FromFn.{get_or-range_with_len, length-range_with_len}
 use Rattle.std.proofs.lemmas.List.Kept.{IsStrictlySortedBy-dedup}
 use Rattle.std.proofs.lemmas.List.Sums.{sum_by-cons}
@@ -125,11 +125,6 @@ module _ (paths : List (List ℕ)) (sorted : AreAscendingPaths paths) (path : Li
   stands : get_or paths (path_rank paths path) path ≡ path
   stands = ap (λ (i : ℕ). get_or paths i path) rank_is ∙ among.2
 
-pub other_default : {X : Type 0} (xs : List X) (i : ℕ) (d e : X) → i < length xs → get_or xs i d ≡ get_or xs i e
-other_default [] i d e within = absurd (omega (arith, within))
-other_default (x ∷ xs) zero d e within = refl
-other_default (x ∷ xs) (suc i) d e within = other_default xs i d e (omega (arith, within))
-
 kept_by : {X : Type 0} (g : X → X) (xs : List X) → ((x : X) → Contains xs x → g x ≡ x) → map g xs ≡ xs
 kept_by g [] same = refl
 kept_by g (x ∷ xs) same =
@@ -142,7 +137,7 @@ stand_at_ranks known paths moved sorted = kept_by (λ (path : List ℕ). get_or 
     each path among =
         let there = Contains-permutation known paths path moved among in
         ap (λ (i : ℕ). get_or paths i []) (sym (rank_moved known paths path moved))
-        ∙ other_default paths (path_rank paths path) [] path (rank_within paths sorted path there)
+        ∙ get_or_default paths (path_rank paths path) [] path (rank_within paths sorted path there)
         ∙ stands paths sorted path there
 
 -- the ranks of known paths are the numbers below their number, in some order

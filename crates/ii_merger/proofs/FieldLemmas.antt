@@ -10,7 +10,7 @@ use Rattle.std.proofs.lemmas.Bool.{and_parts, eqb-true}
 use Rattle.std.proofs.lemmas.List.{length-map}
 use Rattle.ii_io.specs.declared.faults.Part.{Part}
 use Rattle.ii_base.specs.declared.schema.index_record_option.IndexRecordOption.{IndexRecordOption}
-use Rattle.ii_base.specs.declared.schema.index_record_option.IndexRecordOption.TheVariants.{Basic, WithFreqs, WithFreqsAndPositions}
+use Rattle.ii_base.specs.declared.schema.index_record_option.IndexRecordOption.TheVariants.{Basic}
 use Rattle.ii_base.specs.Entries.{Entry}
 use Rattle.ii_base.specs.Options.{downgrade}
 use Rattle.ii_base.specs.Schema.{SchemaEntry}
@@ -32,7 +32,8 @@ use Rattle.ii_termstore.specs.declared.term_info.TermInfo.{TermInfo}
 use Rattle.ii_merger.specs.MergeSources.{FieldSourceState, entries_under, has_term, info_in, list_under, merged_from}
 use Rattle.ii_merger.specs.MergedField.{AreMergedKeys, IsSoundTerm, kind_under, merged_terms, term_of_entries}
 use Rattle.ii_merger.specs.SourcesHold.{SourceHolds, SourcesHold}
-use Rattle.ii_merger.proofs.FieldKeyLemmas.{occurred_keys}
+use Rattle.ii_recorder.proofs.FieldKeys.{occurred_keys}
+use Rattle.ii_base.proofs.OptionLemmas.{downgrade_same}
 
 -- ---- the lists of a key
 abbrev as_list : List Entry → Result (List Entry) Part
@@ -61,12 +62,6 @@ all_tokens entries field [] [] hold = tt
 all_tokens entries field [] (s ∷ ss) hold = absurd (hold)
 all_tokens entries field (c ∷ cs) [] hold = absurd (hold)
 all_tokens entries field (c ∷ cs) (s ∷ ss) hold = (hold.0.tokens, all_tokens entries field cs ss hold.1)
-
--- ---- what is kept of a key
-same_option : (kind : IndexRecordOption) → downgrade kind kind ≡ kind
-same_option Basic = refl
-same_option WithFreqs = refl
-same_option WithFreqsAndPositions = refl
 
 typed_first : (entries : List SchemaEntry) (field : ℕ) (key : List ℕ) (ts : List IndexToken) (t : IndexToken) (more : List IndexToken) → AllByRecursion (IsTyped entries) ts → tokens_at field key ts ≡ t ∷ more → t.of_text ≡ is_key_of_text_in entries field key
 typed_first entries field key [] t more typed is = absurd (cc)
@@ -104,7 +99,7 @@ module _ (entries : List SchemaEntry) (field : ℕ) (entry : SchemaEntry) (is_en
       by [] at = refl
       by (u ∷ us) at =
           let kind = kind_is key u us at in
-          let both : downgrade (kind_of mode (u ∷ us)) (kind_under entry key) ≡ kind_of mode (u ∷ us) = ap (downgrade (kind_of mode (u ∷ us))) (sym kind) ∙ same_option (kind_of mode (u ∷ us)) in
+          let both : downgrade (kind_of mode (u ∷ us)) (kind_under entry key) ≡ kind_of mode (u ∷ us) = ap (downgrade (kind_of mode (u ∷ us))) (sym kind) ∙ downgrade_same (kind_of mode (u ∷ us)) in
           ap (λ (k : IndexRecordOption). map (cut_entry k) (grouped (u ∷ us))) both
 
   -- they are the entries of its tokens, cut to what is kept of the key

@@ -11,12 +11,10 @@ use Rattle.std.proofs.lemmas.List.{append-nil, map-append}
 use Rattle.ii_io.specs.declared.faults.Fault.{Fault}
 use Rattle.ii_base.specs.declared.schema.index_record_option.IndexRecordOption.{IndexRecordOption}
 use Rattle.ii_base.specs.declared.schema.index_record_option.IndexRecordOption.TheVariants.{Basic}
-use Rattle.ii_base.specs.declared.schema.value_type.ValueType.TheVariants.{Str}
 use Rattle.ii_base.specs.Entries.{Entry}
 use Rattle.ii_base.specs.Schema.{SchemaEntry}
-use Rattle.ii_base.specs.ValueTypes.{code_of}
 use Rattle.ii_definitions.specs.Fields.{option_of}
-use Rattle.ii_definitions.specs.JsonKeys.{type_under}
+use Rattle.ii_definitions.specs.JsonKeys.{is_key_of_text}
 use Rattle.ii_definitions.proofs.ListLaws.{all_both}
 use Rattle.ii_fieldnorm.specs.Readers.{Norms}
 use Rattle.ii_termstore.specs.declared.term_info.TermInfo.{TermInfo}
@@ -36,7 +34,7 @@ use Rattle.ii_merger.proofs.KeyLemmas.{IsMergingKeys, IsNextKey, all_passed, any
 
 -- what a key keeps is what its field records, or documents alone
 kind_which : (entry : SchemaEntry) (key : List ℕ) → (kind_under entry key ≡ entry.option) ⊎ (kind_under entry key ≡ Basic)
-kind_which entry key = by (code_of (type_under entry.value_type key) == code_of Str)
+kind_which entry key = by (is_key_of_text entry.value_type key)
   where
     by : (b : Bool) → ((if b then entry.option else Basic) ≡ entry.option) ⊎ ((if b then entry.option else Basic) ≡ Basic)
     by true = inl refl

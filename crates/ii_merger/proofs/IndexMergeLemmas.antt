@@ -1,10 +1,9 @@
 -- Segments one after the other, and the fields that are merged from them.
 use Rattle.std.proofs.Common.{inl, inr, ◌≡◌, ℕ, zero, suc, ◌+◌, ◌-◌, ◌^◌, ◌<◌, ◌≤◌, ◌==◌, Bool, true, false, List, [], ◌∷◌, ◌++◌, drop, get_or, length, map, Option, Some, None, Result, Ok, Err, is_err, refl, sym, ap, ◌∙◌, subst, arith, append_assoc, length-append, nat_eq, true≢false, ⊎_elim}
-use Rattle.std.specs.Prelude.{◌⊎◌, ◌||◌, IfSome, IsSomeAnd, OnOk, filter, is_some, nat_le, nat_lt, slice_get}
+use Rattle.std.specs.Prelude.{◌⊎◌, ◌||◌, IfSome, IsSomeAnd, OnOk, is_some, nat_le, nat_lt, slice_get}
 use Rattle.std.specs.List.{AllByRecursion, find, list_any}
 use Rattle.std.specs.Option.{option_map}
 use Rattle.std.proofs.lemmas.Bool.{cases_lt, eqb-true, eqb-false, le-leb, lt-ltb, ne_eqb}
-use Rattle.std.proofs.lemmas.List.Sums.{length-filter}
 use Rattle.std.proofs.lemmas.List.{drop_more, get_or-map, length-map, map-append}
 use Rattle.ii_io.specs.declared.faults.Fault.{Fault}
 use Rattle.ii_io.specs.declared.faults.Fault.TheVariants.{Damaged, OutOfMemory}
@@ -33,6 +32,8 @@ use Rattle.ii_merger.specs.MergedIndex.{AreNormsOf, FieldsBelow, HasMergedFields
 use Rattle.ii_merger.specs.MergedTerm.{CoversBelow}
 use Rattle.ii_merger.specs.SourcesHold.{SourceHolds, SourcesHold, WroteField}
 use Rattle.ii_merger.specs.declared.merge_source.MergeSource.{MergeSource}
+use Rattle.ii_definitions.proofs.GroupedLaws.{count_none}
+use Rattle.std.proofs.Math.Bool.{or-false}
 
 -- the next segment, and those after it
 pub segment_at : (xs : List MergeSource) (i : ℕ) (x : MergeSource) → i < length xs → x ≡ get_or xs i x → drop i (map segment_of xs) ≡ segment_of x ∷ drop (i + 1) (map segment_of xs)
@@ -144,10 +145,6 @@ below_after n total entries norms sources old new (Err e) none wrote h = tt
 below_after n zero entries norms sources old new (Ok u) none wrote h = subst (FieldsBelow (n + 1)) (sym (none refl)) (fields_raised n old h)
 below_after n (suc total) entries norms sources old new (Ok u) none wrote h = let w = wrote (omega arith) in fields_more n old new _ h w.adds
 
-or_false : (b : Bool) → (b || false) ≡ b
-or_false true = refl
-or_false false = refl
-
 any_more : (f : MergedPart → Bool) (ps : List MergedPart) (p : MergedPart) → list_any f (ps ++ p ∷ []) ≡ (list_any f ps || f p)
 any_more f [] p = or_none (f p)
   where
@@ -209,7 +206,7 @@ module _ (entries : List SchemaEntry) (initial : IndexBodiesState) (n : ℕ) (ts
             rw (none, same) (sym (ap (λ (k : ℕ). nat_lt 0 (field_count k ts)) (sym is) ∙ some_count (field_count n ts) some))
         by field false other low =
             let here = h.present field (omega (arith, low, eqb-false n field other)) in
-            ap (λ (b : Bool). has_part field h.parts || b) other ∙ or_false (has_part field h.parts) ∙ here
+            ap (λ (b : Bool). has_part field h.parts || b) other ∙ or-false (has_part field h.parts) ∙ here
 
   pub field_merged : (old new : IndexBodiesState) (total : ℕ) → HasMergedFields entries initial old n ts → total ≡ field_count n ts → (total ≡ 0 → new ≡ old) → (total ≡ field_count n ts → 0 < total → WroteField entries old new n ts) → HasMergedFields entries initial new (n + 1) ts
   field_merged old new zero h counted none wrote = skipped new (subst (λ (b : IndexBodiesState). HasMergedFields entries initial b n ts) (sym (none refl)) h) (sym counted)
@@ -266,15 +263,6 @@ found_part P field (q ∷ ps) p all is = by (nat_eq q.field field) refl (found_p
         let own : q ≡ p = cc in
         record { is = ap (λ (r : MergedPart). r.field) (sym own) ∙ eqb-true q.field field same; holds = subst P own all.0 }
     by false other others = others (rw other at is)
-
-none_kept : (field n : ℕ) (ts : List IndexToken) → AllByRecursion (λ (t : IndexToken). t.field < n) ts → n ≤ field → length (filter (λ (t : IndexToken). t.field == field) ts) ≡ 0
-none_kept field n [] known high = refl
-none_kept field n (t ∷ ts) known high =
-    let other : nat_eq t.field field ≡ false = ne_eqb t.field field (λ e. absurd (omega (arith, e, known.0, high))) in
-    rw other (none_kept field n ts known.1 high)
-
-count_none : (field n : ℕ) (ts : List IndexToken) → AllByRecursion (λ (t : IndexToken). t.field < n) ts → n ≤ field → field_count field ts ≡ 0
-count_none field n ts known high = sym (length-filter (λ (t : IndexToken). t.field == field) ts) ∙ none_kept field n ts known high
 
 module _ (entries : List SchemaEntry) (initial now : IndexBodiesState) (ts : List IndexToken) (h : HasMergedFields entries initial now (length entries) ts) (known : AllByRecursion (λ (t : IndexToken). t.field < length entries) ts) where
   all_present : (field : ℕ) → has_part field h.parts ≡ nat_lt 0 (field_count field ts)

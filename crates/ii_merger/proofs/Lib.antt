@@ -1,5 +1,4 @@
 pub mod DocLemmas
-pub mod FieldKeyLemmas
 pub mod FieldLemmas
 pub mod FieldMergeLemmas
 pub mod FileLemmas

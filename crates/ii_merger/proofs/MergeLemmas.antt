@@ -22,18 +22,6 @@ use Rattle.ii_recorder.proofs.PushLemmas.{pushes_then, pushing_none}
 use Rattle.ii_merger.specs.MergedTerm.{CoversBelow, HasEntries, IsPushFault, IsStartedTerm, LieBetween, MayPushDoc, MayStart, Merges, skip_of}
 use Rattle.ii_merger.proofs.NumberLemmas.{are_in_order, between_both}
 
--- ---- how calls end
-pub ends_as_err : {A B : Type 0} (a b : IndexSerializerState) (e : Fault) → EndsInMemory {A = A} a b (Err e) → EndsInMemory {A = B} a b (Err e)
-ends_as_err a b e h = record {
-  entries = h.entries;
-  bodies = h.bodies;
-  closing = record {
-    closes = record { ok = tt; err = h.closing.closes.err };
-    refused = h.closing.refused;
-    closed = ((λ is. h.closing.closed.0 (let same : e ≡ SerializerClosed = cc in ap Err same)), (λ closed. let is = h.closing.closed.1 closed in let same : e ≡ SerializerClosed = cc in ap Err same));
-  };
-}
-
 pub ends_as_ok : {A B : Type 0} (a b : IndexSerializerState) (x : A) (y : B) → EndsInMemory {A = A} a b (Ok x) → EndsInMemory {A = B} a b (Ok y)
 ends_as_ok a b x y h = record {
   entries = h.entries;
@@ -52,16 +40,6 @@ ends_same a x unclosed = record {
   bodies = refl;
   closing = record { closes = record { ok = unclosed; err = tt }; refused = λ closed. refl; closed = ((λ is. absurd (cc)), (λ closed. absurd (true≢false (sym closed ∙ unclosed)))) };
 }
-
--- a call that shut the serializer
-pub ends_shut : {A : Type 0} (a b : IndexSerializerState) (e : Fault) → a.closed ≡ false → b ≡ record a { closed = true } → ¬ (e ≡ SerializerClosed) → EndsInMemory {A = A} a b (Err e)
-ends_shut {A} a b e unclosed is apart =
-    subst (λ (s : IndexSerializerState). EndsInMemory {A = A} a s (Err e)) (sym is)
-    (record {
-      entries = refl;
-      bodies = refl;
-      closing = record { closes = record { ok = tt; err = refl }; refused = λ closed. absurd (true≢false (sym closed ∙ unclosed)); closed = ((λ same. absurd (apart (cc))), (λ closed. absurd (true≢false (sym closed ∙ unclosed)))) };
-    })
 
 -- a call after one that went well
 pub ends_after : {A B : Type 0} (a b c : IndexSerializerState) (x : A) (result : Result B Fault) → EndsInMemory {A = A} a b (Ok x) → EndsInMemory {A = B} b c result → EndsInMemory {A = B} a c result
@@ -182,11 +160,3 @@ writes_well a b (Err e) went h = absurd (true≢false went)
 pub went_well : (P : Type 0) (result : Result (Unit {0}) Fault) → is_err result ≡ false → OnOk result P → P
 went_well P (Ok tt) went h = h
 went_well P (Err e) went h = absurd (true≢false went)
-
--- nothing was written
-pub writes_none : (a : IndexSerializerState) → a.closed ≡ false → EndsWriting {A = Unit {0}} a a (Ok tt)
-writes_none a unclosed = record {
-  entries = refl;
-  failures = record { once = record { ok = refl; write = ((λ is. absurd (cc)), (λ low. absurd (omega (arith, low)))); by_one = λ is. absurd (cc) }; terms_kept = omega arith; postings_kept = omega arith; positions_kept = omega arith };
-  closing = (ends_same a tt unclosed).closing;
-}

@@ -1,6 +1,6 @@
 -- The lists of segments that hold tokens aren't damaged.
-use Rattle.std.proofs.Common.{inl, inr, ◌≡◌, ℕ, ◌<◌, ◌==◌, Bool, true, false, List, [], ◌∷◌, length, map, Option, Some, None, refl, sym, ap, ◌∙◌, arith, nat_eq}
-use Rattle.std.specs.Prelude.{◌⊎◌, filter, if◌then◌else◌, slice_get}
+use Rattle.std.proofs.Common.{inl, inr, ◌≡◌, ℕ, ◌<◌, ◌==◌, Bool, true, false, List, [], ◌∷◌, length, map, Option, Some, None, refl, sym, ap, ◌∙◌, arith}
+use Rattle.std.specs.Prelude.{◌⊎◌, if◌then◌else◌, slice_get}
 use Rattle.std.specs.List.{AllByRecursion}
 use Rattle.std.proofs.lemmas.Bool.{eq-eqb, lt-ltb, ne_eqb}
 use Rattle.ii_io.specs.declared.faults.Fault.{Fault}
@@ -11,9 +11,8 @@ use Rattle.ii_base.specs.declared.schema.index_record_option.IndexRecordOption.T
 use Rattle.ii_base.specs.Entries.{Entry}
 use Rattle.ii_base.specs.Schema.{SchemaEntry}
 use Rattle.ii_definitions.specs.Cut.{cut_entry}
-use Rattle.ii_definitions.specs.Postings.{IsCounted, grouped, is_at, tokens_at, with_token}
-use Rattle.ii_definitions.specs.Tokens.{IndexToken}
-use Rattle.ii_definitions.proofs.GroupedLaws.{grouped_counted}
+use Rattle.ii_definitions.specs.Postings.{IsCounted, grouped, is_at, tokens_at}
+use Rattle.ii_definitions.proofs.GroupedLaws.{grouped_counted, filter_below, grouped_below}
 use Rattle.ii_fieldnorm.specs.Readers.{Norms}
 use Rattle.ii_io.specs.CountingWriter.{IsFull}
 use Rattle.ii_io.specs.declared.faults.LimitName.TheVariants as limit
@@ -25,27 +24,6 @@ use Rattle.ii_merger.specs.MergeSources.{FieldSourceState, count_damage, damage_
 use Rattle.ii_merger.specs.MergedField.{AreMergedKeys, IsKeyFault, IsMergedFieldFault, IsTermMergeFault, kind_under, merged_terms}
 use Rattle.ii_merger.specs.SourcesHold.{SourceHolds, SourcesHold}
 use Rattle.ii_merger.proofs.FieldLemmas.{IsFieldEntry, cut_are, held_list}
-
--- ---- entries of tokens
-with_below : (n : ℕ) (t : IndexToken) (es : List Entry) → t.doc < n → AllByRecursion (λ (e : Entry). e.doc < n) es → AllByRecursion (λ (e : Entry). e.doc < n) (with_token t es)
-with_below n t [] low below = (low, tt)
-with_below n t (e ∷ es) low below = by (nat_eq e.doc t.doc) refl
-  where
-    by : (b : Bool) → nat_eq e.doc t.doc ≡ b → AllByRecursion (λ (e : Entry). e.doc < n) (with_token t (e ∷ es))
-    by true same = rw same below
-    by false other = rw other (low, below)
-
-grouped_below : (n : ℕ) (ts : List IndexToken) → AllByRecursion (λ (t : IndexToken). t.doc < n) ts → AllByRecursion (λ (e : Entry). e.doc < n) (grouped ts)
-grouped_below n [] below = tt
-grouped_below n (t ∷ ts) below = with_below n t (grouped ts) below.0 (grouped_below n ts below.1)
-
-filter_below : (n : ℕ) (f : IndexToken → Bool) (ts : List IndexToken) → AllByRecursion (λ (t : IndexToken). t.doc < n) ts → AllByRecursion (λ (t : IndexToken). t.doc < n) (filter f ts)
-filter_below n f [] below = tt
-filter_below n f (t ∷ ts) below = by (f t) refl (filter_below n f ts below.1)
-  where
-    by : (b : Bool) → f t ≡ b → AllByRecursion (λ (t : IndexToken). t.doc < n) (filter f ts) → AllByRecursion (λ (t : IndexToken). t.doc < n) (filter f (t ∷ ts))
-    by true is others = rw is (below.0, others)
-    by false is others = rw is others
 
 some_freq : (n : ℕ) → 0 < n → (n == 0) ≡ false
 some_freq n some = ne_eqb n 0 (λ same. omega (arith, same, some))

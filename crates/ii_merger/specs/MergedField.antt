@@ -7,11 +7,9 @@ use Rattle.ii_io.specs.declared.faults.Fault.TheVariants.{Limit, OutOfMemory, Wr
 use Rattle.ii_io.specs.declared.faults.LimitName.TheVariants as limit
 use Rattle.ii_base.specs.declared.schema.index_record_option.IndexRecordOption.{IndexRecordOption}
 use Rattle.ii_base.specs.declared.schema.index_record_option.IndexRecordOption.TheVariants.{Basic}
-use Rattle.ii_base.specs.declared.schema.value_type.ValueType.TheVariants.{Str}
 use Rattle.ii_base.specs.Entries.{Entry}
 use Rattle.ii_base.specs.Schema.{SchemaEntry}
-use Rattle.ii_base.specs.ValueTypes.{code_of}
-use Rattle.ii_definitions.specs.JsonKeys.{type_under}
+use Rattle.ii_definitions.specs.JsonKeys.{is_key_of_text}
 use Rattle.ii_fieldnorm.specs.Readers.{Norms}
 use Rattle.ii_termdict.specs.ReadBack.{AreAscending}
 use Rattle.ii_recorder.specs.HeldTerms.{HoldsTerms}
@@ -25,7 +23,7 @@ use Rattle.ii_merger.specs.MergeSources.{FieldSourceState, IsDamageOf, has_term,
 
 -- what a field keeps of the entries of a key: of those of a value only documents
 abbrev pub kind_under : SchemaEntry → List ℕ → IndexRecordOption
-kind_under entry key = if code_of (type_under entry.value_type key) == code_of Str then entry.option else Basic
+kind_under entry key = if is_key_of_text entry.value_type key then entry.option else Basic
 
 -- the term of a key with these entries; none if there are no entries
 abbrev pub term_of_entries : Option Norms → IndexRecordOption → List ℕ → List Entry → List WrittenTerm

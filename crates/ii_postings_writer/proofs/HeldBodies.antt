@@ -1,6 +1,6 @@
 -- The bodies of all fields hold their tokens.
 use Rattle.std.proofs.Common.{Result, Ok, Err, OnOk, zero-add, ◌≡◌, ℕ, zero, suc, ◌+◌, ◌≤◌, ◌<◌, ◌^◌, ◌==◌, Bool, true, false, List, [], ◌∷◌, ◌++◌, length, map, Option, Some, None, refl, sym, ap, ◌∙◌, subst, arith, nat_eq, nat_lt}
-use Rattle.std.specs.Prelude.{filter, is_some, slice_index_or}
+use Rattle.std.specs.Prelude.{is_some, slice_index_or}
 use Rattle.std.specs.List.{AllByRecursion, flat_map, range_with_len}
 use Rattle.std.specs.List.Sorted.{IsStrictlySortedBy}
 use Rattle.std.specs.Cmp.Lexicographic.{slice_cmp}
@@ -8,7 +8,6 @@ use Rattle.std.specs.Ordering.{nat_cmp}
 use Rattle.std.specs.Map.{keys_of}
 use Rattle.std.proofs.lemmas.Bool.{eq-eqb, eqb-true, eqb-false, lt-ltb, ltb-true, ltb-false, ne_eqb}
 use Rattle.std.proofs.lemmas.List.FromFn.{get_or-map-range_with_len}
-use Rattle.std.proofs.lemmas.List.Sums.{length-filter}
 use Rattle.ii_io.specs.Composite.{Body, body_of}
 use Rattle.ii_base.specs.Schema.{SchemaEntry}
 use Rattle.ii_definitions.specs.Fields.{option_of}
@@ -32,6 +31,7 @@ use Rattle.ii_postings_writer.specs.PostingsWriter.{PostingsWriterState}
 use Rattle.ii_postings_writer.specs.SortedTerms.{norms_in, MayBeWritten, SortedTerm, terms_in}
 use Rattle.ii_postings_writer.proofs.PartLemmas.{part_of}
 use Rattle.ii_fieldnorm.specs.Readers.{Norms}
+use Rattle.ii_definitions.proofs.GroupedLaws.{count_none}
 
 module _ (entries : List SchemaEntry) (writers : List PostingsWriterState) (readers : List Body) (lists : List (List SortedTerm)) where
   abbrev pub list_at : ℕ → List SortedTerm
@@ -119,15 +119,6 @@ module _ (entries : List SchemaEntry) (writers : List PostingsWriterState) (read
   -- the bodies of a field that was written hold its terms
   pub part_held : (field n : ℕ) → field < n → 0 < length (list_at field) → AllByRecursion (HoldsPart entries) (first_parts entries writers readers lists n) → HoldsPart entries (own_part field)
   part_held field n inside some all = held_from field 0 n (omega (arith)) (omega (arith, inside)) some all
-
-none_kept : (field n : ℕ) (ts : List IndexToken) → AllByRecursion (λ (t : IndexToken). t.field < n) ts → n ≤ field → length (filter (λ (t : IndexToken). t.field == field) ts) ≡ 0
-none_kept field n [] known high = refl
-none_kept field n (t ∷ ts) known high =
-    let other : nat_eq t.field field ≡ false = ne_eqb t.field field (λ e. absurd (omega (arith, e, known.0, high))) in
-    rw other (none_kept field n ts known.1 high)
-
-count_none : (field n : ℕ) (ts : List IndexToken) → AllByRecursion (λ (t : IndexToken). t.field < n) ts → n ≤ field → field_count field ts ≡ 0
-count_none field n ts known high = sym (length-filter (λ (t : IndexToken). t.field == field) ts) ∙ none_kept field n ts known high
 
 -- What is known of a sorted context that was written, and of its tokens.
 pub record IsWritten (entries : List SchemaEntry) (writers : List PostingsWriterState) (readers : List Body) (sorted : TermIndex) (ts : List IndexToken) : Type 0 where

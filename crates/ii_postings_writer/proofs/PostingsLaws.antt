@@ -1,5 +1,5 @@
 -- What one more token and one more call add.
-use Rattle.std.proofs.Common.{map, ◌≡◌, ℕ, ◌+◌, Bool, true, false, cond, List, [], ◌∷◌, ◌++◌, nat_eq, refl, sym, ap, ◌∙◌, append_assoc, append-nil}
+use Rattle.std.proofs.Common.{map, ◌≡◌, ℕ, ◌+◌, Bool, true, false, cond, List, [], ◌∷◌, ◌++◌, nat_eq, refl, sym, ap, ◌∙◌}
 use Rattle.std.proofs.lemmas.Bool.{eqb-true, eq-eqb, ne_eqb, eqb-false}
 use Rattle.std.proofs.lemmas.List.Elements.{filter-append}
 use Rattle.ii_base.specs.declared.schema.index_record_option.IndexRecordOption.{IndexRecordOption}
@@ -7,16 +7,8 @@ use Rattle.ii_base.specs.declared.schema.index_record_option.IndexRecordOption.T
 use Rattle.ii_base.specs.Entries.{Entry}
 use Rattle.ii_definitions.specs.Cut.{cut_entry}
 use Rattle.ii_recorder.specs.Recorded.{begun, with_position}
-use Rattle.ii_definitions.specs.Tokens.{IndexToken, Piece, piece_tokens, tokens_after}
+use Rattle.ii_definitions.specs.Tokens.{IndexToken}
 use Rattle.ii_definitions.specs.Postings.{entry_of, grouped, is_at, tokens_at, with_token}
-
--- the tokens of pieces in two parts
-pub tokens_after-append : (earlier first second : List Piece) → tokens_after earlier (first ++ second) ≡ tokens_after earlier first ++ tokens_after (earlier ++ first) second
-tokens_after-append earlier [] second = ap (λ (ps : List Piece). tokens_after ps second) (sym (append-nil earlier))
-tokens_after-append earlier (p ∷ ps) second =
-    let rest = tokens_after-append (earlier ++ p ∷ []) ps second in
-    ap (λ (ts : List IndexToken). piece_tokens earlier p ++ ts) (rest ∙ ap (λ (qs : List Piece). tokens_after (earlier ++ p ∷ []) ps ++ tokens_after qs second) (append_assoc earlier (p ∷ []) ps))
-    ∙ sym (append_assoc (piece_tokens earlier p) (tokens_after (earlier ++ p ∷ []) ps) (tokens_after (earlier ++ p ∷ ps) second))
 
 -- the entries with one more token after them: in the last one if it is of that document, or else in an entry of its own
 abbrev pub token_added : List Entry → IndexToken → List Entry

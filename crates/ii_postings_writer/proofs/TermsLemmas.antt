@@ -32,7 +32,7 @@ pub record IsSerializing (terms : List TermOfField) (k : ℕ) (old now : IndexSe
   pub grow : AllGrow old.bodies now.bodies
 
 -- a call that wrote nothing to an open serializer
-none_ends : (s : IndexSerializerState) → s.closed ≡ false → EndsWriting {A = Unit {0}} s s (Ok tt)
+pub none_ends : (s : IndexSerializerState) → s.closed ≡ false → EndsWriting {A = Unit {0}} s s (Ok tt)
 none_ends s unclosed = record {
   entries = refl;
   failures = record {

@@ -34,6 +34,7 @@ use Rattle.ii_reader.specs.BlockSegmentPostings.{AreEntries, BlockSegmentPosting
 use Rattle.ii_reader.specs.SegmentPostings.{WentLazily}
 use Rattle.ii_reader.proofs.CursorLemmas.{doc_at_drop, freq_at, list_docs, length-list}
 use Rattle.ii_reader.proofs.SeekLemmas.{rises}
+use Rattle.ii_definitions.proofs.ListLaws.{range_append}
 
 -- what bounds a full block, and a block without bounds
 bound_there : (skip : SkipList) (k : ℕ) → has_freq skip.skip_info ≡ true → k < length skip.entries → freq_bound (bounds_of skip) k ≡ max_tf_of_code (skip_entry skip.entries k).block_wand_term_freq
@@ -182,22 +183,12 @@ placed_behind (Some fs) target least block from idx place docs before few end is
     }
 
 -- how many blocks may have a term frequency of at least `least`
-range_parts : (a n m : ℕ) → range_with_len a (n + m) ≡ range_with_len a n ++ range_with_len (a + n) m
-range_parts a zero m =
-    let none : 0 + m ≡ m = omega arith in
-    let same : a ≡ a + 0 = omega arith in
-    ap (range_with_len a) none ∙ ap (λ (k : ℕ). range_with_len k m) same
-range_parts a (suc n) m =
-    let next : suc n + m ≡ suc (n + m) = omega arith in
-    let place : a + 1 + n ≡ a + suc n = omega arith in
-    ap (range_with_len a) next ∙ ap (λ (later : List ℕ). a ∷ later) (range_parts (a + 1) n m ∙ ap (λ (k : ℕ). range_with_len (a + 1) n ++ range_with_len k m) place)
-
 parts_sum : (least i k m : ℕ) (bounds : List (ℕ × ℕ)) → i ≤ k → k ≤ m → blocks_with_freq least bounds i m ≡ blocks_with_freq least bounds i k + blocks_with_freq least bounds k m
 parts_sum least i k m bounds first second =
     let all : m - i ≡ (k - i) + (m - k) = omega arith in
     let place : i + 1 + (k - i) ≡ k + 1 = omega arith in
     ap (λ (n : ℕ). sum_by (λ (b : ℕ). if excludes least (freq_bound bounds b) then 0 else 1) (range_with_len (i + 1) n)) all
-    ∙ ap (sum_by (λ (b : ℕ). if excludes least (freq_bound bounds b) then 0 else 1)) (range_parts (i + 1) (k - i) (m - k) ∙ ap (λ (a : ℕ). range_with_len (i + 1) (k - i) ++ range_with_len a (m - k)) place)
+    ∙ ap (sum_by (λ (b : ℕ). if excludes least (freq_bound bounds b) then 0 else 1)) (range_append (i + 1) (k - i) (m - k) ∙ ap (λ (a : ℕ). range_with_len (i + 1) (k - i) ++ range_with_len a (m - k)) place)
     ∙ sum_by-append (λ (b : ℕ). if excludes least (freq_bound bounds b) then 0 else 1) (range_with_len (i + 1) (k - i)) (range_with_len (k + 1) (m - k))
 
 -- a block that isn't excluded is one of them

@@ -1,16 +1,14 @@
 -- What a check of each term finds.
-use Rattle.std.proofs.Common.{◌≡◌, ◌∙◌, ◌+◌, ◌-◌, ◌*◌, ◌/◌, ◌%◌, ◌<◌, ◌≤◌, ℕ, zero, suc, cond, Bool, true, false, ◌&&◌, List, [], ◌∷◌, length, drop, nat_le, nat_lt, Less, Option, None, Some, Ok, Err, inl, inr, refl, sym, ap, subst, arith, add-one}
+use Rattle.std.proofs.Common.{◌≡◌, ◌∙◌, ◌+◌, ◌-◌, ◌*◌, ◌/◌, ◌%◌, ◌<◌, ◌≤◌, ℕ, zero, suc, cond, Bool, true, false, ◌&&◌, List, [], ◌∷◌, length, drop, nat_le, nat_lt, Option, None, Some, Ok, Err, inl, inr, refl, sym, ap, subst, arith, add-one}
 use Rattle.std.specs.Prelude.{◌↔◌, Result, IfSome, IsOk, ok_or, slice_get, slice_index_or, bytes_eq, if◌then◌else◌}
 use Rattle.std.specs.List.{All, AllByRecursion, cons_option, enumerate_from, filter_map, list_all}
 use Rattle.std.specs.List.Sorted.{IsStrictlySortedBy}
-use Rattle.std.specs.Cmp.Lexicographic.{bytes_decides, slice_cmp}
+use Rattle.std.specs.Cmp.Lexicographic.{bytes_decides}
 use Rattle.std.specs.Option.{option_map, option_or}
-use Rattle.std.specs.Ordering.{is_eq, nat_cmp}
 use Rattle.std.specs.Result.{result_err}
 use Rattle.std.proofs.lemmas.Bool.{and_parts, lt-ltb, ltb-false, ltb-true}
 use Rattle.std.proofs.lemmas.Cmp.{nat_list_eq_equiv}
 use Rattle.std.proofs.lemmas.List.{drop_all, get_or_default}
-use Rattle.std.proofs.lemmas.Map.Text.{is_eq-slice_cmp}
 use Rattle.ii_io.specs.StepLemmas.{needs-some, some-same, step-some}
 use Rattle.ii_io.specs.Vints.{u64_at}
 use Rattle.ii_io.specs.declared.faults.Fault.{Fault}
@@ -38,6 +36,7 @@ use Rattle.ii_reader.specs.Damage.{damage_of, damage_of_field, damaged_term, fir
 use Rattle.ii_reader.specs.InvertedIndexReader.{AllOpen, InvertedIndexReaderState, IsRefusal, OpensTerm, lies_in, ranges_lie, reads_positions, term_of_file}
 use Rattle.ii_reader.specs.SegmentPostings.{SegmentPostingsState}
 use Rattle.ii_reader.proofs.KnownLemmas.{docs_known, lie_known, postings_known, with_deltas}
+use Rattle.ii_termdict.proofs.LeastKey.{none_above}
 
 -- What opens with all that is recorded opens as far as less is requested.
 bind_less : {A B C : Type 0} (found : Result A Part) (f : A → Result B Part) (g : A → Result C Part) → ((x : A) → found ≡ Ok x → IsOk (f x) → IsOk (g x)) → IsOk (found >>= f) → IsOk (found >>= g)
@@ -188,13 +187,6 @@ under P (e ∷ es) key all = by_test (bytes_eq key e.0) (under P es key all.1)
     by_test : (t : Bool) → IfSome (info_under key es) P → IfSome (cond t (Some e.1) (info_under key es)) P
     by_test true others = all.0
     by_test false others = others
-
--- a key before all keys is none of them
-pub none_above : (k : List ℕ) (es : List TermEntry) → AllByRecursion (λ (y : List ℕ). slice_cmp nat_cmp k y ≡ Less) (entry_keys es) → info_under k es ≡ None
-none_above k [] below = refl
-none_above k (e ∷ es) below =
-    let apart : bytes_eq k e.0 ≡ false = sym (is_eq-slice_cmp k e.0) ∙ ap is_eq below.0 in
-    rw apart (none_above k es below.1)
 
 each_by_key : (P : TermInfo → Type 0) (entries : List TermEntry) → AreAscending (entry_keys entries) → ((key : List ℕ) → IfSome (info_under key entries) P) → AllByRecursion (λ (e : TermEntry). P e.1) entries
 unfolding IsStrictlySortedBy

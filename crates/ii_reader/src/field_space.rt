@@ -2,10 +2,11 @@ ghost use Rattle.std.specs.Prelude.{◌≡◌, ℕ, ◌⊎◌, ◌+◌, ◌-◌,
 ghost use Rattle.std.specs.Option.{option_map};
 ghost use Rattle.ii_io.specs.Faults.{OnlyMemory};
 ghost use Rattle.ii_termdict.specs.ReadBack.{AreAscending};
-ghost use Rattle.ii_definitions.specs.JsonKeys.{is_path_byte, path_in, type_in};
+ghost use Rattle.ii_definitions.specs.JsonKeys.{path_in, type_in};
 ghost use Rattle.ii_reader.specs.JsonFields.{IsWithin, is_same_label, label_of, space_of_term, spaces_of, sum_of, with_space};
 
 use super::inverted_index_reader::InvertedIndexReader;
+use super::json_keys::{path_in, type_in};
 use ii_base::{Fault, Part, ValueType};
 use ii_termdict::{TermInfo, TermStreamer};
 use std::alloc::Global;
@@ -138,33 +139,4 @@ fn list_further(
     }
     fields.push(current)?;
     Ok(fields)
-}
-
-fn is_path_byte(byte: u8) -> bool
-    ensures { result ≡ is_path_byte byte }
-{
-    byte != 0
-}
-
-// Returns the length of the path at the front of a key.
-fn path_len(key: &[u8]) -> usize
-    ensures { result ≡ length (path_in key.now) }
-{
-    key.iter().take_while(|b| is_path_byte(**b)).count()
-}
-
-// Returns the path at the front of a key.
-fn path_in(key: &[u8]) -> &[u8]
-    ensures { result.now ≡ path_in key.entry.now }
-{
-    &key[..path_len(key)]
-}
-
-// Returns the type that follows the path in a key.
-#[tactic(auto, unfolding(ii_definitions::specs::JsonKeys::type_in))]
-fn type_in(key: &[u8]) -> Option<ValueType>
-    ensures { result ≡ type_in key.now }
-{
-    let code = key.get(path_len(key) + 1)?;
-    ValueType::from_code(*code)
 }

@@ -8,6 +8,7 @@ pub mod PushLemmas
 pub mod DeltaLemmas
 pub mod PushedEntries
 pub mod TokenLaws
+pub mod FieldKeys
 pub mod WorkedRows
 mod VintRowLemmas
 mod GatheredLemmas

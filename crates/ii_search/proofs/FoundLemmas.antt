@@ -152,7 +152,7 @@ swapped true false true = refl
 swapped true false false = refl
 swapped false b c = refl
 
-any_alike : {A : Type 0} (p q : A → Bool) (xs : List A) → ((x : A) → p x ≡ q x) → list_any p xs ≡ list_any q xs
+pub any_alike : {A : Type 0} (p q : A → Bool) (xs : List A) → ((x : A) → p x ≡ q x) → list_any p xs ≡ list_any q xs
 any_alike p q [] same = refl
 any_alike p q (x ∷ xs) same = rw (same x, any_alike p q xs same) refl
 

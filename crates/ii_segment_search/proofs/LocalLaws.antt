@@ -20,11 +20,7 @@ use Rattle.ii_segments.proofs.CountLaws.{all_weaker, living_within, test_by_rank
 use Rattle.ii_segments.proofs.MergedLaws.{IsTyped, index_typed}
 use Rattle.ii_segments.proofs.MergeLaws.{below, from_append, of_living}
 use Rattle.ii_segment_search.specs.SegmentSearch.{SearchIsLocal, tree_covers, trees_cover}
-
--- ---- tests of lists
-any_same : {A : Type 0} (f g : A → Bool) (xs : List A) → ((x : A) → f x ≡ g x) → list_any f xs ≡ list_any g xs
-any_same f g [] same = refl
-any_same f g (x ∷ xs) same = ap (λ (b : Bool). b || list_any f xs) (same x) ∙ ap (λ (b : Bool). g x || b) (any_same f g xs same)
+use Rattle.ii_search.proofs.FoundLemmas.{any_alike}
 
 all_same : {A : Type 0} (f g : A → Bool) (xs : List A) → ((x : A) → f x ≡ g x) → list_all f xs ≡ list_all g xs
 all_same f g [] same = refl
@@ -154,7 +150,7 @@ module _ (entries : List SchemaEntry) (before after : List Segment) (s : Segment
         let at : (d : ℕ) (t : IndexToken) → (is_token_of first d t && rest t) ≡ true → is_at first.field first.value t ≡ true =
         λ d t is. (and_parts (t.doc == d) (is_at first.field first.value t) (and_parts (is_token_of first d t) (rest t) is).0).1 in
         ap (λ (b : Bool). is_text_key first all && b)
-        (any_same (λ (t : IndexToken). is_token_of first number t && follow all number others t.position) (λ (t : IndexToken). is_token_of first number t && follow s.tokens doc others t.position) all
+        (any_alike (λ (t : IndexToken). is_token_of first number t && follow all number others t.position) (λ (t : IndexToken). is_token_of first number t && follow s.tokens doc others t.position) all
         (λ t. ap (λ (b : Bool). is_token_of first number t && b) (follow_local others t.position)))
         ∙ text_any entries first.field first.value (λ t. is_token_of first number t && follow s.tokens doc others t.position) (at number) all all_typed
         ∙ ap (λ (b : Bool). is_key_of_text_in entries first.field first.value && b) (any_local test (λ t. refl) (λ b t d. refl) before after s doc lives)

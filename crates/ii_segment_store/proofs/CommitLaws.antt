@@ -4,7 +4,7 @@ use Rattle.std.specs.Prelude.{IfSome, map, replicate}
 use Rattle.std.specs.List.{AllByRecursion, find, list_all}
 use Rattle.std.proofs.lemmas.List.Folds.{sum_by-replicate}
 use Rattle.ii_alive.specs.Alive.{num_living}
-use Rattle.std.proofs.lemmas.Bool.{eq-eqb, ltb-true, ne_eqb}
+use Rattle.std.proofs.lemmas.Bool.{and_parts, eq-eqb, ltb-true, ne_eqb}
 use Rattle.std.proofs.lemmas.Cmp.{nat_list_eq_equiv}
 use Rattle.sha2.specs.Sha256.{sha256}
 use Rattle.ii_store.specs.declared.faults.IndexFault.{IndexFault}
@@ -23,7 +23,6 @@ use Rattle.ii_store.specs.Index.{◌>>=◌, Index, index_at, index_in, index_of,
 use Rattle.ii_store.specs.IndexMeta.{MetaState, SegmentState, checked_list, file_meta, is_consistent, is_segment, list_at, meta_of, segment_view}
 use Rattle.ii_directory.specs.Names.{other_slot}
 use Rattle.ii_store.specs.Segments.{list_in, listed_bytes}
-use Rattle.ii_directory.proofs.NameParse.{and_true}
 use Rattle.ii_directory.proofs.Elapsing.{elapses_implies, elapses_none}
 use Rattle.ii_store.proofs.SaveLaws.{index_outside}
 use Rattle.ii_segment_store.specs.Commits.{HasSegment, HaveIdsBelow, HoldsOldOr, IsCommitted, IsFresh, KeepsUncommitted, LeavesOneIndex, MayBeCommitted, listed_counts, listed_segment, next_list}
@@ -64,7 +63,7 @@ consistent meta m e =
 
 segments_below : (m : MetaState) → is_consistent m ≡ true → list_all (is_segment m.next_segment_id) m.segments ≡ true
 unfolding is_consistent
-segments_below m e = (and_true _ _ (and_true _ _ e).0).0
+segments_below m e = (and_parts _ _ (and_parts _ _ e).0).0
 
 listed_valid : (found : Option (List ℕ)) (m : MetaState) → list_in found ≡ Ok m → list_all (is_segment m.next_segment_id) m.segments ≡ true
 unfolding list_in
@@ -73,13 +72,13 @@ listed_valid (Some meta) m e = segments_below m (consistent meta m e)
 
 id_below : (next : ℕ) (s : SegmentState) → is_segment next s ≡ true → s.id < next
 unfolding is_segment
-id_below next s e = ltb-true s.id next (and_true _ _ (and_true _ _ (and_true _ _ e).0).0).0
+id_below next s e = ltb-true s.id next (and_parts _ _ (and_parts _ _ (and_parts _ _ e).0).0).0
 
 -- the ids of valid segments are below the next one
 ids_below : (next : ℕ) (ss : List SegmentState) → list_all (is_segment next) ss ≡ true → HaveIdsBelow next ss
 ids_below next [] all = tt
 ids_below next (s ∷ ss) all =
-    let p = and_true (is_segment next s) (list_all (is_segment next) ss) all in
+    let p = and_parts (is_segment next s) (list_all (is_segment next) ss) all in
     (id_below next s p.0, ids_below next ss p.1)
 
 pub listed_below : (found : Option (List ℕ)) (m : MetaState) → list_in found ≡ Ok m → HaveIdsBelow m.next_segment_id m.segments

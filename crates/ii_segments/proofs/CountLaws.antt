@@ -16,6 +16,7 @@ use Rattle.ii_definitions.specs.Tokens.{IndexToken}
 use Rattle.ii_segments.specs.SegmentLaws.{CountsOfSegments}
 use Rattle.ii_segments.specs.Segments.{Segment, at_rank, doc_counts, index_tokens, is_living, living_counts, living_docs, living_norms, living_tokens, num_docs_of, tokens_from}
 use Rattle.ii_segments.proofs.MergeLaws.{all_append, below, living_below, of_living}
+use Rattle.ii_definitions.proofs.ListLaws.{range_append}
 
 -- ---- functions that agree
 pub map_kept : {A B : Type 0} (f g : A → B) (p : A → Bool) (xs : List A) → ((x : A) → p x ≡ true → f x ≡ g x) → map f (filter p xs) ≡ map g (filter p xs)
@@ -35,17 +36,6 @@ map_range f g start (suc n) same =
 pub map_all : {A B : Type 0} (f g : A → B) (xs : List A) → ((x : A) → f x ≡ g x) → map f xs ≡ map g xs
 map_all f g [] same = refl
 map_all f g (x ∷ xs) same = ap (λ y. y ∷ map f xs) (same x) ∙ ap (λ (l : List _). g x ∷ l) (map_all f g xs same)
-
-pub range_append : (start n m : ℕ) → range_with_len start (n + m) ≡ range_with_len start n ++ range_with_len (start + n) m
-range_append start zero m =
-    let none : 0 + m ≡ m = omega arith in
-    let here : start ≡ start + 0 = omega arith in
-    ap (range_with_len start) none ∙ ap (λ (s : ℕ). range_with_len s m) here
-range_append start (suc n) m =
-    let more : suc n + m ≡ suc (n + m) = omega arith in
-    let next : start + 1 + n ≡ start + suc n = omega arith in
-    ap (range_with_len start) more
-    ∙ ap (λ (l : List ℕ). start ∷ l) (range_append (start + 1) n m ∙ ap (λ (s : ℕ). range_with_len (start + 1) n ++ range_with_len s m) next)
 
 -- ---- living documents and their ranks
 pub living_within : (alive : List Bool) (doc : ℕ) → is_living alive doc ≡ true → doc < length alive

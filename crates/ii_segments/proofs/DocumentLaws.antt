@@ -14,6 +14,7 @@ use Rattle.ii_definitions.specs.Tokens.{Call, Content, IndexToken, Piece, begin_
 use Rattle.ii_segments.specs.Documents.{Document, SegmentsAreOneIndex, calls_of_doc, documents_tokens, numbered_calls, segment_of}
 use Rattle.ii_segments.specs.Segments.{index_tokens, living_tokens, tokens_from}
 use Rattle.ii_segments.proofs.MergeLaws.{all_alive, all_append, from_shift, shift}
+use Rattle.ii_definitions.proofs.PieceLaws.{tokens_after-append}
 
 -- ---- pieces whose document's number is greater by a number
 abbrev later : ℕ → Piece → Piece
@@ -136,13 +137,6 @@ tokens_later a earlier (p ∷ ps) =
     ∙ ap (λ (l : List IndexToken). map (shift a) (piece_tokens earlier p) ++ l) (tokens_later a (earlier ++ p ∷ []) ps)
     ∙ sym (map-append (shift a) (piece_tokens earlier p) (tokens_after (earlier ++ p ∷ []) ps))
 
-tokens_both : (earlier ps qs : List Piece) → tokens_after earlier (ps ++ qs) ≡ tokens_after earlier ps ++ tokens_after (earlier ++ ps) qs
-tokens_both earlier [] qs = ap (λ (l : List Piece). tokens_after l qs) (sym (append-nil earlier))
-tokens_both earlier (p ∷ ps) qs =
-    ap (λ (l : List IndexToken). piece_tokens earlier p ++ l) (tokens_both (earlier ++ p ∷ []) ps qs)
-    ∙ ap (λ (l : List Piece). piece_tokens earlier p ++ (tokens_after (earlier ++ p ∷ []) ps ++ tokens_after l qs)) (append_assoc earlier (p ∷ []) ps)
-    ∙ sym (append_assoc (piece_tokens earlier p) (tokens_after (earlier ++ p ∷ []) ps) (tokens_after (earlier ++ p ∷ ps) qs))
-
 no_group : (m : ℕ) (p : Piece) (ps : List Piece) → m ≤ p.doc → AllByRecursion (λ (q : Piece). q.doc < m) ps → filter (is_same_group p) ps ≡ []
 no_group m p [] after before = refl
 no_group m p (q ∷ qs) after before =
@@ -201,7 +195,7 @@ module _ (analyze : List ℕ → List Word) where
       let others = all_fewer n (n + length ys) qs (pieces_in analyze n (n + length ys) (0 + n) ys (omega arith) (omega arith)) in
       ap (λ (cs : List Call). tokens_of analyze cs) (numbered_both analyze 0 xs ys)
       ∙ ap (tokens_after []) (flat_map-append (call_pieces analyze) (numbered_calls 0 xs) (numbered_calls (0 + n) ys))
-      ∙ tokens_both [] ps qs
+      ∙ tokens_after-append [] ps qs
       ∙ ap (λ (l : List Piece). tokens_after [] ps ++ tokens_after l qs) (sym (append-nil ps))
       ∙ ap (λ (l : List IndexToken). tokens_after [] ps ++ l) (tokens_apart n ps [] qs own.1 others.0)
       ∙ ap (λ (m : ℕ). tokens_after [] ps ++ tokens_after [] (pieces_from m ys)) start

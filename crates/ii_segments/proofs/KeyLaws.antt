@@ -22,9 +22,6 @@ use Rattle.ii_segments.proofs.MergedLaws.{IsTyped, all_ascend, index_typed}
 use Rattle.ii_segments.proofs.MergeLaws.{living_below, of_living}
 use Rattle.ii_segments.proofs.OrderLemmas.{AllAscend, Ascend, EntriesAscend, filter_ascends, grouped_ascend, lower_entries, tokens_ascend}
 
-same_bytes : (xs ys : List ℕ) → bytes_eq xs ys ≡ true → xs ≡ ys
-same_bytes xs ys same = (bytes_eq-Decides xs ys).0 same
-
 -- ---- the entries of living documents
 abbrev entry_lives : List Bool → Entry → Bool
 entry_lives alive e = is_living alive e.doc
@@ -165,7 +162,7 @@ module _ (entries : List SchemaEntry) (option requested : IndexRecordOption) (fi
       by true is others =
           let parts = and_parts (t.field == field) (bytes_eq t.key key) is in
           let same_field : t.field ≡ field = eqb-true t.field field parts.0 in
-          let same_key : t.key ≡ key = same_bytes t.key key parts.1 in
+          let same_key : t.key ≡ key = (bytes_eq-Decides t.key key).0 parts.1 in
           rw is (typed.0 ∙ ap (λ (f : ℕ). is_key_of_text_in entries f t.key) same_field ∙ ap (is_key_of_text_in entries field) same_key, others)
       by false other others = rw other others
 

@@ -8,9 +8,8 @@ use Rattle.ii_base.specs.declared.schema.value_type.ValueType.{ValueType}
 use Rattle.ii_base.specs.declared.schema.value_type.ValueType.TheVariants.{Str}
 use Rattle.ii_base.specs.Entries.{Entry}
 use Rattle.ii_base.specs.Schema.{SchemaEntry}
-use Rattle.ii_base.specs.ValueTypes.{code_of}
 use Rattle.ii_alive.specs.Alive.{num_living, rank}
-use Rattle.ii_definitions.specs.JsonKeys.{type_under}
+use Rattle.ii_definitions.specs.JsonKeys.{is_key_of_text}
 use Rattle.ii_definitions.specs.Norms.{norm_ids}
 use Rattle.ii_definitions.specs.Postings.{doc_count, key_postings}
 use Rattle.ii_definitions.specs.Tokens.{IndexToken}
@@ -56,7 +55,7 @@ type_of_field entries field = unwrap_or (option_map (λ (e : SchemaEntry). e.val
 
 -- whether a key of a field is that of a text's word
 abbrev pub is_key_of_text_in : List SchemaEntry → ℕ → List ℕ → Bool
-is_key_of_text_in entries field key = code_of (type_under (type_of_field entries field) key) == code_of Str
+is_key_of_text_in entries field key = is_key_of_text (type_of_field entries field) key
 
 -- The tokens of a segment are in the order of documents, which it has, and in fields of the schema. They are of texts exactly where their keys are.
 pub record AreSegmentTokens (entries : List SchemaEntry) (s : Segment) : Type 0 where

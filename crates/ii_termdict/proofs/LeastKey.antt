@@ -84,7 +84,7 @@ least_starts (es ∷ ess) key is = by_case (first_key es) (least_key ess) refl r
     by_case (Some f) (Some m) first rest is later = with_two (is_below m f) f m refl first is (later m rest)
 
 -- a key below all keys of entries has no info there
-none_above : (key : List ℕ) (es : List TermEntry) → AllByRecursion (λ (y : List ℕ). slice_cmp nat_cmp key y ≡ Less) (entry_keys es) → info_under key es ≡ None
+pub none_above : (key : List ℕ) (es : List TermEntry) → AllByRecursion (λ (y : List ℕ). slice_cmp nat_cmp key y ≡ Less) (entry_keys es) → info_under key es ≡ None
 none_above key [] below = refl
 none_above key (e ∷ es) below =
     let apart : bytes_eq key e.0 ≡ false = sym (is_eq-slice_cmp key e.0) ∙ ap is_eq below.0 in

@@ -7,4 +7,4 @@ pub mod OrderLemmas
 pub mod FirstKey
 pub mod ReadBackLemmas
 mod MergerLemmas
-mod LeastKey
+pub mod LeastKey

@@ -10,7 +10,7 @@ use Rattle.ii_base.specs.declared.json_value.JsonValue.TheOpen.{JsonValue-F}
 use Rattle.ii_base.specs.declared.json_value.JsonValue.TheVariants.{rolls-Object}
 use Rattle.ii_base.specs.declared.json_value.JsonValue.TheVariants as values
 use Rattle.ii_base.specs.declared.json_value.JsonValue.TheFolds.{fold-roll-JsonValue}
-use Rattle.ii_base.specs.Json.{Json, Leaf, json_leaves, json_of, json_step, leaf, member, members_from, no_members, object}
+use Rattle.ii_base.specs.Json.{Json, Leaf, json_leaves, json_of, json_step, member, members_from, no_members, object}
 use Rattle.ii_base.specs.Paths.{acts_as, has_zero, joined_segments, kept_bytes, marked, path_bytes, segment_bytes, segments_of}
 use Rattle.ii_base.specs.Terms.{TermState}
 use Rattle.ii_base.specs.Values.{json_key}
@@ -19,14 +19,11 @@ use Rattle.ii_definitions.specs.declared.index_call.IndexCall.TheVariants as cal
 use Rattle.iiq.proofs.WordLemmas.{and_right}
 use Rattle.iiq.specs.Commands.{leaf_key, leaf_term, leaf_under}
 use Rattle.iiq.specs.Known.{IsCall, json_alone}
+use Rattle.std.proofs.Math.Bool.{or-false}
 
 -- a byte that is no zero, by what it is
 no_zero : (k c : ℕ) → (c == k) ≡ true → (k == 0) ≡ false → (c == 0) ≡ false
 no_zero k c e none = subst (λ (b : ℕ). (b == 0) ≡ false) (sym (eqb-true c k e)) none
-
-or_false : (a : Bool) → (a || false) ≡ a
-or_false true = refl
-or_false false = refl
 
 or_assoc : (a b c : Bool) → ((a || b) || c) ≡ (a || (b || c))
 or_assoc true b c = refl
@@ -58,7 +55,7 @@ split_zero kept (c ∷ cs) =
 -- and then their bytes do
 join_zero : (segments : List (List ℕ)) → has_zero (joined_segments segments) ≡ list_any has_zero segments
 join_zero [] = refl
-join_zero (s ∷ []) = sym (or_false (has_zero s))
+join_zero (s ∷ []) = sym (or-false (has_zero s))
 join_zero (s ∷ t ∷ ss) = list_any-append (λ (b : ℕ). b == 0) s (1 ∷ joined_segments (t ∷ ss)) ∙ ap (λ b. has_zero s || b) (join_zero (t ∷ ss))
 
 joined_zero : (path : List ℕ) → has_zero (joined_segments (segments_of path)) ≡ has_zero path

@@ -30,6 +30,7 @@ use Rattle.iiq.specs.Known.{GathersCalls, GivesIndex, IsCall, IsOpen, Keeps, Kno
 use Rattle.iiq.specs.Output.{list_text, look_up_text, key_text, term_text}
 use Rattle.iiq.proofs.ReplyLemmas.{ok_no_err}
 use Rattle.iiq.specs.Session.{Session, gathering, opened, refused, Indexes, IsIndexed, fields, kept_with, num_docs_of, refusal_of}
+use Rattle.ii_definitions.proofs.ListLaws.{all_weaker}
 
 err_is : {A E : Type 0} (r : Result A E) (x y : E) → r ≡ Err x → r ≡ Err y → x ≡ y
 err_is r x y p q = cc
@@ -57,10 +58,6 @@ ordered_more f (x ∷ xs) y ordered below (suc i) (suc j) d low within =
 all_more : {X : Type 0} (P Q : X → Type 0) (xs : List X) (y : X) → ((x : X) → P x → Q x) → AllByRecursion P xs → Q y → AllByRecursion Q (xs ++ y ∷ [])
 all_more P Q [] y weaker all last = (last, tt)
 all_more P Q (x ∷ xs) y weaker all last = (weaker x all.0, all_more P Q xs y weaker all.1 last)
-
-all_weaker : {X : Type 0} (P Q : X → Type 0) (xs : List X) → ((x : X) → P x → Q x) → AllByRecursion P xs → AllByRecursion Q xs
-all_weaker P Q [] weaker all = tt
-all_weaker P Q (x ∷ xs) weaker all = (weaker x all.0, all_weaker P Q xs weaker all.1)
 
 -- one more call
 pub gathered_more : (kept : List IndexCall) (n : ℕ) (calls : List Call) (call : IndexCall) → GathersCalls kept n calls → IsCall call → n ≤ doc_of call + 1

@@ -12,7 +12,7 @@ use Rattle.ii_counts.specs.CountsWriter.{SetsCount, count_at, first_counts, is_l
 use Rattle.ii_definitions.specs.Postings.{doc_count}
 use Rattle.ii_definitions.specs.Tokens.{Call, Content, IndexToken, Piece, begin_after, call_pieces, content_pieces, kept_words, leaf_pieces, leaves, piece_tokens, piece_tokens_from, pieces_of, text, tokens_after, tokens_of, value, word_token, words}
 use Rattle.ii_indexing.proofs.CallLaws.{pieces_with}
-use Rattle.ii_postings_writer.proofs.PostingsLaws.{tokens_after-append}
+use Rattle.ii_definitions.proofs.PieceLaws.{tokens_after-append}
 use Rattle.ii_segments.specs.HoldCounts.{HasManyTokens, field_counts}
 use Rattle.ii_segments.specs.Segments.{doc_counts}
 use Rattle.ii_segments.proofs.CountLaws.{map_all}

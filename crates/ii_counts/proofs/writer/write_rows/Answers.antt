@@ -3,8 +3,9 @@ use Rattle.std.proofs.lemmas.List.{length-map}
 use Rattle.ii_fieldnorm.proofs.BufferLemmas.{next_asked, written_first, written_more, written_refused}
 use Rattle.ii_counts.specs.Counts.{written_counts}
 use Rattle.ii_counts.specs.CountsWriter.{row_buffers}
-use Rattle.ii_counts.proofs.RowLaws.{all_unwritten, few_bodies, not_refused, read_next, row_here}
+use Rattle.ii_counts.proofs.RowLaws.{all_unwritten, few_bodies, read_next, row_here}
 use Rattle.ii_counts.proofs.writer.write_rows.Goals as goal
+use Rattle.ii_io.proofs.WriteSteps.{on_ok_went}
 
 pub loop-i-init : goal.loop-i-init
 loop-i-init g c = record { has = written_first c.args.serializer.now; read = tt }
@@ -33,5 +34,5 @@ loop-i-preserved g c =
     record {
       has = written_more c.args.serializer.now c.loop-i.serializer c.write_row-written.new.serializer (row_buffers rows) i (Some (written_counts row)) (omega (arith, c.loop-i-test.true, length-map rows (λ r. Some (written_counts r)))) (row_here rows i row c.loop-i-test.true c.index-rows-i.is) c.loop-i.invariant.has
           c.write_row-written.result c.if-is_err.ensures.value (rw c.as_slice.ensures at c.write_row-written.ensures.written) (rw (c.from_field_id-field.ensures, c.as_slice.ensures) at c.write_row-written.ensures.adds);
-      read = read_next rows i row c.loop-i-test.true c.index-rows-i.is c.loop-i.invariant.read (not_refused c.write_row-written.result c.if-is_err.ensures.value (rw c.as_slice.ensures at c.write_row-written.ensures.read));
+      read = read_next rows i row c.loop-i-test.true c.index-rows-i.is c.loop-i.invariant.read (on_ok_went c.write_row-written.result c.if-is_err.ensures.value (rw c.as_slice.ensures at c.write_row-written.ensures.read));
     }

@@ -3,7 +3,7 @@ use Rattle.std.proofs.lemmas.Bool.{ltb-true}
 use Rattle.std.proofs.lemmas.Option.{slice_get_read}
 use Rattle.ii_definitions.specs.JsonKeys.{path_in, type_in}
 use Rattle.ii_reader.proofs.JsonLemmas.{type_of_letter}
-use Rattle.ii_merger.proofs.key_kinds.type_in.Goals as goal
+use Rattle.ii_reader.proofs.json_keys.type_in.Goals as goal
 
 pub returns : goal.returns
 unfolding type_in
