@@ -609,7 +609,9 @@ impl PostingsSerializer {
             return Err(Fault::SerializerClosed);
         }
         let added = self.postings.write_doc(doc_id, term_freq);
-        self.is_closed = added.is_err();
+        if added.is_err() {
+            self.is_closed = true;
+        }
         added
     }
 
