@@ -14,19 +14,18 @@ use Rattle.ii_io.proofs.WriteSteps.{full_before, full_more}
 use Rattle.ii_io.specs.CountingWriter.{CountingWriterState, IsFull, Writes}
 use Rattle.ii_base.specs.Schema.{SchemaEntry}
 use Rattle.ii_definitions.specs.Tokens.{IndexToken}
-use Rattle.ii_recorder.specs.Endings.{CountsOnce}
-use Rattle.ii_recorder.specs.IndexBodies.{CountsFailures, CountsFailuresOf, OneIsFull, IndexBodiesState, failed_calls, tables_of}
+use Rattle.ii_recorder.specs.IndexBodies.{CountsFailuresOf, OneIsFull, IndexBodiesState, failed_calls, tables_of, begun_file}
 use Rattle.ii_recorder.specs.IndexSerializer.{IndexSerializerState}
 use Rattle.ii_postings_writer.specs.FieldParts.{FieldPart, HasFields, WroteContext, positions_of_part, postings_body, terms_body}
 use Rattle.ii_postings_writer.specs.HeldBodies.{HaveTokens, WroteTokens}
-use Rattle.ii_indexing.specs.IndexFiles.{ClosedFiles, CountsIndexFailures, HaveNoRoom, PassLimits, begun_file}
+use Rattle.ii_indexing.specs.IndexFiles.{ClosedFiles, CountsIndexFailures, HaveNoRoom, PassLimits}
 use Rattle.ii_indexing.specs.declared.index_writers.IndexWriters.{IndexWriters}
 use Rattle.ii_postings_writer.specs.IndexingContext.{TermIndex}
 use Rattle.ii_postings_writer.specs.PostingsWriter.{PostingsWriterState}
 use Rattle.ii_postings_writer.specs.WriteFaults.{IsContextFault, IsTokensFault}
 use Rattle.ii_postings_writer.specs.TokenFiles.{file_bodies}
 use Rattle.ii_postings_writer.proofs.TokenFaults.{HasFiles, tokens_fault, wrote_files}
-use Rattle.ii_indexing.proofs.NormFileLaws.{begun_bodies}
+use Rattle.ii_recorder.proofs.GrowthLemmas.{begun_bodies, counts_more}
 
 -- three files in which nothing was written yet
 pub begun_fields : (entries : List SchemaEntry) (t p q : CountingWriterState)
@@ -76,18 +75,6 @@ closed_files old now t p q result ts few wrote terms postings positions =
       };
     }
 
--- all failures, once the terms were written
-pub three_counted : (old new : IndexBodiesState) (written : Result (Unit {0}) Fault) (x : Unit {0}) (t p q : CountingWriterState) (result : Result (Unit {0}) Fault) → written ≡ Ok x → CountsFailures old new written → CountsFailuresOf new t p q result
-    → CountsFailuresOf old t p q result
-three_counted old new written x t p q result is first last =
-    let none : failed_calls new ≡ failed_calls old = rw is at first.once.ok in
-    record {
-      once = subst (λ (n : ℕ). CountsOnce n (t.failed_calls + p.failed_calls + q.failed_calls) result) none last.once;
-      terms_kept = omega (arith, first.terms_kept, last.terms_kept);
-      postings_kept = omega (arith, first.postings_kept, last.postings_kept);
-      positions_kept = omega (arith, first.positions_kept, last.positions_kept);
-    }
-
 -- norms that were refused, before anything else was written
 pub norms_refused : {W : Type 0} (old : IndexWriters W) (now : CountingWriterState) (bytes : List ℕ) (written : Result (Unit {0}) Fault) → Writes old.fieldnorms now bytes written → CountsIndexFailures old (record old { fieldnorms = now }) written
 norms_refused old now bytes (Ok x) h =
@@ -106,11 +93,6 @@ norms_refused old now bytes (Err e) h = record {
   positions = omega arith;
   fieldnorms = h.prefix.failed_calls;
 }
-
--- one more writer that didn't fail
-counts_more : (a b n m : ℕ) (result : Result (Unit {0}) Fault) → m ≡ n → CountsOnce a b result → CountsOnce (a + n) (b + m) result
-counts_more a b n m (Ok x) same h = record { ok = omega (arith, same, h.ok); write = (λ is. absurd (cc), λ more. absurd (omega (arith, same, more, h.ok))); by_one = λ is. absurd (cc) }
-counts_more a b n m (Err e) same h = record { ok = tt; write = (λ is. let more = h.write.0 is in omega (arith, same, more), λ more. h.write.1 (omega (arith, same, more))); by_one = λ is. let one = h.by_one is in omega (arith, same, one) }
 
 -- the three files of an index without output
 abbrev pub begun_files : {W : Type 0} → IndexWriters W → IndexBodiesState

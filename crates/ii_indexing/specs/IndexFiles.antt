@@ -1,10 +1,9 @@
 -- The files of an index as they are written.
-use Rattle.std.specs.Prelude.{◌≡◌, ℕ, ◌+◌, ◌≤◌, ◌⊎◌, false, List, [], length, Result}
+use Rattle.std.specs.Prelude.{◌≡◌, ℕ, ◌+◌, ◌≤◌, ◌⊎◌, List, length, Result}
 use Rattle.ii_io.specs.declared.faults.Fault.{Fault}
 use Rattle.ii_io.specs.declared.faults.Fault.TheVariants.{Limit, OutOfMemory, Write}
 use Rattle.ii_io.specs.declared.faults.LimitName.TheVariants as limit
 use Rattle.ii_io.specs.Composite.{written_composite}
-use Rattle.ii_io.specs.CompositeWrite.{CompositeWriteState}
 use Rattle.ii_io.specs.CountingWriter.{CountingWriterState, Grows, IsFull, Wrote}
 use Rattle.ii_base.specs.Schema.{SchemaEntry}
 use Rattle.ii_definitions.specs.Fields.{option_of}
@@ -66,10 +65,6 @@ pub record CountsIndexFailures {W : Type 0} (old new : IndexWriters W) (result :
   pub postings : old.postings.failed_calls ≤ new.postings.failed_calls
   pub positions : old.positions.failed_calls ≤ new.positions.failed_calls
   pub fieldnorms : old.fieldnorms.failed_calls ≤ new.fieldnorms.failed_calls
-
--- a file that starts at the end of a writer's output
-abbrev pub begun_file : CountingWriterState → CompositeWriteState
-begun_file w = record { writer = w; base = w.written_bytes; starts = []; closed = false }
 
 -- A file has no room for what is written for these tokens.
 abbrev pub HaveNoRoom : List SchemaEntry → CountingWriterState → CountingWriterState → CountingWriterState → List IndexToken → Type 0

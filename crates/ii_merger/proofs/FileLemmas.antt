@@ -14,7 +14,8 @@ use Rattle.ii_segments.specs.SegmentLaws.{MergedIsSegment}
 use Rattle.ii_merger.specs.MergedFiles.{AreBegun, WroteTermFiles}
 use Rattle.ii_merger.specs.MergedIndex.{FieldsBelow, HasMergedFields, MergeSourceState, MergeSourcesHold, positions_of_part, postings_of, terms_of}
 use Rattle.ii_merger.proofs.IndexMergeLemmas.{fit_parts, hold_tokens}
-use Rattle.ii_merger.proofs.NormLemmas.{begun, starts_none}
+use Rattle.ii_merger.proofs.NormLemmas.{starts_none}
+use Rattle.ii_recorder.proofs.GrowthLemmas.{begun_bodies}
 
 -- ---- files in which nothing was written yet
 pub all_begun : (t p q : CountingWriterState) → AreBegun (record {
@@ -22,7 +23,7 @@ pub all_begun : (t p q : CountingWriterState) → AreBegun (record {
   postings = record { writer = p; base = p.written_bytes; starts = []; closed = false };
   positions = record { writer = q; base = q.written_bytes; starts = []; closed = false };
 })
-all_begun t p q = record { terms = begun t; postings = begun p; positions = begun q }
+all_begun t p q = record { terms = begun_bodies t; postings = begun_bodies p; positions = begun_bodies q }
 
 pub none_below : (b : IndexBodiesState) → AreBegun b → FieldsBelow 0 b
 none_below b h = record { terms = starts_none b.terms h.terms.starts; postings = starts_none b.postings h.postings.starts; positions = starts_none b.positions h.positions.starts }

@@ -12,7 +12,6 @@ use Rattle.ii_io.specs.Composite.{Body, body_of, composite, fit_fields, written_
 use Rattle.ii_io.specs.CompositeWrite.{CompositeWriteState, HasBodies, WroteComposite}
 use Rattle.ii_io.specs.CountingWriter.{CountingWriterState}
 use Rattle.ii_io.proofs.CompositeSteps.{HasBodies-more}
-use Rattle.ii_io.proofs.WriteSteps.{wrote_nothing}
 use Rattle.std.specs.Io.KnownBytes.{Appends}
 use Rattle.ii_base.specs.Schema.{SchemaEntry, keeps_norms}
 use Rattle.ii_fieldnorm.specs.Buffers.{norm_fields}
@@ -258,9 +257,6 @@ holds_norms entries ss gs bytes hold law written opened =
 pub in_memory_written : (old new : CountingWriterState) (bodies : List Body) (bytes : List ℕ) → old.contents ≡ Some [] → new.contents ≡ Some bytes → WroteComposite old new bodies → bytes ≡ written_composite bodies
 in_memory_written old new bodies bytes empty now h =
     subst (λ (o : Option (List ℕ)). Appends o (Some bytes) (written_composite bodies)) empty (subst (λ (o : Option (List ℕ)). Appends old.contents o (written_composite bodies)) now h.wrote.appends)
-
-pub begun : (w : CountingWriterState) → HasBodies w (record { writer = w; base = w.written_bytes; starts = []; closed = false }) []
-begun w = record { writer = wrote_nothing w; base = refl; starts = refl }
 
 -- ---- the norms that were written
 living_length : (alive : List Bool) → length (living_docs alive) ≡ num_living alive

@@ -6,14 +6,15 @@ use Rattle.ii_io.specs.CountingWriter.{CountingWriterState}
 use Rattle.ii_io.specs.declared.faults.Fault.{Fault}
 use Rattle.ii_merger.specs.MergedIndex.{segment_of}
 use Rattle.ii_merger.specs.MergedNorms.{merged_norm_file}
-use Rattle.ii_merger.proofs.NormLemmas.{begun, holds_norms, in_memory_written, merged_fit}
+use Rattle.ii_merger.proofs.NormLemmas.{holds_norms, in_memory_written, merged_fit}
 use Rattle.ii_merger.proofs.norms.merge_norms.Goals as goal
+use Rattle.ii_recorder.proofs.GrowthLemmas.{begun_bodies}
 
 wrote : (c : goal.In_ok-from_vec-in-Ok) → WroteComposite c.wrap-writer.result c.close-writer.result.0 (merged_norm_file c.args.schema.now (map segment_of c.args.sources.now))
 wrote c =
     let w = c.wrap-writer.result in
     let bodies = merged_norm_file c.args.schema.now (map segment_of c.args.sources.now) in
-    let began = subst (λ (s : CompositeWriteState). HasBodies w s []) (sym c.from_write-serializer.ensures) (begun w) in
+    let began = subst (λ (s : CompositeWriteState). HasBodies w s []) (sym c.from_write-serializer.ensures) (begun_bodies w) in
     let has = c.in_default.ensures.adds w began in
     subst (λ (r : Result (Unit {0}) Fault). OnOk r (WroteComposite w c.close-writer.result.0 bodies)) c.in-Ok.is (c.close-writer.ensures.bodies w bodies has (merged_fit c.args.schema.now (map segment_of c.args.sources.now) c.requires.many))
 
