@@ -1,16 +1,13 @@
 -- What the files of an index hold once they were closed.
-use Rattle.std.proofs.Common.{Err, List, Ok, Result, [], ap, arith, false, inl, inr, is_err, length, length-append, map, refl, subst, sym, true, true≢false, ℕ, ⊎_elim, ◌+◌, ◌<◌, ◌^◌, ◌∙◌, ◌∷◌, ◌≡◌}
+use Rattle.std.proofs.Common.{Err, List, Ok, Result, [], ap, arith, false, inl, inr, is_err, length, map, refl, subst, sym, true, true≢false, ℕ, ⊎_elim, ◌+◌, ◌<◌, ◌^◌, ◌∙◌, ◌∷◌, ◌≡◌}
 use Rattle.std.specs.Prelude.{◌⊎◌, ◌↔◌, IsTrue, IfErr, IsErrOf, OnOk, nat_le}
 use Rattle.std.specs.List.{AllByRecursion}
 use Rattle.std.proofs.lemmas.Bool.{le-leb}
 use Rattle.ii_io.specs.declared.faults.Fault.{Fault}
 use Rattle.ii_io.specs.declared.faults.Fault.TheVariants.{Limit, OutOfMemory, SerializerClosed, Write}
 use Rattle.ii_io.specs.declared.faults.LimitName.TheVariants as limit
-use Rattle.ii_io.specs.Composite.{Body, bodies_bytes, fit_fields, places_from, table_bytes, written_composite}
-use Rattle.ii_io.specs.declared.composite_file.place.Place.{Place}
-use Rattle.ii_io.specs.CompositeWrite.{CompositeWriteState, HasBodies, WroteComposite, places_of}
-use Rattle.ii_io.proofs.CompositeSteps.{places_of-bodies}
-use Rattle.ii_io.proofs.WriteSteps.{full_before, full_more}
+use Rattle.ii_io.specs.Composite.{Body, fit_fields, written_composite}
+use Rattle.ii_io.specs.CompositeWrite.{CompositeWriteState, HasBodies, WroteComposite}
 use Rattle.ii_io.specs.CountingWriter.{CountingWriterState, IsFull, Writes}
 use Rattle.ii_base.specs.Schema.{SchemaEntry}
 use Rattle.ii_definitions.specs.Tokens.{IndexToken}
@@ -25,7 +22,7 @@ use Rattle.ii_postings_writer.specs.PostingsWriter.{PostingsWriterState}
 use Rattle.ii_postings_writer.specs.WriteFaults.{IsContextFault, IsTokensFault}
 use Rattle.ii_postings_writer.specs.TokenFiles.{file_bodies}
 use Rattle.ii_postings_writer.proofs.TokenFaults.{HasFiles, tokens_fault, wrote_files}
-use Rattle.ii_recorder.proofs.GrowthLemmas.{begun_bodies, counts_more}
+use Rattle.ii_recorder.proofs.GrowthLemmas.{begun_bodies, counts_more, table_full, bodies_full}
 
 -- three files in which nothing was written yet
 pub begun_fields : (entries : List SchemaEntry) (t p q : CountingWriterState)
@@ -118,16 +115,6 @@ pub record ClosesBy (s : IndexSerializerState) (result : Result (Unit {0}) Fault
   pub full : IsErrOf result (Limit limit.Offset) → OneIsFull s.bodies (tables_of s.bodies)
   pub closed : IsErrOf result SerializerClosed ↔ IsTrue s.closed
   pub only : IfErr result (λ e. (e ≡ Write) ⊎ (e ≡ Limit limit.Offset) ⊎ (e ≡ SerializerClosed))
-
--- a table without room after bodies: the file has no room
-table_full : (initial : CountingWriterState) (c : CompositeWriteState) (bodies : List Body) → HasBodies initial c bodies → IsFull c.writer (length (table_bytes (places_of c))) → IsFull initial (length (written_composite bodies))
-table_full initial c bodies has full =
-    full_before initial c.writer (bodies_bytes bodies) (length (table_bytes (places_of c))) (length (written_composite bodies)) has.writer
-    (omega (arith, length-append (bodies_bytes bodies) (table_bytes (places_from 0 bodies)), ap (λ (ps : List Place). length (table_bytes ps)) (places_of-bodies initial c bodies has))) full
-
--- bodies that have no room: their file has none
-bodies_full : (initial : CountingWriterState) (bodies : List Body) → IsFull initial (length (bodies_bytes bodies)) → IsFull initial (length (written_composite bodies))
-bodies_full initial bodies full = full_more initial (length (bodies_bytes bodies)) (length (written_composite bodies)) (omega (arith, length-append (bodies_bytes bodies) (table_bytes (places_from 0 bodies)))) full
 
 -- the limits of tokens that are written after the bytes of three files
 abbrev pub PassesBehind : List SchemaEntry → IndexBodiesState → List IndexToken → Fault → Type 0

@@ -1,12 +1,15 @@
 -- What the writers of an index have after successful and failed calls.
-use Rattle.std.proofs.Common.{ℕ, ◌≡◌, ◌+◌, Result, Ok, Err, [], refl, subst, arith}
-use Rattle.ii_io.proofs.WriteSteps.{Grows-trans, wrote_grows, wrote_nothing}
+use Rattle.std.proofs.Common.{ℕ, ◌≡◌, ◌+◌, Result, Ok, Err, [], refl, subst, arith, List, length, ap, length-append}
+use Rattle.ii_io.proofs.WriteSteps.{Grows-trans, wrote_grows, wrote_nothing, full_before, full_more}
 use Rattle.ii_recorder.specs.IndexBodies.{AddsBodies, AllGrow, IndexBodiesState, CountsFailures, CountsFailuresOf, begun_file, failed_calls}
 use Rattle.ii_recorder.specs.Terms.{FieldBodies}
 use Rattle.ii_recorder.specs.Endings.{CountsOnce}
-use Rattle.ii_io.specs.CountingWriter.{CountingWriterState}
-use Rattle.ii_io.specs.CompositeWrite.{HasBodies}
+use Rattle.ii_io.specs.CountingWriter.{CountingWriterState, IsFull}
+use Rattle.ii_io.specs.CompositeWrite.{HasBodies, CompositeWriteState, places_of}
 use Rattle.ii_io.specs.declared.faults.Fault.{Fault}
+use Rattle.ii_io.specs.Composite.{Body, bodies_bytes, places_from, table_bytes, written_composite}
+use Rattle.ii_io.specs.declared.composite_file.place.Place.{Place}
+use Rattle.ii_io.proofs.CompositeSteps.{places_of-bodies}
 
 pub AllGrow-trans : (a b c : IndexBodiesState) → AllGrow a b → AllGrow b c → AllGrow a c
 AllGrow-trans a b c h k = record {
@@ -43,3 +46,13 @@ three_counted old new written x t p q result is first last =
 pub counts_more : (a b n m : ℕ) (result : Result (Unit {0}) Fault) → m ≡ n → CountsOnce a b result → CountsOnce (a + n) (b + m) result
 counts_more a b n m (Ok x) same h = record { ok = omega (arith, same, h.ok); write = (λ is. absurd (cc), λ more. absurd (omega (arith, same, more, h.ok))); by_one = λ is. absurd (cc) }
 counts_more a b n m (Err e) same h = record { ok = tt; write = (λ is. let more = h.write.0 is in omega (arith, same, more), λ more. h.write.1 (omega (arith, same, more))); by_one = λ is. let one = h.by_one is in omega (arith, same, one) }
+
+-- a table without room after bodies: the file has no room
+pub table_full : (initial : CountingWriterState) (c : CompositeWriteState) (bodies : List Body) → HasBodies initial c bodies → IsFull c.writer (length (table_bytes (places_of c))) → IsFull initial (length (written_composite bodies))
+table_full initial c bodies has full =
+    full_before initial c.writer (bodies_bytes bodies) (length (table_bytes (places_of c))) (length (written_composite bodies)) has.writer
+    (omega (arith, length-append (bodies_bytes bodies) (table_bytes (places_from 0 bodies)), ap (λ (ps : List Place). length (table_bytes ps)) (places_of-bodies initial c bodies has))) full
+
+-- bodies that have no room: their file has none
+pub bodies_full : (initial : CountingWriterState) (bodies : List Body) → IsFull initial (length (bodies_bytes bodies)) → IsFull initial (length (written_composite bodies))
+bodies_full initial bodies full = full_more initial (length (bodies_bytes bodies)) (length (written_composite bodies)) (omega (arith, length-append (bodies_bytes bodies) (table_bytes (places_from 0 bodies)))) full
