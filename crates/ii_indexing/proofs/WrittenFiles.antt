@@ -15,7 +15,7 @@ use Rattle.ii_recorder.specs.IndexBodies.{CountsFailuresOf, OneIsFull, IndexBodi
 use Rattle.ii_recorder.specs.IndexSerializer.{IndexSerializerState}
 use Rattle.ii_postings_writer.specs.FieldParts.{FieldPart, HasFields, WroteContext, positions_of_part, postings_body, terms_body}
 use Rattle.ii_postings_writer.specs.HeldBodies.{HaveTokens, WroteTokens}
-use Rattle.ii_indexing.specs.IndexFiles.{ClosedFiles, CountsIndexFailures, HaveNoRoom, PassLimits}
+use Rattle.ii_indexing.specs.IndexFiles.{ClosedFiles, CountsIndexFailures, HaveNoRoom, PassLimits, begun_files}
 use Rattle.ii_indexing.specs.declared.index_writers.IndexWriters.{IndexWriters}
 use Rattle.ii_postings_writer.specs.IndexingContext.{TermIndex}
 use Rattle.ii_postings_writer.specs.PostingsWriter.{PostingsWriterState}
@@ -90,10 +90,6 @@ norms_refused old now bytes (Err e) h = record {
   positions = omega arith;
   fieldnorms = h.prefix.failed_calls;
 }
-
--- the three files of an index without output
-abbrev pub begun_files : {W : Type 0} → IndexWriters W → IndexBodiesState
-begun_files w = record { terms = begun_file w.terms; postings = begun_file w.postings; positions = begun_file w.positions }
 
 -- and the other files, after norms that were written
 pub files_counted : {W : Type 0} (old : IndexWriters W) (now t p q : CountingWriterState) (bytes : List ℕ) (begun : IndexBodiesState) (written result : Result (Unit {0}) Fault) → false ≡ is_err written → Writes old.fieldnorms now bytes written

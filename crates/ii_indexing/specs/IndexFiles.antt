@@ -15,6 +15,7 @@ use Rattle.ii_definitions.specs.Norms.{HoldNorms}
 use Rattle.ii_postings_writer.specs.TermLimits.{HasLargeSum, IsLong}
 use Rattle.ii_postings_writer.specs.TokenFiles.{FirstEnds, FirstTerm, file_bodies}
 use Rattle.ii_indexing.specs.declared.index_writers.IndexWriters.{IndexWriters}
+use Rattle.ii_recorder.specs.IndexBodies.{IndexBodiesState, begun_file}
 
 -- The files of terms, postings and positions were written, and hold these tokens.
 pub record WroteTermFiles {W : Type 0} (entries : List SchemaEntry) (old new : IndexWriters W) (ts : List IndexToken) : Type 0 where
@@ -65,6 +66,10 @@ pub record CountsIndexFailures {W : Type 0} (old new : IndexWriters W) (result :
   pub postings : old.postings.failed_calls ≤ new.postings.failed_calls
   pub positions : old.positions.failed_calls ≤ new.positions.failed_calls
   pub fieldnorms : old.fieldnorms.failed_calls ≤ new.fieldnorms.failed_calls
+
+-- the files of terms, postings and positions, before anything is written
+abbrev pub begun_files : {W : Type 0} → IndexWriters W → IndexBodiesState
+begun_files w = record { terms = begun_file w.terms; postings = begun_file w.postings; positions = begun_file w.positions }
 
 -- A file has no room for what is written for these tokens.
 abbrev pub HaveNoRoom : List SchemaEntry → CountingWriterState → CountingWriterState → CountingWriterState → List IndexToken → Type 0
