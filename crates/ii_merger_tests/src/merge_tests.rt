@@ -3,10 +3,10 @@ ghost use Rattle.std.specs.Prelude.{◌≡◌, length, IfOk};
 
 use bytes::Bytes;
 use ii_alive::AliveBits;
-use ii_merger::{IndexWriters, MergeSource, merge};
+use ii_merger::{MergeSource, merge};
 use nequllpa::{
-    AsciiTokenizer, CountingWriter, DocId, Fault, FieldEntry, IndexRecordOption, IndexWriters,
-    OpenIndex, Schema, ValueType, open_index_with_norms,
+    AsciiTokenizer, DocId, Fault, FieldEntry, IndexRecordOption, IndexWriters, OpenIndex, Schema,
+    ValueType, open_index_with_norms,
 };
 use nequllpa_indexing::Documents;
 use std::alloc::Global;
