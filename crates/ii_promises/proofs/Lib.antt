@@ -4,6 +4,7 @@ pub mod BoundLaws
 mod DeepLaws
 mod HintLaws
 mod LoadedLaws
+pub mod MergingLaws
 mod OpenedLaws
 mod OpeningLaws
 mod PhraseLaws
