@@ -2,6 +2,7 @@ mod CheckingLaws
 mod IndexingLaws
 pub mod BoundLaws
 mod DeepLaws
+pub mod FolderLaws
 mod HintLaws
 mod LoadedLaws
 pub mod MergingLaws
