@@ -1,5 +1,7 @@
-ghost use Rattle.std.specs.Prelude.{◌≡◌, ◌<◌, [], ◌∷◌, length, IfSome};
-ghost use Rattle.ii_base.specs.Entries.{Entry};
+ghost use Rattle.std.specs.Prelude.{[], ◌∷◌, IfOk};
+ghost use Rattle.std.specs.List.{AllZip};
+ghost use Rattle.ii_query.specs.Phrase.{unread_term};
+ghost use Rattle.ii_docset_tests.specs.Reads.{ReadsEachOnce};
 
 use ii_base::Fault;
 use ii_docset::{DocId, DocSet, Lent, Postings, TERMINATED, copy_positions};
@@ -99,6 +101,16 @@ fn spaced(alloc: Global, first: u32, step: u32, count: u32) -> Result<Vec<u32>, 
     Ok(positions)
 }
 
+// Opens a phrase of a term and the one that follows it. Each reads no more positions than its documents have,
+// 64 at a time.
+fn open_phrase<P: Postings>(alloc: Global, first: P, other: P) -> Result<PhraseMatch<P>, Fault>
+    ensures reads { IfOk result (λ found. AllZip (ReadsEachOnce P.spent) (unread_term 0 (P.rest first) first ∷ unread_term 1 (P.rest other) other ∷ []) found.terms) }
+{
+    let mut others = Vec::new(alloc);
+    others.push(PhrasePart::new(1, other))?;
+    Ok(PhraseMatch::new(first, others))
+}
+
 // Returns the document where `other` follows `first`, or `TERMINATED`; the same after a seek to it; and the
 // next one.
 fn follow<'c, 'a>(
@@ -106,9 +118,7 @@ fn follow<'c, 'a>(
     first: &'c mut Counted<'a>,
     other: &'c mut Counted<'a>,
 ) -> Result<[DocId; 3], Fault> {
-    let mut others = Vec::new(alloc);
-    others.push(PhrasePart::new(1, Lent { inner: other }))?;
-    let mut found = PhraseMatch::new(Lent { inner: first }, others);
+    let mut found = open_phrase(alloc, Lent { inner: first }, Lent { inner: other })?;
     let doc = found.doc();
     let again = if doc < TERMINATED {
         found.seek(doc)
