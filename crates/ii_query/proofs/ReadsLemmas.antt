@@ -11,11 +11,11 @@ use Rattle.ii_docset.specs.Cursor.{IsAscending, IsCurrent, doc_at, from_doc}
 use Rattle.ii_query.specs.Phrase.{IsAtDoc, IsUnread, IsUnreadFrom, PhrasePartState, PhraseTermState, ReadsOnce, Spent, cursors_in, is_left, most_reads, num_positions, parts_in, positions_left, reads_left, stand_here, stand_left, unread, unread_term}
 
 -- a document of which nothing was read is as the others
-whole_reads : (es : List Entry) → reads_left 0 false es ≡ sum_by (λ (e : Entry). most_reads (length e.positions)) es
+pub whole_reads : (es : List Entry) → reads_left 0 false es ≡ sum_by (λ (e : Entry). most_reads (length e.positions)) es
 whole_reads [] = refl
 whole_reads (e ∷ es) = let first = sum_by-cons (λ (f : Entry). most_reads (length f.positions)) e es in omega (arith, first)
 
-whole_positions : (es : List Entry) → positions_left 0 es ≡ num_positions es
+pub whole_positions : (es : List Entry) → positions_left 0 es ≡ num_positions es
 whole_positions [] = refl
 whole_positions (e ∷ es) = let first = sum_by-cons (λ (f : Entry). length f.positions) e es in omega (arith, first)
 

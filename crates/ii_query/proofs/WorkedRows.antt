@@ -1,6 +1,8 @@
--- Computed examples of hints.
-use Rattle.std.proofs.Common.{◌≡◌, ℕ, ◌^◌, ◌-◌, [], ◌∷◌, refl, arith}
+-- Computed examples of hints, and of what a phrase may still read.
+use Rattle.std.proofs.Common.{◌≡◌, ℕ, ◌^◌, ◌-◌, true, false, List, [], ◌∷◌, replicate, refl, arith}
+use Rattle.ii_base.specs.Entries.{Entry}
 use Rattle.ii_query.specs.Combined.{QueryCursorState}
+use Rattle.ii_query.specs.Phrase.{most_reads, positions_left, reads_left}
 use Rattle.ii_query.specs.QueryCursor.{LeadsWith, sum_of_hints}
 
 -- a cursor without documents that has a hint
@@ -23,3 +25,33 @@ lesser_leads = (refl, (omega arith, (omega arith, tt)))
 
 pub equal_leads : LeadsWith 3 (hinted 3 ∷ hinted 3 ∷ [])
 equal_leads = (refl, (omega arith, (omega arith, tt)))
+
+-- a last call finds that no position is left
+pub reads_of_63 : most_reads 63 ≡ 1
+reads_of_63 = refl
+
+pub reads_of_64 : most_reads 64 ≡ 2
+reads_of_64 = refl
+
+-- a document of 100 positions, and one of a single position
+abbrev pub two_documents : List Entry
+two_documents = record { doc = 1; term_freq = 100; positions = replicate 100 5 } ∷ record { doc = 2; term_freq = 1; positions = 7 ∷ [] } ∷ []
+
+-- what is left of them at first, after one call, and after two
+pub left_at_first : positions_left 0 two_documents ≡ 101
+left_at_first = refl
+
+pub reads_at_first : reads_left 0 false two_documents ≡ 3
+reads_at_first = refl
+
+pub left_after_one : positions_left 64 two_documents ≡ 37
+left_after_one = refl
+
+pub reads_after_one : reads_left 64 false two_documents ≡ 2
+reads_after_one = refl
+
+pub left_after_two : positions_left 100 two_documents ≡ 1
+left_after_two = refl
+
+pub reads_after_two : reads_left 100 true two_documents ≡ 1
+reads_after_two = refl
