@@ -178,7 +178,10 @@ sums_in_order before ds = IsNonDecreasingBy-from_all_adjacent (λ p. p) (running
     adjacent before [] k d within = absurd (omega arith)
     adjacent before (x ∷ []) k d within = absurd (omega arith)
     adjacent before (x ∷ y ∷ ds) zero d within = omega arith
-    adjacent before (x ∷ y ∷ ds) (suc k) d within = adjacent (before + x) (y ∷ ds) k d (omega arith)
+    adjacent before (x ∷ y ∷ ds) (suc k) d within =
+        let more : suc k + 1 ≡ suc (k + 1) = omega arith in
+        let later = adjacent (before + x) (y ∷ ds) k d (omega (arith, within)) in
+        rw more later
 
 located_in_order : (pss : List (List ℕ)) (es : List Entry) → AllByRecursion IsNonDecreasing pss → All IsInOrder es → All IsInOrder (located pss es)
 located_in_order [] es rise all = all
