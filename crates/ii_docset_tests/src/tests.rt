@@ -3,7 +3,6 @@ ghost use Rattle.ii_docset.specs.Calls.{IsLawful};
 ghost use Rattle.ii_docset.specs.Cursor.{IsSound, IsTarget};
 
 mod combined;
-mod counted;
 mod list_postings;
 
 use ii_base::{AliveBitSet, Fault};
