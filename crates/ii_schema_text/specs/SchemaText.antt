@@ -154,8 +154,8 @@ tokenizer_named place (Some name) = ok_or (analyzer_named name) (unknown_field_t
 
 -- the tokenizer of a field: the one that it names, which only a field with texts may, or that of fields that name none
 abbrev pub tokenizer_in : ℕ → Analyzer → Bool → Option Data → Result Analyzer Refusal
-tokenizer_in place default allowed None = Ok (if allowed then default else Ascii)
-tokenizer_in place default allowed (Some d) = if allowed then tokenizer_named place (as_str d) else Err (wrong_key place keys.Tokenizer)
+tokenizer_in place otherwise allowed None = Ok (if allowed then otherwise else Ascii)
+tokenizer_in place otherwise allowed (Some d) = if allowed then tokenizer_named place (as_str d) else Err (wrong_key place keys.Tokenizer)
 
 -- the fields, and one more
 abbrev pub with_field : TextSchemaState → SchemaEntry → Analyzer → TextSchemaState
@@ -163,15 +163,15 @@ with_field s e tokenizer = record { schema = s.schema ++ e ∷ []; tokenizers = 
 
 -- fields and the one that a table describes
 unfoldable pub field_in : Analyzer → TextSchemaState → Data → Result TextSchemaState Refusal
-field_in default before d = do
+field_in otherwise before d = do
   e ← entry_in before.schema d
-  tokenizer ← tokenizer_in (length before.schema) default (takes_texts e) (get (codes "tokenizer") d)
+  tokenizer ← tokenizer_in (length before.schema) otherwise (takes_texts e) (get (codes "tokenizer") d)
   Ok (with_field before e tokenizer)
 
 -- fields and those of more tables
 abbrev pub fields_from : Analyzer → TextSchemaState → Items → Result TextSchemaState Refusal
-fields_from default before no_items = Ok before
-fields_from default before (item d ds) = field_in default before d >>= λ s. fields_from default s ds
+fields_from otherwise before no_items = Ok before
+fields_from otherwise before (item d ds) = field_in otherwise before d >>= λ s. fields_from otherwise s ds
 
 -- no fields
 abbrev pub without_fields : TextSchemaState
@@ -210,9 +210,9 @@ unicode_in tokenizers (Some d) = same_unicode tokenizers (as_str d)
 unfoldable pub table_schema : Members → Result TextSchemaState Refusal
 table_schema ms = do
   _ ← knows_keys unknown_key (unknown_key_in OfText ms)
-  default ← default_in (get_member (codes "tokenizer") ms)
+  otherwise ← default_in (get_member (codes "tokenizer") ms)
   fields ← ok_or (fields_in (get_member (codes "field") ms)) no_fields
-  read ← fields_from default without_fields fields
+  read ← fields_from otherwise without_fields fields
   s ← few read
   _ ← unicode_in s.tokenizers (get_member (codes "unicode") ms)
   Ok s

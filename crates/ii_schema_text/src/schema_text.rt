@@ -60,18 +60,12 @@ pub fn read_schema(alloc: Global, text: &str) -> Result<Schema, SchemaFault>
 /// `NotToml` if the text isn't TOML; `OutOfMemory`.
 #[tactic(auto, unfolding(crate::specs::SchemaText::new_schema_text))]
 pub fn new_schema_text(alloc: Global, text: &str) -> Result<String, SchemaFault>
-    ensures { AnswersFromText (λ (s : String). string_bytes s) result (new_schema_text text.now) }
+    ensures { AnswersFromText (λ s. string_bytes s) result (new_schema_text text.now) }
 {
     let table = table_of(alloc, text)?;
     let mut lines = String::new(alloc);
-    lines.push_str(line_unless(
-        member(&table, "tokenizer"),
-        "tokenizer = \"default\"\n",
-    ))?;
-    lines.push_str(line_unless(
-        member(&table, "unicode"),
-        "unicode = \"18.0.0\"\n",
-    ))?;
+    lines.push_str(line_unless(member(&table, "tokenizer"), "tokenizer = \"default\"\n"))?;
+    lines.push_str(line_unless(member(&table, "unicode"), "unicode = \"18.0.0\"\n"))?;
     lines.push_str(text)?;
     Ok(lines)
 }

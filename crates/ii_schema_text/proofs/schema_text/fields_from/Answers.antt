@@ -6,9 +6,9 @@ use Rattle.ii_tokenizers.specs.declared.analyzer.Analyzer.{Analyzer}
 use Rattle.ii_schema_text.specs.SchemaText.{TextSchemaState, field_in, fields_from}
 use Rattle.ii_schema_text.proofs.schema_text.fields_from.Goals as goal
 
-field_more : (default : Analyzer) (before after : TextSchemaState) (value here : Value) (values : List Value) → field_in default before (view value) ≡ Ok after → value ≡ here → fields_from default before (items_view (here ∷ values)) ≡ fields_from default after (items_view values)
-field_more default before after value here values read is =
-    let known : field_in default before (view here) ≡ Ok after = rw (← is) read in
+field_more : (otherwise : Analyzer) (before after : TextSchemaState) (value here : Value) (values : List Value) → field_in otherwise before (view value) ≡ Ok after → value ≡ here → fields_from otherwise before (items_view (here ∷ values)) ≡ fields_from otherwise after (items_view values)
+field_more otherwise before after value here values read is =
+    let known : field_in otherwise before (view here) ≡ Ok after = rw (← is) read in
     rw known refl
 
 pub loop-field-preserved : goal.loop-field-preserved
