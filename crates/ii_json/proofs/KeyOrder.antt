@@ -7,13 +7,13 @@ use Rattle.std.specs.List.{AllByRecursion}
 use Rattle.std.specs.List.Sorted.{IsSorted, IsStrictlySortedBy}
 use Rattle.std.specs.Ordering.{is_lt, nat_cmp, ordering_then}
 use Rattle.std.proofs.lemmas.Cmp.{nat_list_cmp_total}
-use Rattle.std.proofs.lemmas.List.{get_or-map}
+use Rattle.std.proofs.lemmas.List.{get_or-map, get_or_default}
 use Rattle.ii_base.specs.Paths.{has_zero}
 use Rattle.ii_base.specs.Values.{json_key}
 use Rattle.ii_json.specs.PathRank.{StandAtRanks, is_smaller, path_rank, path_ranks}
 use Rattle.ii_json.specs.PathTerms.{AreAscendingTerms, HasPath, PathTerm, key_of_term, ordered_id_of_term, path_of_term, term_cmp}
 use Rattle.ii_json.proofs.CleanPaths.{or_left, or_right}
-use Rattle.ii_json.proofs.RankLemmas.{at_place, count_more, less_from, not_below_itself, other_default}
+use Rattle.ii_json.proofs.RankLemmas.{at_place, count_more, less_from, not_below_itself}
 
 -- the byte 0 that ends a path comes before every byte of one
 above_zero : (h : ℕ) → (h == 0) ≡ false → 0 < h
@@ -96,7 +96,7 @@ sorted_alike P c d same xs all sorted k e low high =
 
 module _ (known : List (List ℕ)) where
   path_is_known : (t : PathTerm) → HasPath known t → Contains known (path_of_term known t)
-  path_is_known t has = (t.path_id, has.0, other_default known t.path_id (path_of_term known t) [] has.0)
+  path_is_known t has = (t.path_id, has.0, get_or_default known t.path_id (path_of_term known t) [] has.0)
 
   -- terms are ordered as their keys are
   pub terms_by_keys : (s t : PathTerm) → HasPath known s → HasPath known t → term_cmp known s t ≡ slice_cmp nat_cmp (key_of_term known s) (key_of_term known t)
