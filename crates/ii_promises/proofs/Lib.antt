@@ -2,6 +2,7 @@ mod CheckingLaws
 mod IndexingLaws
 pub mod BoundLaws
 mod DeepLaws
+mod FitLaws
 mod HintLaws
 mod LoadedLaws
 mod OpenedLaws

@@ -30,7 +30,7 @@ use Rattle.ii_definitions.specs.Tokens.{IndexToken}
 use Rattle.ii_query_grammar.specs.Trees.{Literal, leaf}
 use Rattle.ii_query_parser.specs.declared.query.Query.{Query}
 use Rattle.ii_query_parser.specs.Queries.{has_fields, has_positions_in, keeps_positions, matches}
-use Rattle.ii_query_parser.specs.QueryTexts.{Adds, AddsIn, AddsMaybe, AddsOrKeeps, AddsText, IsPhraseIn, IsRefusedAs, IsWhyRefused, Means, AnalyzedFields, FieldTexts, PhraseState, Terms, TextFields, are_in, default_terms, has_one, has_term, in_field, is_alone, joined_terms, left_out, needs_positions, one_term, path_key, path_value, phrase_kept, phrase_within, refused, some_default, some_left, stand_after, terms_after, terms_in_field, terms_of, text_terms, typed_terms, value_term, words_phrase}
+use Rattle.ii_query_parser.specs.QueryTexts.{Adds, AddsIn, AddsMaybe, AddsOrKeeps, AddsText, IsPhraseIn, IsRefusedAs, IsWhyRefused, Means, AnalyzedFields, FieldTexts, PhraseState, Terms, TextFields, are_in, default_terms, has_one, has_term, in_field, is_alone, joined_terms, left_out, one_term, path_key, path_value, phrase_kept, phrase_within, refused, some_default, some_left, stand_after, terms_after, terms_in_field, terms_of, text_terms, typed_terms, value_term, words_phrase}
 
 -- Terms of the fields so far were added, and those of the fields that are left come after them.
 pub record IsGathering (q : FieldTexts) (phrase all fields : List ℕ) (old now : List PhraseState) : Type 0 where

@@ -1,5 +1,5 @@
 -- The queries of words and phrases in a list, and those of trees.
-use Rattle.std.proofs.Common.{◌≡◌, ◌∙◌, ℕ, Bool, true, ◌&&◌, ◌||◌, List, [], ◌∷◌, ◌++◌, append_assoc, length, map, Option, None, Vec, Global, inl, inr, refl, sym, ap, subst}
+use Rattle.std.proofs.Common.{◌≡◌, ◌∙◌, ℕ, Bool, true, ◌&&◌, ◌||◌, List, [], ◌∷◌, ◌++◌, append_assoc, length, map, Option, None, Vec, Global, refl, sym, ap, subst}
 use Rattle.std.proofs.Math.Bool.{and-true, and_assoc, or-false, or_assoc}
 use Rattle.std.proofs.lemmas.List.{append-nil}
 use Rattle.std.proofs.lemmas.List.Folds.{list_all-append, list_any-append}
@@ -13,7 +13,7 @@ use Rattle.ii_query_parser.specs.declared.query.Query.{Query}
 use Rattle.ii_query_parser.specs.declared.query.Query.TheVariants.{And, Or}
 use Rattle.ii_query_parser.specs.declared.query_parser_error.QueryParserError.{QueryParserError}
 use Rattle.ii_query_parser.specs.Queries.{has_fields, has_tree, keeps_positions, matches, trees_of}
-use Rattle.ii_query_parser.specs.QueryTexts.{HasPushed, IsWhyRefused, MeanEach, Means, PhraseState, AnalyzedFields, all_match, any_matches, are_some, ast_refusal, asts_refusal, has_term, has_words, phrase_kept, phrase_within}
+use Rattle.ii_query_parser.specs.QueryTexts.{HasPushed, MeanEach, Means, PhraseState, AnalyzedFields, all_match, any_matches, are_some, asts_refusal, has_term, has_words, phrase_kept, phrase_within}
 use Rattle.ii_query_parser.proofs.QueryLemmas.{and_fields, and_matches, and_positions, or_fields, or_matches, or_positions}
 
 -- a query at the end of a list

@@ -3,9 +3,7 @@ use crate::commands::{NO, PROGRAM, REFUSED, refuse, refuse_file, refuse_path};
 use clap::ArgMatches;
 use ii_base::{Field, ValueType};
 use ii_documents::{LineFault, ValueFault};
-use ii_schema_text::{
-    SchemaFault, TextSchema, field_name_at, new_schema_text, read_text_schema,
-};
+use ii_schema_text::{SchemaFault, TextSchema, field_name_at, new_schema_text, read_text_schema};
 use ii_store::save::{remove_unused, save};
 use ii_store::{Directory, DirectoryFault, Folder, FolderLock, Name, StoredIndex};
 use ii_tokenizers::FieldTokenizers;
@@ -168,11 +166,7 @@ pub fn begun(
 }
 
 // Returns the text of the schema of the new index.
-fn new_text_of(
-    rt: &HostRuntime,
-    path: &str,
-    text: &[u8],
-) -> anyhow::Result<Result<String, u8>> {
+fn new_text_of(rt: &HostRuntime, path: &str, text: &[u8]) -> anyhow::Result<Result<String, u8>> {
     let Ok(text) = std::str::from_utf8(text) else {
         return Ok(Err(refuse_path(rt, path, "not UTF-8")?));
     };
@@ -183,11 +177,7 @@ fn new_text_of(
 }
 
 // Reads the schema from a text.
-fn schema_of(
-    rt: &HostRuntime,
-    path: &str,
-    text: &str,
-) -> anyhow::Result<Result<TextSchema, u8>> {
+fn schema_of(rt: &HostRuntime, path: &str, text: &str) -> anyhow::Result<Result<TextSchema, u8>> {
     match read_text_schema(rt.alloc(), text) {
         Ok(schema) => Ok(Ok(schema)),
         Err(fault) => Ok(Err(refuse_schema(rt, path, text, fault)?)),
