@@ -277,7 +277,7 @@ pub fn text_schema_of(alloc: Global, bytes: &[u8]) -> Result<TextSchema, OpenFau
     };
     match read_text_schema(alloc, text) {
         Ok(schema) => Ok(schema),
-        Err(fault) => Err(OpenFault::Schema(fault)),
+        Err(error) => Err(OpenFault::Schema(error)),
     }
 }
 
