@@ -1,4 +1,5 @@
 pub mod LengthLemmas
 pub mod LogLemmas
 pub mod ScoreLemmas
+pub mod SumLemmas
 mod WorkedRows

@@ -1,3 +1,4 @@
 pub mod Bm25
 pub mod Lengths
 pub mod Log
+pub mod Statistics

@@ -3,11 +3,13 @@ use Rattle.std.proofs.Common.{◌≡◌, ℕ, zero, suc, ◌+◌, ◌<◌, ◌�
 use Rattle.std.proofs.lemmas.Bool.{lt-ltb, ltb-true, le-leb, lt-leb, leb-true}
 use Rattle.std.proofs.lemmas.List.{drop-drop, take_more}
 use Rattle.std.proofs.lemmas.List.Elements.{All-drop, All-map}
+use Rattle.std.proofs.lemmas.List.Sorted.{IsNonDecreasingBy-short}
 use Rattle.std.specs.List.{All, range_with_len}
+use Rattle.std.specs.List.Sorted.{IsNonDecreasing}
 use Rattle.ii_base.specs.declared.doc_id.TheConstants.{TERMINATED}
 use Rattle.ii_base.specs.Entries.{Entry, document, ascend_from, are_documents}
 use Rattle.ii_base.proofs.AscentLemmas.{and_parts}
-use Rattle.ii_docset.specs.Cursor.{doc_at, IsAscending, FitsU32, IsSound, from_doc, positions_at}
+use Rattle.ii_docset.specs.Cursor.{doc_at, IsAscending, FitsU32, IsInOrder, IsSound, from_doc, positions_at}
 
 pub IsAscending_drop_1 : (es : List Entry) → IsAscending es → IsAscending (drop 1 es)
 IsAscending_drop_1 [] h = tt
@@ -76,14 +78,20 @@ pub ascending : (docs : List ℕ) → are_documents docs ≡ true → IsAscendin
 ascending docs h = (ascending_from 0 docs h).0
 
 -- documents alone are sound, and so is what is left of a sound rest
-pub documents_fit : (docs : List ℕ) → All FitsU32 (map document docs)
+documents_fit : (docs : List ℕ) → All FitsU32 (map document docs)
 documents_fit docs = All-map FitsU32 document docs (λ k d within. (lit< tt, λ j p none. absurd (omega arith)))
 
+documents_in_order : (docs : List ℕ) → All IsInOrder (map document docs)
+documents_in_order docs = All-map IsInOrder document docs (λ k d within. IsNonDecreasingBy-short (λ p. p) [] (omega arith))
+
+pub ascending_sound : (docs : List ℕ) → IsAscending (map document docs) → IsSound (map document docs)
+ascending_sound docs h = record { ascending = h; fits = documents_fit docs; in_order = documents_in_order docs }
+
 pub documents_sound : (docs : List ℕ) → are_documents docs ≡ true → IsSound (map document docs)
-documents_sound docs h = record { ascending = ascending docs h; fits = documents_fit docs }
+documents_sound docs h = ascending_sound docs (ascending docs h)
 
 pub IsSound_drop : (n : ℕ) (es : List Entry) → IsSound es → IsSound (drop n es)
-IsSound_drop n es h = record { ascending = IsAscending_drop n es h.ascending; fits = All-drop FitsU32 n es h.fits }
+IsSound_drop n es h = record { ascending = IsAscending_drop n es h.ascending; fits = All-drop FitsU32 n es h.fits; in_order = All-drop IsInOrder n es h.in_order }
 
 -- all numbers from one to another
 range_ascends : (least first n : ℕ) → least ≤ first → first + n ≤ TERMINATED → ascend_from least (range_with_len first n) ≡ true
@@ -110,6 +118,11 @@ documents_take i docs within h = rw (← take_more docs i 0 within) (ascend_take
 pub positions_fit : (es : List Entry) → IsSound es → All (λ (p : ℕ). p + 0 < 2 ^ 32) (positions_at es)
 positions_fit [] h k d within = absurd (omega arith)
 positions_fit (e ∷ es) h k d within = rw (add-zero (get_or e.positions k d)) ((h.fits 0 e (omega arith)).1 k d within)
+
+-- the positions of a sound cursor's document don't decrease
+pub positions_in_order : (es : List Entry) → IsSound es → IsNonDecreasing (positions_at es)
+positions_in_order [] h = IsNonDecreasingBy-short (λ p. p) [] (omega arith)
+positions_in_order (e ∷ es) h = h.in_order 0 e (omega arith)
 
 pub map-add_zero : (ps : List ℕ) → map (λ (p : ℕ). p + 0) ps ≡ ps
 map-add_zero [] = refl

@@ -1,6 +1,7 @@
 -- The model of a cursor: its remaining documents, as a list of entries.
 use Rattle.std.specs.Prelude.{◌≡◌, ◌≢◌, ℕ, ◌+◌, ◌^◌, ◌<◌, ◌≤◌, Bool, true, false, List, [], ◌∷◌, filter, get_or, nat_le, ⊤}
 use Rattle.std.specs.List.{All}
+use Rattle.std.specs.List.Sorted.{IsNonDecreasing}
 use Rattle.ii_base.specs.declared.doc_id.TheConstants.{TERMINATED}
 use Rattle.ii_docset.specs.declared.docset.SeekDangerResult.{SeekDangerResult}
 use Rattle.ii_docset.specs.declared.docset.SeekDangerResult.TheVariants.{Found, SeekLowerBound}
@@ -20,10 +21,15 @@ IsAscending (e ∷ es) = (e.doc < doc_at es) × IsAscending es
 abbrev pub FitsU32 : Entry → Type 0
 FitsU32 e = (e.term_freq < 2 ^ 32) × All (λ (p : ℕ). p < 2 ^ 32) e.positions
 
+-- No position of an entry is less than the one before it.
+abbrev pub IsInOrder : Entry → Type 0
+IsInOrder e = IsNonDecreasing e.positions
+
 -- The invariant of the remaining documents of any cursor.
 pub record IsSound (es : List Entry) : Type 0 where
   pub ascending : IsAscending es
   pub fits : All FitsU32 es
+  pub in_order : All IsInOrder es
 
 -- the remaining documents that are at least the target
 abbrev pub from_doc : ℕ → List Entry → List Entry

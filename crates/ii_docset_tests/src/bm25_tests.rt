@@ -1,4 +1,5 @@
-use ii_bm25::{Bm25Weight, idf, log2_fixed, score, share};
+use ii_base::{Field, Term};
+use ii_bm25::{Bm25StatisticsProvider, Bm25Weight, idf, log2_fixed, score, share};
 use ii_io::Fault;
 use std::alloc::Global;
 
@@ -123,4 +124,44 @@ fn a_phrase_has_the_sum_of_its_terms(rt: HostRuntime) {
     let idfs = idf(10, 1_000_000) + idf(500_000, 1_000_000);
     let weight = Bm25Weight::new(rt.alloc(), idfs, 1_000_000, 30_000_000);
     assert_eq!(rt; weight.ok().map_or(0, |w| w.max_score()), 112_180_954 << 16);
+}
+
+// An index of 1,000 documents: a key of one byte has 3, any other has 40.
+#[derive(Drop)]
+struct Numbers;
+
+impl Bm25StatisticsProvider for Numbers {
+    ghost use Rattle.std.specs.Prelude.{◌==◌, if◌then◌else◌, length};
+
+    ghost statistics = { λ n. record { num_docs = 1000; num_tokens = λ field. 20000; doc_freq = λ field key. if length key == 1 then 3 else 40 } };
+
+    fn total_num_tokens(&self, _field: Field) -> u64 {
+        20_000
+    }
+
+    fn total_num_docs(&self) -> u64 {
+        1_000
+    }
+
+    fn doc_freq(&self, term: &Term) -> u64 {
+        if term.serialized_value_bytes().len() == 1 {
+            3
+        } else {
+            40
+        }
+    }
+}
+
+// Returns the greatest score of a phrase of two words.
+fn phrase_score(alloc: Global) -> Result<u64, Fault> {
+    let field = Field::from_field_id(0);
+    let mut terms = Vec::new(alloc);
+    terms.push(Term::from_field_text(alloc, field, "a")?)?;
+    terms.push(Term::from_field_text(alloc, field, "bc")?)?;
+    Ok(Bm25Weight::for_terms(alloc, &Numbers, field, &terms)?.max_score())
+}
+
+#[test]
+fn a_phrase_has_the_weight_of_a_second_program(rt: HostRuntime) {
+    assert_eq!(rt; phrase_score(rt.alloc()).ok(), Some(81_787_158 << 16));
 }

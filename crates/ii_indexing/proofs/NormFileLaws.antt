@@ -8,11 +8,9 @@ use Rattle.std.proofs.lemmas.List.{length-map}
 use Rattle.std.specs.Io.KnownBytes.{Appends}
 use Rattle.std.specs.Prelude.{Err, Result}
 use Rattle.ii_io.specs.Composite.{Body, bodies_bytes, body_of, composite, places_from, table_bytes, written_composite}
-use Rattle.ii_io.specs.CompositeWrite.{HasBodies}
 use Rattle.ii_io.proofs.CompositeLaws.{length-places_from}
 use Rattle.ii_io.proofs.CompositeWriteLemmas.{length-table_bytes}
 use Rattle.ii_io.specs.CountingWriter.{CountingWriterState, IsFull, WritesInMemory}
-use Rattle.ii_io.proofs.WriteSteps.{wrote_nothing}
 use Rattle.ii_io.specs.Faults.{memory_fault}
 use Rattle.ii_io.specs.declared.faults.Fault.{Fault}
 use Rattle.ii_io.specs.declared.faults.Fault.TheVariants.{OutOfMemory, Write, SerializerClosed, IndexerFailed, UnsupportedLeaf, DecreasingPosition, Limit, Damaged}
@@ -24,7 +22,6 @@ use Rattle.ii_fieldnorm.specs.Norms.{id_of_norm}
 use Rattle.ii_fieldnorm.proofs.WrittenNorms.{body_of-norm_bodies}
 use Rattle.ii_definitions.specs.Postings.{doc_count}
 use Rattle.ii_definitions.specs.Tokens.{IndexToken, Piece}
-use Rattle.ii_indexing.specs.IndexFiles.{begun_file}
 use Rattle.ii_definitions.specs.Norms.{HoldNorms, has_norms, norm_body, norm_file, norm_ids}
 use Rattle.ii_indexing.specs.OpenDocuments.{AreBehind, AreClosed, OpenDocumentsState, Tells, TellsAll, closed_norms, with_norms}
 use Rattle.ii_indexing.specs.declared.open_documents.OpenDocument.{OpenDocument}
@@ -181,10 +178,6 @@ pub few_bodies : (first : ℕ) (bs : Buffers) → length (norm_bodies_from first
 few_bodies first [] = omega arith
 few_bodies first (None ∷ bs) = omega (arith, few_bodies (first + 1) bs)
 few_bodies first (Some ids ∷ bs) = omega (arith, few_bodies (first + 1) bs)
-
--- a file that was started
-pub begun_bodies : (w : CountingWriterState) → HasBodies w (begun_file w) []
-begun_bodies w = record { writer = wrote_nothing w; base = refl; starts = refl }
 
 -- what is in memory is read back
 pub norms_written : (old new : CountingWriterState) (bs : Buffers) (bytes : List ℕ) → old.contents ≡ Some [] → new.contents ≡ Some bytes → WroteNorms old new [] bs → bytes ≡ written_composite (norm_bodies bs)

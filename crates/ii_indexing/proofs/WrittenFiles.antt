@@ -1,32 +1,28 @@
 -- What the files of an index hold once they were closed.
-use Rattle.std.proofs.Common.{Err, List, Ok, Result, [], ap, arith, false, inl, inr, is_err, length, length-append, map, refl, subst, sym, true, true≢false, ℕ, ⊎_elim, ◌+◌, ◌<◌, ◌^◌, ◌∙◌, ◌∷◌, ◌≡◌}
+use Rattle.std.proofs.Common.{Err, List, Ok, Result, [], ap, arith, false, inl, inr, is_err, length, map, refl, subst, sym, true, true≢false, ℕ, ⊎_elim, ◌+◌, ◌<◌, ◌^◌, ◌∙◌, ◌∷◌, ◌≡◌}
 use Rattle.std.specs.Prelude.{◌⊎◌, ◌↔◌, IsTrue, IfErr, IsErrOf, OnOk, nat_le}
 use Rattle.std.specs.List.{AllByRecursion}
 use Rattle.std.proofs.lemmas.Bool.{le-leb}
 use Rattle.ii_io.specs.declared.faults.Fault.{Fault}
 use Rattle.ii_io.specs.declared.faults.Fault.TheVariants.{Limit, OutOfMemory, SerializerClosed, Write}
 use Rattle.ii_io.specs.declared.faults.LimitName.TheVariants as limit
-use Rattle.ii_io.specs.Composite.{Body, bodies_bytes, fit_fields, places_from, table_bytes, written_composite}
-use Rattle.ii_io.specs.declared.composite_file.place.Place.{Place}
-use Rattle.ii_io.specs.CompositeWrite.{CompositeWriteState, HasBodies, WroteComposite, places_of}
-use Rattle.ii_io.proofs.CompositeSteps.{places_of-bodies}
-use Rattle.ii_io.proofs.WriteSteps.{full_before, full_more}
+use Rattle.ii_io.specs.Composite.{Body, fit_fields, written_composite}
+use Rattle.ii_io.specs.CompositeWrite.{CompositeWriteState, HasBodies, WroteComposite}
 use Rattle.ii_io.specs.CountingWriter.{CountingWriterState, IsFull, Writes}
 use Rattle.ii_base.specs.Schema.{SchemaEntry}
 use Rattle.ii_definitions.specs.Tokens.{IndexToken}
-use Rattle.ii_recorder.specs.Endings.{CountsOnce}
-use Rattle.ii_recorder.specs.IndexBodies.{CountsFailures, CountsFailuresOf, OneIsFull, IndexBodiesState, failed_calls, tables_of}
+use Rattle.ii_recorder.specs.IndexBodies.{CountsFailuresOf, OneIsFull, IndexBodiesState, failed_calls, tables_of, begun_file}
 use Rattle.ii_recorder.specs.IndexSerializer.{IndexSerializerState}
 use Rattle.ii_postings_writer.specs.FieldParts.{FieldPart, HasFields, WroteContext, positions_of_part, postings_body, terms_body}
 use Rattle.ii_postings_writer.specs.HeldBodies.{HaveTokens, WroteTokens}
-use Rattle.ii_indexing.specs.IndexFiles.{ClosedFiles, CountsIndexFailures, HaveNoRoom, PassLimits, begun_file}
+use Rattle.ii_indexing.specs.IndexFiles.{ClosedFiles, CountsIndexFailures, HaveNoRoom, PassLimits, begun_files}
 use Rattle.ii_indexing.specs.declared.index_writers.IndexWriters.{IndexWriters}
 use Rattle.ii_postings_writer.specs.IndexingContext.{TermIndex}
 use Rattle.ii_postings_writer.specs.PostingsWriter.{PostingsWriterState}
 use Rattle.ii_postings_writer.specs.WriteFaults.{IsContextFault, IsTokensFault}
 use Rattle.ii_postings_writer.specs.TokenFiles.{file_bodies}
 use Rattle.ii_postings_writer.proofs.TokenFaults.{HasFiles, tokens_fault, wrote_files}
-use Rattle.ii_indexing.proofs.NormFileLaws.{begun_bodies}
+use Rattle.ii_recorder.proofs.GrowthLemmas.{begun_bodies, counts_more, table_full, bodies_full}
 
 -- three files in which nothing was written yet
 pub begun_fields : (entries : List SchemaEntry) (t p q : CountingWriterState)
@@ -76,18 +72,6 @@ closed_files old now t p q result ts few wrote terms postings positions =
       };
     }
 
--- all failures, once the terms were written
-pub three_counted : (old new : IndexBodiesState) (written : Result (Unit {0}) Fault) (x : Unit {0}) (t p q : CountingWriterState) (result : Result (Unit {0}) Fault) → written ≡ Ok x → CountsFailures old new written → CountsFailuresOf new t p q result
-    → CountsFailuresOf old t p q result
-three_counted old new written x t p q result is first last =
-    let none : failed_calls new ≡ failed_calls old = rw is at first.once.ok in
-    record {
-      once = subst (λ (n : ℕ). CountsOnce n (t.failed_calls + p.failed_calls + q.failed_calls) result) none last.once;
-      terms_kept = omega (arith, first.terms_kept, last.terms_kept);
-      postings_kept = omega (arith, first.postings_kept, last.postings_kept);
-      positions_kept = omega (arith, first.positions_kept, last.positions_kept);
-    }
-
 -- norms that were refused, before anything else was written
 pub norms_refused : {W : Type 0} (old : IndexWriters W) (now : CountingWriterState) (bytes : List ℕ) (written : Result (Unit {0}) Fault) → Writes old.fieldnorms now bytes written → CountsIndexFailures old (record old { fieldnorms = now }) written
 norms_refused old now bytes (Ok x) h =
@@ -106,15 +90,6 @@ norms_refused old now bytes (Err e) h = record {
   positions = omega arith;
   fieldnorms = h.prefix.failed_calls;
 }
-
--- one more writer that didn't fail
-counts_more : (a b n m : ℕ) (result : Result (Unit {0}) Fault) → m ≡ n → CountsOnce a b result → CountsOnce (a + n) (b + m) result
-counts_more a b n m (Ok x) same h = record { ok = omega (arith, same, h.ok); write = (λ is. absurd (cc), λ more. absurd (omega (arith, same, more, h.ok))); by_one = λ is. absurd (cc) }
-counts_more a b n m (Err e) same h = record { ok = tt; write = (λ is. let more = h.write.0 is in omega (arith, same, more), λ more. h.write.1 (omega (arith, same, more))); by_one = λ is. let one = h.by_one is in omega (arith, same, one) }
-
--- the three files of an index without output
-abbrev pub begun_files : {W : Type 0} → IndexWriters W → IndexBodiesState
-begun_files w = record { terms = begun_file w.terms; postings = begun_file w.postings; positions = begun_file w.positions }
 
 -- and the other files, after norms that were written
 pub files_counted : {W : Type 0} (old : IndexWriters W) (now t p q : CountingWriterState) (bytes : List ℕ) (begun : IndexBodiesState) (written result : Result (Unit {0}) Fault) → false ≡ is_err written → Writes old.fieldnorms now bytes written
@@ -136,16 +111,6 @@ pub record ClosesBy (s : IndexSerializerState) (result : Result (Unit {0}) Fault
   pub full : IsErrOf result (Limit limit.Offset) → OneIsFull s.bodies (tables_of s.bodies)
   pub closed : IsErrOf result SerializerClosed ↔ IsTrue s.closed
   pub only : IfErr result (λ e. (e ≡ Write) ⊎ (e ≡ Limit limit.Offset) ⊎ (e ≡ SerializerClosed))
-
--- a table without room after bodies: the file has no room
-table_full : (initial : CountingWriterState) (c : CompositeWriteState) (bodies : List Body) → HasBodies initial c bodies → IsFull c.writer (length (table_bytes (places_of c))) → IsFull initial (length (written_composite bodies))
-table_full initial c bodies has full =
-    full_before initial c.writer (bodies_bytes bodies) (length (table_bytes (places_of c))) (length (written_composite bodies)) has.writer
-    (omega (arith, length-append (bodies_bytes bodies) (table_bytes (places_from 0 bodies)), ap (λ (ps : List Place). length (table_bytes ps)) (places_of-bodies initial c bodies has))) full
-
--- bodies that have no room: their file has none
-bodies_full : (initial : CountingWriterState) (bodies : List Body) → IsFull initial (length (bodies_bytes bodies)) → IsFull initial (length (written_composite bodies))
-bodies_full initial bodies full = full_more initial (length (bodies_bytes bodies)) (length (written_composite bodies)) (omega (arith, length-append (bodies_bytes bodies) (table_bytes (places_from 0 bodies)))) full
 
 -- the limits of tokens that are written after the bytes of three files
 abbrev pub PassesBehind : List SchemaEntry → IndexBodiesState → List IndexToken → Fault → Type 0

@@ -1,10 +1,9 @@
 -- The files of an index as they are written.
-use Rattle.std.specs.Prelude.{◌≡◌, ℕ, ◌+◌, ◌≤◌, ◌⊎◌, false, List, [], length, Result}
+use Rattle.std.specs.Prelude.{◌≡◌, ℕ, ◌+◌, ◌≤◌, ◌⊎◌, List, length, Result}
 use Rattle.ii_io.specs.declared.faults.Fault.{Fault}
 use Rattle.ii_io.specs.declared.faults.Fault.TheVariants.{Limit, OutOfMemory, Write}
 use Rattle.ii_io.specs.declared.faults.LimitName.TheVariants as limit
 use Rattle.ii_io.specs.Composite.{written_composite}
-use Rattle.ii_io.specs.CompositeWrite.{CompositeWriteState}
 use Rattle.ii_io.specs.CountingWriter.{CountingWriterState, Grows, IsFull, Wrote}
 use Rattle.ii_base.specs.Schema.{SchemaEntry}
 use Rattle.ii_definitions.specs.Fields.{option_of}
@@ -16,6 +15,7 @@ use Rattle.ii_definitions.specs.Norms.{HoldNorms}
 use Rattle.ii_postings_writer.specs.TermLimits.{HasLargeSum, IsLong}
 use Rattle.ii_postings_writer.specs.TokenFiles.{FirstEnds, FirstTerm, file_bodies}
 use Rattle.ii_indexing.specs.declared.index_writers.IndexWriters.{IndexWriters}
+use Rattle.ii_recorder.specs.IndexBodies.{IndexBodiesState, begun_file}
 
 -- The files of terms, postings and positions were written, and hold these tokens.
 pub record WroteTermFiles {W : Type 0} (entries : List SchemaEntry) (old new : IndexWriters W) (ts : List IndexToken) : Type 0 where
@@ -67,9 +67,9 @@ pub record CountsIndexFailures {W : Type 0} (old new : IndexWriters W) (result :
   pub positions : old.positions.failed_calls ≤ new.positions.failed_calls
   pub fieldnorms : old.fieldnorms.failed_calls ≤ new.fieldnorms.failed_calls
 
--- a file that starts at the end of a writer's output
-abbrev pub begun_file : CountingWriterState → CompositeWriteState
-begun_file w = record { writer = w; base = w.written_bytes; starts = []; closed = false }
+-- the files of terms, postings and positions, before anything is written
+abbrev pub begun_files : {W : Type 0} → IndexWriters W → IndexBodiesState
+begun_files w = record { terms = begun_file w.terms; postings = begun_file w.postings; positions = begun_file w.positions }
 
 -- A file has no room for what is written for these tokens.
 abbrev pub HaveNoRoom : List SchemaEntry → CountingWriterState → CountingWriterState → CountingWriterState → List IndexToken → Type 0

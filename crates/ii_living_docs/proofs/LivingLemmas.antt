@@ -1,14 +1,15 @@
 -- Living documents by their numbers.
-use Rattle.std.proofs.Common.{◌≡◌, ◌∙◌, ℕ, zero, suc, ◌+◌, ◌<◌, ◌≤◌, Bool, true, false, List, [], ◌∷◌, length, drop, refl, sym, ap, arith, ◌⊎◌, inl, inr}
+use Rattle.std.proofs.Common.{◌≡◌, ◌∙◌, ℕ, zero, suc, ◌+◌, ◌^◌, ◌<◌, ◌≤◌, Bool, true, false, List, [], ◌∷◌, length, drop, refl, sym, ap, arith, ◌⊎◌, inl, inr}
 use Rattle.std.specs.Prelude.{filter, nat_le, slice_index_or}
-use Rattle.std.specs.List.{AllByRecursion}
+use Rattle.std.specs.List.{All, AllByRecursion}
+use Rattle.std.specs.List.Sorted.{IsNonDecreasing}
 use Rattle.std.proofs.lemmas.Bool.{cases_lt, le-leb, leb-true, lt-leb}
 use Rattle.std.proofs.lemmas.List.Elements.{All-from_recursion, recursion_from_All}
 use Rattle.std.proofs.lemmas.List.{length-map}
 use Rattle.std.proofs.lemmas.List.Sums.{count_by-le-length, length-filter}
 use Rattle.ii_base.specs.Entries.{Entry}
 use Rattle.ii_base.specs.declared.doc_id.TheConstants.{TERMINATED}
-use Rattle.ii_docset.specs.Cursor.{FitsU32, IsAscending, IsCurrent, IsSound, IsTarget, doc_at, from_doc, positions_at, term_freq_at}
+use Rattle.ii_docset.specs.Cursor.{IsAscending, IsCurrent, IsSound, IsTarget, doc_at, from_doc, positions_at, term_freq_at}
 use Rattle.ii_alive.specs.Alive.{rank}
 use Rattle.ii_alive.proofs.RankLemmas.{rank_below, rank_mono, rank_strict}
 use Rattle.ii_living_docs.specs.LivingDocs.{AreNumbered, IsAtLiving, IsDocumentOf}
@@ -57,19 +58,27 @@ module _ (base : ℕ) (alive : List Bool) where
       by true living later = rw living (first_above e.doc es numbered living (above_all e.doc es ascending.1 ascending.0), later)
       by false dead later = rw dead later
 
-  each_fits : (es : List Entry) → AllByRecursion FitsU32 es → AllByRecursion FitsU32 (living_entries base alive es)
-  each_fits [] fits = tt
-  each_fits (e ∷ es) fits = by (slice_index_or alive e.doc false) refl (each_fits es fits.1)
+  -- what holds of entries by their term frequencies and positions holds of the living ones
+  each_living : (P : ℕ → List ℕ → Type 0) (es : List Entry) → All (λ (e : Entry). P e.term_freq e.positions) es → All (λ (e : Entry). P e.term_freq e.positions) (living_entries base alive es)
+  each_living P es all = All-from_recursion Q (living_entries base alive es) (each es (recursion_from_All Q es all))
     where
-      by : (b : Bool) → slice_index_or alive e.doc false ≡ b → AllByRecursion FitsU32 (living_entries base alive es) → AllByRecursion FitsU32 (living_entries base alive (e ∷ es))
-      by true living later = rw living (fits.0, later)
-      by false dead later = rw dead later
+      Q : Entry → Type 0
+      Q e = P e.term_freq e.positions
+
+      each : (es : List Entry) → AllByRecursion Q es → AllByRecursion Q (living_entries base alive es)
+      each [] all = tt
+      each (e ∷ es) all = by (slice_index_or alive e.doc false) refl (each es all.1)
+        where
+          by : (b : Bool) → slice_index_or alive e.doc false ≡ b → AllByRecursion Q (living_entries base alive es) → AllByRecursion Q (living_entries base alive (e ∷ es))
+          by true living later = rw living (all.0, later)
+          by false dead later = rw dead later
 
   -- living documents are a sound list by their numbers
   pub living_sound : (es : List Entry) → AreNumbered base alive → IsSound es → IsSound (living_entries base alive es)
   living_sound es numbered sound = record {
     ascending = ascends es numbered sound.ascending;
-    fits = All-from_recursion FitsU32 (living_entries base alive es) (each_fits es (recursion_from_All FitsU32 es sound.fits));
+    fits = each_living (λ freq ps. (freq < 2 ^ 32) × All (λ (p : ℕ). p < 2 ^ 32) ps) es sound.fits;
+    in_order = each_living (λ freq ps. IsNonDecreasing ps) es sound.in_order;
   }
 
   -- documents that the flags don't cover aren't alive

@@ -29,7 +29,7 @@ use Rattle.ii_segments.specs.SegmentLaws.{KeysOfSegments}
 use Rattle.ii_segments.specs.Segments.{AreSegmentTokens, Segment, index_tokens, is_key_of_text_in, living_entries, postings_from_segments, type_of_field}
 use Rattle.ii_segments.proofs.MergedLaws.{IsTyped, index_typed}
 use Rattle.ii_termstore.specs.declared.term_info.TermInfo.{TermInfo}
-use Rattle.ii_merger.specs.MergeSources.{FieldSourceState, entries_under, has_term, info_in, list_under, merged_from}
+use Rattle.ii_merger.specs.MergeSources.{FieldSourceState, entries_under, source_has_key, source_info, list_under, merged_from}
 use Rattle.ii_merger.specs.MergedField.{AreMergedKeys, IsSoundTerm, kind_under, merged_terms, term_of_entries}
 use Rattle.ii_merger.specs.SourcesHold.{SourceHolds, SourcesHold}
 use Rattle.ii_recorder.proofs.FieldKeys.{occurred_keys}
@@ -40,8 +40,8 @@ abbrev as_list : List Entry → Result (List Entry) Part
 as_list es = Ok es
 
 pub held_list : (entries : List SchemaEntry) (field : ℕ) (key : List ℕ) (kind : IndexRecordOption) (source : FieldSourceState) (s : Segment) → SourceHolds entries field source s
-    → list_under kind source (info_in key source) ≡ Ok (key_postings (option_of entries field) field key kind s.tokens)
-held_list entries field key kind source s h = by (info_in key source) (h.reader.holds.exact key)
+    → list_under kind source (source_info key source) ≡ Ok (key_postings (option_of entries field) field key kind s.tokens)
+held_list entries field key kind source s h = by (source_info key source) (h.reader.holds.exact key)
   where
     by : (o : Option TermInfo) → MatchOption o (occurs field key s.tokens ≡ false) (HoldsTerm source.reader.option field key source.reader.postings source.reader.positions s.tokens)
         → list_under kind source o ≡ Ok (key_postings (option_of entries field) field key kind s.tokens)
@@ -54,7 +54,7 @@ held_from entries field key kind base [] [] hold = refl
 held_from entries field key kind base [] (s ∷ ss) hold = absurd (hold)
 held_from entries field key kind base (c ∷ cs) [] hold = absurd (hold)
 held_from entries field key kind base (c ∷ cs) (s ∷ ss) hold =
-    let own : entries_under kind c (info_in key c) ≡ key_postings (option_of entries field) field key kind s.tokens = ap (λ (r : Result (List Entry) Part). result_unwrap_or r []) (held_list entries field key kind c s hold.0) in
+    let own : entries_under kind c (source_info key c) ≡ key_postings (option_of entries field) field key kind s.tokens = ap (λ (r : Result (List Entry) Part). result_unwrap_or r []) (held_list entries field key kind c s hold.0) in
     rw (own, hold.0.alive) (ap (λ (es : List Entry). living_entries base s.alive (key_postings (option_of entries field) field key kind s.tokens) ++ es) (held_from entries field key kind (base + num_living s.alive) cs ss hold.1))
 
 pub all_tokens : (entries : List SchemaEntry) (field : ℕ) (sources : List FieldSourceState) (ss : List Segment) → SourcesHold entries field sources ss → AllByRecursion (AreSegmentTokens entries) ss
@@ -123,11 +123,11 @@ some_term norms kind key [] some = absurd (omega (arith, some))
 some_term norms kind key (e ∷ es) some = refl
 
 -- ---- keys of sources
-none_from : (kind : IndexRecordOption) (key : List ℕ) (base : ℕ) (sources : List FieldSourceState) → list_any (has_term key) sources ≡ false → merged_from kind key base sources ≡ []
+none_from : (kind : IndexRecordOption) (key : List ℕ) (base : ℕ) (sources : List FieldSourceState) → list_any (source_has_key key) sources ≡ false → merged_from kind key base sources ≡ []
 none_from kind key base [] none = refl
-none_from kind key base (c ∷ cs) none = by (info_in key c) refl none (none_from kind key (base + num_living c.alive) cs)
+none_from kind key base (c ∷ cs) none = by (source_info key c) refl none (none_from kind key (base + num_living c.alive) cs)
   where
-    by : (o : Option TermInfo) → info_in key c ≡ o → (is_some o || list_any (has_term key) cs) ≡ false → (list_any (has_term key) cs ≡ false → merged_from kind key (base + num_living c.alive) cs ≡ []) → merged_from kind key base (c ∷ cs) ≡ []
+    by : (o : Option TermInfo) → source_info key c ≡ o → (is_some o || list_any (source_has_key key) cs) ≡ false → (list_any (source_has_key key) cs ≡ false → merged_from kind key (base + num_living c.alive) cs ≡ []) → merged_from kind key base (c ∷ cs) ≡ []
     by (Some info) is none rest = absurd (true≢false none)
     by None is none rest = rw is (rest none)
 
@@ -190,10 +190,10 @@ module _ (law : KeysOfSegments) (entries : List SchemaEntry) (field : ℕ) (entr
   none_merged key none = merged_is key ∙ ap (kept_entries option) (none_occurs field key tokens none)
 
   -- a key that occurred is one of the sources
-  found_in_sources : (key : List ℕ) → occurs field key tokens ≡ true → list_any (has_term key) sources ≡ true
-  found_in_sources key occurred = by (list_any (has_term key) sources) refl
+  found_in_sources : (key : List ℕ) → occurs field key tokens ≡ true → list_any (source_has_key key) sources ≡ true
+  found_in_sources key occurred = by (list_any (source_has_key key) sources) refl
     where
-      by : (b : Bool) → list_any (has_term key) sources ≡ b → list_any (has_term key) sources ≡ true
+      by : (b : Bool) → list_any (source_has_key key) sources ≡ b → list_any (source_has_key key) sources ≡ true
       by true is = is
       by false is = absurd (omega (arith, some_merged key occurred, ap length (none_from (kind_under entry key) key 0 sources is)))
 

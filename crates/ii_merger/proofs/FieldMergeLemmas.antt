@@ -26,7 +26,7 @@ use Rattle.ii_recorder.specs.IndexSerializer.{EndsWriting, IndexSerializerState,
 use Rattle.ii_recorder.specs.Terms.{WrittenTerm}
 use Rattle.ii_recorder.proofs.GrowthLemmas.{AllGrow-trans}
 use Rattle.ii_postings_writer.proofs.FieldEndings.{grow_by_none}
-use Rattle.ii_merger.specs.MergeSources.{FieldSourceState, has_term, info_in, merged_from, source_of}
+use Rattle.ii_merger.specs.MergeSources.{FieldSourceState, source_has_key, source_info, merged_from, source_of}
 use Rattle.ii_merger.specs.MergedField.{IsFreshField, IsKeyFault, IsSoundTerm, IsTermMergeFault, WroteTerms, kind_under, merged_terms, term_of_entries}
 use Rattle.ii_merger.specs.MergedTerm.{MayStart}
 use Rattle.ii_merger.specs.declared.field_source.FieldSource.{FieldSource}
@@ -59,13 +59,13 @@ pub lent_dictionaries : (xs : List FieldSource) → map (λ (x : FieldSource). x
 lent_dictionaries [] = refl
 lent_dictionaries (x ∷ xs) = ap (λ (ess : List (List TermEntry)). x.reader.now.terms ∷ ess) (lent_dictionaries xs)
 
-infos_are : (key : List ℕ) (ss : List FieldSourceState) → map (info_under key) (dictionaries ss) ≡ map (info_in key) ss
+infos_are : (key : List ℕ) (ss : List FieldSourceState) → map (info_under key) (dictionaries ss) ≡ map (source_info key) ss
 infos_are key [] = refl
-infos_are key (s ∷ ss) = ap (λ (os : List (Option TermInfo)). info_in key s ∷ os) (infos_are key ss)
+infos_are key (s ∷ ss) = ap (λ (os : List (Option TermInfo)). source_info key s ∷ os) (infos_are key ss)
 
-has_any : (key : List ℕ) (ss : List FieldSourceState) → list_any (λ (es : List TermEntry). is_some (info_under key es)) (dictionaries ss) ≡ list_any (has_term key) ss
+has_any : (key : List ℕ) (ss : List FieldSourceState) → list_any (λ (es : List TermEntry). is_some (info_under key es)) (dictionaries ss) ≡ list_any (source_has_key key) ss
 has_any key [] = refl
-has_any key (s ∷ ss) = ap (λ (b : Bool). has_term key s || b) (has_any key ss)
+has_any key (s ∷ ss) = ap (λ (b : Bool). source_has_key key s || b) (has_any key ss)
 
 -- ---- written keys
 -- whether there are no entries
@@ -158,10 +158,10 @@ module _ (entry : SchemaEntry) (ss : List FieldSourceState) (first : IndexSerial
         ascending = subst (λ (ks : List (List ℕ)). AreAscending (ks ++ key ∷ [])) (sym (own.terms.keys ∙ append-nil (map (λ (t : WrittenTerm). t.key) (merged_terms fresh.norms entry ss h.done)))) (written_ascend fresh.norms entry ss key h.done next.ascending);
       }
 
-      pub all_infos : FirstInfosAreAll → map (first_info key) coming ≡ map (info_in key) ss
+      pub all_infos : FirstInfosAreAll → map (first_info key) coming ≡ map (source_info key) ss
       all_infos law = law coming key h.keys.each is ∙ next.all_infos ∙ infos_are key ss
 
-      known_key : list_any (has_term key) ss ≡ true
+      known_key : list_any (source_has_key key) ss ≡ true
       known_key = sym (has_any key ss) ∙ next.next.known key (any_push key h.done key ∙ ap (λ (b : Bool). b || list_any (bytes_eq key) h.done) (nat_list_eq_equiv.refl key))
 
       pub key_fault : (initial : IndexBodiesState) (field tokens : ℕ) (norms : Option Norms) (e : Fault) → first.field.term.mode ≡ entry.option → IsTermMergeFault (kind_under entry key) key ss initial now.field.term.mode tokens norms (merged_terms norms entry ss h.done) e

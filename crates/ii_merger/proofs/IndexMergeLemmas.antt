@@ -26,9 +26,9 @@ use Rattle.ii_reader.specs.OpenIndex.{FieldReaderHolds}
 use Rattle.ii_recorder.specs.IndexBodies.{AddsBodies, CountsFailures, IndexBodiesState, LacksField}
 use Rattle.ii_recorder.specs.Terms.{FieldBodies}
 use Rattle.ii_segments.specs.Segments.{Segment}
-use Rattle.ii_merger.specs.MergeSources.{FieldSourceState, total_living}
+use Rattle.ii_merger.specs.MergeSources.{FieldSourceState, living_in_sources}
 use Rattle.ii_merger.specs.MergedField.{WroteMergedField}
-use Rattle.ii_merger.specs.MergedIndex.{AreNormsOf, FieldsBelow, HasMergedFields, MergeSourceState, MergeSourcesHold, MergedPart, StartsBelow, all_living, field_of_segment, field_sources, has_part, norms_of_field, positions_of_part, postings_of, segment_of, terms_of}
+use Rattle.ii_merger.specs.MergedIndex.{AreNormsOf, FieldsBelow, HasMergedFields, MergeSourceState, MergeSourcesHold, MergedPart, StartsBelow, all_living, field_of_segment, field_sources, has_part, norms_of_field, positions_body_of, postings_body_of, opened_segment, terms_body_of}
 use Rattle.ii_merger.specs.MergedTerm.{CoversBelow}
 use Rattle.ii_merger.specs.SourcesHold.{SourceHolds, SourcesHold, WroteField}
 use Rattle.ii_merger.specs.declared.merge_source.MergeSource.{MergeSource}
@@ -36,10 +36,10 @@ use Rattle.ii_definitions.proofs.GroupedLaws.{count_none}
 use Rattle.std.proofs.Math.Bool.{or-false}
 
 -- the next segment, and those after it
-pub segment_at : (xs : List MergeSource) (i : ℕ) (x : MergeSource) → i < length xs → x ≡ get_or xs i x → drop i (map segment_of xs) ≡ segment_of x ∷ drop (i + 1) (map segment_of xs)
+pub segment_at : (xs : List MergeSource) (i : ℕ) (x : MergeSource) → i < length xs → x ≡ get_or xs i x → drop i (map opened_segment xs) ≡ opened_segment x ∷ drop (i + 1) (map opened_segment xs)
 segment_at xs i x inside is =
-    drop_more (map segment_of xs) i (segment_of x) (omega (arith, inside, length-map xs segment_of))
-    ∙ ap (λ (s : MergeSourceState). s ∷ drop (i + 1) (map segment_of xs)) (get_or-map segment_of xs i x (segment_of x) inside ∙ ap segment_of (sym is))
+    drop_more (map opened_segment xs) i (opened_segment x) (omega (arith, inside, length-map xs opened_segment))
+    ∙ ap (λ (s : MergeSourceState). s ∷ drop (i + 1) (map opened_segment xs)) (get_or-map opened_segment xs i x (opened_segment x) inside ∙ ap opened_segment (sym is))
 
 pub all_drop : {X : Type 0} (P : X → Type 0) (i : ℕ) (xs : List X) → AllByRecursion P xs → AllByRecursion P (drop i xs)
 all_drop P zero xs all = all
@@ -47,20 +47,20 @@ all_drop P (suc i) [] all = tt
 all_drop P (suc i) (x ∷ xs) all = all_drop P i xs all.1
 
 -- what holds of all segments holds of the next one
-pub each_segment : (P : MergeSourceState → Type 0) (xs : List MergeSource) (i : ℕ) (x : MergeSource) → i < length xs → x ≡ get_or xs i x → AllByRecursion P (map segment_of xs) → P (segment_of x)
-each_segment P xs i x inside is all = (subst (AllByRecursion P) (segment_at xs i x inside is) (all_drop P i (map segment_of xs) all)).0
+pub each_segment : (P : MergeSourceState → Type 0) (xs : List MergeSource) (i : ℕ) (x : MergeSource) → i < length xs → x ≡ get_or xs i x → AllByRecursion P (map opened_segment xs) → P (opened_segment x)
+each_segment P xs i x inside is all = (subst (AllByRecursion P) (segment_at xs i x inside is) (all_drop P i (map opened_segment xs) all)).0
 
 -- a field of the next segment
 pub field_at : (field : ℕ) (xs : List MergeSource) (i : ℕ) (x : MergeSource) (own : FieldSourceState) (before : List FieldSourceState) → i < length xs → x ≡ get_or xs i x → slice_get x.index.now.readers field ≡ Some own.reader → own.alive ≡ x.alive.now
-    → before ++ field_sources field (drop i (map segment_of xs)) ≡ field_sources field (map segment_of xs) → (before ++ own ∷ []) ++ field_sources field (drop (i + 1) (map segment_of xs)) ≡ field_sources field (map segment_of xs)
+    → before ++ field_sources field (drop i (map opened_segment xs)) ≡ field_sources field (map opened_segment xs) → (before ++ own ∷ []) ++ field_sources field (drop (i + 1) (map opened_segment xs)) ≡ field_sources field (map opened_segment xs)
 field_at field xs i x own before inside is reader alive all =
-    let here : own ≡ field_of_segment field (segment_of x) = rw (reader, ← alive) refl in
-    append_assoc before (own ∷ []) (field_sources field (drop (i + 1) (map segment_of xs)))
-    ∙ ap (λ (s : FieldSourceState). before ++ s ∷ field_sources field (drop (i + 1) (map segment_of xs))) here
+    let here : own ≡ field_of_segment field (opened_segment x) = rw (reader, ← alive) refl in
+    append_assoc before (own ∷ []) (field_sources field (drop (i + 1) (map opened_segment xs)))
+    ∙ ap (λ (s : FieldSourceState). before ++ s ∷ field_sources field (drop (i + 1) (map opened_segment xs))) here
     ∙ ap (λ (ss : List MergeSourceState). before ++ field_sources field ss) (sym (segment_at xs i x inside is))
     ∙ all
 
-pub same_living : (field : ℕ) (ss : List MergeSourceState) → total_living (field_sources field ss) ≡ all_living ss
+pub same_living : (field : ℕ) (ss : List MergeSourceState) → living_in_sources (field_sources field ss) ≡ all_living ss
 same_living field [] = refl
 same_living field (s ∷ ss) = ap (λ (n : ℕ). Rattle.ii_alive.specs.Alive.num_living s.alive + n) (same_living field ss)
 
@@ -192,9 +192,9 @@ module _ (entries : List SchemaEntry) (initial : IndexBodiesState) (n : ℕ) (ts
     added = record {
       parts = h.parts ++ own_part ∷ [];
       below = all_push (λ (p : MergedPart). p.field < n + 1) h.parts own_part (parts_raised n h.parts h.below) (omega arith);
-      terms = bodies_more terms_of initial.terms.writer old.terms new.terms w.bodies.terms h.terms w.adds.terms refl;
-      postings = bodies_more postings_of initial.postings.writer old.postings new.postings w.bodies.postings h.postings w.adds.postings refl;
-      positions = bodies_more positions_of_part initial.positions.writer old.positions new.positions w.bodies.positions h.positions w.adds.positions refl;
+      terms = bodies_more terms_body_of initial.terms.writer old.terms new.terms w.bodies.terms h.terms w.adds.terms refl;
+      postings = bodies_more postings_body_of initial.postings.writer old.postings new.postings w.bodies.postings h.postings w.adds.postings refl;
+      positions = bodies_more positions_body_of initial.positions.writer old.positions new.positions w.bodies.positions h.positions w.adds.positions refl;
       present = λ field low. any_more (λ (p : MergedPart). p.field == field) h.parts own_part ∙ by field (nat_eq n field) refl low;
       holds = all_push (λ (p : MergedPart). HoldsField (option_of entries p.field) p.field p.bodies.terms p.bodies.postings p.bodies.positions ts) h.parts own_part h.holds w.holds;
     }
@@ -272,10 +272,10 @@ module _ (entries : List SchemaEntry) (initial now : IndexBodiesState) (ts : Lis
   body_present : (body : MergedPart → Body) (bytes : MergedPart → List ℕ) → ((p : MergedPart) → (body p).field ≡ p.field) → ((p : MergedPart) → (body p).bytes ≡ bytes p) → (field : ℕ) → HasField field (map body h.parts) ts
   body_present body bytes same are field = ap is_some (find_is field body bytes same are h.parts) ∙ some_found field bytes h.parts ∙ all_present field
 
-  held : (field : ℕ) (t p q : List ℕ) → body_of field (map terms_of h.parts) ≡ Some t → body_of field (map postings_of h.parts) ≡ Some p → body_of field (map positions_of_part h.parts) ≡ Some q → HoldsField (option_of entries field) field t p q ts
+  held : (field : ℕ) (t p q : List ℕ) → body_of field (map terms_body_of h.parts) ≡ Some t → body_of field (map postings_body_of h.parts) ≡ Some p → body_of field (map positions_body_of h.parts) ≡ Some q → HoldsField (option_of entries field) field t p q ts
   held field t p q is_t is_p is_q =
       by (find (λ (r : MergedPart). r.field == field) h.parts) refl
-      (sym (find_is field terms_of (λ r. r.bodies.terms) (λ r. refl) (λ r. refl) h.parts) ∙ is_t) (sym (find_is field postings_of (λ r. r.bodies.postings) (λ r. refl) (λ r. refl) h.parts) ∙ is_p) (sym (find_is field positions_of_part (λ r. r.bodies.positions) (λ r. refl) (λ r. refl) h.parts) ∙ is_q)
+      (sym (find_is field terms_body_of (λ r. r.bodies.terms) (λ r. refl) (λ r. refl) h.parts) ∙ is_t) (sym (find_is field postings_body_of (λ r. r.bodies.postings) (λ r. refl) (λ r. refl) h.parts) ∙ is_p) (sym (find_is field positions_body_of (λ r. r.bodies.positions) (λ r. refl) (λ r. refl) h.parts) ∙ is_q)
     where
       Holds : MergedPart → Type 0
       Holds r = HoldsField (option_of entries r.field) r.field r.bodies.terms r.bodies.postings r.bodies.positions ts
@@ -293,16 +293,16 @@ module _ (entries : List SchemaEntry) (initial now : IndexBodiesState) (ts : Lis
           (subst (λ (f : ℕ). HoldsField (option_of entries f) f r.bodies.terms r.bodies.postings r.bodies.positions ts) own.is own.holds)))
 
   -- files with these bodies hold the tokens
-  pub hold_tokens : composite (written_composite (map terms_of h.parts)) ≡ Some (map terms_of h.parts) → composite (written_composite (map postings_of h.parts)) ≡ Some (map postings_of h.parts) → composite (written_composite (map positions_of_part h.parts)) ≡ Some (map positions_of_part h.parts)
-      → HoldTokens (option_of entries) (written_composite (map terms_of h.parts)) (written_composite (map postings_of h.parts)) (written_composite (map positions_of_part h.parts)) ts
+  pub hold_tokens : composite (written_composite (map terms_body_of h.parts)) ≡ Some (map terms_body_of h.parts) → composite (written_composite (map postings_body_of h.parts)) ≡ Some (map postings_body_of h.parts) → composite (written_composite (map positions_body_of h.parts)) ≡ Some (map positions_body_of h.parts)
+      → HoldTokens (option_of entries) (written_composite (map terms_body_of h.parts)) (written_composite (map postings_body_of h.parts)) (written_composite (map positions_body_of h.parts)) ts
   hold_tokens a b c = record {
-    term_bodies = map terms_of h.parts;
-    postings_bodies = map postings_of h.parts;
-    positions_bodies = map positions_of_part h.parts;
+    term_bodies = map terms_body_of h.parts;
+    postings_bodies = map postings_body_of h.parts;
+    positions_bodies = map positions_body_of h.parts;
     opened_terms = a;
     opened_postings = b;
     opened_positions = c;
-    present = λ field. (body_present terms_of (λ r. r.bodies.terms) (λ r. refl) (λ r. refl) field, body_present postings_of (λ r. r.bodies.postings) (λ r. refl) (λ r. refl) field, body_present positions_of_part (λ r. r.bodies.positions) (λ r. refl) (λ r. refl) field);
+    present = λ field. (body_present terms_body_of (λ r. r.bodies.terms) (λ r. refl) (λ r. refl) field, body_present postings_body_of (λ r. r.bodies.postings) (λ r. refl) (λ r. refl) field, body_present positions_body_of (λ r. r.bodies.positions) (λ r. refl) (λ r. refl) field);
     fields = held;
   }
 

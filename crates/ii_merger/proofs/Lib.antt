@@ -9,6 +9,7 @@ pub mod ListingLemmas
 pub mod MergeLemmas
 pub mod NormLemmas
 pub mod NumberLemmas
+pub mod PartLemmas
 pub mod ReadableLemmas
 pub mod SourceLemmas
 pub mod TermMergeLemmas

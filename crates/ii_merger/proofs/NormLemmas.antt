@@ -1,18 +1,17 @@
 -- The norms of living documents, one segment and one field after the other.
-use Rattle.std.proofs.Common.{inl, inr, ◌≡◌, ℕ, zero, suc, ◌+◌, ◌-◌, ◌^◌, ◌<◌, ◌≤◌, ◌==◌, Bool, true, false, List, [], ◌∷◌, ◌++◌, drop, get_or, length, map, Option, Some, None, refl, sym, ap, ◌∙◌, subst, arith, append_assoc, true≢false, length-append}
+use Rattle.std.proofs.Common.{inl, inr, ◌≡◌, ℕ, zero, suc, ◌+◌, ◌-◌, ◌^◌, ◌<◌, ◌≤◌, ◌==◌, Bool, true, false, List, [], ◌∷◌, ◌++◌, drop, get_or, length, map, Option, Some, None, refl, sym, ap, ◌∙◌, subst, arith, append_assoc, true≢false, length-append, Result, Ok, Err, ⊎_elim}
 use Rattle.std.specs.Prelude.{◌⊎◌, IfSome, IsSomeAnd, filter, if◌then◌else◌, slice_get, slice_index, unwrap_or}
 use Rattle.std.specs.List.{AllByRecursion, enumerate_from, flat_map, range_with_len}
 use Rattle.std.proofs.lemmas.Bool.{eq-eqb, le-leb, ne_eqb}
 use Rattle.std.proofs.lemmas.List.{append-nil, length-map}
 use Rattle.ii_io.specs.declared.faults.Fault.{Fault}
-use Rattle.ii_io.specs.declared.faults.Fault.TheVariants.{Damaged, Limit, OutOfMemory}
+use Rattle.ii_io.specs.declared.faults.Fault.TheVariants.{Damaged, Limit, OutOfMemory, DecreasingPosition, IndexerFailed, SerializerClosed, UnsupportedLeaf, Write}
 use Rattle.ii_io.specs.declared.faults.LimitName.TheVariants.{Offset}
 use Rattle.ii_io.specs.declared.faults.Part.TheVariants.{FieldNorms}
-use Rattle.ii_io.specs.Composite.{Body, body_of, composite, fit_fields, written_composite}
-use Rattle.ii_io.specs.CompositeWrite.{CompositeWriteState, HasBodies, WroteComposite}
-use Rattle.ii_io.specs.CountingWriter.{CountingWriterState}
+use Rattle.ii_io.specs.Composite.{Body, body_of, composite, fit_fields, written_composite, bodies_bytes, places_from, table_bytes}
+use Rattle.ii_io.specs.CompositeWrite.{CompositeWriteState, HasBodies, WroteComposite, places_of}
+use Rattle.ii_io.specs.CountingWriter.{CountingWriterState, IsFull, WritesInMemory, WritesUnlessClosed}
 use Rattle.ii_io.proofs.CompositeSteps.{HasBodies-more}
-use Rattle.ii_io.proofs.WriteSteps.{wrote_nothing}
 use Rattle.std.specs.Io.KnownBytes.{Appends}
 use Rattle.ii_base.specs.Schema.{SchemaEntry, keeps_norms}
 use Rattle.ii_fieldnorm.specs.Buffers.{norm_fields}
@@ -25,10 +24,14 @@ use Rattle.ii_io.specs.declared.faults.Part.{Part}
 use Rattle.ii_segments.specs.Segments.{Segment, index_tokens, is_living, living_docs, living_norms, num_docs_of}
 use Rattle.ii_segments.specs.SegmentLaws.{CountsOfSegments}
 use Rattle.ii_definitions.specs.Norms.{HoldNorms, has_norms, norm_file, norm_ids}
-use Rattle.ii_merger.specs.MergedIndex.{AreNormsOf, MergeSourceHolds, MergeSourceState, MergeSourcesHold, StartsBelow, segment_of, all_living}
-use Rattle.ii_merger.specs.MergedNorms.{AddsNorms, HasNorms, HaveNorms, living_ids, merged_ids, merged_norm_file}
+use Rattle.ii_merger.specs.MergedIndex.{AreNormsOf, MergeSourceHolds, MergeSourceState, MergeSourcesHold, StartsBelow, opened_segment, all_living}
+use Rattle.ii_merger.specs.MergedNorms.{AddsNorms, HasAllNorms, HaveNorms, living_ids, merged_ids, merged_norm_file, IsNormsFault, merged_norm_bytes}
 use Rattle.ii_merger.specs.declared.merge_source.MergeSource.{MergeSource}
 use Rattle.ii_merger.proofs.IndexMergeLemmas.{each_segment, raised, starts_more}
+use Rattle.ii_io.specs.Faults.{memory_fault}
+use Rattle.ii_io.proofs.WriteSteps.{full_before}
+use Rattle.ii_recorder.proofs.GrowthLemmas.{table_full}
+use Rattle.std.proofs.lemmas.List.Concat.{flat_map-append}
 
 -- ---- documents one after the other
 left_is : (n doc : ℕ) → doc < n → n - doc ≡ suc (n - (doc + 1))
@@ -49,7 +52,7 @@ module _ (alive : List Bool) (f : ℕ → ℕ) (n doc : ℕ) (low : doc < n) (be
 
 -- ---- segments one after the other
 pub damaged_norms : (field n : ℕ) (s : MergeSourceState) (e : Fault) → n ≡ length s.alive → n < 2 ^ 32 → (e ≡ OutOfMemory) ⊎ (e ≡ Damaged FieldNorms) → (e ≡ Damaged FieldNorms → IsSomeAnd (body_of field s.index.fieldnorms) (λ ids. 2 ^ 32 ≤ length ids))
-    → (e ≡ OutOfMemory) ⊎ ((e ≡ Damaged FieldNorms) × ¬ HasNorms field s)
+    → (e ≡ OutOfMemory) ⊎ ((e ≡ Damaged FieldNorms) × ¬ HasAllNorms field s)
 damaged_norms field n s e same few (inl memory) long = inl memory
 damaged_norms field n s e same few (inr damaged) long = inr (damaged, by (body_of field s.index.fieldnorms) (long damaged))
   where
@@ -57,10 +60,10 @@ damaged_norms field n s e same few (inr damaged) long = inr (damaged, by (body_o
     by None far has = absurd (has)
     by (Some ids) far has = absurd (omega (arith, far, has, same, few))
 
-pub one_damaged : (field : ℕ) (xs : List MergeSource) (i : ℕ) (x : MergeSource) (e : Fault) → i < length xs → x ≡ get_or xs i x → (e ≡ OutOfMemory) ⊎ ((e ≡ Damaged FieldNorms) × ¬ HasNorms field (segment_of x))
-    → (e ≡ OutOfMemory) ⊎ ((e ≡ Damaged FieldNorms) × ¬ AllByRecursion (HasNorms field) (map segment_of xs))
+pub one_damaged : (field : ℕ) (xs : List MergeSource) (i : ℕ) (x : MergeSource) (e : Fault) → i < length xs → x ≡ get_or xs i x → (e ≡ OutOfMemory) ⊎ ((e ≡ Damaged FieldNorms) × ¬ HasAllNorms field (opened_segment x))
+    → (e ≡ OutOfMemory) ⊎ ((e ≡ Damaged FieldNorms) × ¬ AllByRecursion (HasAllNorms field) (map opened_segment xs))
 one_damaged field xs i x e inside is (inl memory) = inl memory
-one_damaged field xs i x e inside is (inr damaged) = inr (damaged.0, λ all. damaged.1 (each_segment (HasNorms field) xs i x inside is all))
+one_damaged field xs i x e inside is (inr damaged) = inr (damaged.0, λ all. damaged.1 (each_segment (HasAllNorms field) xs i x inside is all))
 
 -- ---- fields one after the other
 -- the fields with norms from a place on
@@ -146,12 +149,70 @@ module _ (entries : List SchemaEntry) (ss : List MergeSourceState) (place : ℕ)
       by true keeps all = (λ is. all.0, all.1)
       by false keeps all = (λ is. absurd (true≢false (sym is ∙ keeps)), all)
 
-  -- the norms of this field aren't there
-  pub wrong_norms : (e : Fault) → (AllByRecursion (λ (f : ℕ). AllByRecursion (HasNorms f) ss) (norm_fields entries) → AllByRecursion (λ (f : ℕ). AllByRecursion (HasNorms f) ss) (norm_fields_from place entries))
-      → (e ≡ OutOfMemory) ⊎ (e ≡ Limit Offset) ⊎ ((e ≡ Damaged FieldNorms) × (keeps_norms entry ≡ true) × ¬ AllByRecursion (HasNorms place) ss) → (e ≡ OutOfMemory) ⊎ (e ≡ Limit Offset) ⊎ ((e ≡ Damaged FieldNorms) × ¬ HaveNorms entries ss)
-  wrong_norms e whole (inl memory) = inl memory
-  wrong_norms e whole (inr (inl limit)) = inr (inl limit)
-  wrong_norms e whole (inr (inr damaged)) = inr (inr (damaged.0, λ has. damaged.2 ((all_here (λ (f : ℕ). AllByRecursion (HasNorms f) ss) (whole has)).0 damaged.1)))
+  -- the file has no room for the norms of this field
+  full_norms : (initial : CountingWriterState) (now : CompositeWriteState) → IsAddingNorms entries ss initial place now → keeps_norms entry ≡ true → IsFull now.writer (length (merged_ids place ss)) → IsFull initial (length (merged_norm_bytes entries ss))
+  full_norms initial now h keeps full =
+      let rest = map (ids_body ss) (norm_fields_from (place + 1) entries) in
+      let later = ids_body ss place ∷ rest in
+      let at : norm_fields_from place entries ≡ place ∷ norm_fields_from (place + 1) entries = next_fields place entries entry is ∙ ap (λ (b : Bool). own_field b place ++ norm_fields_from (place + 1) entries) keeps in
+      let all : h.done ++ later ≡ merged_norm_file entries ss = ap (λ (fs : List ℕ). h.done ++ map (ids_body ss) fs) (sym at) ∙ h.parts in
+      let both = ap length (flat_map-append (λ (b : Body). b.bytes) h.done later) in
+      subst (λ (bs : List Body). IsFull initial (length (written_composite bs))) all
+      (full_before initial now.writer (bodies_bytes h.done) (length (merged_ids place ss)) (length (written_composite (h.done ++ later))) h.has.writer
+      (omega (arith, both, length-append (bodies_bytes h.done) (bodies_bytes later), length-append (merged_ids place ss) (bodies_bytes rest), length-append (bodies_bytes (h.done ++ later)) (table_bytes (places_from 0 (h.done ++ later))))) full)
+
+  -- the norms of this field aren't there, or have no room
+  pub wrong_norms : (initial : CountingWriterState) (now : CompositeWriteState) (e : Fault) → IsAddingNorms entries ss initial place now
+      → (AllByRecursion (λ (f : ℕ). AllByRecursion (HasAllNorms f) ss) (norm_fields entries) → AllByRecursion (λ (f : ℕ). AllByRecursion (HasAllNorms f) ss) (norm_fields_from place entries))
+      → (e ≡ OutOfMemory) ⊎ ((e ≡ Limit Offset) × (keeps_norms entry ≡ true) × IsFull now.writer (length (merged_ids place ss))) ⊎ ((e ≡ Damaged FieldNorms) × (keeps_norms entry ≡ true) × ¬ AllByRecursion (HasAllNorms place) ss)
+      → (e ≡ OutOfMemory) ⊎ ((e ≡ Limit Offset) × IsFull initial (length (merged_norm_bytes entries ss))) ⊎ ((e ≡ Damaged FieldNorms) × ¬ HaveNorms entries ss)
+  wrong_norms initial now e h whole (inl memory) = inl memory
+  wrong_norms initial now e h whole (inr (inl limit)) = inr (inl (limit.0, full_norms initial now h limit.1 limit.2))
+  wrong_norms initial now e h whole (inr (inr damaged)) = inr (inr (damaged.0, λ has. damaged.2 ((all_here (λ (f : ℕ). AllByRecursion (HasAllNorms f) ss) (whole has)).0 damaged.1)))
+
+-- ---- norms in memory
+-- why a call that writes to memory fails: no memory, or no room
+pub fails_in_memory : (closed : Bool) (old new : CountingWriterState) (bytes : List ℕ) (fault : Fault) → closed ≡ false → WritesInMemory closed old new bytes (Err fault) → (memory_fault fault ≡ OutOfMemory) ⊎ ((memory_fault fault ≡ Limit Offset) × IsFull old (length bytes))
+fails_in_memory closed old new bytes fault unclosed h = by fault refl
+  where
+    failure : Result (Unit {0}) Fault
+    failure = Err fault
+
+    inside : failure ≡ Err OutOfMemory → fault ≡ OutOfMemory
+    inside is = cc
+
+    only : (¬ (fault ≡ OutOfMemory)) → (memory_fault fault ≡ OutOfMemory) ⊎ ((memory_fault fault ≡ Limit Offset) × IsFull old (length bytes))
+    only other =
+        let writes = h.writes unclosed (λ is. other (inside is)) in
+        ⊎_elim (λ (is : fault ≡ Write). inl (ap memory_fault is)) (λ (is : fault ≡ Limit Offset). inr (ap memory_fault is, writes.limit (ap (λ (e : Fault). Err e) is))) writes.only
+
+    by : (f : Fault) → f ≡ fault → (memory_fault fault ≡ OutOfMemory) ⊎ ((memory_fault fault ≡ Limit Offset) × IsFull old (length bytes))
+    by OutOfMemory is = inl (ap memory_fault (sym is))
+    by Write is = inl (ap memory_fault (sym is))
+    by SerializerClosed is = only (λ e. absurd (cc))
+    by IndexerFailed is = only (λ e. absurd (cc))
+    by (UnsupportedLeaf kind) is = only (λ e. absurd (cc))
+    by DecreasingPosition is = only (λ e. absurd (cc))
+    by (Limit name) is = only (λ e. absurd (cc))
+    by (Damaged part) is = only (λ e. absurd (cc))
+
+-- a writer without output has no room only for a file that is too long
+fresh_full : (w : CountingWriterState) (n : ℕ) → w.written_bytes ≡ 0 → w.failed_calls ≡ 0 → IsFull w n → 2 ^ 64 ≤ n
+fresh_full w n none whole full = ⊎_elim (λ many. omega (arith, many, none)) (λ failed. omega (arith, failed, whole)) full
+
+pub norms_fault : (entries : List SchemaEntry) (ss : List MergeSourceState) (w : CountingWriterState) (e : Fault) → w.written_bytes ≡ 0 → w.failed_calls ≡ 0
+    → (e ≡ OutOfMemory) ⊎ ((e ≡ Limit Offset) × IsFull w (length (merged_norm_bytes entries ss))) ⊎ ((e ≡ Damaged FieldNorms) × ¬ HaveNorms entries ss) → IsNormsFault entries ss e
+norms_fault entries ss w e none whole (inl memory) = inl memory
+norms_fault entries ss w e none whole (inr (inl limit)) = inr (inl (limit.0, fresh_full w (length (merged_norm_bytes entries ss)) none whole limit.1))
+norms_fault entries ss w e none whole (inr (inr damaged)) = inr (inr damaged)
+
+-- why the table of norms can't be written to memory
+pub table_fails : (entries : List SchemaEntry) (ss : List MergeSourceState) (w new : CountingWriterState) (c : CompositeWriteState) (fault : Fault) → w.written_bytes ≡ 0 → w.failed_calls ≡ 0 → HasBodies w c (merged_norm_file entries ss) → c.closed ≡ false
+    → WritesUnlessClosed c.closed c.writer new (table_bytes (places_of c)) (Err fault) → IsNormsFault entries ss (memory_fault fault)
+table_fails entries ss w new c fault none whole has unclosed h =
+    let writes = h.writes unclosed in
+    ⊎_elim (λ (is : fault ≡ Write). inl (ap memory_fault is))
+    (λ (is : fault ≡ Limit Offset). inr (inl (ap memory_fault is, fresh_full w (length (merged_norm_bytes entries ss)) none whole (table_full w c (merged_norm_file entries ss) has (writes.limit (ap (λ (e : Fault). Err e) is)))))) writes.only
 
 -- ---- the first field and the last
 pub starts_none : (c : CompositeWriteState) → c.starts ≡ [] → StartsBelow 0 c
@@ -259,9 +320,6 @@ pub in_memory_written : (old new : CountingWriterState) (bodies : List Body) (by
 in_memory_written old new bodies bytes empty now h =
     subst (λ (o : Option (List ℕ)). Appends o (Some bytes) (written_composite bodies)) empty (subst (λ (o : Option (List ℕ)). Appends old.contents o (written_composite bodies)) now h.wrote.appends)
 
-pub begun : (w : CountingWriterState) → HasBodies w (record { writer = w; base = w.written_bytes; starts = []; closed = false }) []
-begun w = record { writer = wrote_nothing w; base = refl; starts = refl }
-
 -- ---- the norms that were written
 living_length : (alive : List Bool) → length (living_docs alive) ≡ num_living alive
 living_length alive = sym (length-map (living_docs alive) (λ (d : ℕ). 0 + rank alive d)) ∙ ap length (ranks_of_living 0 alive) ∙ length-range_with_len 0 (num_living alive)
@@ -282,7 +340,7 @@ norms_of_living entries ss bodies are field =
     by false = tt
 
 -- segments that hold tokens have norms
-norms_there : (entries : List SchemaEntry) (field : ℕ) (ss : List MergeSourceState) (gs : List Segment) → has_norms entries field ≡ true → MergeSourcesHold entries ss gs → AllByRecursion (HasNorms field) ss
+norms_there : (entries : List SchemaEntry) (field : ℕ) (ss : List MergeSourceState) (gs : List Segment) → has_norms entries field ≡ true → MergeSourcesHold entries ss gs → AllByRecursion (HasAllNorms field) ss
 norms_there entries field [] [] has h = tt
 norms_there entries field [] (g ∷ gs) has h = absurd (h)
 norms_there entries field (s ∷ ss) [] has h = absurd (h)
@@ -291,7 +349,7 @@ norms_there entries field (s ∷ ss) (g ∷ gs) has h = (here, norms_there entri
     at : body_of field s.index.fieldnorms ≡ Some (norm_ids (length g.alive) field g.tokens)
     at = rw has at (h.0.index.norms field)
 
-    here : HasNorms field s
+    here : HasAllNorms field s
     here = subst (λ (o : Option (List ℕ)). IsSomeAnd o (λ ids. length ids ≡ length s.alive)) (sym at)
         (length-map-range_with_len (λ (doc : ℕ). id_of_norm (doc_count doc field g.tokens)) 0 (length g.alive) ∙ ap length (sym h.0.alive))
 
@@ -311,9 +369,9 @@ all_kept P first (e ∷ es) each = rw (kept_first first e (enumerate_from (first
     by false is rest = rest
 
 have_norms : (entries : List SchemaEntry) (ss : List MergeSourceState) (gs : List Segment) → MergeSourcesHold entries ss gs → HaveNorms entries ss
-have_norms entries ss gs h = all_kept (λ (field : ℕ). AllByRecursion (HasNorms field) ss) 0 entries (λ k has. let same : 0 + k ≡ k = omega arith in rw same (norms_there entries k ss gs has h))
+have_norms entries ss gs h = all_kept (λ (field : ℕ). AllByRecursion (HasAllNorms field) ss) 0 entries (λ k has. let same : 0 + k ≡ k = omega arith in rw same (norms_there entries k ss gs has h))
 
-pub norms_undamaged : (entries : List SchemaEntry) (ss : List MergeSourceState) (gs : List Segment) (e : Fault) (part : Part) → (e ≡ OutOfMemory) ⊎ (e ≡ Limit Offset) ⊎ (¬ HaveNorms entries ss) → MergeSourcesHold entries ss gs → ¬ (e ≡ Damaged part)
+pub norms_undamaged : (entries : List SchemaEntry) (ss : List MergeSourceState) (gs : List Segment) (e : Fault) (part : Part) → IsNormsFault entries ss e → MergeSourcesHold entries ss gs → ¬ (e ≡ Damaged part)
 norms_undamaged entries ss gs e part (inl memory) h is = absurd (cc)
-norms_undamaged entries ss gs e part (inr (inl limit)) h is = absurd (cc)
-norms_undamaged entries ss gs e part (inr (inr none)) h is = none (have_norms entries ss gs h)
+norms_undamaged entries ss gs e part (inr (inl limit)) h is = let offset = limit.0 in absurd (cc)
+norms_undamaged entries ss gs e part (inr (inr none)) h is = none.1 (have_norms entries ss gs h)

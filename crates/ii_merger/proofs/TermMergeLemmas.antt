@@ -25,7 +25,7 @@ use Rattle.ii_recorder.proofs.PushLemmas.{writing_pushed}
 use Rattle.ii_postings_writer.proofs.FaultLemmas.{ended_fault, unless_closed}
 use Rattle.ii_postings_writer.specs.WriteFaults.{IsTermFaultAfter}
 use Rattle.ii_segments.specs.Segments.{living_entries}
-use Rattle.ii_merger.specs.MergeSources.{FieldSourceState, damage_or, entries_under, info_in, list_damage, list_under, merged_from, term_damage, total_living}
+use Rattle.ii_merger.specs.MergeSources.{FieldSourceState, damage_or, entries_under, source_info, source_damage, list_under, merged_from, key_damage, living_in_sources}
 use Rattle.ii_merger.specs.MergedField.{IsSoundTerm, IsTermMergeFault, term_of_entries}
 use Rattle.ii_merger.specs.MergedTerm.{HasEntries, IsPushFault, IsReadableEntry, LieBetween, MayStart, Merges, skip_of}
 use Rattle.ii_merger.proofs.ListingLemmas.{large_more}
@@ -38,30 +38,30 @@ module _ (key : List ℕ) (kind : IndexRecordOption) (first : IndexSerializerSta
   pub record IsMergingTerm (rest : List FieldSourceState) (begun : Bool) (base : ℕ) (now : IndexSerializerState) : Type 0 where
     pub done : List Entry
     pub parts : merged_from kind key 0 all ≡ done ++ merged_from kind key base rest
-    pub base_is : base + total_living rest ≡ total_living all
+    pub base_is : base + living_in_sources rest ≡ living_in_sources all
     pub merges : Merges begun key kind first now done
     pub docs : LieBetween 0 base done
     pub readable : AllByRecursion (IsReadableEntry kind) done
-    pub damage : term_damage kind key all ≡ term_damage kind key rest
+    pub damage : key_damage kind key all ≡ key_damage kind key rest
 
   pub merging_none : IsMergingTerm all false 0 first
   merging_none = record { done = []; parts = refl; base_is = omega arith; merges = (refl, refl); docs = omega arith; readable = tt; damage = refl }
 
   -- the living entries of a source
   abbrev pub own : ℕ → FieldSourceState → List Entry
-  own base s = living_entries base s.alive (entries_under kind s (info_in key s))
+  own base s = living_entries base s.alive (entries_under kind s (source_info key s))
 
   module _ (rest : List FieldSourceState) (begun : Bool) (base : ℕ) (now : IndexSerializerState) (h : IsMergingTerm rest begun base now) where
     pub merging_next : (s : FieldSourceState) (more : List FieldSourceState) (b : Bool) (new : IndexSerializerState) → rest ≡ s ∷ more → Merges b key kind first new (h.done ++ own base s) → LieBetween base (base + num_living s.alive) (own base s)
-        → AllByRecursion (IsReadableEntry kind) (own base s) → list_damage kind s.alive (list_under kind s (info_in key s)) ≡ None → IsMergingTerm more b (base + num_living s.alive) new
+        → AllByRecursion (IsReadableEntry kind) (own base s) → source_damage kind s.alive (list_under kind s (source_info key s)) ≡ None → IsMergingTerm more b (base + num_living s.alive) new
     merging_next s more b new is merges docs readable none = record {
       done = h.done ++ own base s;
       parts = h.parts ∙ ap (λ (ss : List FieldSourceState). h.done ++ merged_from kind key base ss) is ∙ sym (append_assoc h.done (own base s) (merged_from kind key (base + num_living s.alive) more));
-      base_is = omega (arith, h.base_is, ap total_living is);
+      base_is = omega (arith, h.base_is, ap living_in_sources is);
       merges = merges;
       docs = between_both 0 base (base + num_living s.alive) h.done (own base s) h.docs docs;
       readable = all_both (IsReadableEntry kind) h.done (own base s) h.readable readable;
-      damage = h.damage ∙ ap (term_damage kind key) is ∙ ap (λ (d : Option Part). damage_or d (term_damage kind key more)) none;
+      damage = h.damage ∙ ap (key_damage kind key) is ∙ ap (λ (d : Option Part). damage_or d (key_damage kind key more)) none;
     }
 
     pub merging_all : rest ≡ [] → merged_from kind key 0 all ≡ h.done
@@ -70,7 +70,7 @@ module _ (key : List ℕ) (kind : IndexRecordOption) (first : IndexSerializerSta
     -- What is known once all sources were merged.
     pub sound_term : rest ≡ [] → (kind ≡ first.field.term.mode) ⊎ (kind ≡ Basic) → base ≤ TERMINATED → IsSoundTerm kind all key
     sound_term none which low = record {
-      sound = h.damage ∙ ap (term_damage kind key) none;
+      sound = h.damage ∙ ap (key_damage kind key) none;
       readable = λ some. subst (AreReadable kind) (sym (merging_all none)) (by begun h.merges (subst (λ (es : List Entry). 0 < length es) (merging_all none) some));
     }
       where
@@ -84,10 +84,10 @@ module _ (key : List ℕ) (kind : IndexRecordOption) (first : IndexSerializerSta
 
     -- the lists of a source can't be merged
     pub merging_fault : (s : FieldSourceState) (more : List FieldSourceState) (e : Fault) (initial : IndexBodiesState) (tokens : ℕ) (norms : Option Norms) (ts : List WrittenTerm) → rest ≡ s ∷ more → (kind ≡ first.field.term.mode) ⊎ (kind ≡ Basic)
-        → IsPushFault (list_damage kind s.alive (list_under kind s (info_in key s))) (skip_of first.field.term.mode kind) kind (h.done ++ own base s) e → IsTermMergeFault kind key all initial first.field.term.mode tokens norms ts e
+        → IsPushFault (source_damage kind s.alive (list_under kind s (source_info key s))) (skip_of first.field.term.mode kind) kind (h.done ++ own base s) e → IsTermMergeFault kind key all initial first.field.term.mode tokens norms ts e
     merging_fault s more e initial tokens norms ts is which (inl damaged) = inl (record {
       part = damaged.part;
-      is = h.damage ∙ ap (term_damage kind key) is ∙ ap (λ (d : Option Part). damage_or d (term_damage kind key more)) damaged.is;
+      is = h.damage ∙ ap (key_damage kind key) is ∙ ap (λ (d : Option Part). damage_or d (key_damage kind key more)) damaged.is;
       reported = damaged.reported;
     })
     merging_fault s more e initial tokens norms ts is which (inr (inl memory)) = inr (inl memory)

@@ -20,7 +20,7 @@ use Rattle.ii_postings_writer.specs.WriteFaults.{IsFaultBy}
 use Rattle.ii_recorder.specs.IndexBodies.{IndexBodiesState, OneIsFull}
 use Rattle.ii_recorder.specs.Terms.{WrittenTerm, field_bodies}
 use Rattle.ii_segments.specs.Segments.{Segment, is_living}
-use Rattle.ii_merger.specs.MergeSources.{FieldSourceState, count_damage, damage_or, entries_damage, entry_damage, info_in, list_damage, list_under, term_damage}
+use Rattle.ii_merger.specs.MergeSources.{FieldSourceState, count_damage, damage_or, entries_damage, entry_damage, source_info, source_damage, list_under, key_damage}
 use Rattle.ii_merger.specs.MergedField.{AreMergedKeys, IsKeyFault, IsMergedFieldFault, IsTermMergeFault, kind_under, merged_terms}
 use Rattle.ii_merger.specs.SourcesHold.{SourceHolds, SourcesHold}
 use Rattle.ii_merger.proofs.FieldLemmas.{IsFieldEntry, cut_are, held_list}
@@ -49,19 +49,19 @@ module _ (entries : List SchemaEntry) (field : ℕ) (entry : SchemaEntry) (is_en
   abbrev kind : IndexRecordOption
   kind = kind_under entry key
 
-  source_undamaged : (source : FieldSourceState) (s : Segment) → SourceHolds entries field source s → list_damage kind source.alive (list_under kind source (info_in key source)) ≡ None
+  source_undamaged : (source : FieldSourceState) (s : Segment) → SourceHolds entries field source s → source_damage kind source.alive (list_under kind source (source_info key source)) ≡ None
   source_undamaged source s h =
       let es = grouped (tokens_at field key s.tokens) in
-      ap (list_damage kind source.alive) (held_list entries field key kind source s h)
+      ap (source_damage kind source.alive) (held_list entries field key kind source s h)
       ∙ ap (entries_damage kind source.alive) (cut_are entries field entry is_entry s.tokens h.tokens.typed key)
       ∙ ap (λ (alive : List Bool). entries_damage kind alive (map (cut_entry kind) es)) h.alive
       ∙ all_undamaged kind s.alive es (grouped_counted (tokens_at field key s.tokens)) (grouped_below (length s.alive) (tokens_at field key s.tokens) (filter_below (length s.alive) (is_at field key) s.tokens h.tokens.below))
 
-  term_undamaged : (sources : List FieldSourceState) (ss : List Segment) → SourcesHold entries field sources ss → term_damage kind key sources ≡ None
+  term_undamaged : (sources : List FieldSourceState) (ss : List Segment) → SourcesHold entries field sources ss → key_damage kind key sources ≡ None
   term_undamaged [] [] hold = refl
   term_undamaged [] (s ∷ ss) hold = absurd (hold)
   term_undamaged (c ∷ cs) [] hold = absurd (hold)
-  term_undamaged (c ∷ cs) (s ∷ ss) hold = ap (λ (d : Option Part). damage_or d (term_damage kind key cs)) (source_undamaged c s hold.0) ∙ term_undamaged cs ss hold.1
+  term_undamaged (c ∷ cs) (s ∷ ss) hold = ap (λ (d : Option Part). damage_or d (key_damage kind key cs)) (source_undamaged c s hold.0) ∙ term_undamaged cs ss hold.1
 
 -- ---- faults
 -- the entry of a field of the schema

@@ -25,8 +25,8 @@ abbrev pub source_of : FieldSource → FieldSourceState
 source_of s = record { reader = s.reader.now; alive = s.alive.now }
 
 -- the info of a key in a source
-abbrev pub info_in : List ℕ → FieldSourceState → Option TermInfo
-info_in key s = info_under key s.reader.terms
+abbrev pub source_info : List ℕ → FieldSourceState → Option TermInfo
+source_info key s = info_under key s.reader.terms
 
 -- the list of a term in a source, as far as it is requested, or its first corrupt part; it is empty if there is no such term
 abbrev pub list_under : IndexRecordOption → FieldSourceState → Option TermInfo → Result (List Entry) Part
@@ -40,12 +40,12 @@ entries_under kind s info = result_unwrap_or (list_under kind s info) []
 -- the entries of a key in sources, those of the living documents, given the number of the first one
 abbrev pub merged_from : IndexRecordOption → List ℕ → ℕ → List FieldSourceState → List Entry
 merged_from kind key base [] = []
-merged_from kind key base (s ∷ ss) = living_entries base s.alive (entries_under kind s (info_in key s)) ++ merged_from kind key (base + num_living s.alive) ss
+merged_from kind key base (s ∷ ss) = living_entries base s.alive (entries_under kind s (source_info key s)) ++ merged_from kind key (base + num_living s.alive) ss
 
 -- the number of living documents of sources
-abbrev pub total_living : List FieldSourceState → ℕ
-total_living [] = 0
-total_living (s ∷ ss) = num_living s.alive + total_living ss
+abbrev pub living_in_sources : List FieldSourceState → ℕ
+living_in_sources [] = 0
+living_in_sources (s ∷ ss) = num_living s.alive + living_in_sources ss
 
 -- the part of an entry that is damaged, if its term frequency is 0, or it has another number of positions
 abbrev pub count_damage : IndexRecordOption → ℕ → ℕ → Option Part
@@ -72,14 +72,14 @@ entries_damage kind alive [] = None
 entries_damage kind alive (e ∷ es) = damage_or (entry_damage kind alive e) (entries_damage kind alive es)
 
 -- the corrupt part of a list, or the damaged part of its entries
-abbrev pub list_damage : IndexRecordOption → List Bool → Result (List Entry) Part → Option Part
-list_damage kind alive (Ok es) = entries_damage kind alive es
-list_damage kind alive (Err part) = Some part
+abbrev pub source_damage : IndexRecordOption → List Bool → Result (List Entry) Part → Option Part
+source_damage kind alive (Ok es) = entries_damage kind alive es
+source_damage kind alive (Err part) = Some part
 
 -- the first damaged part of a key in sources
-abbrev pub term_damage : IndexRecordOption → List ℕ → List FieldSourceState → Option Part
-term_damage kind key [] = None
-term_damage kind key (s ∷ ss) = damage_or (list_damage kind s.alive (list_under kind s (info_in key s))) (term_damage kind key ss)
+abbrev pub key_damage : IndexRecordOption → List ℕ → List FieldSourceState → Option Part
+key_damage kind key [] = None
+key_damage kind key (s ∷ ss) = damage_or (source_damage kind s.alive (list_under kind s (source_info key s))) (key_damage kind key ss)
 
 -- A fault is that of a damaged part.
 pub record IsDamageOf (damage : Option Part) (fault : Fault) : Type 0 where
@@ -88,5 +88,5 @@ pub record IsDamageOf (damage : Option Part) (fault : Fault) : Type 0 where
   pub reported : fault ≡ Damaged part
 
 -- whether a source has a key
-abbrev pub has_term : List ℕ → FieldSourceState → Bool
-has_term key s = is_some (info_in key s)
+abbrev pub source_has_key : List ℕ → FieldSourceState → Bool
+source_has_key key s = is_some (source_info key s)

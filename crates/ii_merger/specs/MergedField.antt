@@ -19,7 +19,7 @@ use Rattle.ii_recorder.specs.Pushed.{AreReadable}
 use Rattle.ii_recorder.specs.Terms.{WrittenTerm, field_bodies}
 use Rattle.ii_recorder.specs.TokenTerms.{entries_term}
 use Rattle.ii_postings_writer.specs.WriteFaults.{IsTermFaultAfter}
-use Rattle.ii_merger.specs.MergeSources.{FieldSourceState, IsDamageOf, has_term, merged_from, term_damage}
+use Rattle.ii_merger.specs.MergeSources.{FieldSourceState, IsDamageOf, source_has_key, merged_from, key_damage}
 
 -- what a field keeps of the entries of a key: of those of a value only documents
 abbrev pub kind_under : SchemaEntry → List ℕ → IndexRecordOption
@@ -37,24 +37,24 @@ merged_terms norms entry ss keys = flat_map (λ (key : List ℕ). term_of_entrie
 -- Keys ascend, and are exactly those of sources.
 pub record AreMergedKeys (ss : List FieldSourceState) (keys : List (List ℕ)) : Type 0 where
   pub ascending : AreAscending keys
-  pub exact : (key : List ℕ) → list_any (bytes_eq key) keys ≡ list_any (has_term key) ss
+  pub exact : (key : List ℕ) → list_any (bytes_eq key) keys ≡ list_any (source_has_key key) ss
 
 -- The lists of a key are sound, and its living entries can be read back where they are written.
 pub record IsSoundTerm (kind : IndexRecordOption) (ss : List FieldSourceState) (key : List ℕ) : Type 0 where
-  pub sound : term_damage kind key ss ≡ None
+  pub sound : key_damage kind key ss ≡ None
   pub readable : 0 < length (merged_from kind key 0 ss) → AreReadable kind (merged_from kind key 0 ss)
 
 -- Why a term can't be written after `ts`, in a field of `tokens` tokens started after `initial`: a damaged part, or a fault of its writing.
 abbrev pub IsTermMergeFault : IndexRecordOption → List ℕ → List FieldSourceState → IndexBodiesState → IndexRecordOption → ℕ → Option Norms → List WrittenTerm → Fault → Type 0
 IsTermMergeFault kind key ss initial mode tokens norms ts fault =
-    IsDamageOf (term_damage kind key ss) fault ⊎ IsTermFaultAfter initial mode tokens ts (entries_term norms kind key (merged_from kind key 0 ss)) fault
+    IsDamageOf (key_damage kind key ss) fault ⊎ IsTermFaultAfter initial mode tokens ts (entries_term norms kind key (merged_from kind key 0 ss)) fault
 
 -- Why the terms of sources can't be written: a term can't be, after those of lesser keys, which are sound.
 pub record IsKeyFault (entry : SchemaEntry) (ss : List FieldSourceState) (initial : IndexBodiesState) (tokens : ℕ) (norms : Option Norms) (fault : Fault) : Type 0 where
   pub keys : List (List ℕ)
   pub key : List ℕ
   pub ascending : AreAscending (keys ++ key ∷ [])
-  pub known : list_any (has_term key) ss ≡ true
+  pub known : list_any (source_has_key key) ss ≡ true
   pub sound : AllByRecursion (λ (k : List ℕ). IsSoundTerm (kind_under entry k) ss k) keys
   pub cause : IsTermMergeFault (kind_under entry key) key ss initial entry.option tokens norms (merged_terms norms entry ss keys) fault
 

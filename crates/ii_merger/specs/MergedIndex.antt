@@ -1,10 +1,11 @@
 -- An index, merged from segments.
-use Rattle.std.specs.Prelude.{◌≡◌, ℕ, ◌+◌, ◌<◌, ◌≤◌, Bool, IfSome, List, [], ◌∷◌, length, map, nat_lt, ◌==◌, slice_get, Option, unwrap_or}
-use Rattle.std.specs.List.{AllByRecursion, AllZip, list_any}
+use Rattle.std.specs.Prelude.{◌≡◌, ℕ, ◌+◌, ◌<◌, ◌≤◌, ◌-◌, ◌^◌, Bool, false, IfSome, List, [], ◌∷◌, filter, length, map, nat_lt, ◌==◌, slice_get, slice_index, OnOk, Option, Result, Some, unwrap_or}
+use Rattle.std.specs.List.{AllByRecursion, AllZip, list_any, range_with_len}
 use Rattle.std.specs.Option.{option_map}
 use Rattle.ii_io.specs.Composite.{Body, body_of}
 use Rattle.ii_io.specs.CompositeWrite.{CompositeWriteState, HasBodies}
 use Rattle.ii_io.specs.declared.composite_file.place.BodyStart.{BodyStart}
+use Rattle.ii_io.specs.declared.faults.Fault.{Fault}
 use Rattle.ii_alive.specs.Alive.{num_living}
 use Rattle.ii_fieldnorm.specs.Readers.{Norms, norms_of_ids}
 use Rattle.ii_base.specs.Schema.{SchemaEntry}
@@ -15,10 +16,13 @@ use Rattle.ii_definitions.specs.Tokens.{IndexToken}
 use Rattle.ii_reader.specs.InvertedIndexReader.{reader_of_none}
 use Rattle.ii_reader.specs.OpenIndex.{IndexHolds, OpenIndexState}
 use Rattle.ii_base.specs.declared.schema.index_record_option.IndexRecordOption.TheVariants.{Basic}
-use Rattle.ii_recorder.specs.IndexBodies.{IndexBodiesState}
-use Rattle.ii_recorder.specs.Terms.{FieldBodies}
+use Rattle.ii_base.specs.declared.doc_id.TheConstants.{TERMINATED}
+use Rattle.ii_recorder.specs.IndexBodies.{AllGrow, CountsFailures, IndexBodiesState}
+use Rattle.ii_recorder.specs.IndexSerializer.{IndexSerializerState}
+use Rattle.ii_recorder.specs.Terms.{FieldBodies, field_bodies}
 use Rattle.ii_segments.specs.Segments.{AreSegmentTokens, Segment}
 use Rattle.ii_merger.specs.MergeSources.{FieldSourceState}
+use Rattle.ii_merger.specs.MergedField.{AreMergedKeys, IsMergedFieldFault, merged_terms}
 use Rattle.ii_merger.specs.declared.merge_source.MergeSource.{MergeSource}
 
 -- a segment: its open files, and which documents are alive
@@ -27,8 +31,8 @@ pub record MergeSourceState : Type 0 where
   pub alive : List Bool
 
 -- the model of a borrowed segment
-abbrev pub segment_of : MergeSource → MergeSourceState
-segment_of s = record { index = s.index.now; alive = s.alive.now }
+abbrev pub opened_segment : MergeSource → MergeSourceState
+opened_segment s = record { index = s.index.now; alive = s.alive.now }
 
 -- a field of a segment
 abbrev pub field_of_segment : ℕ → MergeSourceState → FieldSourceState
@@ -78,25 +82,83 @@ pub record MergedPart : Type 0 where
   pub bodies : FieldBodies
 
 -- the body of a field in each of the three files
-abbrev pub terms_of : MergedPart → Body
-terms_of p = record { field = p.field; bytes = p.bodies.terms }
+abbrev pub terms_body_of : MergedPart → Body
+terms_body_of p = record { field = p.field; bytes = p.bodies.terms }
 
-abbrev pub postings_of : MergedPart → Body
-postings_of p = record { field = p.field; bytes = p.bodies.postings }
+abbrev pub postings_body_of : MergedPart → Body
+postings_body_of p = record { field = p.field; bytes = p.bodies.postings }
 
-abbrev pub positions_of_part : MergedPart → Body
-positions_of_part p = record { field = p.field; bytes = p.bodies.positions }
+abbrev pub positions_body_of : MergedPart → Body
+positions_body_of p = record { field = p.field; bytes = p.bodies.positions }
 
 -- whether a field has bodies
 abbrev pub has_part : ℕ → List MergedPart → Bool
 has_part field parts = list_any (λ (p : MergedPart). p.field == field) parts
 
+-- what is merged: the fields of the schema, their numbers of tokens, the norms of the living documents, and the segments
+pub record Merging : Type 0 where
+  pub entries : List SchemaEntry
+  pub num_tokens : List ℕ
+  pub norms : List Body
+  pub segments : List MergeSourceState
+
+-- Segments may be merged: they have the fields of the schema, few documents, and norms for each.
+pub record MayBeMerged (entries : List SchemaEntry) (norms : List Body) (ss : List MergeSourceState) : Type 0 where
+  pub many : length entries < 2 ^ 32 - 1
+  pub fields : AllByRecursion (λ (s : MergeSourceState). length s.index.readers ≡ length entries) ss
+  pub few : all_living ss ≤ TERMINATED
+  pub norms : AreNormsOf (all_living ss) norms
+
+-- How a call that writes complete fields ends: entries stay, a writer's failure counts once, and output is kept.
+pub record EndsFields (old new : IndexSerializerState) (result : Result (Unit {0}) Fault) : Type 0 where
+  pub entries : new.entries ≡ old.entries
+  pub unclosed : OnOk result (new.closed ≡ false)
+  pub failures : CountsFailures old.bodies new.bodies result
+  pub grow : AllGrow old.bodies new.bodies
+
+-- the fields below n that have tokens
+abbrev pub fields_with_tokens : Merging → ℕ → List ℕ
+fields_with_tokens m n = filter (λ (field : ℕ). nat_lt 0 (slice_index m.num_tokens field)) (range_with_len 0 n)
+
+-- The bodies of a field are those of the terms that its living documents have.
+pub record IsMergedPart (m : Merging) (p : MergedPart) : Type 0 where
+  pub entry : SchemaEntry
+  pub is : slice_get m.entries p.field ≡ Some entry
+  pub keys : List (List ℕ)
+  pub are : AreMergedKeys (field_sources p.field m.segments) keys
+  pub bodies : p.bodies ≡ field_bodies entry.option (slice_index m.num_tokens p.field) (merged_terms (norms_of_field m.norms p.field) entry (field_sources p.field m.segments) keys)
+
+-- The fields below n that have tokens, in ascending order, each with its bodies.
+pub record AreMergedParts (m : Merging) (n : ℕ) (parts : List MergedPart) : Type 0 where
+  pub fields : map (λ (p : MergedPart). p.field) parts ≡ fields_with_tokens m n
+  pub are : AllByRecursion (IsMergedPart m) parts
+
+-- Exactly these parts were written to the three files.
+pub record HasParts (initial now : IndexBodiesState) (parts : List MergedPart) : Type 0 where
+  pub terms : HasBodies initial.terms.writer now.terms (map terms_body_of parts)
+  pub postings : HasBodies initial.postings.writer now.postings (map postings_body_of parts)
+  pub positions : HasBodies initial.positions.writer now.positions (map positions_body_of parts)
+
+-- The fields below n were written, whatever the segments hold.
+pub record WroteFieldsBelow (m : Merging) (initial now : IndexBodiesState) (n : ℕ) : Type 0 where
+  pub parts : List MergedPart
+  pub are : AreMergedParts m n parts
+  pub has : HasParts initial now parts
+
+-- Why the fields of segments can't be written: one of them can't be, after those before it.
+pub record IsFieldsFault (m : Merging) (initial : IndexBodiesState) (fault : Fault) : Type 0 where
+  pub field : ℕ
+  pub some : 0 < slice_index m.num_tokens field
+  pub before : IndexBodiesState
+  pub wrote : WroteFieldsBelow m initial before field
+  pub cause : IsMergedFieldFault m.entries field (slice_index m.num_tokens field) (norms_of_field m.norms field) (field_sources field m.segments) before fault
+
 -- Of the fields below n exactly those with tokens were written, and hold these.
 pub record HasMergedFields (entries : List SchemaEntry) (initial now : IndexBodiesState) (n : ℕ) (ts : List IndexToken) : Type 0 where
   pub parts : List MergedPart
   pub below : AllByRecursion (λ (p : MergedPart). p.field < n) parts
-  pub terms : HasBodies initial.terms.writer now.terms (map terms_of parts)
-  pub postings : HasBodies initial.postings.writer now.postings (map postings_of parts)
-  pub positions : HasBodies initial.positions.writer now.positions (map positions_of_part parts)
+  pub terms : HasBodies initial.terms.writer now.terms (map terms_body_of parts)
+  pub postings : HasBodies initial.postings.writer now.postings (map postings_body_of parts)
+  pub positions : HasBodies initial.positions.writer now.positions (map positions_body_of parts)
   pub present : (field : ℕ) → field < n → has_part field parts ≡ nat_lt 0 (field_count field ts)
   pub holds : AllByRecursion (λ (p : MergedPart). HoldsField (option_of entries p.field) p.field p.bodies.terms p.bodies.postings p.bodies.positions ts) parts

@@ -11,7 +11,7 @@ ghost use Rattle.ii_termdict.specs.Dictionary.{entry_keys};
 ghost use Rattle.ii_termdict.specs.ReadBack.{AreAscending};
 ghost use Rattle.ii_recorder.specs.IndexBodies.{AllGrow, IndexBodiesState, LacksField};
 ghost use Rattle.ii_recorder.specs.IndexSerializer.{EndsWriting, IsWriting};
-ghost use Rattle.ii_merger.specs.MergeSources.{source_of, total_living};
+ghost use Rattle.ii_merger.specs.MergeSources.{source_of, living_in_sources};
 ghost use Rattle.ii_merger.specs.MergedField.{IsFreshField, IsKeyFault, IsMergedFieldFault, WroteMergedField, WroteTerms};
 ghost use Rattle.ii_merger.specs.MergedTerm.{CoversBelow};
 ghost use Rattle.ii_merger.specs.SourcesHold.{SourcesHold, WroteField};
@@ -63,8 +63,8 @@ pub fn merge_field<W: Write>(
     requires schema { schema.now ≡ serializer.old.entries }
     requires known { field < length schema.now }
     requires lacks { serializer.old.closed ≡ false → LacksField field serializer.old.bodies }
-    requires few { total_living (map source_of sources.now) ≤ TERMINATED }
-    requires covered { CoversBelow fieldnorm_reader (total_living (map source_of sources.now)) }
+    requires few { living_in_sources (map source_of sources.now) ≤ TERMINATED }
+    requires covered { CoversBelow fieldnorm_reader (living_in_sources (map source_of sources.now)) }
     ensures wrote { 0 < total_num_tokens → OnOk result (WroteMergedField schema.now field total_num_tokens fieldnorm_reader (map source_of sources.now) serializer.old.bodies serializer.new.bodies) }
     ensures none { total_num_tokens ≡ 0 → (result ≡ Ok tt) × (serializer.new ≡ serializer.old) }
     ensures holds { (ss : List Segment) → SourcesHold schema.now field (map source_of sources.now) ss → total_num_tokens ≡ field_count field (index_tokens ss) → 0 < total_num_tokens
@@ -105,8 +105,8 @@ fn write_field<W: Write>(
     requires schema { schema.now ≡ serializer.old.entries }
     requires known { field < length schema.now }
     requires lacks { serializer.old.closed ≡ false → LacksField field serializer.old.bodies }
-    requires few { total_living (map source_of sources.now) ≤ TERMINATED }
-    requires covered { CoversBelow fieldnorm_reader (total_living (map source_of sources.now)) }
+    requires few { living_in_sources (map source_of sources.now) ≤ TERMINATED }
+    requires covered { CoversBelow fieldnorm_reader (living_in_sources (map source_of sources.now)) }
     ensures wrote { OnOk result (WroteMergedField schema.now field total_num_tokens fieldnorm_reader (map source_of sources.now) serializer.old.bodies serializer.new.bodies) }
     ensures fault { IfErr result (λ e. (e ≡ Fault.SerializerClosed) ⊎ IsMergedFieldFault schema.now field total_num_tokens fieldnorm_reader (map source_of sources.now) serializer.old.bodies e) }
     ensures ends { EndsWriting serializer.old serializer.new result }
@@ -129,8 +129,8 @@ fn merge_all_terms<W: Write>(
     requires between { serializer.old.index.now.field.term_open ≡ false }
     requires fresh { IsFreshField serializer.old.index.now }
     requires mode { serializer.old.index.now.field.term.mode ≡ entry.now.option }
-    requires few { total_living (map source_of sources.now) ≤ TERMINATED }
-    requires covered { CoversBelow serializer.old.index.now.field.term.norms (total_living (map source_of sources.now)) }
+    requires few { living_in_sources (map source_of sources.now) ≤ TERMINATED }
+    requires covered { CoversBelow serializer.old.index.now.field.term.norms (living_in_sources (map source_of sources.now)) }
     ensures same_reference { serializer.new.index.ghost_name ≡ serializer.old.index.ghost_name }
     ensures wrote { (initial : IndexBodiesState) (field tokens : ℕ) (norms : Option Norms) → IsWriting initial serializer.old.index.now field tokens norms [] []
         → OnOk result (WroteTerms entry.now (map source_of sources.now) initial serializer.new.index.now field tokens norms) }

@@ -1,14 +1,13 @@
-ghost use Rattle.std.specs.Prelude.{◌≡◌, ◌+◌, ◌-◌, ◌<◌, ◌≤◌, ◌⊎◌, ◌^◌, ℕ, List, false, length, map, IfOk, IfErr, OnOk};
-ghost use Rattle.std.specs.List.{AllByRecursion, range_with_len};
-ghost use Rattle.ii_base.specs.declared.doc_id.TheConstants.{TERMINATED};
+ghost use Rattle.std.specs.Prelude.{◌≡◌, ◌<◌, ◌⊎◌, ℕ, List, false, length, map, slice_index, IfOk, IfErr, OnOk};
+ghost use Rattle.std.specs.List.{AllByRecursion};
 ghost use Rattle.ii_io.specs.Faults.{OnlyMemory};
 ghost use Rattle.ii_io.specs.declared.faults.Part.{Part};
 ghost use Rattle.ii_definitions.specs.Postings.{field_count};
 ghost use Rattle.ii_segments.specs.Segments.{Segment, index_tokens};
-ghost use Rattle.ii_recorder.specs.IndexBodies.{AllGrow, CountsFailures};
 ghost use Rattle.ii_merger.specs.MergeSources.{source_of};
 ghost use Rattle.ii_merger.specs.MergedField.{IsMergedFieldFault, WroteMergedField};
-ghost use Rattle.ii_merger.specs.MergedIndex.{AreNormsOf, FieldsBelow, HasMergedFields, MergeSourcesHold, all_living, field_sources, norms_of_field, segment_of};
+ghost use Rattle.ii_merger.specs.MergedFiles.{AreBegun, num_tokens_by_field};
+ghost use Rattle.ii_merger.specs.MergedIndex.{EndsFields, FieldsBelow, HasMergedFields, IsFieldsFault, MayBeMerged, MergeSourcesHold, WroteFieldsBelow, field_sources, norms_of_field, opened_segment};
 ghost use Rattle.ii_merger.specs.SourcesHold.{WroteField};
 
 use crate::field_merge::merge_field;
@@ -31,19 +30,18 @@ pub(crate) fn merge_fields<W: Write>(
 ) -> Result<(), Fault>
     requires schema { schema.now ≡ serializer.old.entries }
     requires open { serializer.old.closed ≡ false }
-    requires fresh { FieldsBelow 0 serializer.old.bodies }
-    requires many { length schema.now < 2 ^ 32 - 1 }
-    requires fields { AllByRecursion (λ s. length s.index.readers ≡ length schema.now) (map segment_of sources.now) }
+    requires begun { AreBegun serializer.old.bodies }
+    requires may { MayBeMerged schema.now norms.now (map opened_segment sources.now) }
     requires counts { length num_tokens.now ≡ length schema.now }
-    requires few { all_living (map segment_of sources.now) ≤ TERMINATED }
-    requires norms { AreNormsOf (all_living (map segment_of sources.now)) norms.now }
-    ensures holds { (ss : List Segment) → MergeSourcesHold schema.now (map segment_of sources.now) ss → num_tokens.now ≡ map (λ field. field_count field (index_tokens ss)) (range_with_len 0 (length schema.now))
-        → HasMergedFields schema.now serializer.old.bodies serializer.old.bodies 0 (index_tokens ss) → OnOk result (HasMergedFields schema.now serializer.old.bodies serializer.new.bodies (length schema.now) (index_tokens ss)) }
-    ensures undamaged { (ss : List Segment) → MergeSourcesHold schema.now (map segment_of sources.now) ss → IfErr result (λ e. (part : Part) → ¬ (e ≡ Fault.Damaged part)) }
-    ensures entries { serializer.new.entries ≡ serializer.old.entries }
-    ensures open { OnOk result (serializer.new.closed ≡ false) }
-    ensures failures { CountsFailures serializer.old.bodies serializer.new.bodies result }
-    ensures grow { AllGrow serializer.old.bodies serializer.new.bodies }
+    ensures wrote { OnOk result (WroteFieldsBelow (record { entries = schema.now; num_tokens = num_tokens.now; norms = norms.now; segments = map opened_segment sources.now }) serializer.old.bodies serializer.new.bodies (length schema.now)) }
+    ensures holds { (ss : List Segment) → MergeSourcesHold schema.now (map opened_segment sources.now) ss → num_tokens.now ≡ num_tokens_by_field (length schema.now) (index_tokens ss)
+        → OnOk result (HasMergedFields schema.now serializer.old.bodies serializer.new.bodies (length schema.now) (index_tokens ss)) }
+
+    // The outcomes, and which errors it returns.
+    ensures fault { IfErr result (λ e. (e ≡ Fault.OutOfMemory)
+        ⊎ IsFieldsFault (record { entries = schema.now; num_tokens = num_tokens.now; norms = norms.now; segments = map opened_segment sources.now }) serializer.old.bodies e) }
+    ensures undamaged { (ss : List Segment) → MergeSourcesHold schema.now (map opened_segment sources.now) ss → IfErr result (λ e. (part : Part) → ¬ (e ≡ Fault.Damaged part)) }
+    ensures ends { EndsFields serializer.old serializer.new result }
 {
     for place in 0..num_tokens.len() {
         let field = Field::from_field_id(place as u32);
@@ -77,22 +75,17 @@ fn add_field<W: Write>(
     requires known { field < length schema.now }
     requires open { serializer.old.closed ≡ false }
     requires below { FieldsBelow field serializer.old.bodies }
-    requires many { length schema.now < 2 ^ 32 - 1 }
-    requires fields { AllByRecursion (λ s. length s.index.readers ≡ length schema.now) (map segment_of sources.now) }
-    requires few { all_living (map segment_of sources.now) ≤ TERMINATED }
-    requires norms { AreNormsOf (all_living (map segment_of sources.now)) norms.now }
+    requires may { MayBeMerged schema.now norms.now (map opened_segment sources.now) }
     ensures none { total_num_tokens ≡ 0 → OnOk result (serializer.new.bodies ≡ serializer.old.bodies) }
-    ensures holds { (ss : List Segment) → MergeSourcesHold schema.now (map segment_of sources.now) ss → total_num_tokens ≡ field_count field (index_tokens ss) → 0 < total_num_tokens
+    ensures wrote { 0 < total_num_tokens → OnOk result (WroteMergedField schema.now field total_num_tokens (norms_of_field norms.now field) (field_sources field (map opened_segment sources.now)) serializer.old.bodies serializer.new.bodies) }
+    ensures holds { (ss : List Segment) → MergeSourcesHold schema.now (map opened_segment sources.now) ss → total_num_tokens ≡ field_count field (index_tokens ss) → 0 < total_num_tokens
         → OnOk result (WroteField schema.now serializer.old.bodies serializer.new.bodies field (index_tokens ss)) }
-    ensures below { OnOk result (FieldsBelow (field + 1) serializer.new.bodies) }
 
     // The outcomes, and which errors it returns.
-    ensures fault { IfErr result (λ e. (e ≡ Fault.OutOfMemory) ⊎ IsMergedFieldFault schema.now field total_num_tokens (norms_of_field norms.now field) (field_sources field (map segment_of sources.now)) serializer.old.bodies e) }
-    ensures undamaged { (ss : List Segment) → MergeSourcesHold schema.now (map segment_of sources.now) ss → IfErr result (λ e. (part : Part) → ¬ (e ≡ Fault.Damaged part)) }
-    ensures entries { serializer.new.entries ≡ serializer.old.entries }
-    ensures open { OnOk result (serializer.new.closed ≡ false) }
-    ensures failures { CountsFailures serializer.old.bodies serializer.new.bodies result }
-    ensures grow { AllGrow serializer.old.bodies serializer.new.bodies }
+    ensures fault { IfErr result (λ e. (e ≡ Fault.OutOfMemory)
+        ⊎ ((0 < total_num_tokens) × IsMergedFieldFault schema.now field total_num_tokens (norms_of_field norms.now field) (field_sources field (map opened_segment sources.now)) serializer.old.bodies e)) }
+    ensures undamaged { (ss : List Segment) → MergeSourcesHold schema.now (map opened_segment sources.now) ss → IfErr result (λ e. (part : Part) → ¬ (e ≡ Fault.Damaged part)) }
+    ensures ends { EndsFields serializer.old serializer.new result }
 {
     let fields = match field_sources(alloc, field, sources) {
         Ok(fields) => fields,
@@ -119,8 +112,8 @@ fn field_sources<'a>(
     field: Field,
     sources: &[MergeSource<'a>],
 ) -> Result<Vec<FieldSource<'a>>, Fault>
-    requires fields { AllByRecursion (λ s. field < length s.index.readers) (map segment_of sources.now) }
-    ensures ok { IfOk result (λ fields. map source_of fields.items ≡ field_sources field (map segment_of sources.now)) }
+    requires fields { AllByRecursion (λ s. field < length s.index.readers) (map opened_segment sources.now) }
+    ensures ok { IfOk result (λ fields. map source_of fields.items ≡ field_sources field (map opened_segment sources.now)) }
     ensures only { OnlyMemory result }
 {
     let mut fields = Vec::new(alloc);

@@ -10,11 +10,10 @@ mod merging;
 pub mod norms;
 mod pushing;
 pub mod segment_merge;
-pub mod segment_writers;
 
 pub use field_merge::merge_field;
 pub use field_source::FieldSource;
+pub use ii_indexing::IndexWriters;
 pub use merge_source::MergeSource;
 pub use norms::merge_norms;
 pub use segment_merge::merge;
-pub use segment_writers::SegmentWriters;

@@ -11,7 +11,7 @@ ghost use Rattle.ii_termdict.specs.ReadBack.{AreAscending};
 ghost use Rattle.ii_recorder.specs.IndexBodies.{AllGrow, IndexBodiesState};
 ghost use Rattle.ii_recorder.specs.IndexSerializer.{EndsInMemory, EndsWriting, IndexSerializerState, IsInField, IsWriting};
 ghost use Rattle.ii_recorder.specs.Terms.{WrittenTerm};
-ghost use Rattle.ii_merger.specs.MergeSources.{entries_under, info_in, list_damage, list_under, merged_from, source_of, total_living};
+ghost use Rattle.ii_merger.specs.MergeSources.{entries_under, source_info, source_damage, list_under, merged_from, source_of, living_in_sources};
 ghost use Rattle.ii_merger.specs.MergedField.{IsFreshField, IsKeyFault, IsSoundTerm, IsTermMergeFault, WroteTerms, term_of_entries};
 ghost use Rattle.ii_merger.specs.MergedTerm.{CoversBelow, IsPushFault, IsReadableEntry, LieBetween, MayMerge, MayStart, Merges, skip_of};
 
@@ -40,8 +40,8 @@ pub(crate) fn merge_terms<W: Write>(
     requires mode { serializer.old.index.now.field.term.mode ≡ entry.now.option }
     requires terms { terms.old ≡ map (λ s. s.reader.now.terms) sources.now }
     requires ascending { AllByRecursion (λ es. AreAscending (entry_keys es)) terms.old }
-    requires few { total_living (map source_of sources.now) ≤ TERMINATED }
-    requires covered { CoversBelow serializer.old.index.now.field.term.norms (total_living (map source_of sources.now)) }
+    requires few { living_in_sources (map source_of sources.now) ≤ TERMINATED }
+    requires covered { CoversBelow serializer.old.index.now.field.term.norms (living_in_sources (map source_of sources.now)) }
     ensures same_reference { serializer.new.index.ghost_name ≡ serializer.old.index.ghost_name }
     ensures wrote { (initial : IndexBodiesState) (field tokens : ℕ) (norms : Option Norms) → IsWriting initial serializer.old.index.now field tokens norms [] []
         → OnOk result (WroteTerms entry.now (map source_of sources.now) initial serializer.new.index.now field tokens norms) }
@@ -75,9 +75,9 @@ fn merge_term<W: Write>(
     serializer: &mut FieldSerializer<'_, W>,
 ) -> Result<(), Fault>
     requires start { MayStart term.key.now serializer.old.index.now }
-    requires infos { infos.now ≡ map (info_in term.key.now) (map source_of sources.now) }
-    requires few { total_living (map source_of sources.now) ≤ TERMINATED }
-    requires covered { CoversBelow serializer.old.index.now.field.term.norms (total_living (map source_of sources.now)) }
+    requires infos { infos.now ≡ map (source_info term.key.now) (map source_of sources.now) }
+    requires few { living_in_sources (map source_of sources.now) ≤ TERMINATED }
+    requires covered { CoversBelow serializer.old.index.now.field.term.norms (living_in_sources (map source_of sources.now)) }
     requires kind { (term.kind ≡ serializer.old.index.now.field.term.mode) ⊎ (term.kind ≡ Basic) }
     ensures same_reference { serializer.new.index.ghost_name ≡ serializer.old.index.ghost_name }
     ensures writing { (initial : IndexBodiesState) (field tokens : ℕ) (norms : Option Norms) (ts : List WrittenTerm) → IsWriting initial serializer.old.index.now field tokens norms ts []
@@ -121,10 +121,10 @@ fn merge_list<W: Write>(
         → IfOk result (λ b. Merges b term.entry.key.now term.entry.kind old serializer.new.index.now (es ++ living_entries base source.entry.alive.now (entries_under term.entry.kind (source_of source.entry) info.now))) }
     ensures docs { OnOk result (LieBetween base (base + num_living source.entry.alive.now) (living_entries base source.entry.alive.now (entries_under term.entry.kind (source_of source.entry) info.now))) }
     ensures readable { OnOk result (AllByRecursion (IsReadableEntry term.entry.kind) (living_entries base source.entry.alive.now (entries_under term.entry.kind (source_of source.entry) info.now))) }
-    ensures sound { OnOk result (list_damage term.entry.kind source.entry.alive.now (list_under term.entry.kind (source_of source.entry) info.now) ≡ None) }
+    ensures sound { OnOk result (source_damage term.entry.kind source.entry.alive.now (list_under term.entry.kind (source_of source.entry) info.now) ≡ None) }
     ensures ends { EndsInMemory serializer.old.index.now serializer.new.index.now result }
     ensures fault { (old : IndexSerializerState) (es : List Entry) → MayStart term.entry.key.now old → Merges begun term.entry.key.now term.entry.kind old serializer.old.index.now es
-        → IfErr result (IsPushFault (list_damage term.entry.kind source.entry.alive.now (list_under term.entry.kind (source_of source.entry) info.now)) (skip_of old.field.term.mode term.entry.kind) term.entry.kind
+        → IfErr result (IsPushFault (source_damage term.entry.kind source.entry.alive.now (list_under term.entry.kind (source_of source.entry) info.now)) (skip_of old.field.term.mode term.entry.kind) term.entry.kind
         (es ++ living_entries base source.entry.alive.now (entries_under term.entry.kind (source_of source.entry) info.now))) }
 {
     let Some(info) = info else {

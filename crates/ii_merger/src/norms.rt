@@ -3,13 +3,13 @@ ghost use Rattle.std.specs.List.{AllByRecursion};
 ghost use Rattle.ii_base.specs.Schema.{keeps_norms};
 ghost use Rattle.ii_io.specs.Composite.{composite, written_composite};
 ghost use Rattle.ii_io.specs.CompositeWrite.{CompositeWriteState, HasBodies};
-ghost use Rattle.ii_io.specs.CountingWriter.{CountingWriterState};
+ghost use Rattle.ii_io.specs.CountingWriter.{CountingWriterState, IsFull};
 ghost use Rattle.ii_io.specs.Faults.{OnlyMemory};
 ghost use Rattle.ii_fieldnorm.specs.Readers.{id_of_doc};
 ghost use Rattle.ii_definitions.specs.Norms.{HoldNorms};
 ghost use Rattle.ii_segments.specs.Segments.{Segment, index_tokens, living_docs, num_docs_of};
-ghost use Rattle.ii_merger.specs.MergedIndex.{MergeSourcesHold, StartsBelow, segment_of};
-ghost use Rattle.ii_merger.specs.MergedNorms.{AddsNorms, HasNorms, HaveNorms, living_ids, merged_ids, merged_norm_file};
+ghost use Rattle.ii_merger.specs.MergedIndex.{MergeSourcesHold, StartsBelow, opened_segment};
+ghost use Rattle.ii_merger.specs.MergedNorms.{AddsNorms, HasAllNorms, HaveNorms, IsNormsFault, living_ids, merged_ids, merged_norm_bytes, merged_norm_file};
 
 use crate::merge_source::MergeSource;
 use bytes::Bytes;
@@ -33,11 +33,11 @@ pub fn merge_norms(
     sources: &[MergeSource<'_>],
 ) -> Result<Bytes, Fault>
     requires many { length schema.now < 2 ^ 32 - 1 }
-    ensures written { IfOk result (λ bytes. bytes ≡ written_composite (merged_norm_file schema.now (map segment_of sources.now))) }
-    ensures opened { IfOk result (λ bytes. composite bytes ≡ Some (merged_norm_file schema.now (map segment_of sources.now))) }
-    ensures sound { OnOk result (HaveNorms schema.now (map segment_of sources.now)) }
-    ensures holds { (ss : List Segment) → MergeSourcesHold schema.now (map segment_of sources.now) ss → IfOk result (λ bytes. HoldNorms schema.now (num_docs_of ss) bytes (index_tokens ss)) }
-    ensures fault { IfErr result (λ e. (e ≡ Fault.OutOfMemory) ⊎ (e ≡ Fault.Limit LimitName.Offset) ⊎ ((e ≡ Fault.Damaged Part.FieldNorms) × ¬ HaveNorms schema.now (map segment_of sources.now))) }
+    ensures written { IfOk result (λ bytes. bytes ≡ written_composite (merged_norm_file schema.now (map opened_segment sources.now))) }
+    ensures opened { IfOk result (λ bytes. composite bytes ≡ Some (merged_norm_file schema.now (map opened_segment sources.now))) }
+    ensures sound { OnOk result (HaveNorms schema.now (map opened_segment sources.now)) }
+    ensures holds { (ss : List Segment) → MergeSourcesHold schema.now (map opened_segment sources.now) ss → IfOk result (λ bytes. HoldNorms schema.now (num_docs_of ss) bytes (index_tokens ss)) }
+    ensures fault { IfErr result (IsNormsFault schema.now (map opened_segment sources.now)) }
 {
     counts_of_segments();
     let writer = CountingWriter::wrap(Vec::new(alloc));
@@ -62,10 +62,12 @@ fn add_all_norms(
     requires many { length schema.now < 2 ^ 32 - 1 }
     requires open { serializer.old.closed ≡ false }
     requires fresh { serializer.old.starts ≡ [] }
-    ensures adds { (initial : CountingWriterState) → HasBodies initial serializer.old [] → OnOk result (HasBodies initial serializer.new (merged_norm_file schema.now (map segment_of sources.now))) }
-    ensures sound { OnOk result (HaveNorms schema.now (map segment_of sources.now)) }
+    ensures adds { (initial : CountingWriterState) → HasBodies initial serializer.old [] → OnOk result (HasBodies initial serializer.new (merged_norm_file schema.now (map opened_segment sources.now))) }
+    ensures sound { OnOk result (HaveNorms schema.now (map opened_segment sources.now)) }
     ensures open { OnOk result (serializer.new.closed ≡ false) }
-    ensures fault { IfErr result (λ e. (e ≡ Fault.OutOfMemory) ⊎ (e ≡ Fault.Limit LimitName.Offset) ⊎ ((e ≡ Fault.Damaged Part.FieldNorms) × ¬ HaveNorms schema.now (map segment_of sources.now))) }
+    ensures fault { (initial : CountingWriterState) → HasBodies initial serializer.old []
+        → IfErr result (λ e. (e ≡ Fault.OutOfMemory) ⊎ ((e ≡ Fault.Limit LimitName.Offset) × IsFull initial (length (merged_norm_bytes schema.now (map opened_segment sources.now))))
+        ⊎ ((e ≡ Fault.Damaged Part.FieldNorms) × ¬ HaveNorms schema.now (map opened_segment sources.now))) }
 {
     let mut ids = Vec::new(alloc);
     for place in 0..schema.num_fields() {
@@ -89,10 +91,12 @@ fn add_field_norms(
     requires open { serializer.old.closed ≡ false }
     requires below { StartsBelow field serializer.old }
     requires known { field < 2 ^ 32 - 1 }
-    ensures adds { OnOk result (AddsNorms (keeps_norms entry.now) field (merged_ids field (map segment_of sources.now)) serializer.old serializer.new) }
-    ensures sound { OnOk result (keeps_norms entry.now ≡ true → AllByRecursion (HasNorms field) (map segment_of sources.now)) }
+    ensures adds { OnOk result (AddsNorms (keeps_norms entry.now) field (merged_ids field (map opened_segment sources.now)) serializer.old serializer.new) }
+    ensures sound { OnOk result (keeps_norms entry.now ≡ true → AllByRecursion (HasAllNorms field) (map opened_segment sources.now)) }
     ensures open { OnOk result (serializer.new.closed ≡ false) }
-    ensures fault { IfErr result (λ e. (e ≡ Fault.OutOfMemory) ⊎ (e ≡ Fault.Limit LimitName.Offset) ⊎ ((e ≡ Fault.Damaged Part.FieldNorms) × (keeps_norms entry.now ≡ true) × ¬ AllByRecursion (HasNorms field) (map segment_of sources.now))) }
+    ensures fault { IfErr result (λ e. (e ≡ Fault.OutOfMemory)
+        ⊎ ((e ≡ Fault.Limit LimitName.Offset) × (keeps_norms entry.now ≡ true) × IsFull serializer.old.writer (length (merged_ids field (map opened_segment sources.now))))
+        ⊎ ((e ≡ Fault.Damaged Part.FieldNorms) × (keeps_norms entry.now ≡ true) × ¬ AllByRecursion (HasAllNorms field) (map opened_segment sources.now))) }
 {
     if !has_norms(entry) {
         return Ok(());
@@ -116,9 +120,9 @@ fn has_norms(entry: &FieldEntry) -> bool
 
 // Adds the norms of the living documents of all segments in a field.
 fn push_all_norms(field: Field, sources: &[MergeSource<'_>], ids: &mut Vec<u8>) -> Result<(), Fault>
-    ensures ok { OnOk result (ids.new.items ≡ ids.old.items ++ merged_ids field (map segment_of sources.now)) }
-    ensures sound { OnOk result (AllByRecursion (HasNorms field) (map segment_of sources.now)) }
-    ensures fault { IfErr result (λ e. (e ≡ Fault.OutOfMemory) ⊎ ((e ≡ Fault.Damaged Part.FieldNorms) × ¬ AllByRecursion (HasNorms field) (map segment_of sources.now))) }
+    ensures ok { OnOk result (ids.new.items ≡ ids.old.items ++ merged_ids field (map opened_segment sources.now)) }
+    ensures sound { OnOk result (AllByRecursion (HasAllNorms field) (map opened_segment sources.now)) }
+    ensures fault { IfErr result (λ e. (e ≡ Fault.OutOfMemory) ⊎ ((e ≡ Fault.Damaged Part.FieldNorms) × ¬ AllByRecursion (HasAllNorms field) (map opened_segment sources.now))) }
 {
     for place in 0..sources.len() {
         if let Err(fault) = push_norms(field, sources[place], ids) {
@@ -130,9 +134,9 @@ fn push_all_norms(field: Field, sources: &[MergeSource<'_>], ids: &mut Vec<u8>) 
 
 // Adds the norms of the living documents of a segment in a field.
 fn push_norms(field: Field, source: MergeSource<'_>, ids: &mut Vec<u8>) -> Result<(), Fault>
-    ensures ok { OnOk result (ids.new.items ≡ ids.old.items ++ living_ids field (segment_of source.entry)) }
-    ensures sound { OnOk result (HasNorms field (segment_of source.entry)) }
-    ensures fault { IfErr result (λ e. (e ≡ Fault.OutOfMemory) ⊎ ((e ≡ Fault.Damaged Part.FieldNorms) × ¬ HasNorms field (segment_of source.entry))) }
+    ensures ok { OnOk result (ids.new.items ≡ ids.old.items ++ living_ids field (opened_segment source.entry)) }
+    ensures sound { OnOk result (HasAllNorms field (opened_segment source.entry)) }
+    ensures fault { IfErr result (λ e. (e ≡ Fault.OutOfMemory) ⊎ ((e ≡ Fault.Damaged Part.FieldNorms) × ¬ HasAllNorms field (opened_segment source.entry))) }
 {
     let num_docs = source.alive.num_docs();
     let norms = match source.index.get_fieldnorms_reader(field) {

@@ -3,10 +3,10 @@ ghost use Rattle.std.specs.Prelude.{◌≡◌, length, IfOk};
 
 use bytes::Bytes;
 use ii_alive::AliveBits;
-use ii_merger::{MergeSource, SegmentWriters, merge};
+use ii_merger::{MergeSource, merge};
 use nequllpa::{
-    AsciiTokenizer, CountingWriter, DocId, Fault, FieldEntry, IndexRecordOption, IndexWriters,
-    OpenIndex, Schema, ValueType, open_index_with_norms,
+    AsciiTokenizer, DocId, Fault, FieldEntry, IndexRecordOption, IndexWriters, OpenIndex, Schema,
+    ValueType, open_index_with_norms,
 };
 use nequllpa_indexing::Documents;
 use std::alloc::Global;
@@ -133,16 +133,11 @@ fn merged(alloc: Global, row: &Row) -> Result<Files, Fault> {
             alive: &second_alive,
         },
     ];
-    let writers = SegmentWriters {
-        terms: CountingWriter::wrap(Vec::new(alloc)),
-        postings: CountingWriter::wrap(Vec::new(alloc)),
-        positions: CountingWriter::wrap(Vec::new(alloc)),
-        fieldnorms: CountingWriter::wrap(Vec::new(alloc)),
-    };
+    let writers = IndexWriters::in_memory(alloc);
     let (writers, result) = merge(alloc, &schema, &sources, &num_tokens, writers);
     match result {
         Ok(()) => {
-            let SegmentWriters {
+            let IndexWriters {
                 terms,
                 postings,
                 positions,

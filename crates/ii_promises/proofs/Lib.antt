@@ -3,8 +3,10 @@ mod IndexingLaws
 pub mod BoundLaws
 mod DeepLaws
 mod FitLaws
+pub mod FolderLaws
 mod HintLaws
 mod LoadedLaws
+pub mod MergingLaws
 mod OpenedLaws
 mod OpeningLaws
 mod PhraseLaws

@@ -4,12 +4,16 @@ ghost use Rattle.ii_directory.specs.declared.faults.DirectoryFault.TheVariants.{
 ghost use Rattle.ii_directory.specs.declared.name.Kind.{Kind};
 ghost use Rattle.ii_directory.specs.declared.name.Name.TheVariants.{File, Meta, NewMeta};
 ghost use Rattle.ii_directory.specs.Directory.{Files};
+ghost use Rattle.ii_directory.specs.FileSystem.{LeavesOnly};
 ghost use Rattle.ii_directory.specs.Names.{other_slot};
 ghost use Rattle.ii_store.specs.Faults.{of_directory};
 ghost use Rattle.ii_store.specs.Index.{index_of, used_slot, view};
+ghost use Rattle.ii_store.specs.SalvagedIndex.{salvaged_view, sound_index};
 
+use ii_directory::{FileSystem, FlushedDirectory};
+use ii_store::salvaged_index::salvage_of_sound;
 use ii_store::save::{remove_unused, save};
-use ii_store::{Directory, DirectoryFault, StoreFault, StoredIndex, load};
+use ii_store::{Directory, DirectoryFault, SalvagedIndex, StoreFault, StoredIndex, load, salvage};
 use std::alloc::Global;
 
 /// What is saved is loaded, whatever the directory had before.
@@ -51,6 +55,35 @@ pub fn stopped_saves_leave_one_index<D: Directory>(
         → (index_of files ≡ index_of (D.seen directory.old)) ⊎ (index_of files ≡ Ok (view index.now)) }
 {
     save(alloc, directory, index)
+}
+
+/// Once a save has returned, the index isn't lost: whatever a stop leaves then holds it, over any file system of
+/// which a stop may lose what isn't flushed.
+#[tactic(auto, using(crate::proofs::FolderLaws::kept_after))]
+pub fn saved_indexes_are_not_lost<S: FileSystem>(
+    alloc: Global,
+    directory: &mut FlushedDirectory<S>,
+    index: &StoredIndex,
+) -> Result<(), DirectoryFault>
+    requires known { S.is_known directory.old.files }
+    requires flushed { LeavesOnly (S.seen directory.old.files) (S.left_since directory.old.files (S.moment directory.old.files)) }
+    ensures { OnOk result ((files : Files) → S.left_since directory.new.files (S.moment directory.new.files) files → index_of files ≡ Ok (view index.now)) }
+{
+    save(alloc, directory, index)
+}
+
+/// Of an index that was just saved all files are salvaged, without a fault.
+pub fn saved_indexes_are_salvaged<D: Directory>(
+    alloc: Global,
+    directory: &mut D,
+    index: &StoredIndex,
+) -> Result<SalvagedIndex, StoreFault>
+    requires { D.is_known directory.old }
+    ensures { IfOk result (λ salvaged. salvaged_view salvaged ≡ sound_index (view index.now)) }
+{
+    salvage_of_sound();
+    save(alloc, directory, index)?;
+    salvage(alloc, directory)
 }
 
 /// Removing unused files leaves none, and keeps the index, wherever it is stopped.

@@ -12,6 +12,7 @@ pub mod folder;
 pub mod indexing;
 pub mod json_fields;
 pub mod keys;
+pub mod merging;
 pub mod opening;
 pub mod positions;
 pub mod queries;

@@ -1,15 +1,18 @@
 // What query texts find.
-ghost use Rattle.std.specs.Prelude.{◌≡◌, ◌⊎◌, ℕ, List, length, true, IfErr, IfOk, Some};
+ghost use Rattle.std.specs.Prelude.{◌≡◌, ◌≤◌, ◌⊎◌, ℕ, List, length, true, IfErr, IfOk, Some};
 ghost use Rattle.ii_base.specs.Schema.{SchemaEntry};
 ghost use Rattle.ii_docset.specs.Cursor.{IsAscending};
 ghost use Rattle.ii_docset.specs.Intersection.{has_doc};
 ghost use Rattle.ii_definitions.specs.Tokens.{IndexToken};
 ghost use Rattle.ii_reader.specs.OpenIndex.{IndexHolds};
 ghost use Rattle.ii_query_grammar.specs.Parsed.{IsReadAs, parsed};
+ghost use Rattle.ii_query_grammar.specs.Spelling.{has_spelling, nesting};
+ghost use Rattle.ii_query_grammar.specs.Trees.{ast_of};
 ghost use Rattle.ii_query_parser.specs.Queries.{any_of, each_of, has_fields, keeps_positions, no_tree, tree, tree_of};
 ghost use Rattle.ii_query_parser.specs.QueryTexts.{text_matches, text_refusal};
 ghost use Rattle.ii_promises.specs.Texts.{GivesOrTells};
 
+use ii_query_grammar::laws::reads_what_is_spelled;
 use nequllpa::{
     Fault, Field, OpenIndex, ParseError, Query, QueryCursor, QueryParserError, Schema,
     SegmentPostings, TermOrPhrase, TextAnalyzer, UserInputAst, parse, parse_query, search,
@@ -80,4 +83,21 @@ pub fn or_keeps_the_order(alloc: Global, first: Query, other: Query) -> Result<Q
     ensures memory { IfErr result (λ fault. fault ≡ Fault.OutOfMemory) }
 {
     Query::or(alloc, first, other)
+}
+
+/// A tree that can be written, with at most 128 open parentheses, is parsed back from its text. This fails only
+/// with `OutOfMemory`.
+#[tactic(auto, using(crate::proofs::TextLaws::spelled_is_read, crate::proofs::TextLaws::spelled_only_memory))]
+pub fn spelled_trees_are_parsed_back(
+    alloc: Global,
+    written: &UserInputAst,
+) -> Result<UserInputAst, ParseError>
+    requires spelled { has_spelling (ast_of written.now) ≡ true }
+    requires nested { nesting (ast_of written.now) ≤ 128 }
+    ensures read { IfOk result (λ read. ast_of read ≡ ast_of written.now) }
+    ensures only { IfErr result (λ e. e ≡ ParseError.OutOfMemory) }
+{
+    reads_what_is_spelled();
+    let text = written.spell(alloc)?;
+    parse(alloc, &text)
 }

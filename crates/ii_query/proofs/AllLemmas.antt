@@ -7,7 +7,7 @@ use Rattle.ii_base.specs.declared.doc_id.TheConstants.{TERMINATED}
 use Rattle.ii_base.specs.Entries.{Entry}
 use Rattle.ii_docset.specs.Cursor.{doc_at, from_doc, IsAscending, IsSound}
 use Rattle.ii_docset.specs.Intersection.{has_doc}
-use Rattle.ii_docset.proofs.CursorLemmas.{from_doc_here, documents_fit}
+use Rattle.ii_docset.proofs.CursorLemmas.{from_doc_here, ascending_sound}
 use Rattle.ii_query.specs.Combined.{all_from}
 
 -- the first document
@@ -29,7 +29,7 @@ all_ascend doc end up = elim (cases_lt doc end) [
 ]
 
 pub all_sound : (doc end : ℕ) → end ≤ TERMINATED → IsSound (all_from doc (end - doc))
-all_sound doc end up = record { ascending = all_ascend doc end up; fits = documents_fit (range_with_len doc (end - doc)) }
+all_sound doc end up = ascending_sound (range_with_len doc (end - doc)) (all_ascend doc end up)
 
 -- without the first document
 pub all_end : (doc end : ℕ) → end ≤ doc → all_from doc (end - doc) ≡ drop 1 (all_from doc (end - doc))

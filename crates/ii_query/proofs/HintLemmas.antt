@@ -6,7 +6,7 @@ use Rattle.std.specs.Prelude.{IsPermutation, filter, map, nat_le}
 use Rattle.std.specs.List.{AllByRecursion, sum_by}
 use Rattle.ii_base.specs.Entries.{Entry, docs_of, document}
 use Rattle.ii_docset.specs.Cursor.{IsSound, from_doc}
-use Rattle.ii_docset.proofs.CursorLemmas.{length_below}
+use Rattle.ii_docset.proofs.CursorLemmas.{documents_sound, length_below}
 use Rattle.ii_query.specs.Combined.{QueryCursorState, StandsAt, StandsWithin, all_from, either, intersection_of, picked, put_all, put_in, union_of}
 use Rattle.ii_query.specs.Phrase.{PhrasePartState, begins_phrase, phrase_docs}
 use Rattle.ii_query.specs.QueryCursor.{HasLeastHint, LeadsWith, rests, sum_of_hints}
@@ -133,7 +133,7 @@ record IsWithin {T : Type 0} (cs : List (QueryCursorState T)) : Type 0 where
   enough : length (union_of (rests cs)) ≤ hints_to (length cs) cs
 
 within : {T : Type 0} (cs : List (QueryCursorState T)) → HintedTo (length cs) cs → IsWithin cs
-within [] all = record { sound = record { ascending = tt; fits = λ k d none. absurd (omega (arith, none)) }; enough = omega arith }
+within [] all = record { sound = documents_sound [] refl; enough = omega arith }
 within (c ∷ cs) all =
     let later = within cs all.1 in
     let both = either_short c.rest (union_of (rests cs)) in

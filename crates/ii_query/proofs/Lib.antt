@@ -8,6 +8,9 @@ pub mod PartsLemmas
 pub mod PhraseLemmas
 pub mod PhraseSteps
 pub mod PickedLemmas
+pub mod PieceLemmas
+pub mod ReadsLemmas
+pub mod StartLemmas
 pub mod UnionLemmas
 pub mod WorkLemmas
 mod WorkedRows

@@ -6,6 +6,7 @@ use Rattle.std.proofs.lemmas.Bool.{le-leb, lt-leb}
 use Rattle.ii_base.specs.declared.doc_id.TheConstants.{TERMINATED}
 use Rattle.ii_base.specs.Entries.{Entry, docs_of, document}
 use Rattle.ii_docset.specs.Cursor.{IsAscending, IsSound, doc_at, from_doc}
+use Rattle.ii_docset.proofs.CursorLemmas.{documents_sound}
 use Rattle.ii_query.specs.Combined.{QueryCursorState, StandsAt, either, put_all, put_in, union_of}
 use Rattle.ii_query.specs.QueryCursor.{WentTo, cursors_under, depth_over, rests}
 use Rattle.ii_query.specs.WorkLaws.{none_went}
@@ -144,7 +145,7 @@ sound_ends (c ∷ cs) all = (all.0, sound_ends cs all.1)
 
 -- the least document is the first of the union
 pub union_at : {T : Type 0} (cs : List (QueryCursorState T)) → AllByRecursion (λ (c : QueryCursorState T). IsSound c.rest) cs → StandsAt (least_to (length cs) cs) (union_of (rests cs))
-union_at [] all = record { sound = record { ascending = tt; fits = λ k d within. absurd (omega (arith, within)) }; here = refl }
+union_at [] all = record { sound = documents_sound [] refl; here = refl }
 union_at (c ∷ cs) all =
     let later = union_at cs all.1 in
     either_at c.rest (union_of (rests cs)) (doc_at c.rest) (least_to (length cs) cs) all.0 later.sound refl later.here

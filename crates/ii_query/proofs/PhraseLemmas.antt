@@ -8,7 +8,7 @@ use Rattle.std.proofs.lemmas.Bool.Decides.{eqb_tells, leb_tells}
 use Rattle.ii_base.specs.declared.doc_id.TheConstants.{TERMINATED}
 use Rattle.ii_base.specs.Entries.{Entry, docs_of, document}
 use Rattle.ii_docset.specs.Cursor.{IsAscending, IsCurrent, IsSound, IsTarget, doc_at, from_doc, positions_at}
-use Rattle.ii_docset.proofs.CursorLemmas.{doc_below, from_doc_here, documents_fit}
+use Rattle.ii_docset.proofs.CursorLemmas.{doc_below, from_doc_here, ascending_sound}
 use Rattle.ii_docset.specs.Intersection.{has_doc}
 use Rattle.ii_query.specs.Combined.{IsAtFirst}
 use Rattle.ii_query.specs.Phrase.{IsAtDoc, MeetsAt, PhrasePartState, begins_phrase, has_position, is_among, phrase_docs, stand_from, stand_here}
@@ -28,7 +28,7 @@ kept_ascends holds (e ∷ es) h = by (kept_ascends holds es h.1) (holds e) refl
     by later false is = let low = h.0 in let up = later.1 in rw (is) (later.0, omega (arith, low, up))
 
 kept_sound : (holds : Entry → Bool) (es : List Entry) → IsSound es → IsSound (kept holds es)
-kept_sound holds es sound = record { ascending = (kept_ascends holds es sound.ascending).0; fits = documents_fit (docs_of (filter holds es)) }
+kept_sound holds es sound = ascending_sound (docs_of (filter holds es)) (kept_ascends holds es sound.ascending).0
 
 -- without the first document, which is kept
 kept_drop : (holds : Entry → Bool) (es : List Entry) → IsAtFirst es (kept holds es) → kept holds (drop 1 es) ≡ drop 1 (kept holds es)

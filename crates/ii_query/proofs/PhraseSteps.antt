@@ -1,17 +1,14 @@
--- The terms of a phrase are visited one after the other, and their positions are read in pieces.
-use Rattle.std.proofs.Common.{◌≡◌, ◌≢◌, ◌∙◌, ℕ, zero, suc, ◌+◌, ◌-◌, ◌<◌, ◌≤◌, ◌^◌, Bool, true, false, ◌&&◌, ◌||◌, List, [], ◌∷◌, ◌++◌, add-one, drop, get_or, length, set, take, inl, inr, refl, sym, ap, subst, arith, length-drop, length-take}
-use Rattle.std.proofs.Math.Seq.{drop-cons}
-use Rattle.std.specs.Prelude.{min}
+-- The terms of a phrase are visited one after the other.
+use Rattle.std.proofs.Common.{◌≡◌, ◌≢◌, ◌∙◌, ℕ, zero, suc, ◌+◌, ◌<◌, ◌≤◌, ◌^◌, Bool, false, ◌&&◌, List, [], ◌∷◌, add-one, drop, get_or, length, set, take, refl, sym, ap, subst, arith}
 use Rattle.std.specs.List.{All, AllByRecursion, list_any}
-use Rattle.std.proofs.lemmas.Bool.{and_right, cases_lt, ne_eqb}
-use Rattle.std.proofs.lemmas.List.{drop-drop, drop_all, get_or-drop, get_or-take, length-set, take-append-drop, take-append-le, take_all}
-use Rattle.std.proofs.lemmas.List.Elements.{All-head, All-tail}
-use Rattle.std.proofs.lemmas.List.Folds.{list_any-append}
+use Rattle.std.proofs.lemmas.Bool.{and_right, ne_eqb}
+use Rattle.std.proofs.lemmas.List.{drop_all, length-set, take_all}
+use Rattle.std.proofs.lemmas.List.Elements.{All-drop, All-head, All-tail}
 use Rattle.ii_base.specs.declared.doc_id.TheConstants.{TERMINATED}
 use Rattle.ii_base.specs.Entries.{Entry}
-use Rattle.ii_docset.specs.Cursor.{IsSound, doc_at, from_doc, position_before, positions_at}
+use Rattle.ii_docset.specs.Cursor.{IsSound, doc_at, from_doc, positions_at}
 use Rattle.ii_docset.proofs.CursorLemmas.{doc_below}
-use Rattle.ii_query.specs.Phrase.{IsAtDoc, MeetsAt, PhrasePartState, has_position, is_among, stand_from, stand_here}
+use Rattle.ii_query.specs.Phrase.{IsAtDoc, MeetsAt, PhrasePartState, has_position, is_among, stand_from}
 use Rattle.ii_query.proofs.PhraseLemmas.{has_below, has_from}
 use Rattle.ii_docset.proofs.IntersectionLemmas.{doc_at-from_doc}
 
@@ -84,17 +81,6 @@ meeting_ends doc start now m low =
       none = λ d from lower above. absurd (omega (arith, above));
     }
 
--- a term among others
-pub part_at : (P : PhrasePartState → Type 0) (parts : List PhrasePartState) (i : ℕ) (p : PhrasePartState) → AllByRecursion P parts → i < length parts → p ≡ get_or parts i p → P p
-part_at P [] i p all inside is = absurd (omega (arith, inside))
-part_at P (q ∷ qs) zero p all inside is = rw is all.0
-part_at P (q ∷ qs) (suc i) p all inside is = part_at P qs i p all.1 (omega (arith, inside)) is
-
--- whether a term occurs at its distance, and those after it
-pub standing_next : (parts : List PhrasePartState) (i start : ℕ) (p : PhrasePartState) → i < length parts → p ≡ get_or parts i p
-    → stand_here (drop i parts) start ≡ (is_among (positions_at p.rest) (start + p.distance) && stand_here (drop (i + 1) parts) start)
-standing_next parts i start p inside is = ap (λ (ps : List PhrasePartState). stand_here ps start) (drop-cons parts i p inside) ∙ rw (← is, add-one i) refl
-
 any_behind : (f : ℕ → Bool) (xs : List ℕ) (i : ℕ) → i < length xs → f (get_or xs i 0) ≡ false → list_any f (drop (suc i) xs) ≡ list_any f (drop i xs)
 any_behind f [] i inside fails = absurd (omega (arith, inside))
 any_behind f (x ∷ xs) zero inside fails = rw (fails) refl
@@ -104,63 +90,6 @@ any_behind f (x ∷ xs) (suc i) inside fails = any_behind f xs i (omega (arith, 
 pub any_next : (f : ℕ → Bool) (xs : List ℕ) (i : ℕ) → i < length xs → f (get_or xs i 0) ≡ false → list_any f (drop (i + 1) xs) ≡ list_any f (drop i xs)
 any_next f xs i inside fails = ap (λ (n : ℕ). list_any f (drop n xs)) (add-one i) ∙ any_behind f xs i inside fails
 
--- So many positions of a document, from a place on, were read to the front of a buffer.
-pub record IsReading (positions : List ℕ) (from count : ℕ) (buffer : List ℕ) : Type 0 where
-  pub count_is : count ≡ min 64 (length positions - from)
-  pub read : take count buffer ≡ take 64 (drop from positions)
-  pub few : length positions < 2 ^ 32
-  pub within : from ≤ length positions
-  pub size : length buffer ≡ 64
-
--- what a call read
-pub reading : (positions told : List ℕ) (from count : ℕ) (old new : List ℕ) → told ≡ positions → length old ≡ 64 → from ≤ length positions → length told < 2 ^ 32 → count ≡ min (length old) (length told - from)
-    → new ≡ take (length old) (drop from told) ++ drop (length told - from) old → length new ≡ length old → IsReading positions from count new
-reading positions told from count old new same size within few count_is read kept =
-    let left = length-drop from positions in
-    let taken = length-take 64 (drop from positions) in
-    let count_is : count ≡ min 64 (length positions - from) = rw (← same, ← size) count_is in
-    let read_is : new ≡ take 64 (drop from positions) ++ drop (length positions - from) old = rw (← same, ← size) read in
-    record {
-      count_is = count_is;
-      read = ap (take count) read_is ∙ take-append-le count (take 64 (drop from positions)) _ (omega (arith, left, taken, count_is)) ∙ take_all count (take 64 (drop from positions)) (omega (arith, left, taken, count_is));
-      few = rw (← same) few;
-      within = within;
-      size = kept ∙ size;
-    }
-
--- the position before the next one to be read
-pub reading_before : (positions : List ℕ) (from count : ℕ) (buffer : List ℕ) → IsReading positions from count buffer → 0 < count → get_or buffer (count - 1) 0 ≡ position_before (from + count) positions
-reading_before positions from count buffer r some =
-    let count_is = r.count_is in
-    let next : suc (from + (count - 1)) ≡ from + count = omega (arith, some) in
-    sym (get_or-take count buffer (count - 1) 0 (omega (arith, some)))
-    ∙ ap (λ (xs : List ℕ). get_or xs (count - 1) 0) r.read
-    ∙ get_or-take 64 (drop from positions) (count - 1) 0 (omega (arith, some, count_is))
-    ∙ get_or-drop from positions (count - 1) 0
-    ∙ ap (λ (n : ℕ). get_or (0 ∷ positions) n 0) next
-
-pub reading_within : (positions : List ℕ) (from count : ℕ) (buffer : List ℕ) → IsReading positions from count buffer → from + count ≤ length positions
-reading_within positions from count buffer r = let count_is = r.count_is in let within = r.within in omega (arith, count_is, within)
-
--- what is left of the positions: those read, and those to come
-left_is : (f : ℕ → Bool) (positions : List ℕ) (from count : ℕ) (buffer : List ℕ) → IsReading positions from count buffer → list_any f (drop from positions) ≡ (list_any f (take count buffer) || list_any f (drop (from + count) positions))
-left_is f positions from count buffer r =
-    ap (list_any f) (sym (take-append-drop 64 (drop from positions)))
-    ∙ list_any-append f (take 64 (drop from positions)) (drop 64 (drop from positions))
-    ∙ (λ j. list_any f (sym r.read j) || list_any f (behind j))
-  where
-    behind : drop 64 (drop from positions) ≡ drop (from + count) positions
-    behind = let count_is = r.count_is in let within = r.within in let left = length-drop from positions in elim (cases_lt 64 (length positions - from)) [
-      | inl more ↦ let full : 64 ≡ count = omega (arith, count_is, more) in drop-drop 64 from positions ∙ ap (λ (n : ℕ). drop (from + n) positions) full
-      | inr last ↦ drop_all 64 (drop from positions) (omega (arith, left, last)) ∙ sym (drop_all (from + count) positions (omega (arith, count_is, last, within)))
-    ]
-
-pub reading_on : (f : ℕ → Bool) (positions : List ℕ) (from count : ℕ) (buffer : List ℕ) → IsReading positions from count buffer → list_any f (take count buffer) ≡ false → list_any f (drop from positions) ≡ list_any f positions → list_any f (drop (from + count) positions) ≡ list_any f positions
-reading_on f positions from count buffer r none left = sym (left_is f positions from count buffer r ∙ rw none refl) ∙ left
-
-pub reading_found : (f : ℕ → Bool) (positions : List ℕ) (from count : ℕ) (buffer : List ℕ) → IsReading positions from count buffer → list_any f (take count buffer) ≡ true → list_any f (drop from positions) ≡ list_any f positions → true ≡ list_any f positions
-reading_found f positions from count buffer r some left = sym (left_is f positions from count buffer r ∙ rw some refl) ∙ left
-
 -- a position of 32 bits isn't a greater number
 none_among : (ps : List ℕ) (n : ℕ) → All (λ (p : ℕ). p < 2 ^ 32) ps → 2 ^ 32 ≤ n → is_among ps n ≡ false
 none_among [] n low up = refl
@@ -168,6 +97,6 @@ none_among (p ∷ ps) n low up =
     let first = All-head (λ (q : ℕ). q < 2 ^ 32) p ps low in
     rw (ne_eqb p n (λ same. omega (arith, first, up, same))) (none_among ps n (All-tail (λ (q : ℕ). q < 2 ^ 32) p ps low) up)
 
-pub too_great : (es : List Entry) (n : ℕ) → IsSound es → 2 ^ 32 ≤ n → false ≡ is_among (positions_at es) n
-too_great [] n sound up = refl
-too_great (e ∷ es) n sound up = sym (none_among e.positions n (sound.fits 0 e (omega arith)).1 up)
+pub too_great : (es : List Entry) (i n : ℕ) → IsSound es → 2 ^ 32 ≤ n → false ≡ is_among (drop i (positions_at es)) n
+too_great [] i n sound up = sym (ap (λ (ps : List ℕ). is_among ps n) (drop_all i [] (omega arith)))
+too_great (e ∷ es) i n sound up = sym (none_among (drop i e.positions) n (All-drop (λ (p : ℕ). p < 2 ^ 32) i e.positions (sound.fits 0 e (omega arith)).1) up)

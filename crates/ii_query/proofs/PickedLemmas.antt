@@ -7,7 +7,7 @@ use Rattle.ii_base.specs.declared.doc_id.TheConstants.{TERMINATED}
 use Rattle.ii_base.specs.Entries.{Entry, docs_of, document}
 use Rattle.ii_docset.specs.Cursor.{doc_at, IsAscending, IsSound, from_doc}
 use Rattle.ii_docset.specs.Intersection.{common_docs, has_doc}
-use Rattle.ii_docset.proofs.CursorLemmas.{from_doc_here, documents_fit}
+use Rattle.ii_docset.proofs.CursorLemmas.{from_doc_here, ascending_sound}
 use Rattle.ii_docset.proofs.IntersectionLemmas.{Asked, bound_more, bound_target, has_doc-from_doc, has_doc_below}
 use Rattle.ii_query.specs.Combined.{IsAtFirst, StandsAt, common, picked, without}
 
@@ -21,7 +21,7 @@ picked_ascends holds (e ∷ es) h = by (picked_ascends holds es h.1) (holds e.do
     by later false is = let low = h.0 in let up = later.1 in rw (is) (later.0, omega (arith, low, up))
 
 pub picked_sound : (holds : ℕ → Bool) (es : List Entry) → IsSound es → IsSound (picked holds es)
-picked_sound holds es sound = record { ascending = (picked_ascends holds es sound.ascending).0; fits = documents_fit (filter holds (docs_of es)) }
+picked_sound holds es sound = ascending_sound (filter holds (docs_of es)) (picked_ascends holds es sound.ascending).0
 
 -- the first document of the list is picked, or there is none
 pub picked_at : (holds : ℕ → Bool) (es : List Entry) (doc : ℕ) → IsAtFirst es (picked holds es) → doc ≡ doc_at es → StandsAt doc (picked holds es)

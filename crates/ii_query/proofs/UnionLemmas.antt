@@ -6,7 +6,7 @@ use Rattle.std.specs.Prelude.{filter, map, nat_le, if◌then◌else◌}
 use Rattle.ii_base.specs.declared.doc_id.TheConstants.{TERMINATED}
 use Rattle.ii_base.specs.Entries.{Entry, docs_of, document}
 use Rattle.ii_docset.specs.Cursor.{doc_at, IsAscending, IsSound, from_doc}
-use Rattle.ii_docset.proofs.CursorLemmas.{doc_below, from_doc_here, from_doc_step, nothing_left, documents_fit}
+use Rattle.ii_docset.proofs.CursorLemmas.{doc_below, from_doc_here, from_doc_step, nothing_left, ascending_sound}
 use Rattle.ii_query.specs.Combined.{either, put_all, put_in}
 
 -- documents from a target on
@@ -119,7 +119,7 @@ either_ascends [] fs first other = docs_ascend fs other
 either_ascends (e ∷ es) fs first other = put_ascends e.doc (put_all (docs_of es) (docs_of fs)) (first_low e es first) (either_ascends es fs first.1 other)
 
 pub either_sound : (es fs : List Entry) → IsSound es → IsSound fs → IsSound (either es fs)
-either_sound es fs first other = record { ascending = either_ascends es fs first.ascending other.ascending; fits = documents_fit (put_all (docs_of es) (docs_of fs)) }
+either_sound es fs first other = ascending_sound (put_all (docs_of es) (docs_of fs)) (either_ascends es fs first.ascending other.ascending)
 
 -- the first document is the lesser of both
 either_least : (least : ℕ) (es fs : List Entry) → IsAscending es → least ≤ doc_at es → least ≤ doc_at fs → least ≤ doc_at (either es fs)

@@ -1,7 +1,7 @@
 -- The moves of a phrase's cursors while its terms are visited in turn.
 use Rattle.std.proofs.Common.{◌≡◌, ℕ, zero, suc, ◌<◌, List, [], ◌∷◌, ◌++◌, get_or, length, set, refl, ap, ◌∙◌, arith}
-use Rattle.std.specs.List.{AllZip}
-use Rattle.ii_query.specs.Phrase.{PhrasePartState, PhraseTermState, cursors_in, parts_in}
+use Rattle.std.specs.List.{AllByRecursion, AllZip}
+use Rattle.ii_query.specs.Phrase.{PhrasePartState, PhraseTermState, parts_in}
 
 -- two lists of parts, joined
 pub all_beside : {T : Type 0} (R : T → T → Type 0) (xs ys us vs : List T) → AllZip R xs us → AllZip R ys vs → AllZip R (xs ++ ys) (us ++ vs)
@@ -32,10 +32,20 @@ parts_same [] i old new inside is same = absurd (omega (arith, inside))
 parts_same (t ∷ ts) zero old new inside is same = ap (λ (p : PhrasePartState). p ∷ parts_in ts) (same ∙ ap (λ (u : PhraseTermState _). u.part) is)
 parts_same (t ∷ ts) (suc i) old new inside is same = ap (λ (ps : List PhrasePartState). t.part ∷ ps) (parts_same ts i old new (omega (arith, inside)) is same)
 
--- the cursor of one term went on
-pub work_set : {P : Type 0} (R : P → P → Type 0) → ((a b c : P) → R a b → R b c → R a c) → (start : List P) (now : List (PhraseTermState P)) (i : ℕ) (old new : PhraseTermState P) → i < length now → old ≡ get_or now i old → R old.cursor new.cursor
-    → AllZip R start (cursors_in now) → AllZip R start (cursors_in (set now i new))
+-- one element went on
+pub work_set : {T : Type 0} (R : T → T → Type 0) → ((a b c : T) → R a b → R b c → R a c) → (start now : List T) (i : ℕ) (old new : T) → i < length now → old ≡ get_or now i old → R old new → AllZip R start now → AllZip R start (set now i new)
 work_set R on start [] i old new inside is moved work = absurd (omega (arith, inside))
 work_set R on [] (t ∷ ts) i old new inside is moved work = elim work [ ]
-work_set R on (s ∷ ss) (t ∷ ts) zero old new inside is moved work = (on s t.cursor new.cursor work.0 (rw is at moved), work.1)
+work_set R on (s ∷ ss) (t ∷ ts) zero old new inside is moved work = (on s t new work.0 (rw is at moved), work.1)
 work_set R on (s ∷ ss) (t ∷ ts) (suc i) old new inside is moved work = (work.0, work_set R on ss ts i old new (omega (arith, inside)) is moved work.1)
+
+-- what holds of each element holds of one, and where that is replaced by another of which it holds
+pub each_at : {T : Type 0} (P : T → Type 0) (ts : List T) (i : ℕ) (t : T) → AllByRecursion P ts → i < length ts → t ≡ get_or ts i t → P t
+each_at P [] i t all inside is = absurd (omega (arith, inside))
+each_at P (s ∷ ss) zero t all inside is = rw is all.0
+each_at P (s ∷ ss) (suc i) t all inside is = each_at P ss i t all.1 (omega (arith, inside)) is
+
+pub each_set : {T : Type 0} (P : T → Type 0) (ts : List T) (i : ℕ) (t : T) → P t → AllByRecursion P ts → AllByRecursion P (set ts i t)
+each_set P [] i t holds all = tt
+each_set P (s ∷ ss) zero t holds all = (holds, all.1)
+each_set P (s ∷ ss) (suc i) t holds all = (all.0, each_set P ss i t holds all.1)

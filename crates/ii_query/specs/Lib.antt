@@ -1,5 +1,6 @@
 pub mod Combined
 pub mod Phrase
+pub mod PositionPiece
 pub mod QueryCursor
 pub mod QueryCursorLemmas
 pub mod TermOrPhrase

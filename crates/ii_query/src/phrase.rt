@@ -1,29 +1,31 @@
-ghost use Rattle.std.specs.Prelude.{◌≡◌, ◌<◌, ◌≤◌, ◌+◌, ◌∷◌};
+ghost use Rattle.std.specs.Prelude.{◌≡◌, ◌<◌, ◌≤◌, ◌+◌, ◌∷◌, ℕ, drop, map, slice_get, IsSome};
 ghost use Rattle.std.specs.List.{AllByRecursion, AllZip, list_any};
 ghost use Rattle.ii_docset.specs.Cursor.{IsCurrent, IsSound, doc_at, from_doc, positions_at};
 ghost use Rattle.ii_query.specs.Combined.{IsAtFirst};
-ghost use Rattle.ii_query.specs.Phrase.{IsAtDoc, MeetsAt, PhrasePartState, Spent, cursors_in, is_among, parts_in, phrase_docs, stand_from, stand_here};
+ghost use Rattle.ii_query.specs.Phrase.{IsAtDoc, IsUnread, IsUnreadFrom, MeetsAt, PhrasePartState, ReadsOnce, Spent, cursors_in, is_left, parts_in, phrase_docs, stand_here, stand_left, unread, unread_term};
 
+use crate::position_piece::PositionPiece;
 use ii_docset::{DocId, DocSet, Postings, TERMINATED};
 use std::marker::Model;
 
-// The number of positions read at once.
-const POSITIONS_READ: usize = 64;
-
-/// A term of a phrase after the first one: a cursor over its postings, and how many positions after the first
-/// term it occurs.
+/// A term of a phrase: a cursor over its postings, and how many positions after the first term it occurs.
 #[derive(Drop)]
 pub struct PhrasePart<P: Postings> {
     distance: u32,
     postings: P,
+    piece: PositionPiece,
 }
 
 impl<P: Postings> Model for PhrasePart<P> {
+    ghost use Rattle.ii_docset.specs.Cursor.{positions_at};
     ghost use Rattle.ii_query.specs.Phrase.{PhraseTermState};
+    ghost use Rattle.ii_query.specs.PositionPiece.{IsPieceOf, term_with};
 
     ghost Value = { PhraseTermState P };
 
-    ghost view = { λ s. record { part = record { distance = s.distance; rest = P.rest s.postings }; cursor = s.postings } };
+    ghost view = { λ s. term_with s.distance (P.rest s.postings) s.postings s.piece };
+
+    ghost invariant = { λ s. IsPieceOf (positions_at (P.rest s.postings)) s.piece };
 }
 
 impl<P: Postings> PhrasePart<P> {
@@ -32,83 +34,103 @@ impl<P: Postings> PhrasePart<P> {
         ensures distance { result.part.distance ≡ distance }
         ensures rest { result.part.rest ≡ P.rest postings }
         ensures cursor { result.cursor ≡ postings }
+        ensures unread { IsUnread result }
     {
-        PhrasePart { distance, postings }
+        PhrasePart {
+            distance,
+            postings,
+            piece: PositionPiece::new(),
+        }
+    }
+
+    // Forgets what was read of the current document's positions.
+    fn clear(&mut self)
+        ensures { self.new ≡ unread self.old }
+    {
+        self.piece.clear();
+    }
+
+    // Returns the current document.
+    fn doc(&self) -> DocId
+        ensures doc { result ≡ doc_at self.now.part.rest }
+        ensures sound { IsSound self.now.part.rest }
+    {
+        self.postings.doc()
+    }
+
+    // Advances to the next document.
+    fn advance(&mut self) -> DocId
+        ensures doc { result ≡ doc_at self.new.part.rest }
+        ensures rest { self.new.part.rest ≡ drop 1 self.old.part.rest }
+        ensures sound { IsSound self.new.part.rest }
+        ensures unread { IsUnread self.new }
+        ensures distance { self.new.part.distance ≡ self.old.part.distance }
+        ensures work { ReadsOnce P.spent self.old self.new }
+    {
+        let doc = self.postings.advance();
+        self.piece.clear();
+        doc
     }
 
     // Drops the documents below a target, which may be below the current document.
+    #[tactic(auto, using(ii_docset::proofs::CursorLemmas::doc_below))]
     fn go_to(&mut self, target: DocId) -> DocId
-        requires { target ≤ TERMINATED }
+        requires up_to { target ≤ TERMINATED }
+        requires unread { IsUnreadFrom target self.old }
         ensures doc { result ≡ doc_at self.new.part.rest }
         ensures rest { self.new.part.rest ≡ from_doc target self.old.part.rest }
         ensures sound { IsSound self.new.part.rest }
         ensures up_to { result ≤ TERMINATED }
+        ensures unread { IsUnread self.new }
         ensures distance { self.new.part.distance ≡ self.old.part.distance }
-        ensures work { P.went self.old.cursor self.new.cursor }
+        ensures work { ReadsOnce P.spent self.old self.new }
     {
-        go_on_to(&mut self.postings, target)
+        let doc = self.postings.doc();
+        if doc >= target {
+            return doc;
+        }
+        let doc = self.postings.seek(target);
+        self.piece.clear();
+        doc
     }
 
-    // Returns whether the term occurs in the current document at its distance from a position.
+    // Returns the next position of the current document, and passes it.
+    fn next_position(&mut self) -> Option<u32>
+        requires { IsCurrent self.old.part.rest }
+        ensures position { result ≡ slice_get (positions_at self.old.part.rest) self.old.passed }
+        ensures passed { IsSome result → self.new.passed ≡ self.old.passed + 1 }
+        ensures same { self.new.part ≡ self.old.part }
+        ensures work { ReadsOnce P.spent self.old self.new }
+    {
+        self.piece.pass(&mut self.postings)
+    }
+
+    // Returns whether the term occurs in the current document at its distance from a position. This must be
+    // at least each position that it was called with before in this document.
     fn stands_from(&mut self, start: u32) -> bool
         requires { IsCurrent self.old.part.rest }
-        ensures stands { result ≡ is_among (positions_at self.old.part.rest) (start + self.old.part.distance) }
+        ensures stands { result ≡ is_left self.old start }
+        ensures later { (s : ℕ) → start ≤ s → is_left self.new s ≡ is_left self.old s }
         ensures same { self.new.part ≡ self.old.part }
-        ensures work { Spent P.spent self.old.cursor self.new.cursor }
+        ensures work { ReadsOnce P.spent self.old self.new }
     {
-        // that positions have 32 bits, for the proof
+        // that positions have 32 bits and don't decrease, for the proof
         let _doc = self.postings.doc();
         match start.checked_add(self.distance) {
-            Some(position) => has_position(&mut self.postings, position),
+            Some(position) => self.piece.pass_below(&mut self.postings, position),
             None => false,
         }
     }
 }
 
-// Drops the documents of a cursor below a target, which may be below the current document.
-#[tactic(auto, using(ii_docset::proofs::CursorLemmas::doc_below))]
-fn go_on_to<T: DocSet>(cursor: &mut T, target: DocId) -> DocId
-    requires { target ≤ TERMINATED }
-    ensures doc { result ≡ doc_at (T.rest cursor.new) }
-    ensures rest { T.rest cursor.new ≡ from_doc target (T.rest cursor.old) }
-    ensures sound { IsSound (T.rest cursor.new) }
-    ensures up_to { result ≤ TERMINATED }
-    ensures work { T.went cursor.old cursor.new }
-{
-    let doc = cursor.doc();
-    if doc < target {
-        return cursor.seek(target);
-    }
-    doc
-}
-
-// Returns whether a cursor's current document has a position. Positions are read in pieces.
-fn has_position<P: Postings>(cursor: &mut P, position: u32) -> bool
-    requires { IsCurrent (P.rest cursor.old) }
-    ensures has { result ≡ is_among (positions_at (P.rest cursor.old)) position }
-    ensures rest { P.rest cursor.new ≡ P.rest cursor.old }
-    ensures work { Spent P.spent cursor.old cursor.new }
-{
-    let mut positions = [0; POSITIONS_READ];
-    let mut from = 0;
-    let mut count = cursor.read_positions(0, 0, &mut positions);
-    while count > 0 {
-        if positions[..count].contains(&position) {
-            return true;
-        }
-        let before = positions[count - 1];
-        from += count;
-        count = cursor.read_positions(from, before, &mut positions);
-    }
-    false
-}
-
 // Moves the other terms to a document. Returns it if all of them have it, else a greater document; the
 // phrase occurs in no document between.
 fn meet_others<P: Postings>(others: &mut Vec<PhrasePart<P>>, doc: DocId) -> DocId
-    requires { doc < TERMINATED }
+    requires low { doc < TERMINATED }
+    requires unread { AllByRecursion (IsUnreadFrom doc) others.old.items }
     ensures meets { MeetsAt doc (parts_in others.old.items) (parts_in others.new.items) result }
-    ensures work { AllZip (Spent P.spent) (cursors_in others.old.items) (cursors_in others.new.items) }
+    ensures unread { AllByRecursion (IsUnreadFrom doc) others.new.items }
+    ensures work { AllZip (ReadsOnce P.spent) others.old.items others.new.items }
 {
     for i in 0..others.len() {
         let bound = others[i].go_to(doc);
@@ -119,12 +141,14 @@ fn meet_others<P: Postings>(others: &mut Vec<PhrasePart<P>>, doc: DocId) -> DocI
     doc
 }
 
-// Returns whether the other terms occur in their current documents at their distances from a position.
+// Returns whether the other terms occur in their current documents at their distances from a position. Passes
+// positions that aren't needed for this one and greater ones.
 fn stand_from<P: Postings>(others: &mut Vec<PhrasePart<P>>, start: u32) -> bool
     requires { AllByRecursion (λ part. IsCurrent part.rest) (parts_in others.old.items) }
-    ensures stand { result ≡ stand_here (parts_in others.old.items) start }
+    ensures stand { result ≡ stand_left others.old.items start }
+    ensures later { (s : ℕ) → start ≤ s → stand_left others.new.items s ≡ stand_left others.old.items s }
     ensures same { parts_in others.new.items ≡ parts_in others.old.items }
-    ensures work { AllZip (Spent P.spent) (cursors_in others.old.items) (cursors_in others.new.items) }
+    ensures work { AllZip (ReadsOnce P.spent) others.old.items others.new.items }
 {
     for i in 0..others.len() {
         if !others[i].stands_from(start) {
@@ -134,60 +158,50 @@ fn stand_from<P: Postings>(others: &mut Vec<PhrasePart<P>>, start: u32) -> bool
     true
 }
 
-// Returns whether they do for at least one of these positions.
-fn stand_from_one<P: Postings>(others: &mut Vec<PhrasePart<P>>, starts: &[u32]) -> bool
-    requires { AllByRecursion (λ part. IsCurrent part.rest) (parts_in others.old.items) }
-    ensures stand { result ≡ list_any (stand_here (parts_in others.old.items)) starts.now }
-    ensures same { parts_in others.new.items ≡ parts_in others.old.items }
-    ensures work { AllZip (Spent P.spent) (cursors_in others.old.items) (cursors_in others.new.items) }
-{
-    for start in starts {
-        if stand_from(others, *start) {
-            return true;
-        }
-    }
-    false
-}
-
-// Returns whether they do for a position of the first term. All terms are at its current document.
-// Positions are read in pieces.
-fn is_phrase<P: Postings>(first: &mut P, others: &mut Vec<PhrasePart<P>>) -> bool
-    requires first { IsCurrent (P.rest first.old) }
+// Returns whether they do for a position of the first term. All terms are at its current document. Positions
+// are read in pieces, and only forward.
+fn is_phrase<P: Postings>(first: &mut PhrasePart<P>, others: &mut Vec<PhrasePart<P>>) -> bool
+    requires first { IsCurrent first.old.part.rest }
     requires others { AllByRecursion (λ part. IsCurrent part.rest) (parts_in others.old.items) }
-    ensures phrase { result ≡ list_any (stand_here (parts_in others.old.items)) (positions_at (P.rest first.old)) }
-    ensures rest { P.rest first.new ≡ P.rest first.old }
-    ensures same { parts_in others.new.items ≡ parts_in others.old.items }
-    ensures first_work { Spent P.spent first.old first.new }
-    ensures other_work { AllZip (Spent P.spent) (cursors_in others.old.items) (cursors_in others.new.items) }
+    requires first_unread { IsUnread first.old }
+    requires others_unread { AllByRecursion IsUnread others.old.items }
+    ensures phrase { result ≡ list_any (stand_here (parts_in others.old.items)) (positions_at first.old.part.rest) }
+    ensures first_same { first.new.part ≡ first.old.part }
+    ensures others_same { parts_in others.new.items ≡ parts_in others.old.items }
+    ensures first_work { ReadsOnce P.spent first.old first.new }
+    ensures other_work { AllZip (ReadsOnce P.spent) others.old.items others.new.items }
 {
-    let mut starts = [0; POSITIONS_READ];
-    let mut from = 0;
-    let mut count = first.read_positions(0, 0, &mut starts);
-    while count > 0 {
-        if stand_from_one(others, &starts[..count]) {
+    // that positions don't decrease, for the proof
+    let _doc = first.doc();
+    while let Some(start) = first.next_position() {
+        if stand_from(others, start) {
             return true;
         }
-        let before = starts[count - 1];
-        from += count;
-        count = first.read_positions(from, before, &mut starts);
     }
     false
 }
 
 // Returns the current document of the first term if it has the phrase, else a greater document; the phrase
 // occurs in no document between.
-fn candidate<P: Postings>(first: &mut P, others: &mut Vec<PhrasePart<P>>, doc: DocId) -> DocId
+fn candidate<P: Postings>(
+    first: &mut PhrasePart<P>,
+    others: &mut Vec<PhrasePart<P>>,
+    doc: DocId,
+) -> DocId
     requires low { doc < TERMINATED }
-    requires here { doc ≡ doc_at (P.rest first.old) }
-    ensures first { P.rest first.new ≡ P.rest first.old }
-    ensures same { phrase_docs (P.rest first.old) (parts_in others.new.items) ≡ phrase_docs (P.rest first.old) (parts_in others.old.items) }
+    requires here { doc ≡ doc_at first.old.part.rest }
+    requires first_unread { IsUnread first.old }
+    requires others_unread { AllByRecursion (IsUnreadFrom doc) others.old.items }
+    ensures first { first.new.part ≡ first.old.part }
+    ensures same { phrase_docs first.old.part.rest (parts_in others.new.items) ≡ phrase_docs first.old.part.rest (parts_in others.old.items) }
     ensures low { doc ≤ result }
-    ensures least { result ≤ doc_at (phrase_docs (P.rest first.old) (parts_in others.new.items)) }
-    ensures here { result ≡ doc → doc_at (phrase_docs (P.rest first.old) (parts_in others.new.items)) ≡ doc }
+    ensures least { result ≤ doc_at (phrase_docs first.old.part.rest (parts_in others.new.items)) }
+    ensures here { result ≡ doc → doc_at (phrase_docs first.old.part.rest (parts_in others.new.items)) ≡ doc }
 
-    // the cost
-    ensures first_work { Spent P.spent first.old first.new }
-    ensures other_work { AllZip (Spent P.spent) (cursors_in others.old.items) (cursors_in others.new.items) }
+    // the cost, and what was read
+    ensures unread { AllByRecursion (IsUnreadFrom (doc + 1)) others.new.items }
+    ensures first_work { ReadsOnce P.spent first.old first.new }
+    ensures other_work { AllZip (ReadsOnce P.spent) others.old.items others.new.items }
 {
     // the invariant that documents ascend, for the proof
     let _doc = first.doc();
@@ -203,12 +217,17 @@ fn candidate<P: Postings>(first: &mut P, others: &mut Vec<PhrasePart<P>>, doc: D
 }
 
 // Moves to the next document that has the phrase, which may be the current one.
-fn go_to_phrase<P: Postings>(first: &mut P, others: &mut Vec<PhrasePart<P>>) -> DocId
-    ensures doc { result ≡ doc_at (P.rest first.new) }
-    ensures at { IsAtFirst (P.rest first.new) (phrase_docs (P.rest first.new) (parts_in others.new.items)) }
-    ensures rest { phrase_docs (P.rest first.new) (parts_in others.new.items) ≡ phrase_docs (P.rest first.old) (parts_in others.old.items) }
-    ensures first_work { Spent P.spent first.old first.new }
-    ensures other_work { AllZip (Spent P.spent) (cursors_in others.old.items) (cursors_in others.new.items) }
+fn go_to_phrase<P: Postings>(first: &mut PhrasePart<P>, others: &mut Vec<PhrasePart<P>>) -> DocId
+    requires first_unread { IsUnread first.old }
+    requires others_unread { IsCurrent first.old.part.rest → AllByRecursion (IsUnreadFrom (doc_at first.old.part.rest)) others.old.items }
+    ensures doc { result ≡ doc_at first.new.part.rest }
+    ensures at { IsAtFirst first.new.part.rest (phrase_docs first.new.part.rest (parts_in others.new.items)) }
+    ensures rest { phrase_docs first.new.part.rest (parts_in others.new.items) ≡ phrase_docs first.old.part.rest (parts_in others.old.items) }
+
+    // the cost, and what was read
+    ensures unread { IsCurrent first.new.part.rest → AllByRecursion (IsUnreadFrom (doc_at first.new.part.rest + 1)) others.new.items }
+    ensures first_work { ReadsOnce P.spent first.old first.new }
+    ensures other_work { AllZip (ReadsOnce P.spent) others.old.items others.new.items }
 {
     let mut doc = first.doc();
     while doc < TERMINATED {
@@ -216,30 +235,42 @@ fn go_to_phrase<P: Postings>(first: &mut P, others: &mut Vec<PhrasePart<P>>) -> 
         if bound == doc {
             return doc;
         }
-        doc = first.seek(bound);
+        doc = first.go_to(bound);
     }
     doc
 }
 
+// Forgets what was read of the other terms' current documents.
+fn clear_all<P: Postings>(others: &mut Vec<PhrasePart<P>>)
+    ensures { others.new.items ≡ map unread others.old.items }
+{
+    for i in 0..others.len() {
+        others[i].clear();
+    }
+}
+
 /// A cursor over the documents that have a phrase, in ascending order: each other term occurs at its
 /// distance from a position of the first term. The first term leads, so pass the rarest term first.
-/// Positions are read in pieces, without allocations.
+/// Positions are read in pieces of `POSITIONS_READ`, without allocations, and each one at most once.
 #[derive(Drop)]
 pub struct PhraseMatch<P: Postings> {
-    first: P,
+    first: PhrasePart<P>,
     others: Vec<PhrasePart<P>>,
 }
 
 impl<P: Postings> Model for PhraseMatch<P> {
-    ghost use Rattle.std.specs.Prelude.{◌∷◌};
+    ghost use Rattle.std.specs.Prelude.{◌∷◌, ◌+◌};
+    ghost use Rattle.std.specs.List.{AllByRecursion};
+    ghost use Rattle.ii_docset.specs.Cursor.{IsCurrent, doc_at};
     ghost use Rattle.ii_query.specs.Combined.{IsAtFirst};
-    ghost use Rattle.ii_query.specs.Phrase.{PhraseMatchState, cursors_in, parts_in, phrase_docs};
+    ghost use Rattle.ii_query.specs.Phrase.{IsUnreadFrom, PhraseMatchState, cursors_in, parts_in, phrase_docs};
 
     ghost Value = { PhraseMatchState P };
 
-    ghost view = { λ s. record { first = P.rest s.first; others = parts_in s.others.items; cursors = s.first ∷ cursors_in s.others.items } };
+    ghost view = { λ s. record { first = s.first.part.rest; others = parts_in s.others.items; cursors = cursors_in (s.first ∷ s.others.items); terms = s.first ∷ s.others.items } };
 
-    ghost invariant = { λ s. IsAtFirst (P.rest s.first) (phrase_docs (P.rest s.first) (parts_in s.others.items)) };
+    ghost invariant = { λ s. IsAtFirst s.first.part.rest (phrase_docs s.first.part.rest (parts_in s.others.items))
+        × (IsCurrent s.first.part.rest → AllByRecursion (IsUnreadFrom (doc_at s.first.part.rest + 1)) s.others.items) };
 }
 
 impl<P: Postings> PhraseMatch<P> {
@@ -247,9 +278,11 @@ impl<P: Postings> PhraseMatch<P> {
     pub fn new(first: P, others: Vec<PhrasePart<P>>) -> PhraseMatch<P>
         ensures rest { phrase_docs result.first result.others ≡ phrase_docs (P.rest first) (parts_in others.items) }
         ensures work { AllZip (Spent P.spent) (first ∷ cursors_in others.items) result.cursors }
+        ensures reads { AllByRecursion IsUnread others.items → AllZip (ReadsOnce P.spent) (unread_term 0 (P.rest first) first ∷ others.items) result.terms }
     {
-        let mut first = first;
+        let mut first = PhrasePart::new(0, first);
         let mut others = others;
+        clear_all(&mut others);
         go_to_phrase(&mut first, &mut others);
         PhraseMatch { first, others }
     }
@@ -257,17 +290,17 @@ impl<P: Postings> PhraseMatch<P> {
 
 impl<P: Postings> DocSet for PhraseMatch<P> {
     ghost use Rattle.std.specs.List.{AllZip};
-    ghost use Rattle.ii_query.specs.Phrase.{Spent, phrase_docs};
-    ghost use Rattle.ii_query.specs.WorkLaws.{all_went_on, none_went, spent_in_turn, spent_nothing};
+    ghost use Rattle.ii_query.specs.Phrase.{ReadsOnce, Spent, phrase_docs};
+    ghost use Rattle.ii_query.specs.WorkLaws.{all_went_on, none_went, reads_in_turn, reads_nothing, spent_in_turn, spent_nothing};
 
     ghost rest = { λ s. phrase_docs s.first s.others };
 
-    // Its cursors advanced, and read positions.
-    ghost went = { λ a b. AllZip (Spent P.spent) a.cursors b.cursors };
+    // Its cursors advanced, and read positions, each one at most once.
+    ghost went = { λ a b. AllZip (Spent P.spent) a.cursors b.cursors × AllZip (ReadsOnce P.spent) a.terms b.terms };
 
-    ghost went_nowhere = { λ s. none_went (Spent P.spent) (λ t. spent_nothing P.spent (P.spent_moving t t (P.went_nowhere t))) s.cursors };
+    ghost went_nowhere = { λ s. (none_went (Spent P.spent) (λ t. spent_nothing P.spent (P.spent_moving t t (P.went_nowhere t))) s.cursors, none_went (ReadsOnce P.spent) (λ t. reads_nothing P.spent t (P.spent_moving t.cursor t.cursor (P.went_nowhere t.cursor))) s.terms) };
 
-    ghost went_on = { λ a b c first second. all_went_on (Spent P.spent) (spent_in_turn P.spent P.spent_on) a.cursors b.cursors c.cursors first second };
+    ghost went_on = { λ a b c first second. (all_went_on (Spent P.spent) (spent_in_turn P.spent P.spent_on) a.cursors b.cursors c.cursors first.0 second.0, all_went_on (ReadsOnce P.spent) (reads_in_turn P.spent P.spent_on) a.terms b.terms c.terms first.1 second.1) };
 
     fn advance(&mut self) -> DocId {
         self.first.advance();
@@ -279,11 +312,15 @@ impl<P: Postings> DocSet for PhraseMatch<P> {
     }
 
     fn size_hint(&self) -> u32 {
-        self.first.size_hint()
+        self.first.postings.size_hint()
     }
 
     fn seek(&mut self, target: DocId) -> DocId {
-        self.first.seek(target);
+        let doc = self.first.doc();
+        if doc >= target {
+            return doc;
+        }
+        self.first.go_to(target);
         go_to_phrase(&mut self.first, &mut self.others)
     }
 }

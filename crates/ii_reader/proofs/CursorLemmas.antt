@@ -1,14 +1,17 @@
 -- Laws of a cursor over documents and their term frequencies.
-use Rattle.std.proofs.Common.{◌≡◌, ℕ, zero, suc, ◌+◌, ◌*◌, ◌/◌, ◌^◌, ◌<◌, ◌≤◌, ◌⊎◌, inl, inr, Bool, true, false, ◌&&◌, List, [], ◌∷◌, length, drop, map, get_or, min, nat_le, nat_lt, Option, Some, None, is_some, not, refl, sym, ap, ◌∙◌, arith, length-take, length-drop}
-use Rattle.std.specs.List.{All, zip, list_all}
+use Rattle.std.proofs.Common.{◌≡◌, ℕ, zero, suc, ◌+◌, ◌*◌, ◌/◌, ◌^◌, ◌<◌, ◌≤◌, ◌⊎◌, inl, inr, Bool, true, false, ◌&&◌, List, [], ◌∷◌, length, take, drop, map, get_or, min, nat_le, nat_lt, Option, Some, None, is_some, not, refl, sym, ap, ◌∙◌, arith, length-take, length-drop}
+use Rattle.std.specs.List.{All, AllByRecursion, zip, list_all}
+use Rattle.std.specs.List.Sorted.{IsNonDecreasing}
 use Rattle.std.proofs.lemmas.Bool.{ltb-true, ltb-false, leb-true, and_parts}
 use Rattle.std.proofs.lemmas.List.{get_or-take, get_or-drop, get_or_past, drop_all, length-map}
 use Rattle.std.proofs.lemmas.List.Elements.{All-map, All-head, All-tail, All-cons}
+use Rattle.std.proofs.lemmas.List.Sorted.{IsNonDecreasingBy-from_all_adjacent, IsNonDecreasingBy-short}
 use Rattle.ii_base.specs.declared.doc_id.TheConstants.{TERMINATED}
 use Rattle.ii_base.specs.Entries.{Entry, document, counted, ascend_from, are_documents}
-use Rattle.ii_docset.specs.Cursor.{doc_at, FitsU32, IsAscending, IsSound, term_freq_at}
+use Rattle.ii_docset.specs.Cursor.{doc_at, FitsU32, IsAscending, IsInOrder, IsSound, term_freq_at}
 use Rattle.ii_docset.proofs.CursorLemmas.{documents_sound, IsSound_drop, advanced}
-use Rattle.ii_codes.specs.Sums.{fit_u32}
+use Rattle.ii_codes.specs.Sums.{fit_u32, running_sums}
+use Rattle.ii_layout.specs.Positions.{positions_of}
 use Rattle.ii_layout.specs.Postings.{entries_of}
 use Rattle.ii_layout.specs.Written.{block_of}
 use Rattle.ii_reader.specs.BlockSegmentPostings.{AreEntries, doc_in_block, freq_in_block}
@@ -135,11 +138,14 @@ second_low (x ∷ xs) (f ∷ fs) (suc k) d low within = second_low xs fs k d (an
 counts_fit : (docs freqs : List ℕ) → fit_u32 freqs ≡ true → All FitsU32 (entries_of docs (Some freqs))
 counts_fit docs freqs low = All-map FitsU32 (λ (e : ℕ × ℕ). counted e.0 e.1) (zip docs freqs) (λ k d within. (second_low docs freqs k d low within, λ j p none. absurd (omega arith)))
 
+counts_in_order : (docs freqs : List ℕ) → All IsInOrder (entries_of docs (Some freqs))
+counts_in_order docs freqs = All-map IsInOrder (λ (e : ℕ × ℕ). counted e.0 e.1) (zip docs freqs) (λ k d within. IsNonDecreasingBy-short (λ p. p) [] (omega arith))
+
 entries_sound : (n : ℕ) (docs : List ℕ) (freqs : Option (List ℕ)) → AreEntries n docs freqs → IsSound (entries_of docs freqs)
 entries_sound n docs None a = documents_sound docs a.ascending
 entries_sound n docs (Some freqs) a =
     let up = ap are_documents (docs_are n docs (Some freqs) a) ∙ a.ascending in
-    record { ascending = (ascending_from 0 (entries_of docs (Some freqs)) up).0; fits = counts_fit docs freqs (a.freqs_are freqs refl).low }
+    record { ascending = (ascending_from 0 (entries_of docs (Some freqs)) up).0; fits = counts_fit docs freqs (a.freqs_are freqs refl).low; in_order = counts_in_order docs freqs }
 
 -- and so is the list with positions of 32 bits
 low_all : (ps : List ℕ) → fit_u32 ps ≡ true → All (λ (p : ℕ). p < 2 ^ 32) ps
@@ -164,11 +170,37 @@ positions_fit None deltas a = refl
 positions_fit (Some fs) None a = refl
 positions_fit (Some fs) (Some ds) a = a.fit
 
+-- sums of deltas don't decrease
+sums_in_order : (before : ℕ) (ds : List ℕ) → IsNonDecreasing (running_sums before ds)
+sums_in_order before ds = IsNonDecreasingBy-from_all_adjacent (λ p. p) (running_sums before ds) (adjacent before ds)
+  where
+    adjacent : (before : ℕ) (ds : List ℕ) (k d : ℕ) → k + 1 < length (running_sums before ds) → get_or (running_sums before ds) k d ≤ get_or (running_sums before ds) (k + 1) d
+    adjacent before [] k d within = absurd (omega arith)
+    adjacent before (x ∷ []) k d within = absurd (omega arith)
+    adjacent before (x ∷ y ∷ ds) zero d within = omega arith
+    adjacent before (x ∷ y ∷ ds) (suc k) d within = adjacent (before + x) (y ∷ ds) k d (omega arith)
+
+located_in_order : (pss : List (List ℕ)) (es : List Entry) → AllByRecursion IsNonDecreasing pss → All IsInOrder es → All IsInOrder (located pss es)
+located_in_order [] es rise all = all
+located_in_order (ps ∷ pss) [] rise all = all
+located_in_order (ps ∷ pss) (e ∷ es) rise all = All-cons IsInOrder _ (located pss es) rise.0 (located_in_order pss es rise.1 (All-tail IsInOrder e es all))
+
+positions_in_order : (freqs deltas : Option (List ℕ)) → AllByRecursion IsNonDecreasing (positions_if freqs deltas)
+positions_in_order None deltas = tt
+positions_in_order (Some fs) None = tt
+positions_in_order (Some fs) (Some ds) = each fs ds
+  where
+    each : (fs ds : List ℕ) → AllByRecursion IsNonDecreasing (positions_of fs ds)
+    each [] ds = tt
+    each (n ∷ ns) ds = (sums_in_order 0 (take n ds), each ns (drop n ds))
+
 pub rest_sound : (n : ℕ) (docs : List ℕ) (freqs deltas : Option (List ℕ)) (i : ℕ) → AreEntries n docs freqs → AreGivenDeltas freqs deltas → IsSound (drop i (list_of docs freqs deltas))
 rest_sound n docs freqs deltas i a d =
     let up = ap are_documents (list_docs n docs freqs deltas a) ∙ a.ascending in
-    let fits = located_fits (positions_if freqs deltas) (entries_of docs freqs) (positions_fit freqs deltas d) (entries_sound n docs freqs a).fits in
-    IsSound_drop i (list_of docs freqs deltas) (record { ascending = (ascending_from 0 (list_of docs freqs deltas) up).0; fits = fits })
+    let entries = entries_sound n docs freqs a in
+    let fits = located_fits (positions_if freqs deltas) (entries_of docs freqs) (positions_fit freqs deltas d) entries.fits in
+    let in_order = located_in_order (positions_if freqs deltas) (entries_of docs freqs) (positions_in_order freqs deltas) entries.in_order in
+    IsSound_drop i (list_of docs freqs deltas) (record { ascending = (ascending_from 0 (list_of docs freqs deltas) up).0; fits = fits; in_order = in_order })
 
 -- one place on in the block, and on to the next block
 pub next_place : (es : List Entry) (block cur : ℕ) → drop (128 * block + (cur + 1)) es ≡ drop 1 (drop (128 * block + cur) es)

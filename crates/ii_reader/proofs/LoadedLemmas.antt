@@ -9,7 +9,7 @@ use Rattle.std.proofs.lemmas.List.Sums.{sum_by-cons}
 use Rattle.ii_io.specs.declared.faults.Fault.{Fault}
 use Rattle.ii_base.specs.declared.doc_id.TheConstants.{TERMINATED}
 use Rattle.ii_base.specs.Entries.{Entry}
-use Rattle.ii_docset.specs.Cursor.{total_freq, doc_at, positions_at, term_freq_at, IsAscending, FitsU32, IsSound}
+use Rattle.ii_docset.specs.Cursor.{total_freq, doc_at, positions_at, term_freq_at, IsAscending, FitsU32, IsInOrder, IsSound}
 use Rattle.ii_docset.proofs.CursorLemmas.{IsSound_drop, length_below, length_step, nothing_left}
 use Rattle.ii_reader.specs.LoadedPostings.{AreOffsets, IsEndOf, IsHeld, IsLoadFault, loaded, loaded_entry, num_positions, entry_between, entries_held}
 
@@ -190,7 +190,7 @@ loaded_fits es h few =
     All-map FitsU32 loaded_entry es (λ k d inside. (let most = one_of es k d inside in omega arith, (h k d inside).1))
 
 pub loaded_sound : (es : List Entry) → IsSound es → num_positions es < 2 ^ 32 → IsSound (loaded es)
-loaded_sound es h few = record { ascending = (loaded_ascending es h.ascending).1; fits = loaded_fits es h.fits few }
+loaded_sound es h few = record { ascending = (loaded_ascending es h.ascending).1; fits = loaded_fits es h.fits few; in_order = All-map IsInOrder loaded_entry es (λ k d inside. h.in_order k d inside) }
 
 -- the complete list was loaded
 all_loaded : (all : List Entry) (docs offsets positions : List ℕ) → IsLoading all [] docs offsets positions → entries_held docs offsets positions ≡ loaded all

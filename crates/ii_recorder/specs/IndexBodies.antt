@@ -1,5 +1,5 @@
 -- The three composite files of an index while they are written: terms, postings and positions.
-use Rattle.std.specs.Prelude.{List, ◌≡◌, ℕ, ◌+◌, ◌-◌, ◌^◌, ◌<◌, ◌≤◌, ◌⊎◌, false, length, Result}
+use Rattle.std.specs.Prelude.{List, [], ◌≡◌, ℕ, ◌+◌, ◌-◌, ◌^◌, ◌<◌, ◌≤◌, ◌⊎◌, false, length, Result}
 use Rattle.ii_io.specs.declared.faults.Fault.{Fault}
 use Rattle.ii_io.specs.Composite.{table_bytes}
 use Rattle.ii_io.specs.CountingWriter.{CountingWriterState, Grows, IsFull, Wrote}
@@ -11,6 +11,10 @@ pub record IndexBodiesState : Type 0 where
   pub terms : CompositeWriteState
   pub postings : CompositeWriteState
   pub positions : CompositeWriteState
+
+-- a file that starts at the end of a writer's output
+abbrev pub begun_file : CountingWriterState → CompositeWriteState
+begun_file w = record { writer = w; base = w.written_bytes; starts = []; closed = false }
 
 -- how many calls of the three writers failed
 abbrev pub failed_calls : IndexBodiesState → ℕ

@@ -1,7 +1,7 @@
 -- Documents found in one segment after the other.
 use Rattle.std.proofs.Common.{◌≡◌, ◌∙◌, ℕ, zero, suc, ◌+◌, ◌<◌, ◌≤◌, Bool, true, false, List, [], ◌∷◌, ◌++◌, append-nil, append_assoc, length, map, filter, take, drop, get_or, Ok, Err, Result, Some, refl, sym, ap, arith, subst, ◌⊎◌, inl, inr}
 use Rattle.std.specs.Prelude.{slice_get}
-use Rattle.std.specs.List.{AllByRecursion}
+use Rattle.std.specs.List.{All, AllByRecursion}
 use Rattle.std.proofs.lemmas.List.{map-append, take_all}
 use Rattle.std.proofs.lemmas.List.Elements.{All-from_recursion, recursion_from_All}
 use Rattle.ii_io.specs.declared.faults.Fault.{Fault}
@@ -11,7 +11,7 @@ use Rattle.ii_reader.specs.InvertedIndexReader.{IsRefusal}
 use Rattle.ii_base.specs.Entries.{Entry, docs_of}
 use Rattle.ii_base.specs.Schema.{SchemaEntry}
 use Rattle.ii_base.specs.declared.doc_id.TheConstants.{TERMINATED}
-use Rattle.ii_docset.specs.Cursor.{FitsU32, IsAscending, IsSound, doc_at}
+use Rattle.ii_docset.specs.Cursor.{FitsU32, IsAscending, IsInOrder, IsSound, doc_at}
 use Rattle.ii_alive.specs.Alive.{num_living, rank}
 use Rattle.ii_query_parser.specs.declared.query.Query.{Query}
 use Rattle.ii_query_parser.specs.Queries.{has_fields, matches}
@@ -75,11 +75,15 @@ ascending_append bound [] ys first below second low = second
 ascending_append bound (x ∷ []) ys first below second low = (omega (arith, below.0, low), second)
 ascending_append bound (x ∷ y ∷ xs) ys first below second low = (first.0, ascending_append bound (y ∷ xs) ys first.1 below.1 second low)
 
+all_append : (P : Entry → Type 0) (xs ys : List Entry) → All P xs → All P ys → All P (xs ++ ys)
+all_append P xs ys first second = All-from_recursion P (xs ++ ys) (all_both P xs ys (recursion_from_All P xs first) (recursion_from_All P ys second))
+
 -- documents after others
 pub sound_append : (bound : ℕ) (xs ys : List Entry) → IsSound xs → AllBelow bound xs → IsSound ys → bound ≤ doc_at ys → IsSound (xs ++ ys)
 sound_append bound xs ys first below second low = record {
   ascending = ascending_append bound xs ys first.ascending below second.ascending low;
-  fits = All-from_recursion FitsU32 (xs ++ ys) (all_both FitsU32 xs ys (recursion_from_All FitsU32 xs first.fits) (recursion_from_All FitsU32 ys second.fits));
+  fits = all_append FitsU32 xs ys first.fits second.fits;
+  in_order = all_append IsInOrder xs ys first.in_order second.in_order;
 }
 
 module _ (base : ℕ) (alive : List Bool) where

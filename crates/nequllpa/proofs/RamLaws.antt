@@ -10,9 +10,11 @@ use Rattle.ii_definitions.specs.Tokens.{IndexToken}
 use Rattle.ii_indexing.specs.IndexFiles.{WroteIndex}
 use Rattle.ii_indexing.specs.declared.index_writers.IndexWriters.{IndexWriters}
 use Rattle.ii_reader.specs.OpenIndex.{GivesReaders, IndexHolds, NormsHold, OpenIndexState, trusted_index}
-use Rattle.ii_reader.specs.InvertedIndexReader.{AllOpen}
+use Rattle.ii_reader.specs.InvertedIndexReader.{AllOpen, IsRefusal}
 use Rattle.ii_reader.proofs.KnownLemmas.{readers_open, readers_trusted}
 use Rattle.ii_indexing.specs.RamFiles.{empty_files}
+use Rattle.ii_io.specs.declared.faults.Part.{Part}
+use Rattle.nequllpa.specs.OpenedFiles.{OpensFiles}
 
 pub appended : (bytes : List ℕ) (o : Option (List ℕ)) → Appends (Some []) o bytes → o ≡ Some bytes
 appended bytes None h = absurd h
@@ -51,3 +53,8 @@ same_file bytes items known o taken now is = sym (inside (now ∙ is)) ∙ sym t
   where
     inside : Some items ≡ Some known → items ≡ known
     inside e = cc
+
+-- how files open
+pub opens_files : (files : Result OpenIndexState Part) (r : Result OpenIndexState Fault) → IfOk r (λ index. files ≡ Ok index) → IfErr r (IsRefusal files) → OpensFiles files r
+opens_files files (Ok index) ok err = ok
+opens_files files (Err fault) ok err = err

@@ -17,7 +17,7 @@ pub use ii_base::{
 };
 
 // how an index is written and opened
-pub use crate::ram::index_in_ram;
+pub use crate::ram::{index_in_ram, open_in_ram};
 pub use ii_base::{CountingWriter, HasLen};
 pub use ii_indexing::{IndexWriters, Indexer, write_index};
 pub use ii_reader::{

@@ -10,7 +10,8 @@ ghost use Rattle.ii_definitions.specs.IndexCalls.{MayAllBeIndexed, call_of};
 ghost use Rattle.ii_indexing.specs.Refusals.{calls_fault};
 ghost use Rattle.ii_indexing.specs.RamFiles.{IsRamFault};
 ghost use Rattle.ii_reader.specs.InvertedIndexReader.{AllOpen, IsTrusted};
-ghost use Rattle.ii_reader.specs.OpenIndex.{GivesReaders, IndexHolds, NormsHold, trusted_index};
+ghost use Rattle.ii_reader.specs.OpenIndex.{GivesReaders, IndexHolds, NormsHold, index_of_files, trusted_index};
+ghost use Rattle.nequllpa.specs.OpenedFiles.{OpensFiles};
 
 use bytes::Bytes;
 use ii_base::{Fault, Schema, TextAnalyzer};
@@ -49,7 +50,7 @@ pub fn index_in_ram<A: TextAnalyzer>(
     let files = IndexWriters::in_memory(alloc);
     let (files, written) = write_index(alloc, schema, num_docs, calls, analyzer, files);
     match written {
-        Ok(()) => match open_files(alloc, files, &copy) {
+        Ok(()) => match open_in_ram(alloc, files, &copy) {
             Ok(index) => Ok(trusted(index)),
             Err(fault) => Err(fault),
         },
@@ -67,12 +68,19 @@ fn trusted(index: OpenIndex) -> OpenIndex
     index
 }
 
-// Opens the readers of the fields of a schema, and their norms.
-fn open_files(
+/// Opens an index whose files were written to memory, over the fields of a schema, with their norms. Lists are
+/// validated when they are opened.
+///
+/// Returns `Damaged` with the first corrupt part as `open_index_with_norms` does, never for files that hold
+/// tokens and norms, and `OutOfMemory` if an allocation fails.
+pub fn open_in_ram(
     alloc: Global,
     files: IndexWriters<Vec<u8>>,
     schema: &Schema,
 ) -> Result<OpenIndex, Fault>
+    ensures opened { (terms : List ℕ) (postings : List ℕ) (positions : List ℕ) (fieldnorms : List ℕ)
+        → files.terms.contents ≡ Some terms → files.postings.contents ≡ Some postings → files.positions.contents ≡ Some positions → files.fieldnorms.contents ≡ Some fieldnorms
+        → OpensFiles (index_of_files terms postings positions fieldnorms schema.now) result }
     ensures holds { (terms : List ℕ) (postings : List ℕ) (positions : List ℕ) (fieldnorms : List ℕ) (num_docs : ℕ) (tokens : List IndexToken)
         → files.terms.contents ≡ Some terms → files.postings.contents ≡ Some postings → files.positions.contents ≡ Some positions → files.fieldnorms.contents ≡ Some fieldnorms
         → HoldTokens (option_of schema.now) terms postings positions tokens → HoldNorms schema.now num_docs fieldnorms tokens

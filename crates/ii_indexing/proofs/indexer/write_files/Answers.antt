@@ -2,9 +2,10 @@ use Rattle.std.proofs.Common.{inl, ⊎_elim, ◌<◌, ◌^◌, ◌∙◌, List, 
 use Rattle.ii_base.specs.Schema.{SchemaEntry}
 use Rattle.std.specs.Prelude.{IfErr}
 use Rattle.ii_postings_writer.specs.ResolvedTerms.{json_fields, resolved_terms}
-use Rattle.ii_indexing.proofs.WrittenFiles.{PassesBehind, closed_files, table_fault, terms_fault, three_counted}
+use Rattle.ii_indexing.proofs.WrittenFiles.{PassesBehind, closed_files, table_fault, terms_fault}
 use Rattle.ii_io.proofs.WriteSteps.{Grows-trans}
 use Rattle.ii_indexing.proofs.indexer.write_files.Goals as goal
+use Rattle.ii_recorder.proofs.GrowthLemmas.{three_counted}
 
 pub returns-in-Ok-clause-holds : goal.returns-in-Ok-clause-holds
 returns-in-Ok-clause-holds g c ts has =

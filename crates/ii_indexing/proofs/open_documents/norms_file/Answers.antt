@@ -4,8 +4,9 @@ use Rattle.ii_io.specs.CompositeWrite.{CompositeWriteState, HasBodies}
 use Rattle.ii_io.specs.CountingWriter.{CountingWriterState, WritesInMemory}
 use Rattle.ii_io.specs.declared.faults.Fault.{Fault}
 use Rattle.ii_fieldnorm.specs.Buffers.{WroteNorms, rest_of_file}
-use Rattle.ii_indexing.proofs.NormFileLaws.{begun_bodies, few_bodies, memory_only, norms_read, norms_written}
+use Rattle.ii_indexing.proofs.NormFileLaws.{few_bodies, memory_only, norms_read, norms_written}
 use Rattle.ii_indexing.proofs.open_documents.norms_file.Goals as goal
+use Rattle.ii_recorder.proofs.GrowthLemmas.{begun_bodies}
 
 pub serialize-writer-requires-clause-few : goal.serialize-writer-requires-clause-few
 serialize-writer-requires-clause-few c = λ running. omega (arith, c.requires.few, few_bodies 0 c.args.norms.now, ap (λ (s : CompositeWriteState). length s.starts) c.from_write.ensures)

@@ -1,18 +1,14 @@
-use Rattle.std.proofs.Common.{◌≡◌, ℕ, List, Ok, false, length, map}
-use Rattle.std.specs.List.{range_with_len}
-use Rattle.ii_definitions.specs.Postings.{field_count}
-use Rattle.ii_recorder.specs.IndexBodies.{AllGrow, CountsFailures}
+use Rattle.std.proofs.Common.{◌≡◌, List, Ok, length, map}
 use Rattle.ii_segments.specs.Segments.{Segment, index_tokens}
-use Rattle.ii_merger.specs.MergedIndex.{FieldsBelow, HasMergedFields, MergeSourcesHold, segment_of}
+use Rattle.ii_merger.specs.MergedFiles.{num_tokens_by_field}
+use Rattle.ii_merger.specs.MergedIndex.{EndsFields, FieldsBelow, HasMergedFields, MergeSourcesHold, WroteFieldsBelow, opened_segment}
 use Rattle.ii_merger.proofs.index_merge.merge_fields.Given as goal
 
 abbrev pub invariant-loop-place : goal.invariant-loop-place
 invariant-loop-place g l = record {
-  entries : l.serializer.entries ≡ l.fn.serializer.entries;
-  unclosed : l.serializer.closed ≡ false;
   below : FieldsBelow l.place l.serializer.bodies;
-  holds : (ss : List Segment) → MergeSourcesHold l.schema (map segment_of l.sources) ss → l.num_tokens ≡ map (λ (field : ℕ). field_count field (index_tokens ss)) (range_with_len 0 (length l.schema))
-      → HasMergedFields l.schema l.fn.serializer.bodies l.fn.serializer.bodies 0 (index_tokens ss) → HasMergedFields l.schema l.fn.serializer.bodies l.serializer.bodies l.place (index_tokens ss);
-  failures : CountsFailures {A = Unit {0}} l.fn.serializer.bodies l.serializer.bodies (Ok tt);
-  grow : AllGrow l.fn.serializer.bodies l.serializer.bodies;
+  holds : (ss : List Segment) → MergeSourcesHold l.schema (map opened_segment l.sources) ss → l.num_tokens ≡ num_tokens_by_field (length l.schema) (index_tokens ss)
+      → HasMergedFields l.schema l.fn.serializer.bodies l.serializer.bodies l.place (index_tokens ss);
+  wrote : WroteFieldsBelow (record { entries = l.schema; num_tokens = l.num_tokens; norms = l.norms; segments = map opened_segment l.sources }) l.fn.serializer.bodies l.serializer.bodies l.place;
+  ends : EndsFields l.fn.serializer l.serializer (Ok tt);
 }

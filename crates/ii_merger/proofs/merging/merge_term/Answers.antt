@@ -7,7 +7,7 @@ use Rattle.ii_postings_writer.proofs.FieldEndings.{grow_by_none}
 use Rattle.ii_postings_writer.proofs.SerializeLemmas.{always_on_ok}
 use Rattle.ii_segments.specs.Segments.{living_entries}
 use Rattle.ii_termstore.specs.declared.term_info.TermInfo.{TermInfo}
-use Rattle.ii_merger.specs.MergeSources.{entries_under, list_damage, list_under, source_of, total_living}
+use Rattle.ii_merger.specs.MergeSources.{entries_under, source_damage, list_under, source_of, living_in_sources}
 use Rattle.ii_merger.specs.MergedTerm.{CoversBelow, IsPushFault, IsReadableEntry, LieBetween, Merges, skip_of}
 use Rattle.ii_merger.proofs.MergeLemmas.{merges_ends, merges_norms}
 use Rattle.ii_merger.proofs.SourceLemmas.{info_at, none_after, numbers_fit, source_at}
@@ -27,9 +27,9 @@ merge_list-requires-clause-covered g c doc low =
     let place = c.loop-place.place in
     let s = c.index-sources-place.result in
     let h = c.loop-place.invariant.merging in
-    let fits = numbers_fit all (drop place all) (drop (place + 1) all) (source_of s) c.loop-place.base (total_living all) h.base_is (source_at c.args.sources.now place s c.loop-place-test.true c.index-sources-place.is) (omega arith) in
+    let fits = numbers_fit all (drop place all) (drop (place + 1) all) (source_of s) c.loop-place.base (living_in_sources all) h.base_is (source_at c.args.sources.now place s c.loop-place-test.true c.index-sources-place.is) (omega arith) in
     let norms = merges_norms c.args.term.key.now c.args.term.kind c.args.serializer.now.index.now c.loop-place.begun c.loop-place.serializer.index.now h.done h.merges in
-    subst (λ (n : Option Norms). CoversBelow n (total_living all)) (sym norms) c.requires.covered doc (omega (arith, low, fits))
+    subst (λ (n : Option Norms). CoversBelow n (living_in_sources all)) (sym norms) c.requires.covered doc (omega (arith, low, fits))
 
 pub returns-in-Err-clause-grow : goal.returns-in-Err-clause-grow
 returns-in-Err-clause-grow g c =
@@ -47,7 +47,7 @@ returns-in-Err-clause-fault g c initial field tokens norms ts writing =
     let s = source_of c.index-sources-place.result in
     let h = c.loop-place.invariant.merging in
     let info = info_at key c.args.sources.now c.args.infos.now place c.index-sources-place.result c.loop-place-test.true c.index-sources-place.is c.requires.infos in
-    let own = subst (λ (o : Option TermInfo). IsPushFault (list_damage kind s.alive (list_under kind s o)) (skip_of first.field.term.mode kind) kind (h.done ++ living_entries c.loop-place.base s.alive (entries_under kind s o)) c.in-Err.fault) info
+    let own = subst (λ (o : Option TermInfo). IsPushFault (source_damage kind s.alive (list_under kind s o)) (skip_of first.field.term.mode kind) kind (h.done ++ living_entries c.loop-place.base s.alive (entries_under kind s o)) c.in-Err.fault) info
     (c.in-Err.ensures.fault first h.done c.requires.start h.merges) in
     merging_fault key kind first all (drop place all) c.loop-place.begun c.loop-place.base c.loop-place.serializer.index.now h s (drop (place + 1) all) c.in-Err.fault initial tokens norms ts
     (source_at c.args.sources.now place c.index-sources-place.result c.loop-place-test.true c.index-sources-place.is) c.requires.kind own
@@ -75,7 +75,7 @@ loop-place-preserved g c =
     let merges = subst (λ (o : Option TermInfo). Merges c.in-Ok.begun key kind first new (h.done ++ living_entries base s.alive (entries_under kind s o))) info (c.in-Ok.ensures.merges first h.done c.requires.start h.merges) in
     let docs = subst (λ (o : Option TermInfo). LieBetween base (base + num_living s.alive) (living_entries base s.alive (entries_under kind s o))) info c.in-Ok.ensures.docs in
     let readable = subst (λ (o : Option TermInfo). AllByRecursion (IsReadableEntry kind) (living_entries base s.alive (entries_under kind s o))) info c.in-Ok.ensures.readable in
-    let sound = sym (ap (λ (o : Option TermInfo). list_damage kind s.alive (list_under kind s o)) info) ∙ c.in-Ok.ensures.sound in
+    let sound = sym (ap (λ (o : Option TermInfo). source_damage kind s.alive (list_under kind s o)) info) ∙ c.in-Ok.ensures.sound in
     let next = merging_next key kind first all (drop place all) c.loop-place.begun base c.loop-place.serializer.index.now h s (drop (place + 1) all) c.in-Ok.begun new
     (source_at c.args.sources.now place c.index-sources-place.result c.loop-place-test.true c.index-sources-place.is) merges docs readable sound in
     record {

@@ -7,7 +7,7 @@ use Rattle.ii_termdict.specs.Dictionary.{TermEntry}
 use Rattle.ii_termdict.specs.TermMerger.{least_key}
 use Rattle.ii_recorder.specs.IndexSerializer.{IsWriting}
 use Rattle.ii_recorder.proofs.GrowthLemmas.{AllGrow-trans}
-use Rattle.ii_merger.specs.MergeSources.{merged_from, source_of, total_living}
+use Rattle.ii_merger.specs.MergeSources.{merged_from, source_of, living_in_sources}
 use Rattle.ii_merger.specs.MergedField.{IsSoundTerm, IsTermMergeFault, merged_terms, term_of_entries}
 use Rattle.ii_merger.specs.MergedTerm.{CoversBelow}
 use Rattle.ii_merger.proofs.FieldMergeLemmas.{IsMergingField, all_infos, err_more, field_all, field_next, field_none, kept_kind, key_fault, lent_dictionaries, may_start, same_mode, same_norms}
@@ -37,7 +37,7 @@ merge_term-merged-requires-clause-infos g c =
 pub merge_term-merged-requires-clause-covered : goal.merge_term-merged-requires-clause-covered
 merge_term-merged-requires-clause-covered g c =
     let norms = same_norms c.args.entry.now (map source_of c.args.sources.now) c.args.serializer.now.index.now c.loop-key.terms c.loop-key.serializer.index.now c.loop-key.invariant.merging c.requires.fresh in
-    subst (λ (n : Option Norms). CoversBelow n (total_living (map source_of c.args.sources.now))) (sym norms) c.requires.covered
+    subst (λ (n : Option Norms). CoversBelow n (living_in_sources (map source_of c.args.sources.now))) (sym norms) c.requires.covered
 
 pub merge_term-merged-requires-clause-kind : goal.merge_term-merged-requires-clause-kind
 merge_term-merged-requires-clause-kind g c =

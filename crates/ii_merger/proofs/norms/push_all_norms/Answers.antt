@@ -1,7 +1,7 @@
 use Rattle.std.proofs.Common.{◌∙◌, ◌++◌, ◌+◌, List, ℕ, drop, map, sym, ap, subst, append_assoc}
 use Rattle.std.specs.List.{AllByRecursion}
-use Rattle.ii_merger.specs.MergedIndex.{MergeSourceState, segment_of}
-use Rattle.ii_merger.specs.MergedNorms.{HasNorms, living_ids, merged_ids}
+use Rattle.ii_merger.specs.MergedIndex.{MergeSourceState, opened_segment}
+use Rattle.ii_merger.specs.MergedNorms.{HasAllNorms, living_ids, merged_ids}
 use Rattle.ii_merger.proofs.IndexMergeLemmas.{segment_at}
 use Rattle.ii_merger.proofs.NormLemmas.{one_damaged}
 use Rattle.ii_merger.proofs.norms.push_all_norms.Goals as goal
@@ -13,15 +13,15 @@ returns-in-Err-clause-fault c =
 pub loop-place-preserved : goal.loop-place-preserved
 loop-place-preserved c =
     let field = c.args.field in
-    let all = map segment_of c.args.sources.now in
+    let all = map opened_segment c.args.sources.now in
     let place = c.loop-place.place in
-    let s = segment_of c.index-sources-place.result in
+    let s = opened_segment c.index-sources-place.result in
     let at = segment_at c.args.sources.now place c.index-sources-place.result c.loop-place-test.true c.index-sources-place.is in
     let h = c.loop-place.invariant in
     record {
       added = ap (λ (xs : List ℕ). xs ++ merged_ids field (drop (place + 1) all)) c.in_default.ensures.ok
           ∙ append_assoc c.loop-place.ids.items (living_ids field s) (merged_ids field (drop (place + 1) all))
           ∙ ap (λ (ss : List MergeSourceState). c.loop-place.ids.items ++ merged_ids field ss) (sym at) ∙ h.added;
-      sound = λ rest. h.sound (subst (AllByRecursion (HasNorms field)) (sym at) (c.in_default.ensures.sound, rest));
-      whole = λ whole. (subst (AllByRecursion (HasNorms field)) at (h.whole whole)).1;
+      sound = λ rest. h.sound (subst (AllByRecursion (HasAllNorms field)) (sym at) (c.in_default.ensures.sound, rest));
+      whole = λ whole. (subst (AllByRecursion (HasAllNorms field)) at (h.whole whole)).1;
     }

@@ -1,10 +1,17 @@
-use Rattle.std.proofs.Common.{sym, subst}
-use Rattle.ii_io.specs.CountingWriter.{Grows}
+use Rattle.std.proofs.Common.{sym, subst, ◌∙◌, ℕ, List, map, ap}
+use Rattle.ii_io.specs.CountingWriter.{Grows, Writes}
 use Rattle.ii_io.proofs.WriteSteps.{writes_grows}
 use Rattle.ii_recorder.specs.IndexBodies.{IndexBodiesState}
-use Rattle.ii_merger.specs.MergedFiles.{AreBegun}
+use Rattle.ii_merger.specs.MergedFiles.{AreBegun, WroteParts, merging_of}
 use Rattle.ii_merger.proofs.FileLemmas.{all_begun}
 use Rattle.ii_merger.proofs.segment_merge.write_segment.Goals as goal
+use Rattle.std.specs.Prelude.{OnOk}
+use Rattle.ii_io.specs.Composite.{Body}
+use Rattle.ii_merger.specs.MergedIndex.{opened_segment}
+use Rattle.ii_merger.specs.MergedNorms.{merged_norm_bytes}
+use Rattle.ii_merger.proofs.PartLemmas.{files_refused, norm_file_fails, wrote_merged}
+use Rattle.ii_indexing.specs.IndexFiles.{begun_files}
+use Rattle.ii_indexing.proofs.WrittenFiles.{files_counted, norms_refused}
 
 pub write_terms-terms-requires-clause-begun : goal.write_terms-terms-requires-clause-begun
 write_terms-terms-requires-clause-begun g c =
@@ -17,3 +24,33 @@ returns-clause-grow g c =
     let norms = writes_grows old.fieldnorms c.write_file-written.new.writer _ c.write_file-written.result c.write_file-written.ensures.written in
     let grown = subst (λ (b : IndexBodiesState). Grows b.terms.writer r.0 × Grows b.postings.writer r.1 × Grows b.positions.writer r.2) c.open.ensures.bodies c.write_terms-terms.ensures.grow in
     record { terms = grown.0; postings = grown.1; positions = grown.2; fieldnorms = norms }
+
+pub returns-clause-failures : goal.returns-clause-failures
+returns-clause-failures g c =
+    let r = c.write_terms-terms.result in
+    files_counted c.args.writers c.write_file-written.new.writer r.0 r.1 r.2 c.args.file.now c.open.result.bodies c.write_file-written.result r.3 (sym c.if-is_err.false ∙ c.is_err.ensures.value) c.write_file-written.ensures.written c.open.ensures.bodies c.write_terms-terms.ensures.failures
+
+pub returns-clause-fault : goal.returns-clause-fault
+returns-clause-fault g c =
+    let ss = map opened_segment c.args.sources.now in
+    let r = c.write_terms-terms.result in
+    files_refused (record { entries = c.args.schema.now; num_tokens = c.args.num_tokens.now; norms = c.args.norms.now; segments = ss }) (merging_of c.args.schema.now c.args.num_tokens.now ss) c.open.result.bodies (begun_files c.args.writers) _ r.3
+    (ap (λ (bs : List Body). record { entries = c.args.schema.now; num_tokens = c.args.num_tokens.now; norms = bs; segments = ss }) c.requires.norms) c.open.ensures.bodies c.write_terms-terms.ensures.fault
+
+pub returns-clause-wrote : goal.returns-clause-wrote
+returns-clause-wrote g c =
+    let ss = map opened_segment c.args.sources.now in
+    let r = c.write_terms-terms.result in
+    let w = c.args.writers in
+    wrote_merged c.args.schema.now c.args.num_tokens.now c.args.norms.now ss w c.write_file-written.new.writer r.0 r.1 r.2 c.write_file-written.result r.3 c.requires.norms c.requires.sound (sym c.if-is_err.false ∙ c.is_err.ensures.value)
+    (subst (λ (bytes : List ℕ). Writes w.fieldnorms c.write_file-written.new.writer bytes c.write_file-written.result) c.requires.file c.write_file-written.ensures.written)
+    (subst (λ (b : IndexBodiesState). OnOk r.3 (WroteParts (record { entries = c.args.schema.now; num_tokens = c.args.num_tokens.now; norms = c.args.norms.now; segments = ss }) b.terms.writer b.postings.writer b.positions.writer r.0 r.1 r.2)) c.open.ensures.bodies c.write_terms-terms.ensures.wrote)
+
+pub returns-then-is_err-clause-failures : goal.returns-then-is_err-clause-failures
+returns-then-is_err-clause-failures g c = norms_refused c.args.writers c.write_file-written.new.writer c.args.file.now c.write_file-written.result c.write_file-written.ensures.written
+
+pub returns-then-is_err-clause-fault : goal.returns-then-is_err-clause-fault
+returns-then-is_err-clause-fault g c =
+    let ss = map opened_segment c.args.sources.now in
+    norm_file_fails (merging_of c.args.schema.now c.args.num_tokens.now ss) (begun_files c.args.writers) c.args.writers.fieldnorms c.write_file-written.new.writer (merged_norm_bytes c.args.schema.now ss) c.write_file-written.result
+    (subst (λ (bytes : List ℕ). Writes c.args.writers.fieldnorms c.write_file-written.new.writer bytes c.write_file-written.result) c.requires.file c.write_file-written.ensures.written)

@@ -1,76 +1,63 @@
-use Rattle.std.proofs.Common.{◌+◌, List, ap, sym, ◌∙◌, refl, arith, replicate, take}
-use Rattle.std.specs.List.{list_any}
-use Rattle.ii_base.specs.Entries.{Entry}
-use Rattle.ii_docset.specs.Cursor.{position_before, positions_at}
-use Rattle.ii_query.specs.Phrase.{PhrasePartState, Spent, cursors_in, parts_in, stand_here}
-use Rattle.ii_query.proofs.PhraseSteps.{reading, reading_before, reading_found, reading_on, reading_within}
-use Rattle.ii_query.specs.WorkLaws.{all_went_on, none_went, spent_in_turn, spent_nothing}
+use Rattle.std.proofs.Common.{◌∙◌, refl, ap, sym, arith}
+use Rattle.std.specs.Prelude.{slice_get}
+use Rattle.std.proofs.lemmas.Option.{slice_get_within}
+use Rattle.ii_docset.specs.Cursor.{positions_at}
+use Rattle.ii_docset.proofs.CursorLemmas.{positions_in_order}
+use Rattle.ii_query.specs.Phrase.{PhrasePartState, PhraseTermState, ReadsOnce, parts_in}
+use Rattle.ii_query.specs.WorkLaws.{all_went_on, none_went, reads_in_turn, reads_nothing}
+use Rattle.ii_query.proofs.StartLemmas.{all_tried, none_tried, one_tried, start_found}
 use Rattle.ii_query.proofs.phrase.is_phrase.Goals as goal
 
-pub returns-then-stand_from_one-clause-phrase : goal.returns-then-stand_from_one-clause-phrase
-returns-then-stand_from_one-clause-phrase g c =
-    let l = c.loop-count in
-    let stand = stand_here (parts_in c.args.others.now.items) in
-    reading_found stand (positions_at (g.P.DocSet.rest c.args.first.now)) l.from l.count l.starts l.invariant.read
-    (ap (λ (ps : List PhrasePartState). list_any (stand_here ps) (take l.count l.starts)) (sym l.invariant.same) ∙ sym c.stand_from_one.ensures.stand ∙ c.if-stand_from_one.true) l.invariant.left
-
-pub read_positions-count-requires-in-loop-count-clause-before :
-    goal.read_positions-count-requires-in-loop-count-clause-before
-read_positions-count-requires-in-loop-count-clause-before g c =
-    let l = c.loop-count in
-    reading_before (positions_at (g.P.DocSet.rest c.args.first.now)) l.from l.count l.starts l.invariant.read c.loop-count-test.true
-    ∙ ap (λ (es : List Entry). position_before (l.from + l.count) (positions_at es)) (sym l.invariant.rest)
-
-pub loop-count-preserved : goal.loop-count-preserved
-loop-count-preserved g c =
-    let l = c.loop-count in
-    let r = c.read_positions-count-in-loop-count in
-    let ps = positions_at (g.P.DocSet.rest c.args.first.now) in
-    let stand = stand_here (parts_in c.args.others.now.items) in
+pub loop-start-init : goal.loop-start-init
+loop-start-init g c =
+    let still = λ (t : PhraseTermState _). reads_nothing g.P.Postings.spent t (g.met.P.Postings.spent_moving t.cursor t.cursor (g.met.P.DocSet.went_nowhere t.cursor)) in
     record {
-      rest = r.ensures.rest ∙ l.invariant.rest;
-      same = c.stand_from_one.ensures.same ∙ l.invariant.same;
-      read = reading ps (positions_at (g.P.DocSet.rest l.first)) (l.from + l.count) r.result l.starts r.new.output (ap positions_at l.invariant.rest) l.invariant.read.size (reading_within ps l.from l.count l.starts l.invariant.read)
-          r.ensures.few r.ensures.count r.ensures.read r.auto.output;
-      left = reading_on stand ps l.from l.count l.starts l.invariant.read
-          (ap (λ (os : List PhrasePartState). list_any (stand_here os) (take l.count l.starts)) (sym l.invariant.same) ∙ sym c.stand_from_one.ensures.stand ∙ c.if-stand_from_one.false) l.invariant.left;
-      first_work = spent_in_turn g.P.Postings.spent g.met.P.Postings.spent_on c.args.first.now l.first r.new.self l.invariant.first_work (record { asked = 1; count = r.result; by = r.ensures.work });
-      other_work = all_went_on (Spent g.P.Postings.spent) (spent_in_turn g.P.Postings.spent g.met.P.Postings.spent_on) (cursors_in c.args.others.now.items) (cursors_in l.others.items) (cursors_in c.stand_from_one.new.others.items) l.invariant.other_work c.stand_from_one.ensures.work;
+      first_same = refl;
+      others_same = refl;
+      tried = none_tried (positions_at c.args.first.now.part.rest) c.args.first.now.passed c.args.others.now.items (ap (λ (t : PhraseTermState _). t.passed) c.requires.first_unread) c.requires.others_unread;
+      first_work = still c.args.first.now;
+      other_work = none_went (ReadsOnce g.P.Postings.spent) still c.args.others.now.items;
     }
 
-pub returns-then-stand_from_one-clause-other_work : goal.returns-then-stand_from_one-clause-other_work
-returns-then-stand_from_one-clause-other_work g c = all_went_on (Spent g.P.Postings.spent) (spent_in_turn g.P.Postings.spent g.met.P.Postings.spent_on) _ _ _ c.loop-count.invariant.other_work c.stand_from_one.ensures.work
+pub returns-then-stand_from-clause-phrase : goal.returns-then-stand_from-clause-phrase
+returns-then-stand_from-clause-phrase g c =
+    let l = c.loop-start in
+    let is = c.in-Some.ensures.position ∙ ap (λ (p : PhrasePartState). slice_get (positions_at p.rest) l.first.passed) l.invariant.first_same in
+    start_found (positions_at c.args.first.now.part.rest) (parts_in c.args.others.now.items) l.first.passed c.in-Some.start l.others.items l.invariant.tried (positions_in_order c.args.first.now.part.rest c.doc-doc.ensures.sound) is
+    (sym c.stand_from.ensures.stand ∙ c.if-stand_from.true)
 
-pub loop-count-init : goal.loop-count-init
-loop-count-init g c =
-    let r = c.read_positions-count in
-    let ps = positions_at (g.P.DocSet.rest c.args.first.now) in
+pub returns-then-stand_from-clause-first_work : goal.returns-then-stand_from-clause-first_work
+returns-then-stand_from-clause-first_work g c = reads_in_turn g.P.Postings.spent g.met.P.Postings.spent_on c.args.first.now c.loop-start.first c.next_position.new.self c.loop-start.invariant.first_work c.next_position.ensures.work
+
+pub returns-then-stand_from-clause-other_work : goal.returns-then-stand_from-clause-other_work
+returns-then-stand_from-clause-other_work g c = all_went_on (ReadsOnce g.P.Postings.spent) (reads_in_turn g.P.Postings.spent g.met.P.Postings.spent_on) c.args.others.now.items c.loop-start.others.items c.stand_from.new.others.items c.loop-start.invariant.other_work c.stand_from.ensures.work
+
+pub loop-start-smaller : goal.loop-start-smaller
+loop-start-smaller g c =
+    let l = c.loop-start in
+    let is = c.in-Some.ensures.position ∙ ap (λ (p : PhrasePartState). slice_get (positions_at p.rest) l.first.passed) l.invariant.first_same in
+    let inside = slice_get_within (positions_at c.args.first.now.part.rest) l.first.passed c.in-Some.start (sym is) in
+    let next = c.in-Some.ensures.passed refl in
+    omega (arith, inside, next)
+
+pub loop-start-preserved : goal.loop-start-preserved
+loop-start-preserved g c =
+    let l = c.loop-start in
+    let is = c.in-Some.ensures.position ∙ ap (λ (p : PhrasePartState). slice_get (positions_at p.rest) l.first.passed) l.invariant.first_same in
     record {
-      rest = r.ensures.rest;
-      same = refl;
-      read = reading ps ps 0 r.result (replicate 64 0) r.new.output refl refl (omega arith) r.ensures.few r.ensures.count r.ensures.read r.auto.output;
-      left = refl;
-      first_work = record { asked = 1; count = r.result; by = r.ensures.work };
-      other_work = none_went (Spent g.P.Postings.spent) (λ t. spent_nothing g.P.Postings.spent (g.met.P.Postings.spent_moving t t (g.met.P.DocSet.went_nowhere t))) (cursors_in c.args.others.now.items);
+      first_same = c.next_position.ensures.same ∙ l.invariant.first_same;
+      others_same = c.stand_from.ensures.same ∙ l.invariant.others_same;
+      tried = one_tried (positions_at c.args.first.now.part.rest) (parts_in c.args.others.now.items) l.first.passed c.next_position.new.self.passed c.in-Some.start l.others.items c.stand_from.new.others.items l.invariant.tried
+          (positions_in_order c.args.first.now.part.rest c.doc-doc.ensures.sound) is (c.in-Some.ensures.passed refl) (sym c.stand_from.ensures.stand ∙ c.if-stand_from.false) c.stand_from.ensures.later;
+      first_work = reads_in_turn g.P.Postings.spent g.met.P.Postings.spent_on c.args.first.now l.first c.next_position.new.self l.invariant.first_work c.next_position.ensures.work;
+      other_work = all_went_on (ReadsOnce g.P.Postings.spent) (reads_in_turn g.P.Postings.spent g.met.P.Postings.spent_on) c.args.others.now.items l.others.items c.stand_from.new.others.items l.invariant.other_work c.stand_from.ensures.work;
     }
+
+pub returns-clause-phrase : goal.returns-clause-phrase
+returns-clause-phrase g c =
+    let l = c.loop-start in
+    let is = sym c.in_default.is ∙ c.next_position.ensures.position ∙ ap (λ (p : PhrasePartState). slice_get (positions_at p.rest) l.first.passed) l.invariant.first_same in
+    all_tried (positions_at c.args.first.now.part.rest) (parts_in c.args.others.now.items) l.first.passed l.others.items l.invariant.tried is
 
 pub returns-clause-first_work : goal.returns-clause-first_work
-returns-clause-first_work g c = c.loop-count.invariant.first_work
-
-pub returns-clause-other_work : goal.returns-clause-other_work
-returns-clause-other_work g c = c.loop-count.invariant.other_work
-
-pub returns-clause-same : goal.returns-clause-same
-returns-clause-same g c = c.loop-count.invariant.same
-
-pub returns-clause-rest : goal.returns-clause-rest
-returns-clause-rest g c = c.loop-count.invariant.rest
-
-pub returns-then-stand_from_one-clause-first_work : goal.returns-then-stand_from_one-clause-first_work
-returns-then-stand_from_one-clause-first_work g c = c.loop-count.invariant.first_work
-
-pub returns-then-stand_from_one-clause-same : goal.returns-then-stand_from_one-clause-same
-returns-then-stand_from_one-clause-same g c = c.stand_from_one.ensures.same ∙ c.loop-count.invariant.same
-
-pub returns-then-stand_from_one-clause-rest : goal.returns-then-stand_from_one-clause-rest
-returns-then-stand_from_one-clause-rest g c = c.loop-count.invariant.rest
+returns-clause-first_work g c = reads_in_turn g.P.Postings.spent g.met.P.Postings.spent_on c.args.first.now c.loop-start.first c.next_position.new.self c.loop-start.invariant.first_work c.next_position.ensures.work

@@ -27,11 +27,11 @@ trusted-requires g c =
     let same = sym c.in_ok-copy.ensures.same in
     let hold = subst (λ (es : List SchemaEntry). HoldTokens (option_of es) wrote.terms.terms wrote.terms.postings wrote.terms.positions ts) same wrote.terms.hold in
     let norms = subst (λ (es : List SchemaEntry). HoldNorms es c.args.num_docs wrote.norms.fieldnorms ts) same wrote.norms.hold in
-    let gives = c.open_files.ensures.holds wrote.terms.terms wrote.terms.postings wrote.terms.positions wrote.norms.fieldnorms c.args.num_docs ts ram.0 ram.1 ram.2 ram.3 hold norms in
-    all_open c.in_ok-copy.copy c.args.num_docs ts c.in-Ok-open_files.index c.open_files.result c.in-Ok-open_files.is gives c.in-Ok-open_files.ensures.many
+    let gives = c.open_in_ram.ensures.holds wrote.terms.terms wrote.terms.postings wrote.terms.positions wrote.norms.fieldnorms c.args.num_docs ts ram.0 ram.1 ram.2 ram.3 hold norms in
+    all_open c.in_ok-copy.copy c.args.num_docs ts c.in-Ok-open_in_ram.index c.open_in_ram.result c.in-Ok-open_in_ram.is gives c.in-Ok-open_in_ram.ensures.many
 
-pub returns-in-Ok-open_files-clause-holds : goal.returns-in-Ok-open_files-clause-holds
-returns-in-Ok-open_files-clause-holds g c =
+pub returns-in-Ok-open_in_ram-clause-holds : goal.returns-in-Ok-open_in_ram-clause-holds
+returns-in-Ok-open_in_ram-clause-holds g c =
     let ts = tokens_of (g.A.TextAnalyzer.words c.args.analyzer.now) (map (call_of c.args.schema) c.args.calls.items) in
     let files = c.in_memory-files.result in
     let new = c.write_index-files.result.0 in
@@ -40,9 +40,9 @@ returns-in-Ok-open_files-clause-holds g c =
     let same = sym c.in_ok-copy.ensures.same in
     let hold = subst (λ (es : List SchemaEntry). HoldTokens (option_of es) wrote.terms.terms wrote.terms.postings wrote.terms.positions ts) same wrote.terms.hold in
     let norms = subst (λ (es : List SchemaEntry). HoldNorms es c.args.num_docs wrote.norms.fieldnorms ts) same wrote.norms.hold in
-    let gives = c.open_files.ensures.holds wrote.terms.terms wrote.terms.postings wrote.terms.positions wrote.norms.fieldnorms c.args.num_docs ts ram.0 ram.1 ram.2 ram.3 hold norms in
-    let all = subst (λ (es : List SchemaEntry). GivesAll es c.args.num_docs ts c.open_files.result) c.in_ok-copy.ensures.same gives in
-    rw c.trusted.ensures (index_holds c.args.schema c.args.num_docs ts c.in-Ok-open_files.index (subst (λ (r : Result OpenIndexState Fault). GivesAll c.args.schema c.args.num_docs ts r) c.in-Ok-open_files.is all))
+    let gives = c.open_in_ram.ensures.holds wrote.terms.terms wrote.terms.postings wrote.terms.positions wrote.norms.fieldnorms c.args.num_docs ts ram.0 ram.1 ram.2 ram.3 hold norms in
+    let all = subst (λ (es : List SchemaEntry). GivesAll es c.args.num_docs ts c.open_in_ram.result) c.in_ok-copy.ensures.same gives in
+    rw c.trusted.ensures (index_holds c.args.schema c.args.num_docs ts c.in-Ok-open_in_ram.index (subst (λ (r : Result OpenIndexState Fault). GivesAll c.args.schema c.args.num_docs ts r) c.in-Ok-open_in_ram.is all))
 
 pub returns-in-Ok-clause-fault : goal.returns-in-Ok-clause-fault
 returns-in-Ok-clause-fault g c none =
@@ -54,8 +54,8 @@ returns-in-Ok-clause-fault g c none =
     let same = sym c.in_ok-copy.ensures.same in
     let hold = subst (λ (es : List SchemaEntry). HoldTokens (option_of es) wrote.terms.terms wrote.terms.postings wrote.terms.positions ts) same wrote.terms.hold in
     let norms = subst (λ (es : List SchemaEntry). HoldNorms es c.args.num_docs wrote.norms.fieldnorms ts) same wrote.norms.hold in
-    let gives = c.open_files.ensures.holds wrote.terms.terms wrote.terms.postings wrote.terms.positions wrote.norms.fieldnorms c.args.num_docs ts ram.0 ram.1 ram.2 ram.3 hold norms in
-    readers_fault c.in_ok-copy.copy ts (IsRamFault c.args.schema c.args.num_docs ts) (Err c.in-Err-open_files.fault) (subst (λ (r : Result OpenIndexState Fault). GivesReaders c.in_ok-copy.copy ts r) c.in-Err-open_files.is gives.0)
+    let gives = c.open_in_ram.ensures.holds wrote.terms.terms wrote.terms.postings wrote.terms.positions wrote.norms.fieldnorms c.args.num_docs ts ram.0 ram.1 ram.2 ram.3 hold norms in
+    readers_fault c.in_ok-copy.copy ts (IsRamFault c.args.schema c.args.num_docs ts) (Err c.in-Err-open_in_ram.fault) (subst (λ (r : Result OpenIndexState Fault). GivesReaders c.in_ok-copy.copy ts r) c.in-Err-open_in_ram.is gives.0)
 
 pub returns-clause-fault : goal.returns-clause-fault
 returns-clause-fault g c none =
@@ -65,8 +65,8 @@ returns-clause-fault g c none =
     (fault_in_ram c.args.schema c.args.num_docs files ts c.in-Err.fault c.in_memory-files.ensures
     (subst (λ (r : Result (Unit {0}) Fault). IfErr r (IsIndexFault c.args.schema c.args.num_docs files ts)) c.in-Err.is (c.write_index-files.ensures.fault none)))
 
-pub returns-in-Ok-open_files-clause-many : goal.returns-in-Ok-open_files-clause-many
-returns-in-Ok-open_files-clause-many g c = rw c.trusted.ensures (length-map c.in-Ok-open_files.index.readers trusted_reader ∙ c.in-Ok-open_files.ensures.many ∙ ap length c.in_ok-copy.ensures.same)
+pub returns-in-Ok-open_in_ram-clause-many : goal.returns-in-Ok-open_in_ram-clause-many
+returns-in-Ok-open_in_ram-clause-many g c = rw c.trusted.ensures (length-map c.in-Ok-open_in_ram.index.readers trusted_reader ∙ c.in-Ok-open_in_ram.ensures.many ∙ ap length c.in_ok-copy.ensures.same)
 
-pub returns-in-Ok-open_files-clause-trusted : goal.returns-in-Ok-open_files-clause-trusted
-returns-in-Ok-open_files-clause-trusted g c = rw c.trusted.ensures (all_trusted c.in-Ok-open_files.index.readers)
+pub returns-in-Ok-open_in_ram-clause-trusted : goal.returns-in-Ok-open_in_ram-clause-trusted
+returns-in-Ok-open_in_ram-clause-trusted g c = rw c.trusted.ensures (all_trusted c.in-Ok-open_in_ram.index.readers)
