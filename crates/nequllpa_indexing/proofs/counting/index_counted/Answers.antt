@@ -66,7 +66,7 @@ loop-call-preserved g c =
     record {
       taking = taken;
       counts = subst (λ (ts : List IndexToken). HasCounts es ts c.record.new.self) (sym are)
-          (counts_more es (tokens_by analyze done) us c.loop-call.counts c.record.new.self (field_of call) (doc_of call) c.last_num_tokens-num_tokens.result (call_tokens_by analyze (pieces_by analyze done) (call_of es call)) c.loop-call.invariant.counts set here);
+          (counts_more es (tokens_by analyze done) us c.loop-call.counts c.record.new.self (field_of call) (doc_of call) c.last_num_tokens-num_tokens.result (call_tokens_of (analyze (field_of call)) (pieces_by analyze done) (call_of es call)) c.loop-call.invariant.counts set here);
     }
 
 pub returns-in_err-index-clause-refused : goal.returns-in_err-index-clause-refused
