@@ -103,7 +103,8 @@ fn fields_have_analyzers(rt: HostRuntime) -> Result<(), Fail> {
     for (id, analyzer) in rows {
         assert!(rt; *tokenizers.analyzer(Field::from_field_id(id)) == analyzer);
     }
-    let one = OneAnalyzer(&Analyzer::Raw);
+    let raw = Analyzer::Raw;
+    let one = OneAnalyzer(&raw);
     assert!(rt; *one.analyzer(Field::from_field_id(7)) == Analyzer::Raw);
     Ok(())
 }
