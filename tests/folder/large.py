@@ -62,7 +62,7 @@ class User:
 def schema():
     """Returns a schema: a field that no line has, one of bodies, and others."""
     names = ['none', 'body'] + [f'f{number}' for number in range(FIELDS - 2)]
-    return ''.join(f'[[field]]\nname = "{name}"\ntype = "text"\n\n' for name in names)
+    return 'tokenizer = "ascii"\n\n' + ''.join(f'[[field]]\nname = "{name}"\ntype = "text"\n\n' for name in names)
 
 
 def documents(chosen):

@@ -218,7 +218,7 @@ def values(user, docs):
     told = user.wants(['fields', 'folder'], 0)
     tokens = sum(len(texts.positions_of(doc['body'])) for doc in docs)
     terms = len(texts.lists_of(docs, 'body'))
-    for wanted in (f'1 body text position fieldnorms: {terms} terms, {tokens} tokens\n', '2 number u64 basic: ', '8 note text not indexed: 0 terms, 0 tokens\n',
+    for wanted in (f'1 body text position fieldnorms tokenizer ascii: {terms} terms, {tokens} tokens\n', '2 number u64 basic: ', '8 note text not indexed: 0 terms, 0 tokens\n',
                    '\n  file.name text: ', '\n  file.place i64: ', '\n  odd\\.key bool: 2 terms, '):
         if wanted not in told:
             raise Failed(f'fields: no {wanted!r} in {told!r}')
@@ -292,7 +292,7 @@ def deletes(user):
     user.wants(['postings', 'three', 'body', 'b', '--positions'], 0, '1 1 0\n')
     user.wants(['terms', 'three', 'body'], 0, '1 a\n1 b\n')
     user.wants(['postings', 'three', 'id', '01'], 1, '')
-    if '1 body text position fieldnorms: 2 terms, 2 tokens\n' not in user.wants(['fields', 'three'], 0):
+    if '1 body text position fieldnorms tokenizer default: 2 terms, 2 tokens\n' not in user.wants(['fields', 'three'], 0):
         raise Failed('fields of three documents, one of them deleted')
     # the index of no lines is a segment too
     if f'{2:>12} documents\n{2:>12} segments\n' not in user.wants(['stats', 'three'], 0):
@@ -310,7 +310,7 @@ def deletes(user):
     adds(user, 'flags', {'id': '00', 'flag': 'a a'}, {'id': '01', 'flag': 'a'})
     user.wants(['delete', 'flags', 'id', '01'], 0, '1 documents deleted\n')
     user.wants(['postings', 'flags', 'flag', 'a'], 0, '0\n')
-    if '2 flag text basic: 1 terms, 2 tokens\n' not in user.wants(['fields', 'flags'], 0):
+    if '2 flag text basic tokenizer default: 1 terms, 2 tokens\n' not in user.wants(['fields', 'flags'], 0):
         raise Failed('fields of a field without counts')
     # a phrase and a difference over two segments
     started(user, 'two')

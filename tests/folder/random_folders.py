@@ -54,7 +54,7 @@ def random_schema(chosen):
 def schema_text(fields):
     """Returns the schema in TOML."""
     told = lambda value: json.dumps(value, ensure_ascii=False)
-    return '\n'.join('[[field]]\n' + ''.join(f'{key} = {told(value)}\n' for key, value in field.items()) for field in fields)
+    return 'tokenizer = "ascii"\n' + '\n'.join('[[field]]\n' + ''.join(f'{key} = {told(value)}\n' for key, value in field.items()) for field in fields)
 
 
 def random_text(chosen):

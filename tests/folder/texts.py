@@ -9,6 +9,8 @@ LICENCES = '/usr/share/common-licenses'
 
 SCHEMA = '''\
 # the fields of the lines
+tokenizer = "ascii"
+
 [[field]]
 name = "title"
 type = "text"

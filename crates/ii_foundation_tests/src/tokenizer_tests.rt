@@ -1,5 +1,6 @@
 use crate::tests::are_spelled;
-use ii_tokenizers::Analyzer;
+use ii_base::Field;
+use ii_tokenizers::{Analyzer, FieldAnalyzers, FieldTokenizers, OneAnalyzer, unicode_version};
 use std::test::Fail;
 
 const LETTERS_39: &str = "abcdefghijklmnopqrstuvwxyzabcdefghijklm";
@@ -67,5 +68,43 @@ fn long_words_leave_gaps(rt: HostRuntime) -> Result<(), Fail> {
     let few = "a@0+1 0..1, b@2+1 43..44, ";
     let found = are_spelled(rt.alloc(), &Analyzer::Default, long.as_str(), few)?;
     assert!(rt; found == [true; 2]);
+    Ok(())
+}
+
+#[test]
+fn analyzers_have_names(rt: HostRuntime) -> Result<(), Fail> {
+    let rows = [
+        (Analyzer::Default, "default", true),
+        (Analyzer::Raw, "raw", false),
+        (Analyzer::Whitespace, "whitespace", true),
+        (Analyzer::Ascii, "ascii", false),
+    ];
+    for (analyzer, name, uses_unicode) in rows {
+        assert!(rt; analyzer.name() == name);
+        assert!(rt; Analyzer::named(name) == Some(analyzer));
+        assert!(rt; analyzer.uses_unicode() == uses_unicode);
+    }
+    assert!(rt; Analyzer::named("Default").is_none());
+    assert!(rt; unicode_version() == "18.0.0");
+    Ok(())
+}
+
+// A field that the schema doesn't have has the ASCII analyzer.
+#[test]
+fn fields_have_analyzers(rt: HostRuntime) -> Result<(), Fail> {
+    let mut tokenizers = FieldTokenizers::new(rt.alloc());
+    tokenizers.push(Analyzer::Raw)?;
+    tokenizers.push(Analyzer::Default)?;
+    let rows = [
+        (0, Analyzer::Raw),
+        (1, Analyzer::Default),
+        (2, Analyzer::Ascii),
+    ];
+    for (id, analyzer) in rows {
+        assert!(rt; *tokenizers.analyzer(Field::from_field_id(id)) == analyzer);
+    }
+    let raw = Analyzer::Raw;
+    let one = OneAnalyzer(&raw);
+    assert!(rt; *one.analyzer(Field::from_field_id(7)) == Analyzer::Raw);
     Ok(())
 }

@@ -2,6 +2,7 @@ mod CheckingLaws
 mod IndexingLaws
 pub mod BoundLaws
 mod DeepLaws
+mod FitLaws
 pub mod FolderLaws
 mod HintLaws
 mod LoadedLaws

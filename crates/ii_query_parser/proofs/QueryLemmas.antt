@@ -1,5 +1,5 @@
 -- The trees of queries, one equation for each variant, and what these mean.
-use Rattle.std.proofs.Common.{◌≡◌, ◌∙◌, ℕ, Bool, true, false, ◌&&◌, ◌||◌, List, [], ◌∷◌, Vec, Box, Global, not, sym, ap, refl}
+use Rattle.std.proofs.Common.{◌≡◌, ◌∙◌, ℕ, Bool, true, ◌&&◌, ◌||◌, List, [], ◌∷◌, Vec, Box, Global, sym, ap, refl}
 use Rattle.std.specs.List.{list_all, list_any}
 use Rattle.ii_base.specs.Schema.{SchemaEntry}
 use Rattle.ii_base.specs.Terms.{TermState}

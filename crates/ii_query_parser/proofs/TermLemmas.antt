@@ -30,10 +30,10 @@ use Rattle.ii_definitions.specs.Tokens.{IndexToken}
 use Rattle.ii_query_grammar.specs.Trees.{Literal, leaf}
 use Rattle.ii_query_parser.specs.declared.query.Query.{Query}
 use Rattle.ii_query_parser.specs.Queries.{has_fields, has_positions_in, keeps_positions, matches}
-use Rattle.ii_query_parser.specs.QueryTexts.{Adds, AddsIn, AddsMaybe, AddsOrKeeps, AddsText, IsPhraseIn, IsRefusedAs, IsWhyRefused, Means, PhraseState, QueryFields, Terms, TextFields, are_in, default_terms, has_one, has_term, is_alone, joined_terms, left_out, needs_positions, one_term, path_key, path_value, phrase_kept, phrase_within, refused, some_default, some_left, stand_after, terms_after, terms_in_field, terms_of, text_terms, typed_terms, value_term, words_phrase}
+use Rattle.ii_query_parser.specs.QueryTexts.{Adds, AddsIn, AddsMaybe, AddsOrKeeps, AddsText, IsPhraseIn, IsRefusedAs, IsWhyRefused, Means, AnalyzedFields, FieldTexts, PhraseState, Terms, TextFields, are_in, default_terms, has_one, has_term, in_field, is_alone, joined_terms, left_out, one_term, path_key, path_value, phrase_kept, phrase_within, refused, some_default, some_left, stand_after, terms_after, terms_in_field, terms_of, text_terms, typed_terms, value_term, words_phrase}
 
 -- Terms of the fields so far were added, and those of the fields that are left come after them.
-pub record IsGathering (q : TextFields) (phrase all fields : List ℕ) (old now : List PhraseState) : Type 0 where
+pub record IsGathering (q : FieldTexts) (phrase all fields : List ℕ) (old now : List PhraseState) : Type 0 where
   pub found : List PhraseState
   pub now_is : now ≡ old ++ found
   pub within : are_in q.entries found ≡ true
@@ -48,15 +48,15 @@ joined_on first more (Ok terms) = ap (λ (ps : List PhraseState). Ok ps) (sym (a
 joined_on first more (Err e) = refl
 
 -- nothing was added so far
-pub gathers_none : (q : TextFields) (phrase all : List ℕ) (old : List PhraseState) → IsGathering q phrase all all old old
+pub gathers_none : (q : FieldTexts) (phrase all : List ℕ) (old : List PhraseState) → IsGathering q phrase all all old old
 gathers_none q phrase all old = record { found = []; now_is = sym (append-nil old); within = refl; whole = nothing_in_front (default_terms q phrase all) }
 
 field_at : (all : List ℕ) (i field : ℕ) → i < length all → field ≡ get_or all i field → drop i all ≡ field ∷ drop (i + 1) all
 field_at all i field inside is = drop-cons all i field inside ∙ rw (← is, add-one i) refl
 
 -- the terms of one field more
-pub gathers_more : (q : TextFields) (phrase all : List ℕ) (i field : ℕ) (old now new ts : List PhraseState) → i < length all → field ≡ get_or all i field → IsGathering q phrase all (drop i all) old now
-    → left_out (terms_in_field q field [] phrase) ≡ Ok ts → new ≡ now ++ ts → are_in q.entries ts ≡ true → IsGathering q phrase all (drop (i + 1) all) old new
+pub gathers_more : (q : FieldTexts) (phrase all : List ℕ) (i field : ℕ) (old now new ts : List PhraseState) → i < length all → field ≡ get_or all i field → IsGathering q phrase all (drop i all) old now
+    → left_out (terms_in_field (in_field q field) field [] phrase) ≡ Ok ts → new ≡ now ++ ts → are_in q.entries ts ≡ true → IsGathering q phrase all (drop (i + 1) all) old new
 gathers_more q phrase all i field old now new ts inside here g is new_is within =
     let left = drop (i + 1) all in
     record {
@@ -68,7 +68,7 @@ gathers_more q phrase all i field old now new ts inside here g is new_is within 
     }
 
 -- the first error of the default fields
-some_defaults : (q : TextFields) (phrase all : List ℕ) (i : ℕ) → i < length all → some_default q phrase all ≡ some_left (get_or all 0 0) (default_terms q phrase all)
+some_defaults : (q : FieldTexts) (phrase all : List ℕ) (i : ℕ) → i < length all → some_default q phrase all ≡ some_left (get_or all 0 0) (default_terms q phrase all)
 some_defaults q phrase [] i inside = absurd (omega arith)
 some_defaults q phrase (field ∷ fields) i inside = refl
 
@@ -91,15 +91,15 @@ adds_of terms entries old new (Ok done) adds = adds
 adds_of terms entries old new (Err e) why = why_of (refused terms) old new e why
 
 -- a field whose terms are refused
-pub gathers_refused : (q : TextFields) (phrase all : List ℕ) (i field : ℕ) (old now new : List PhraseState) (e : QueryParserError) → i < length all → field ≡ get_or all i field → IsGathering q phrase all (drop i all) old now
-    → IsRefusedAs (refused (left_out (terms_in_field q field [] phrase))) now new e → IsWhyRefused (refused (some_default q phrase all)) e
+pub gathers_refused : (q : FieldTexts) (phrase all : List ℕ) (i field : ℕ) (old now new : List PhraseState) (e : QueryParserError) → i < length all → field ≡ get_or all i field → IsGathering q phrase all (drop i all) old now
+    → IsRefusedAs (refused (left_out (terms_in_field (in_field q field) field [] phrase))) now new e → IsWhyRefused (refused (some_default q phrase all)) e
 gathers_refused q phrase all i field old now new e inside here g why =
     subst (λ (terms : Terms). IsWhyRefused (refused terms) e) (sym (some_defaults q phrase all i inside))
     (why_left (get_or all 0 0) (default_terms q phrase all) e
-    (why_joined g.found (left_out (terms_in_field q field [] phrase)) (default_terms q phrase (drop (i + 1) all)) (default_terms q phrase all) e
+    (why_joined g.found (left_out (terms_in_field (in_field q field) field [] phrase)) (default_terms q phrase (drop (i + 1) all)) (default_terms q phrase all) e
     (g.whole ∙ ap (λ (fields : List ℕ). joined_terms (Ok g.found) (default_terms q phrase fields)) (field_at all i field inside here)) (why_of _ now new e why)))
 
-gathered : (q : TextFields) (phrase all : List ℕ) (i : ℕ) (old now : List PhraseState) → length all ≤ i → (g : IsGathering q phrase all (drop i all) old now) → default_terms q phrase all ≡ Ok g.found
+gathered : (q : FieldTexts) (phrase all : List ℕ) (i : ℕ) (old now : List PhraseState) → length all ≤ i → (g : IsGathering q phrase all (drop i all) old now) → default_terms q phrase all ≡ Ok g.found
 gathered q phrase all i old now end g =
     g.whole ∙ ap (λ (fields : List ℕ). joined_terms (Ok g.found) (default_terms q phrase fields)) (drop_all i all end) ∙ ap (λ (ps : List PhraseState). Ok ps) (append-nil g.found)
 
@@ -108,7 +108,7 @@ left_some field [] old now is more = absurd (more (ap (λ (ps : List PhraseState
 left_some field (t ∷ ts) old now is more = refl
 
 -- all fields were looked at
-pub gathers_all : (q : TextFields) (phrase all : List ℕ) (i : ℕ) (old now : List PhraseState) → 0 < length all → length all ≤ i → (length now ≡ length old → ⊥) → IsGathering q phrase all (drop i all) old now → Adds (some_default q phrase all) q.entries old now (Ok tt)
+pub gathers_all : (q : FieldTexts) (phrase all : List ℕ) (i : ℕ) (old now : List PhraseState) → 0 < length all → length all ≤ i → (length now ≡ length old → ⊥) → IsGathering q phrase all (drop i all) old now → Adds (some_default q phrase all) q.entries old now (Ok tt)
 gathers_all q phrase all i old now some end more g =
     (g.found, some_defaults q phrase all 0 some ∙ ap (some_left (get_or all 0 0)) (gathered q phrase all i old now end g) ∙ left_some (get_or all 0 0) g.found old now g.now_is more, g.now_is, g.within)
 
@@ -117,7 +117,7 @@ none_found [] old now is same = refl
 none_found (t ∷ ts) old now is same = absurd (omega (arith, same, ap (λ (ps : List PhraseState). length ps) is, length-append old (t ∷ ts)))
 
 -- all of them are left out
-pub gathers_nothing : (q : TextFields) (phrase all : List ℕ) (i first : ℕ) (old now : List PhraseState) → 0 < length all → length all ≤ i → length now ≡ length old → first ≡ get_or all 0 0 → IsGathering q phrase all (drop i all) old now
+pub gathers_nothing : (q : FieldTexts) (phrase all : List ℕ) (i first : ℕ) (old now : List PhraseState) → 0 < length all → length all ≤ i → length now ≡ length old → first ≡ get_or all 0 0 → IsGathering q phrase all (drop i all) old now
     → IsWhyRefused (refused (some_default q phrase all)) (errors.FieldDoesNotHavePositionsIndexed first)
 gathers_nothing q phrase all i first old now some end same first_is g =
     let none = none_found g.found old now g.now_is same in
@@ -291,7 +291,7 @@ all_split f g (p ∷ ps) all =
     (rw here.0 later.0, rw here.1 later.1)
 
 -- what a word or a phrase means
-pub leaf_means : (q : QueryFields) (l : Literal) (query : Query) (terms : List PhraseState) → Adds (terms_of q l) q.texts.entries [] terms (Ok tt) → ((ts : List IndexToken) (doc : ℕ) → matches query ts doc ≡ has_term ts doc terms)
+pub leaf_means : (q : AnalyzedFields) (l : Literal) (query : Query) (terms : List PhraseState) → Adds (terms_of q l) q.texts.entries [] terms (Ok tt) → ((ts : List IndexToken) (doc : ℕ) → matches query ts doc ≡ has_term ts doc terms)
     → ((n : ℕ) → has_fields n query ≡ list_all (phrase_within n) terms) → ((entries : List SchemaEntry) → keeps_positions entries query ≡ list_all (phrase_kept entries) terms) → Means q (leaf l) query
 leaf_means q l query terms (ts, is, new_is, within) means fields positions =
     let all = all_split (phrase_within (length q.texts.entries)) (phrase_kept q.texts.entries) ts within in

@@ -1,5 +1,5 @@
 -- The queries of words and phrases in a list, and those of trees.
-use Rattle.std.proofs.Common.{◌≡◌, ◌∙◌, ℕ, Bool, true, ◌&&◌, ◌||◌, List, [], ◌∷◌, ◌++◌, append_assoc, length, map, Option, None, Vec, Global, inl, inr, refl, sym, ap, subst}
+use Rattle.std.proofs.Common.{◌≡◌, ◌∙◌, ℕ, Bool, true, ◌&&◌, ◌||◌, List, [], ◌∷◌, ◌++◌, append_assoc, length, map, Option, None, Vec, Global, refl, sym, ap, subst}
 use Rattle.std.proofs.Math.Bool.{and-true, and_assoc, or-false, or_assoc}
 use Rattle.std.proofs.lemmas.List.{append-nil}
 use Rattle.std.proofs.lemmas.List.Folds.{list_all-append, list_any-append}
@@ -13,7 +13,7 @@ use Rattle.ii_query_parser.specs.declared.query.Query.{Query}
 use Rattle.ii_query_parser.specs.declared.query.Query.TheVariants.{And, Or}
 use Rattle.ii_query_parser.specs.declared.query_parser_error.QueryParserError.{QueryParserError}
 use Rattle.ii_query_parser.specs.Queries.{has_fields, has_tree, keeps_positions, matches, trees_of}
-use Rattle.ii_query_parser.specs.QueryTexts.{HasPushed, IsWhyRefused, MeanEach, Means, PhraseState, QueryFields, all_match, any_matches, are_some, ast_refusal, asts_refusal, has_term, has_words, phrase_kept, phrase_within}
+use Rattle.ii_query_parser.specs.QueryTexts.{HasPushed, MeanEach, Means, PhraseState, AnalyzedFields, all_match, any_matches, are_some, asts_refusal, has_term, has_words, phrase_kept, phrase_within}
 use Rattle.ii_query_parser.proofs.QueryLemmas.{and_fields, and_matches, and_positions, or_fields, or_matches, or_positions}
 
 -- a query at the end of a list
@@ -54,7 +54,7 @@ collects_more old new words left here all is pushed i = record {
 }
 
 -- What holds of each of some queries.
-record EachMeans (q : QueryFields) (us : Asts) (queries : List Query) : Type 0 where
+record EachMeans (q : AnalyzedFields) (us : Asts) (queries : List Query) : Type 0 where
   taken : asts_refusal q us ≡ None
   some : (has_tree (trees_of queries)) ≡ are_some us
   each : (ts : List IndexToken) (doc : ℕ) → list_all (λ (x : Query). matches x ts doc) queries ≡ all_match q us ts doc
@@ -62,7 +62,7 @@ record EachMeans (q : QueryFields) (us : Asts) (queries : List Query) : Type 0 w
   fields : list_all (has_fields (length q.texts.entries)) queries ≡ true
   positions : list_all (keeps_positions q.texts.entries) queries ≡ true
 
-each_means : (q : QueryFields) (us : Asts) (queries : List Query) → MeanEach q us queries → EachMeans q us queries
+each_means : (q : AnalyzedFields) (us : Asts) (queries : List Query) → MeanEach q us queries → EachMeans q us queries
 each_means q no_asts [] mean = record { taken = refl; some = refl; each = λ ts doc. refl; any = λ ts doc. refl; fields = refl; positions = refl }
 each_means q no_asts (x ∷ xs) mean = absurd mean
 each_means q (and_asts a us) [] mean = absurd mean
@@ -78,7 +78,7 @@ each_means q (and_asts a us) (x ∷ xs) (here, mean) =
     }
 
 -- the query that matches what all match
-pub and_means : (q : QueryFields) (us : Asts) (queries : Vec Query Global) → MeanEach q us queries.items → Means q (all_of us) (And queries)
+pub and_means : (q : AnalyzedFields) (us : Asts) (queries : Vec Query Global) → MeanEach q us queries.items → Means q (all_of us) (And queries)
 and_means q us queries mean =
     let all = each_means q us queries.items mean in
     record {
@@ -89,7 +89,7 @@ and_means q us queries mean =
     }
 
 -- the query that matches what one of them matches
-pub or_means : (q : QueryFields) (us : Asts) (queries : Vec Query Global) → MeanEach q us queries.items → Means q (any_of us) (Or queries)
+pub or_means : (q : AnalyzedFields) (us : Asts) (queries : Vec Query Global) → MeanEach q us queries.items → Means q (any_of us) (Or queries)
 or_means q us queries mean =
     let all = each_means q us queries.items mean in
     record {
@@ -104,11 +104,11 @@ abbrev pub trees_in : List UserInputAst → Asts
 trees_in parts = asts_from (map ast_of parts)
 
 -- Queries of the first parts, to which those of the parts that are left can be added; no part so far has an error.
-pub record IsReading (q : QueryFields) (parts left : List UserInputAst) (queries : List Query) : Type 0 where
+pub record IsReading (q : AnalyzedFields) (parts left : List UserInputAst) (queries : List Query) : Type 0 where
   pub taken : asts_refusal q (trees_in parts) ≡ asts_refusal q (trees_in left)
   pub mean : (others : List Query) → MeanEach q (trees_in left) others → MeanEach q (trees_in parts) (queries ++ others)
 
-pub reads_more : (q : QueryFields) (parts left here : List UserInputAst) (part : UserInputAst) (old new : List Query) (query : Query) → here ≡ part ∷ left → Means q (ast_of part) query → new ≡ old ++ query ∷ [] → IsReading q parts here old → IsReading q parts left new
+pub reads_more : (q : AnalyzedFields) (parts left here : List UserInputAst) (part : UserInputAst) (old new : List Query) (query : Query) → here ≡ part ∷ left → Means q (ast_of part) query → new ≡ old ++ query ∷ [] → IsReading q parts here old → IsReading q parts left new
 reads_more q parts left here part old new query is means new_is i = record {
   taken = i.taken ∙ ap (λ (ps : List UserInputAst). asts_refusal q (trees_in ps)) is ∙ ap (λ (r : Option QueryParserError). option_or r (asts_refusal q (trees_in left))) means.taken;
   mean = λ others mean.
@@ -116,6 +116,6 @@ reads_more q parts left here part old new query is means new_is i = record {
       (i.mean (query ∷ others) (subst (λ (ps : List UserInputAst). MeanEach q (trees_in ps) (query ∷ others)) (sym is) (means, mean)));
 }
 
-pub reads_all : (q : QueryFields) (parts left : List UserInputAst) (queries : List Query) → left ≡ [] → IsReading q parts left queries → MeanEach q (trees_in parts) queries
+pub reads_all : (q : AnalyzedFields) (parts left : List UserInputAst) (queries : List Query) → left ≡ [] → IsReading q parts left queries → MeanEach q (trees_in parts) queries
 reads_all q parts left queries is i =
     subst (λ (xs : List Query). MeanEach q (trees_in parts) xs) (append-nil queries) (i.mean [] (subst (λ (ps : List UserInputAst). MeanEach q (trees_in ps) []) (sym is) tt))

@@ -27,7 +27,7 @@ use Rattle.ii_query_parser.specs.declared.query.Query.{Query}
 use Rattle.ii_query_parser.specs.declared.query_parser_error.QueryParserError.{QueryParserError}
 use Rattle.ii_query_parser.specs.declared.query_parser_error.QueryParserError.TheVariants as errors
 
--- An analyzer and the fields of a schema, by which words are looked up.
+-- An analyzer and the fields of a schema, by which the words of a field are looked up.
 pub record TextFields : Type 0 where
   pub analyze : List ℕ → List Word
   pub entries : List SchemaEntry
@@ -36,6 +36,24 @@ pub record TextFields : Type 0 where
 pub record QueryFields : Type 0 where
   pub texts : TextFields
   pub defaults : List ℕ
+
+-- The analyzer of each field, and the fields of a schema.
+pub record FieldTexts : Type 0 where
+  pub analyze : ℕ → List ℕ → List Word
+  pub entries : List SchemaEntry
+
+-- The analyzer of each field and the fields of a schema, and the default fields: those of a literal that names none.
+pub record AnalyzedFields : Type 0 where
+  pub texts : FieldTexts
+  pub defaults : List ℕ
+
+-- the analyzer of a field, and the fields of the schema
+abbrev pub in_field : FieldTexts → ℕ → TextFields
+in_field q field = record { analyze = q.analyze field; entries = q.entries }
+
+-- all fields with the same analyzer
+abbrev pub by_one : QueryFields → AnalyzedFields
+by_one q = record { texts = record { analyze = λ field. q.texts.analyze; entries = q.texts.entries }; defaults = q.defaults }
 
 -- A term, and those that follow it in a phrase; a term alone has none.
 pub record PhraseState : Type 0 where
@@ -123,18 +141,18 @@ has_json_values None = false
 has_json_values (Some e) = is_json e.value_type
 
 -- the terms at a path in a field of JSON values
-abbrev pub path_terms : TextFields → List ℕ → List ℕ → Option ℕ → Terms
+abbrev pub path_terms : FieldTexts → List ℕ → List ℕ → Option ℕ → Terms
 path_terms q path phrase None = Err errors.FieldDoesNotExist
-path_terms q path phrase (Some field) = if has_json_values (slice_get q.entries field) then terms_in_field q field path phrase else Err errors.FieldDoesNotExist
+path_terms q path phrase (Some field) = if has_json_values (slice_get q.entries field) then terms_in_field (in_field q field) field path phrase else Err errors.FieldDoesNotExist
 
 -- the terms of a text after a name that is cut at its first dot, if it has one
-abbrev pub dotted_terms : TextFields → List ℕ → List ℕ → Option ℕ → Terms
+abbrev pub dotted_terms : FieldTexts → List ℕ → List ℕ → Option ℕ → Terms
 dotted_terms q name phrase None = Err errors.FieldDoesNotExist
 dotted_terms q name phrase (Some i) = path_terms q (drop (i + 1) name) phrase (field_named q.entries (take i name))
 
 -- the terms of a text after a name: that of a field, or that of one of JSON values and a path after a dot
-abbrev pub named_terms : TextFields → List ℕ → List ℕ → Option ℕ → Terms
-named_terms q name phrase (Some field) = terms_in_field q field [] phrase
+abbrev pub named_terms : FieldTexts → List ℕ → List ℕ → Option ℕ → Terms
+named_terms q name phrase (Some field) = terms_in_field (in_field q field) field [] phrase
 named_terms q name phrase None = dotted_terms q name phrase (position (λ b. b == 46) name)
 
 -- two lists of terms together, or the first error
@@ -164,9 +182,9 @@ left_out (Ok terms) = Ok terms
 left_out (Err e) = if needs_positions e then Ok [] else Err e
 
 -- the terms of a text in each default field, except those that are left out
-abbrev pub default_terms : TextFields → List ℕ → List ℕ → Terms
+abbrev pub default_terms : FieldTexts → List ℕ → List ℕ → Terms
 default_terms q phrase [] = Ok []
-default_terms q phrase (field ∷ fields) = joined_terms (left_out (terms_in_field q field [] phrase)) (default_terms q phrase fields)
+default_terms q phrase (field ∷ fields) = joined_terms (left_out (terms_in_field (in_field q field) field [] phrase)) (default_terms q phrase fields)
 
 -- the terms in the default fields, where not all of them are left out
 abbrev pub some_left : ℕ → Terms → Terms
@@ -175,17 +193,17 @@ some_left field (Ok []) = Err (errors.FieldDoesNotHavePositionsIndexed field)
 some_left field (Ok (t ∷ ts)) = Ok (t ∷ ts)
 
 -- the terms of a text in the default fields, of which there has to be one
-abbrev pub some_default : TextFields → List ℕ → List ℕ → Terms
+abbrev pub some_default : FieldTexts → List ℕ → List ℕ → Terms
 some_default q phrase [] = Err errors.NoDefaultFieldDeclared
 some_default q phrase (field ∷ fields) = some_left field (default_terms q phrase (field ∷ fields))
 
 -- the terms of a word or a phrase
-abbrev pub literal_terms : TextFields → List ℕ → Option (List ℕ) → List ℕ → Terms
+abbrev pub literal_terms : FieldTexts → List ℕ → Option (List ℕ) → List ℕ → Terms
 literal_terms q defaults None phrase = some_default q phrase defaults
 literal_terms q defaults (Some name) phrase = named_terms q name phrase (field_named q.entries name)
 
 -- the terms of a literal of a tree
-abbrev pub terms_of : QueryFields → Literal → Terms
+abbrev pub terms_of : AnalyzedFields → Literal → Terms
 terms_of q l = literal_terms q.texts q.defaults l.field_name l.phrase
 
 -- whether a document has a term, or the phrase where others follow it
@@ -209,17 +227,17 @@ are_some (and_asts t ts) = true
 
 -- Whether a document matches the tree of a text; whether it matches each of some trees, of which there has to be one; or any of them.
 abbrev mutual
-  pub ast_matches : QueryFields → Ast → List IndexToken → ℕ → Bool
+  pub ast_matches : AnalyzedFields → Ast → List IndexToken → ℕ → Bool
   ast_matches q (leaf l) ts doc = has_one ts doc (terms_of q l)
   ast_matches q (all_of us) ts doc = are_some us && all_match q us ts doc
   ast_matches q (any_of us) ts doc = any_matches q us ts doc
   ast_matches q (without first other) ts doc = ast_matches q first ts doc && not (ast_matches q other ts doc)
 
-  pub all_match : QueryFields → Asts → List IndexToken → ℕ → Bool
+  pub all_match : AnalyzedFields → Asts → List IndexToken → ℕ → Bool
   all_match q no_asts ts doc = true
   all_match q (and_asts a us) ts doc = ast_matches q a ts doc && all_match q us ts doc
 
-  pub any_matches : QueryFields → Asts → List IndexToken → ℕ → Bool
+  pub any_matches : AnalyzedFields → Asts → List IndexToken → ℕ → Bool
   any_matches q no_asts ts doc = false
   any_matches q (and_asts a us) ts doc = ast_matches q a ts doc || any_matches q us ts doc
 
@@ -230,18 +248,18 @@ refused (Ok terms) = None
 
 -- the error of a tree: that of its first word or phrase that has one
 abbrev mutual
-  pub ast_refusal : QueryFields → Ast → Option QueryParserError
+  pub ast_refusal : AnalyzedFields → Ast → Option QueryParserError
   ast_refusal q (leaf l) = refused (terms_of q l)
   ast_refusal q (all_of us) = asts_refusal q us
   ast_refusal q (any_of us) = asts_refusal q us
   ast_refusal q (without first other) = option_or (ast_refusal q first) (ast_refusal q other)
 
-  pub asts_refusal : QueryFields → Asts → Option QueryParserError
+  pub asts_refusal : AnalyzedFields → Asts → Option QueryParserError
   asts_refusal q no_asts = None
   asts_refusal q (and_asts a us) = option_or (ast_refusal q a) (asts_refusal q us)
 
 -- A query means what a tree does, and the tree has no error.
-pub record Means (q : QueryFields) (ast : Ast) (query : Query) : Type 0 where
+pub record Means (q : AnalyzedFields) (ast : Ast) (query : Query) : Type 0 where
   pub taken : ast_refusal q ast ≡ None
   pub exact : (ts : List IndexToken) (doc : ℕ) → matches query ts doc ≡ ast_matches q ast ts doc
   pub fields : has_fields (length q.texts.entries) query ≡ true
@@ -256,39 +274,55 @@ abbrev pub IsRefusedAs : Option QueryParserError → List PhraseState → List P
 IsRefusedAs refusal old new e = (e ≡ errors.Fault OutOfMemory) ⊎ ((refusal ≡ Some e) × (new ≡ old))
 
 -- A query means what a tree does, or the tree has this error.
-abbrev pub IsQueryOf : QueryFields → Ast → Result Query QueryParserError → Type 0
-IsQueryOf q ast (Ok query) = Means q ast query
-IsQueryOf q ast (Err e) = IsWhyRefused (ast_refusal q ast) e
+abbrev pub IsQueryBy : AnalyzedFields → Ast → Result Query QueryParserError → Type 0
+IsQueryBy q ast (Ok query) = Means q ast query
+IsQueryBy q ast (Err e) = IsWhyRefused (ast_refusal q ast) e
 
 -- the error of the tree of a text, or the error of the text if it has no tree
-abbrev pub read_refusal : QueryFields → Result Ast ParseError → Option QueryParserError
+abbrev pub read_refusal : AnalyzedFields → Result Ast ParseError → Option QueryParserError
 read_refusal q (Ok ast) = ast_refusal q ast
 read_refusal q (Err e) = Some (as_parser_error e)
 
 -- the error of a text
-abbrev pub text_refusal : QueryFields → List ℕ → Option QueryParserError
-text_refusal q text = read_refusal q (parsed MAX_NESTING text)
+abbrev pub text_refusal_by : AnalyzedFields → List ℕ → Option QueryParserError
+text_refusal_by q text = read_refusal q (parsed MAX_NESTING text)
 
 -- whether a document matches the tree of a text, if it has one
-abbrev pub read_matches : QueryFields → Result Ast ParseError → List IndexToken → ℕ → Bool
+abbrev pub read_matches : AnalyzedFields → Result Ast ParseError → List IndexToken → ℕ → Bool
 read_matches q (Ok ast) ts doc = ast_matches q ast ts doc
 read_matches q (Err e) ts doc = false
 
 -- whether a document matches a text
-abbrev pub text_matches : QueryFields → List ℕ → List IndexToken → ℕ → Bool
-text_matches q text ts doc = read_matches q (parsed MAX_NESTING text) ts doc
+abbrev pub text_matches_by : AnalyzedFields → List ℕ → List IndexToken → ℕ → Bool
+text_matches_by q text ts doc = read_matches q (parsed MAX_NESTING text) ts doc
 
 -- A query means what a text does.
-pub record MeansText (q : QueryFields) (text : List ℕ) (query : Query) : Type 0 where
-  pub taken : text_refusal q text ≡ None
-  pub exact : (ts : List IndexToken) (doc : ℕ) → matches query ts doc ≡ text_matches q text ts doc
+pub record MeansTextBy (q : AnalyzedFields) (text : List ℕ) (query : Query) : Type 0 where
+  pub taken : text_refusal_by q text ≡ None
+  pub exact : (ts : List IndexToken) (doc : ℕ) → matches query ts doc ≡ text_matches_by q text ts doc
   pub fields : has_fields (length q.texts.entries) query ≡ true
   pub positions : keeps_positions q.texts.entries query ≡ true
 
 -- A query means what a text does, or the text has this error.
+abbrev pub IsQueryOfTextBy : AnalyzedFields → List ℕ → Result Query QueryParserError → Type 0
+IsQueryOfTextBy q text (Ok query) = MeansTextBy q text query
+IsQueryOfTextBy q text (Err e) = IsWhyRefused (text_refusal_by q text) e
+
+-- The same where all fields have one analyzer: whether a document matches a text, the error of a text, and what a query means.
+abbrev pub text_matches : QueryFields → List ℕ → List IndexToken → ℕ → Bool
+text_matches q text ts doc = text_matches_by (by_one q) text ts doc
+
+abbrev pub text_refusal : QueryFields → List ℕ → Option QueryParserError
+text_refusal q text = text_refusal_by (by_one q) text
+
+abbrev pub MeansText : QueryFields → List ℕ → Query → Type 0
+MeansText q text query = MeansTextBy (by_one q) text query
+
+abbrev pub IsQueryOf : QueryFields → Ast → Result Query QueryParserError → Type 0
+IsQueryOf q ast result = IsQueryBy (by_one q) ast result
+
 abbrev pub IsQueryOfText : QueryFields → List ℕ → Result Query QueryParserError → Type 0
-IsQueryOfText q text (Ok query) = MeansText q text query
-IsQueryOfText q text (Err e) = IsWhyRefused (text_refusal q text) e
+IsQueryOfText q text result = IsQueryOfTextBy (by_one q) text result
 
 -- whether the fields of a phrase are among the first n
 abbrev pub phrase_within : ℕ → PhraseState → Bool
@@ -341,14 +375,14 @@ CutsAtDot name None = position (λ b. b == 46) name ≡ None
 CutsAtDot name (Some parts) = (i : ℕ) × (position (λ b. b == 46) name ≡ Some i) × (parts.0.now ≡ take i name) × (parts.1.now ≡ drop (i + 1) name)
 
 -- Queries mean what trees do, one by one.
-abbrev pub MeanEach : QueryFields → Asts → List Query → Type 0
+abbrev pub MeanEach : AnalyzedFields → Asts → List Query → Type 0
 MeanEach q no_asts [] = Unit {0}
 MeanEach q no_asts (query ∷ queries) = ⊥
 MeanEach q (and_asts a us) [] = ⊥
 MeanEach q (and_asts a us) (query ∷ queries) = Means q a query × MeanEach q us queries
 
 -- The queries of trees, or the first error.
-abbrev pub AreQueriesOf : QueryFields → Asts → Result (Vec Query Global) QueryParserError → Type 0
+abbrev pub AreQueriesOf : AnalyzedFields → Asts → Result (Vec Query Global) QueryParserError → Type 0
 AreQueriesOf q us (Ok queries) = MeanEach q us queries.items
 AreQueriesOf q us (Err e) = IsWhyRefused (asts_refusal q us) e
 

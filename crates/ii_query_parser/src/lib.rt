@@ -14,6 +14,6 @@ pub use ii_query_grammar::{
 };
 pub use literal::field_named;
 pub use query::{PhraseTerm, Query};
-pub use query_parser::{parse_query, query_of};
+pub use query_parser::{parse_query, parse_query_by, query_of, query_of_by};
 pub use query_parser_error::QueryParserError;
 pub use unknown_field::unknown_field_name;

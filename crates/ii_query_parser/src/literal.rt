@@ -12,44 +12,45 @@ use crate::query_parser_error::QueryParserError;
 use ii_base::{Fault, Field, IndexRecordOption, Schema, Term, TextAnalyzer, ValueType};
 use ii_json::{bool_term, convert_to_fast_value_and_append_to_json_term, i64_term, u64_term};
 use ii_query_grammar::UserInputLiteral;
+use ii_tokenizers::FieldAnalyzers;
 use std::alloc::Global;
 
 /// Appends the terms and phrases of a literal. A document matches if it has any of them.
-pub(crate) fn push_literal<A: TextAnalyzer>(
+pub(crate) fn push_literal<F: FieldAnalyzers>(
     alloc: Global,
     schema: &Schema,
     default_fields: &[Field],
-    analyzer: &A,
+    analyzers: &F,
     literal: &UserInputLiteral,
     terms: &mut Vec<PhraseWords>,
 ) -> Result<(), QueryParserError>
-    ensures { Adds (terms_of (record { texts = record { analyze = A.words analyzer.now; entries = schema.now }; defaults = default_fields.now }) (literal_of literal.now)) schema.now terms.old.items terms.new.items result }
+    ensures { Adds (terms_of (record { texts = record { analyze = F.words analyzers.now; entries = schema.now }; defaults = default_fields.now }) (literal_of literal.now)) schema.now terms.old.items terms.new.items result }
 {
     let phrase = literal.phrase.as_str();
     match &literal.field_name {
-        None => push_defaults(alloc, schema, default_fields, analyzer, phrase, terms),
-        Some(name) => push_named(alloc, schema, analyzer, name.as_str(), phrase, terms),
+        None => push_defaults(alloc, schema, default_fields, analyzers, phrase, terms),
+        Some(name) => push_named(alloc, schema, analyzers, name.as_str(), phrase, terms),
     }
 }
 
 // Adds the terms of a text in each default field. A field that keeps no positions is left out of a phrase of
 // several words, unless no field is left.
-fn push_defaults<A: TextAnalyzer>(
+fn push_defaults<F: FieldAnalyzers>(
     alloc: Global,
     schema: &Schema,
     default_fields: &[Field],
-    analyzer: &A,
+    analyzers: &F,
     phrase: &str,
     terms: &mut Vec<PhraseWords>,
 ) -> Result<(), QueryParserError>
-    ensures { Adds (some_default (record { analyze = A.words analyzer.now; entries = schema.now }) phrase.now default_fields.now) schema.now terms.old.items terms.new.items result }
+    ensures { Adds (some_default (record { analyze = F.words analyzers.now; entries = schema.now }) phrase.now default_fields.now) schema.now terms.old.items terms.new.items result }
 {
     if default_fields.is_empty() {
         return Err(QueryParserError::NoDefaultFieldDeclared);
     }
     let before = terms.len();
     for field in default_fields {
-        match push_default(alloc, schema, analyzer, *field, phrase, terms) {
+        match push_default(alloc, schema, analyzers, *field, phrase, terms) {
             Ok(()) => {}
             Err(error) => return Err(error),
         }
@@ -61,17 +62,17 @@ fn push_defaults<A: TextAnalyzer>(
 }
 
 // Adds the terms of a text in a default field, unless it is left out.
-fn push_default<A: TextAnalyzer>(
+fn push_default<F: FieldAnalyzers>(
     alloc: Global,
     schema: &Schema,
-    analyzer: &A,
+    analyzers: &F,
     field: Field,
     phrase: &str,
     terms: &mut Vec<PhraseWords>,
 ) -> Result<(), QueryParserError>
-    ensures { AddsOrKeeps (left_out (terms_in_field (record { analyze = A.words analyzer.now; entries = schema.now }) field [] phrase.now)) schema.now terms.old.items terms.new.items result }
+    ensures { AddsOrKeeps (left_out (terms_in_field (record { analyze = F.words analyzers.now field; entries = schema.now }) field [] phrase.now)) schema.now terms.old.items terms.new.items result }
 {
-    match push_in_field(alloc, schema, analyzer, field, "", phrase, terms) {
+    match push_in_one(alloc, schema, analyzers, field, "", phrase, terms) {
         Ok(()) => Ok(()),
         Err(QueryParserError::FieldDoesNotHavePositionsIndexed(_)) => Ok(()),
         Err(error) => Err(error),
@@ -80,18 +81,18 @@ fn push_default<A: TextAnalyzer>(
 
 // Adds the terms of a text after a name: that of a field, or that of one of JSON values and a path after a
 // dot.
-fn push_named<A: TextAnalyzer>(
+fn push_named<F: FieldAnalyzers>(
     alloc: Global,
     schema: &Schema,
-    analyzer: &A,
+    analyzers: &F,
     name: &str,
     phrase: &str,
     terms: &mut Vec<PhraseWords>,
 ) -> Result<(), QueryParserError>
-    ensures { AddsOrKeeps (named_terms (record { analyze = A.words analyzer.now; entries = schema.now }) name.now phrase.now (field_named schema.now name.now)) schema.now terms.old.items terms.new.items result }
+    ensures { AddsOrKeeps (named_terms (record { analyze = F.words analyzers.now; entries = schema.now }) name.now phrase.now (field_named schema.now name.now)) schema.now terms.old.items terms.new.items result }
 {
     if let Some(field) = field_named(schema, name) {
-        return push_in_field(alloc, schema, analyzer, field, "", phrase, terms);
+        return push_in_one(alloc, schema, analyzers, field, "", phrase, terms);
     }
     let Some((name, path)) = cut_at_dot(name) else {
         return Err(QueryParserError::FieldDoesNotExist);
@@ -102,7 +103,7 @@ fn push_named<A: TextAnalyzer>(
     if !has_json(schema, field) {
         return Err(QueryParserError::FieldDoesNotExist);
     }
-    push_in_field(alloc, schema, analyzer, field, path, phrase, terms)
+    push_in_one(alloc, schema, analyzers, field, path, phrase, terms)
 }
 
 /// Returns the first field with this name.
@@ -143,6 +144,22 @@ fn dot_in(name: &[u8]) -> Option<usize>
     ensures { result ≡ position (λ b. b == 46) name.now }
 {
     name.iter().position(|b| *b == b'.')
+}
+
+// Adds the terms of a text in a field, by the field's analyzer, at a path if it has JSON values.
+fn push_in_one<F: FieldAnalyzers>(
+    alloc: Global,
+    schema: &Schema,
+    analyzers: &F,
+    field: Field,
+    path: &str,
+    phrase: &str,
+    terms: &mut Vec<PhraseWords>,
+) -> Result<(), QueryParserError>
+    ensures { AddsOrKeeps (terms_in_field (record { analyze = F.words analyzers.now field; entries = schema.now }) field path.now phrase.now) schema.now terms.old.items terms.new.items result }
+{
+    let analyzer = analyzers.analyzer(field);
+    push_in_field(alloc, schema, analyzer, field, path, phrase, terms)
 }
 
 // Adds the terms of a text in a field, at a path if it has JSON values.

@@ -5,7 +5,7 @@ ghost use Rattle.ii_base.specs.Schema.{SchemaEntry};
 ghost use Rattle.ii_definitions.specs.Tokens.{IndexToken};
 ghost use Rattle.ii_query_grammar.specs.Trees.{Ast, Asts, all_of, any_of, ast_of, asts_from, leaf, literal_of, without};
 ghost use Rattle.ii_query_parser.specs.Queries.{has_fields, keeps_positions, matches};
-ghost use Rattle.ii_query_parser.specs.QueryTexts.{AreQueriesOf, HasPushed, IsQueryOf, IsQueryOfText, QueryFields, has_term, has_words, phrase_kept, phrase_within};
+ghost use Rattle.ii_query_parser.specs.QueryTexts.{AnalyzedFields, AreQueriesOf, HasPushed, IsQueryBy, IsQueryOf, IsQueryOfText, IsQueryOfTextBy, has_term, has_words, phrase_kept, phrase_within};
 
 use crate::literal::push_literal;
 use crate::phrase_words::PhraseWords;
@@ -13,13 +13,14 @@ use crate::query::Query;
 use crate::query_parser_error::QueryParserError;
 use ii_base::{Fault, Field, Schema, TextAnalyzer};
 use ii_query_grammar::{UserInputAst, UserInputLiteral, parse};
+use ii_tokenizers::{FieldAnalyzers, OneAnalyzer};
 use std::alloc::Global;
 
-/// Parses a query text (`ii_query_grammar::parse`) over the fields of a schema. A word or a phrase without a
-/// field name is searched in all `default_fields`, which are fields of the schema. Default fields without
-/// positions are skipped for a phrase of several words, unless no other default field is left.
-/// `FieldEntry::index_record_option` says which fields keep positions. `query_of` documents the meaning of
-/// words and phrases.
+/// Parses a query text (`ii_query_grammar::parse`) over the fields of a schema, each of which has the same
+/// analyzer. A word or a phrase without a field name is searched in all `default_fields`, which are fields of the
+/// schema. Default fields without positions are skipped for a phrase of several words, unless no other default
+/// field is left. `FieldEntry::index_record_option` says which fields keep positions. `query_of_by` documents the
+/// meaning of words and phrases.
 ///
 /// # Errors
 ///
@@ -34,17 +35,46 @@ pub fn parse_query<A: TextAnalyzer>(
 ) -> Result<Query, QueryParserError>
     ensures { IsQueryOfText (record { texts = record { analyze = A.words analyzer.now; entries = schema.now }; defaults = default_fields.now }) text.now result }
 {
+    let analyzers = OneAnalyzer(analyzer);
+    parse_query_by(alloc, schema, default_fields, &analyzers, text)
+}
+
+/// Parses a query text over the fields of a schema, each with its analyzer. Words and phrases mean what
+/// `query_of_by` documents, and those without a field name what `parse_query` says; so are the errors.
+pub fn parse_query_by<F: FieldAnalyzers>(
+    alloc: Global,
+    schema: &Schema,
+    default_fields: &[Field],
+    analyzers: &F,
+    text: &str,
+) -> Result<Query, QueryParserError>
+    ensures { IsQueryOfTextBy (record { texts = record { analyze = F.words analyzers.now; entries = schema.now }; defaults = default_fields.now }) text.now result }
+{
     match parse(alloc, text) {
-        Ok(ast) => query_of(alloc, schema, default_fields, analyzer, &ast),
+        Ok(ast) => query_of_by(alloc, schema, default_fields, analyzers, &ast),
         Err(error) => Err(QueryParserError::from(error)),
     }
+}
+
+/// Returns the query of a tree, as `query_of_by`, where all fields have the same analyzer.
+pub fn query_of<A: TextAnalyzer>(
+    alloc: Global,
+    schema: &Schema,
+    default_fields: &[Field],
+    analyzer: &A,
+    ast: &UserInputAst,
+) -> Result<Query, QueryParserError>
+    ensures { IsQueryOf (record { texts = record { analyze = A.words analyzer.now; entries = schema.now }; defaults = default_fields.now }) (ast_of ast.now) result }
+{
+    let analyzers = OneAnalyzer(analyzer);
+    query_of_by(alloc, schema, default_fields, &analyzers, ast)
 }
 
 /// Returns the query of a tree. Its words and phrases mean this:
 ///
 /// - A name is that of a field of the schema, or that of a JSON field, a dot and a path in its values. In
 ///   that case the field's name ends at the first dot. `FieldDoesNotExist` if it is neither.
-/// - In a text field, a text is the token that the analyzer makes of it, or the phrase of several, each at
+/// - In a text field, a text is the token that the field's analyzer makes of it, or the phrase of several, each at
 ///   its position. `UnsupportedPhrase` if there is no token, or if one occurs before the first or 2^32
 ///   positions or more after it. `FieldDoesNotHavePositionsIndexed` if there are several and the field keeps
 ///   no positions.
@@ -56,48 +86,48 @@ pub fn parse_query<A: TextAnalyzer>(
 /// # Errors
 ///
 /// The error of the first word or phrase that has one, or `OutOfMemory` in a `Fault`.
-#[cycle(query_of)]
-pub fn query_of<A: TextAnalyzer>(
+#[cycle(query_of_by)]
+pub fn query_of_by<F: FieldAnalyzers>(
     alloc: Global,
     schema: &Schema,
     default_fields: &[Field],
-    analyzer: &A,
+    analyzers: &F,
     ast: &UserInputAst,
 ) -> Result<Query, QueryParserError>
-    ensures { IsQueryOf (record { texts = record { analyze = A.words analyzer.now; entries = schema.now }; defaults = default_fields.now }) (ast_of ast.now) result }
+    ensures { IsQueryBy (record { texts = record { analyze = F.words analyzers.now; entries = schema.now }; defaults = default_fields.now }) (ast_of ast.now) result }
 {
     match ast {
         UserInputAst::Leaf(literal) => {
-            literal_query(alloc, schema, default_fields, analyzer, literal)
+            literal_query(alloc, schema, default_fields, analyzers, literal)
         }
         UserInputAst::And(parts) => {
-            and_query(queries_of(alloc, schema, default_fields, analyzer, parts))
+            and_query(queries_of(alloc, schema, default_fields, analyzers, parts))
         }
         UserInputAst::Or(parts) => {
-            or_query(queries_of(alloc, schema, default_fields, analyzer, parts))
+            or_query(queries_of(alloc, schema, default_fields, analyzers, parts))
         }
         UserInputAst::AndNot(first, other) => {
-            let first = query_of(alloc, schema, default_fields, analyzer, first);
-            let other = query_of(alloc, schema, default_fields, analyzer, other);
+            let first = query_of_by(alloc, schema, default_fields, analyzers, first);
+            let other = query_of_by(alloc, schema, default_fields, analyzers, other);
             and_not_query(alloc, first, other)
         }
     }
 }
 
 // The queries of trees.
-#[cycle(query_of)]
-fn queries_of<A: TextAnalyzer>(
+#[cycle(query_of_by)]
+fn queries_of<F: FieldAnalyzers>(
     alloc: Global,
     schema: &Schema,
     default_fields: &[Field],
-    analyzer: &A,
+    analyzers: &F,
     parts: &Vec<UserInputAst>,
 ) -> Result<Vec<Query>, QueryParserError>
-    ensures { AreQueriesOf (record { texts = record { analyze = A.words analyzer.now; entries = schema.now }; defaults = default_fields.now }) (asts_from (map ast_of parts.now.items)) result }
+    ensures { AreQueriesOf (record { texts = record { analyze = F.words analyzers.now; entries = schema.now }; defaults = default_fields.now }) (asts_from (map ast_of parts.now.items)) result }
 {
     let mut queries = Vec::new(alloc);
     for part in parts {
-        match query_of(alloc, schema, default_fields, analyzer, part) {
+        match query_of_by(alloc, schema, default_fields, analyzers, part) {
             Ok(query) => queries.push(query)?,
             Err(error) => return Err(error),
         }
@@ -107,7 +137,7 @@ fn queries_of<A: TextAnalyzer>(
 
 // The query that matches what all parts match, by the queries of these.
 fn and_query(parts: Result<Vec<Query>, QueryParserError>) -> Result<Query, QueryParserError>
-    ensures { (q : QueryFields) (us : Asts) → AreQueriesOf q us parts → IsQueryOf q (all_of us) result }
+    ensures { (q : AnalyzedFields) (us : Asts) → AreQueriesOf q us parts → IsQueryBy q (all_of us) result }
 {
     match parts {
         Ok(queries) => Ok(Query::And(queries)),
@@ -117,7 +147,7 @@ fn and_query(parts: Result<Vec<Query>, QueryParserError>) -> Result<Query, Query
 
 // The query that matches what one of the parts matches.
 fn or_query(parts: Result<Vec<Query>, QueryParserError>) -> Result<Query, QueryParserError>
-    ensures { (q : QueryFields) (us : Asts) → AreQueriesOf q us parts → IsQueryOf q (any_of us) result }
+    ensures { (q : AnalyzedFields) (us : Asts) → AreQueriesOf q us parts → IsQueryBy q (any_of us) result }
 {
     match parts {
         Ok(queries) => Ok(Query::Or(queries)),
@@ -131,7 +161,7 @@ fn and_not_query(
     first: Result<Query, QueryParserError>,
     other: Result<Query, QueryParserError>,
 ) -> Result<Query, QueryParserError>
-    ensures { (q : QueryFields) (s t : Ast) → IsQueryOf q s first → IsQueryOf q t other → IsQueryOf q (without s t) result }
+    ensures { (q : AnalyzedFields) (s t : Ast) → IsQueryBy q s first → IsQueryBy q t other → IsQueryBy q (without s t) result }
 {
     match (first, other) {
         (Ok(first), Ok(other)) => Ok(Query::and_not(alloc, first, other)?),
@@ -141,17 +171,24 @@ fn and_not_query(
 }
 
 // The query of a word or a phrase.
-fn literal_query<A: TextAnalyzer>(
+fn literal_query<F: FieldAnalyzers>(
     alloc: Global,
     schema: &Schema,
     default_fields: &[Field],
-    analyzer: &A,
+    analyzers: &F,
     literal: &UserInputLiteral,
 ) -> Result<Query, QueryParserError>
-    ensures { IsQueryOf (record { texts = record { analyze = A.words analyzer.now; entries = schema.now }; defaults = default_fields.now }) (leaf (literal_of literal.now)) result }
+    ensures { IsQueryBy (record { texts = record { analyze = F.words analyzers.now; entries = schema.now }; defaults = default_fields.now }) (leaf (literal_of literal.now)) result }
 {
     let mut terms = Vec::new(alloc);
-    match push_literal(alloc, schema, default_fields, analyzer, literal, &mut terms) {
+    match push_literal(
+        alloc,
+        schema,
+        default_fields,
+        analyzers,
+        literal,
+        &mut terms,
+    ) {
         Ok(()) => Ok(any_of(alloc, terms)?),
         Err(error) => Err(error),
     }

@@ -1,2 +1,3 @@
+pub mod SchemaLaws
 mod WorkedRows
 mod TypeNames

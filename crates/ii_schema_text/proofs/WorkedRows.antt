@@ -1,24 +1,29 @@
 -- Example texts and their schemas.
-use Rattle.std.proofs.Common.{◌≡◌, true, false, [], ◌∷◌, Ok, Err, codes, refl}
+use Rattle.std.proofs.Common.{◌≡◌, true, false, [], ◌∷◌, Ok, Err, None, Some, codes, refl}
 use Rattle.toml.specs.Data.{array, boolean, integer, item, member, no_items, no_members, string, table}
 use Rattle.std.specs.Prelude.{pos}
 use Rattle.ii_base.specs.declared.schema.index_record_option.IndexRecordOption.TheVariants.{Basic, WithFreqsAndPositions}
 use Rattle.ii_base.specs.declared.schema.value_type.ValueType.TheVariants as values
+use Rattle.ii_tokenizers.specs.declared.analyzer.Analyzer.TheVariants.{Ascii, Default, Raw, Whitespace}
+use Rattle.ii_tokenizers.specs.Tokenizers.{analyzer_named}
 use Rattle.ii_schema_text.specs.declared.faults.FieldKey.TheVariants as keys
 use Rattle.ii_schema_text.specs.Settings.{option_named, settings_in, type_named}
-use Rattle.ii_schema_text.specs.SchemaText.{entry_in, is_known_key, no_fields, table_schema, unknown_field_key, unknown_key, wrong_key}
+use Rattle.ii_schema_text.specs.SchemaText.{default_in, entry_in, field_in, is_known_key, no_fields, other_unicode, table_schema, tokenizer_in, unicode_in, unknown_field_key, unknown_field_tokenizer, unknown_key, unknown_tokenizer, wrong_key}
 
 -- a field of texts alone has positions and norms
 text_field : table_schema (member (codes "field") (array (item (table (member (codes "name") (string (codes "a")) (member (codes "type") (string (codes "text")) no_members))) no_items)) no_members)
     ≡ Ok (record {
-      name = codes "a";
-      value_type = values.Str;
-      option = WithFreqsAndPositions;
-      is_indexed = true;
-      has_fieldnorms = true;
-      expands_dots = false;
-    } ∷ [])
-unfolding table_schema entry_in settings_in type_named option_named is_known_key
+      schema = record {
+        name = codes "a";
+        value_type = values.Str;
+        option = WithFreqsAndPositions;
+        is_indexed = true;
+        has_fieldnorms = true;
+        expands_dots = false;
+      } ∷ [];
+      tokenizers = Ascii ∷ [];
+    })
+unfolding table_schema field_in entry_in settings_in type_named option_named is_known_key
 text_field = refl
 
 -- a field of numbers has neither
@@ -43,12 +48,12 @@ number_record = refl
 -- a name may occur only once
 same_name : table_schema (member (codes "field") (array (item (table (member (codes "name") (string (codes "a")) (member (codes "type") (string (codes "json")) no_members)))
     (item (table (member (codes "name") (string (codes "a")) (member (codes "type") (string (codes "bool")) no_members))) no_items))) no_members) ≡ Err (wrong_key 1 keys.Name)
-unfolding table_schema entry_in settings_in type_named option_named is_known_key
+unfolding table_schema field_in entry_in settings_in type_named option_named is_known_key
 same_name = refl
 
 -- a key that isn't known, and no field
 strangers : table_schema (member (codes "field") (array (item (table (member (codes "stored") (boolean true) no_members)) no_items)) no_members) ≡ Err (unknown_field_key 0 (codes "stored"))
-unfolding table_schema entry_in settings_in type_named option_named is_known_key
+unfolding table_schema field_in entry_in settings_in type_named option_named is_known_key
 strangers = refl
 
 stranger : table_schema (member (codes "fields") (integer (pos 1)) no_members) ≡ Err (unknown_key (codes "fields"))
@@ -58,3 +63,36 @@ stranger = refl
 none : table_schema no_members ≡ Err no_fields
 unfolding table_schema is_known_key
 none = refl
+
+-- a field's own tokenizer, that of the text, and that of a text that names none
+own : tokenizer_in 3 Default true (Some (string (codes "raw"))) ≡ Ok Raw
+unfolding analyzer_named
+own = refl
+
+of_the_text : tokenizer_in 3 Default true None ≡ Ok Default
+of_the_text = refl
+
+of_an_earlier_index : default_in None ≡ Ok Ascii
+of_an_earlier_index = refl
+
+-- an unknown name, and a field that may name none
+no_tokenizer : tokenizer_in 3 Default true (Some (string (codes "Raw"))) ≡ Err (unknown_field_tokenizer 3 (codes "Raw"))
+unfolding analyzer_named
+no_tokenizer = refl
+
+number_tokenizer : tokenizer_in 3 Default false (Some (string (codes "raw"))) ≡ Err (wrong_key 3 keys.Tokenizer)
+number_tokenizer = refl
+
+no_default : default_in (Some (string (codes "english"))) ≡ Err (unknown_tokenizer (codes "english"))
+unfolding analyzer_named
+no_default = refl
+
+-- another version of Unicode matters to words that depend on it
+other_version : unicode_in (Raw ∷ Default ∷ []) (Some (string (codes "17.0.0"))) ≡ Err (other_unicode (codes "17.0.0"))
+other_version = refl
+
+other_version_of_ascii : unicode_in (Raw ∷ Ascii ∷ []) (Some (string (codes "17.0.0"))) ≡ Ok tt
+other_version_of_ascii = refl
+
+this_version : unicode_in (Whitespace ∷ []) (Some (string (codes "18.0.0"))) ≡ Ok tt
+this_version = refl

@@ -1,5 +1,5 @@
 -- The schema that a TOML text describes.
-use Rattle.std.specs.Prelude.{◌≡◌, Bool, ◌&&◌, ◌||◌, not, ◌^◌, ℕ, List, [], ◌∷◌, ◌++◌, bytes_eq, codes, if◌then◌else◌, length, nat_lt, Option, None, Some, ok_or, Result, Ok, Err, ⊤, string_bytes}
+use Rattle.std.specs.Prelude.{◌≡◌, Bool, true, false, ◌&&◌, ◌||◌, not, ◌^◌, ℕ, List, [], ◌∷◌, ◌++◌, bytes_eq, codes, if◌then◌else◌, length, nat_lt, Option, None, Some, ok_or, Result, Ok, Err, ⊤, string_bytes}
 use Rattle.std.specs.List.{list_any}
 use Rattle.toml.specs.Data.{Data, Items, Members, get, get_member, as_array, as_str, item, no_items, member, no_members, table}
 use Rattle.toml.specs.Parse.{parse_document}
@@ -7,6 +7,9 @@ use Rattle.ii_base.specs.Schema.{SchemaEntry}
 use Rattle.ii_base.specs.declared.schema.index_record_option.IndexRecordOption.TheVariants.{Basic}
 use Rattle.ii_base.specs.declared.schema.value_type.ValueType.{ValueType}
 use Rattle.ii_base.specs.declared.schema.value_type.ValueType.TheVariants as values
+use Rattle.ii_tokenizers.specs.declared.analyzer.Analyzer.{Analyzer}
+use Rattle.ii_tokenizers.specs.declared.analyzer.Analyzer.TheVariants.{Ascii}
+use Rattle.ii_tokenizers.specs.Tokenizers.{analyzer_named, unicode_version, uses_unicode}
 use Rattle.ii_schema_text.specs.declared.faults.FieldKey.{FieldKey}
 use Rattle.ii_schema_text.specs.declared.faults.FieldKey.TheVariants as keys
 use Rattle.ii_schema_text.specs.declared.faults.SchemaFault.{SchemaFault}
@@ -19,24 +22,39 @@ use Rattle.ii_schema_text.specs.declared.settings.Settings.{Settings}
 use Rattle.ii_schema_text.specs.Settings.{has_texts, is_json_type, named, settings_in}
 use Rattle.ii_schema_text.specs.Steps.{◌>>=◌}
 
+-- A schema, and the tokenizer of each of its fields.
+pub record TextSchemaState : Type 0 where
+  pub schema : List SchemaEntry
+  pub tokenizers : List Analyzer
+
 -- Why a text is not a valid schema.
 pub data Refusal : Type 0 where
   not_toml : Refusal
   unknown_key : List ℕ → Refusal
+  wrong_tokenizer : Refusal
+  unknown_tokenizer : List ℕ → Refusal
   no_fields : Refusal
   too_many_fields : Refusal
   unknown_field_key : ℕ → List ℕ → Refusal
   wrong_key : ℕ → FieldKey → Refusal
+  unknown_field_tokenizer : ℕ → List ℕ → Refusal
+  wrong_unicode : Refusal
+  other_unicode : List ℕ → Refusal
 
 -- the refusal that a fault reports, if it is about the text
 abbrev pub told_of_text : SchemaFault → Option Refusal
 told_of_text faults.OutOfMemory = None
 told_of_text (faults.NotToml e) = Some not_toml
 told_of_text (faults.UnknownKey key) = Some (unknown_key (string_bytes key))
+told_of_text faults.WrongTokenizer = Some wrong_tokenizer
+told_of_text (faults.UnknownTokenizer name) = Some (unknown_tokenizer (string_bytes name))
 told_of_text faults.NoFields = Some no_fields
 told_of_text faults.TooManyFields = Some too_many_fields
 told_of_text (faults.UnknownFieldKey place key) = Some (unknown_field_key place (string_bytes key))
 told_of_text (faults.WrongKey place key) = Some (wrong_key place key)
+told_of_text (faults.UnknownFieldTokenizer place name) = Some (unknown_field_tokenizer place (string_bytes name))
+told_of_text faults.WrongUnicode = Some wrong_unicode
+told_of_text (faults.OtherUnicode version) = Some (other_unicode (string_bytes version))
 
 -- the reported refusal, if any, is the expected result
 abbrev pub TellsOfText : {Y : Type 0} → Option Refusal → Result Y Refusal → Type 0
@@ -50,10 +68,10 @@ AnswersFromText view (Err e) wanted = TellsOfText (told_of_text e) wanted
 
 -- whether a key is allowed in the text, or in a field's table
 unfoldable pub is_known_key : KnownKeys → List ℕ → Bool
-is_known_key OfText key = bytes_eq key (codes "field")
+is_known_key OfText key = bytes_eq key (codes "field") || (bytes_eq key (codes "tokenizer") || bytes_eq key (codes "unicode"))
 is_known_key OfField key =
     bytes_eq key (codes "name") || (bytes_eq key (codes "type") || (bytes_eq key (codes "indexed")
-    || (bytes_eq key (codes "record") || (bytes_eq key (codes "fieldnorms") || bytes_eq key (codes "expand_dots")))))
+    || (bytes_eq key (codes "record") || (bytes_eq key (codes "fieldnorms") || (bytes_eq key (codes "expand_dots") || bytes_eq key (codes "tokenizer"))))))
 
 -- the first unknown key
 abbrev pub unknown_key_in : KnownKeys → Members → Option (List ℕ)
@@ -114,28 +132,110 @@ entry_in before d = do
   settings ← right (length before) (settings_in d)
   Ok (entry_with name settings)
 
--- the entries of fields after others
-abbrev pub schema_entries_from : List SchemaEntry → Items → Result (List SchemaEntry) Refusal
-schema_entries_from before no_items = Ok before
-schema_entries_from before (item d ds) = entry_in before d >>= λ e. schema_entries_from (before ++ e ∷ []) ds
+-- whether values of a type are or contain texts
+abbrev pub are_or_have_texts : ValueType → Bool
+are_or_have_texts values.Str = true
+are_or_have_texts values.U64 = false
+are_or_have_texts values.I64 = false
+are_or_have_texts values.Bool = false
+are_or_have_texts values.Date = false
+are_or_have_texts values.Bytes = false
+are_or_have_texts values.IpAddr = false
+are_or_have_texts values.Json = true
+
+-- whether a field of the schema is indexed and has texts
+abbrev pub takes_texts : SchemaEntry → Bool
+takes_texts e = e.is_indexed && are_or_have_texts e.value_type
+
+-- the tokenizer that a field names
+abbrev pub tokenizer_named : ℕ → Option (List ℕ) → Result Analyzer Refusal
+tokenizer_named place None = Err (wrong_key place keys.Tokenizer)
+tokenizer_named place (Some name) = ok_or (analyzer_named name) (unknown_field_tokenizer place name)
+
+-- the tokenizer of a field: the one that it names, which only a field with texts may, or that of fields that name none
+abbrev pub tokenizer_in : ℕ → Analyzer → Bool → Option Data → Result Analyzer Refusal
+tokenizer_in place otherwise allowed None = Ok (if allowed then otherwise else Ascii)
+tokenizer_in place otherwise allowed (Some d) = if allowed then tokenizer_named place (as_str d) else Err (wrong_key place keys.Tokenizer)
+
+-- the fields, and one more
+abbrev pub with_field : TextSchemaState → SchemaEntry → Analyzer → TextSchemaState
+with_field s e tokenizer = record { schema = s.schema ++ e ∷ []; tokenizers = s.tokenizers ++ tokenizer ∷ [] }
+
+-- fields and the one that a table describes
+unfoldable pub field_in : Analyzer → TextSchemaState → Data → Result TextSchemaState Refusal
+field_in otherwise before d = do
+  e ← entry_in before.schema d
+  tokenizer ← tokenizer_in (length before.schema) otherwise (takes_texts e) (get (codes "tokenizer") d)
+  Ok (with_field before e tokenizer)
+
+-- fields and those of more tables
+abbrev pub fields_from : Analyzer → TextSchemaState → Items → Result TextSchemaState Refusal
+fields_from otherwise before no_items = Ok before
+fields_from otherwise before (item d ds) = field_in otherwise before d >>= λ s. fields_from otherwise s ds
+
+-- no fields
+abbrev pub without_fields : TextSchemaState
+without_fields = record { schema = []; tokenizers = [] }
 
 -- fails if there are 2^32 fields or more
-abbrev pub few : List SchemaEntry → Result (List SchemaEntry) Refusal
-few entries = if nat_lt (length entries) (2 ^ 32) then Ok entries else Err too_many_fields
+abbrev pub few : TextSchemaState → Result TextSchemaState Refusal
+few s = if nat_lt (length s.schema) (2 ^ 32) then Ok s else Err too_many_fields
 
 -- the tables of the fields
 abbrev pub fields_in : Option Data → Option Items
 fields_in None = None
 fields_in (Some d) = as_array d
 
--- the schema that a table describes
-unfoldable pub table_schema : Members → Result (List SchemaEntry) Refusal
+-- the tokenizer that a text names
+abbrev pub default_named : Option (List ℕ) → Result Analyzer Refusal
+default_named None = Err wrong_tokenizer
+default_named (Some name) = ok_or (analyzer_named name) (unknown_tokenizer name)
+
+-- the tokenizer of fields that name none: that of the text, or the ASCII one, which indexes have whose schema names none
+abbrev pub default_in : Option Data → Result Analyzer Refusal
+default_in None = Ok Ascii
+default_in (Some d) = default_named (as_str d)
+
+-- fails if a tokenizer follows another version of Unicode than this one
+abbrev pub same_unicode : List Analyzer → Option (List ℕ) → Result (Unit {0}) Refusal
+same_unicode tokenizers None = Err wrong_unicode
+same_unicode tokenizers (Some version) = if list_any uses_unicode tokenizers && not (bytes_eq version unicode_version) then Err (other_unicode version) else Ok tt
+
+-- fails if a tokenizer follows another version of Unicode than the one that the text names, if it names one
+abbrev pub unicode_in : List Analyzer → Option Data → Result (Unit {0}) Refusal
+unicode_in tokenizers None = Ok tt
+unicode_in tokenizers (Some d) = same_unicode tokenizers (as_str d)
+
+-- the schema that a table describes, with its tokenizers
+unfoldable pub table_schema : Members → Result TextSchemaState Refusal
 table_schema ms = do
   _ ← knows_keys unknown_key (unknown_key_in OfText ms)
+  otherwise ← default_in (get_member (codes "tokenizer") ms)
   fields ← ok_or (fields_in (get_member (codes "field") ms)) no_fields
-  entries ← schema_entries_from [] fields
-  few entries
+  read ← fields_from otherwise without_fields fields
+  s ← few read
+  _ ← unicode_in s.tokenizers (get_member (codes "unicode") ms)
+  Ok s
+
+-- the table of a text
+abbrev pub text_table : List ℕ → Result Members Refusal
+text_table text = ok_or (parse_document text) not_toml
+
+-- the schema that a text describes, with its tokenizers
+unfoldable pub tokenized_schema : List ℕ → Result TextSchemaState Refusal
+tokenized_schema text = text_table text >>= table_schema
 
 -- the schema that a text describes
 unfoldable pub text_schema : List ℕ → Result (List SchemaEntry) Refusal
-text_schema text = ok_or (parse_document text) not_toml >>= table_schema
+text_schema text = tokenized_schema text >>= λ s. Ok s.schema
+
+-- a line, unless a key is there
+abbrev pub line_unless : Option Data → List ℕ → List ℕ
+line_unless None line = line
+line_unless (Some d) line = []
+
+-- the text of the schema of a new index: fields that name no tokenizer have the default one, by this version of Unicode
+unfoldable pub new_schema_text : List ℕ → Result (List ℕ) Refusal
+new_schema_text text = do
+  ms ← text_table text
+  Ok (line_unless (get_member (codes "tokenizer") ms) (codes "tokenizer = \"default\"\n") ++ (line_unless (get_member (codes "unicode") ms) (codes "unicode = \"18.0.0\"\n") ++ text))

@@ -1,9 +1,11 @@
-ghost use Rattle.std.specs.Prelude.{◌≡◌, Err, List, Result};
+ghost use Rattle.std.specs.Prelude.{◌≡◌, Err, Result};
+ghost use Rattle.toml.specs.Data.{Members};
 ghost use Rattle.toml.specs.Errors.{IsMemory};
-ghost use Rattle.ii_base.specs.Schema.{SchemaEntry};
+ghost use Rattle.ii_io.specs.declared.faults.Fault.TheVariants.{OutOfMemory};
 ghost use Rattle.ii_schema_text.specs.SchemaText.{Refusal, TellsOfText, not_toml, told_of_text};
 ghost use Rattle.ii_schema_text.specs.declared.faults.SchemaFault.TheVariants as faults;
 
+use ii_base::Fault;
 use std::alloc::{AllocError, AllocFailed};
 use std::fmt;
 use thiserror::Error;
@@ -24,6 +26,8 @@ pub enum FieldKey {
     FieldNorms,
     /// Whether dots in the keys of its JSON values are expanded.
     ExpandDots,
+    /// How its texts are cut into words.
+    Tokenizer,
 }
 
 impl FieldKey {
@@ -39,6 +43,8 @@ impl FieldKey {
                 "fieldnorms: true or false, where an indexed field has no JSON values",
             FieldKey::ExpandDots =>
                 "expand_dots: true or false, where an indexed field has JSON values",
+            FieldKey::Tokenizer =>
+                "tokenizer: one of default, raw, whitespace, ascii, where an indexed field has texts or JSON values",
         }
     }
 }
@@ -58,9 +64,15 @@ pub enum SchemaFault {
     /// The text isn't TOML.
     #[error("{0}")]
     NotToml(TomlError),
-    /// There is a key other than `field`.
-    #[error("unknown key {0}: a schema has tables [[field]] alone")]
+    /// There is a key other than `field`, `tokenizer` and `unicode`.
+    #[error("unknown key {0}: a schema has tables [[field]], and the keys tokenizer and unicode")]
     UnknownKey(String),
+    /// The key `tokenizer` of the schema is no text.
+    #[error("tokenizer: one of default, raw, whitespace, ascii")]
+    WrongTokenizer,
+    /// The key `tokenizer` of the schema names no known tokenizer.
+    #[error("unknown tokenizer {0}: one of default, raw, whitespace, ascii")]
+    UnknownTokenizer(String),
     /// There is no table `[[field]]`.
     #[error("no table [[field]]")]
     NoFields,
@@ -73,17 +85,34 @@ pub enum SchemaFault {
     /// A key in the table of a field is missing or has an invalid value.
     #[error("field {0}: {1}")]
     WrongKey(usize, FieldKey),
+    /// A field names a tokenizer that isn't known.
+    #[error("field {0}: unknown tokenizer {1}: one of default, raw, whitespace, ascii")]
+    UnknownFieldTokenizer(usize, String),
+    /// The key `unicode` is no text.
+    #[error("unicode: a version, as a text")]
+    WrongUnicode,
+    /// A field has words by another version of Unicode than this program's.
+    #[error("its words are by Unicode {0}, which this program doesn't have: index again")]
+    OtherUnicode(String),
 }
 
 impl SchemaFault {
     // Converts a TOML error: the text isn't TOML, or an allocation failed.
     pub(crate) fn of_toml(error: TomlError) -> SchemaFault
-        ensures { (wanted : Result (List SchemaEntry) Refusal) → (¬ IsMemory error → wanted ≡ Err not_toml) → TellsOfText (told_of_text result) wanted }
+        ensures { (wanted : Result Members Refusal) → (¬ IsMemory error → wanted ≡ Err not_toml) → TellsOfText (told_of_text result) wanted }
     {
         if error.is_memory() {
             return SchemaFault::OutOfMemory;
         }
         SchemaFault::NotToml(error)
+    }
+}
+
+impl From<Fault> for SchemaFault {
+    ghost from_gives = { λ fault e. fault ≡ OutOfMemory → e ≡ faults.OutOfMemory };
+
+    fn from(_: Fault) -> Self {
+        SchemaFault::OutOfMemory
     }
 }
 

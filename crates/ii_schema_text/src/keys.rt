@@ -1,6 +1,6 @@
 ghost use Rattle.std.specs.Prelude.{◌≡◌, option_map};
 ghost use Rattle.toml.specs.View.{table_view};
-ghost use Rattle.ii_schema_text.specs.declared.keys.KnownKeys.TheVariants.{OfField};
+ghost use Rattle.ii_schema_text.specs.declared.keys.KnownKeys.TheVariants.{OfField, OfText};
 ghost use Rattle.ii_schema_text.specs.SchemaText.{is_known_key, unknown_key_in};
 
 use toml::Table;
@@ -21,7 +21,7 @@ impl KnownKeys {
         ensures { result ≡ is_known_key self key.now }
     {
         match self {
-            KnownKeys::OfText => key == "field",
+            KnownKeys::OfText => is_text_key(key),
             KnownKeys::OfField => is_field_key(key),
         }
     }
@@ -37,6 +37,20 @@ impl KnownKeys {
         }
         None
     }
+}
+
+// Returns whether a key is allowed in the complete text.
+#[tactic(auto, unfolding(crate::specs::SchemaText::is_known_key))]
+fn is_text_key(key: &str) -> bool
+    ensures { result ≡ is_known_key OfText key.now }
+{
+    if key == "field" {
+        return true;
+    }
+    if key == "tokenizer" {
+        return true;
+    }
+    key == "unicode"
 }
 
 // Returns whether a key is allowed in a field's table.
@@ -59,5 +73,8 @@ fn is_field_key(key: &str) -> bool
     if key == "fieldnorms" {
         return true;
     }
-    key == "expand_dots"
+    if key == "expand_dots" {
+        return true;
+    }
+    key == "tokenizer"
 }

@@ -1,18 +1,20 @@
-ghost use Rattle.std.specs.Prelude.{◌≡◌, [], option_map};
+ghost use Rattle.std.specs.Prelude.{◌≡◌, codes, List, option_map, string_bytes};
+ghost use Rattle.toml.specs.Data.{get_member, Members};
 ghost use Rattle.toml.specs.View.{items_view, table_view, view};
-ghost use Rattle.toml.specs.Data.{get_member};
-ghost use Rattle.std.specs.Prelude.{codes, List};
 ghost use Rattle.ii_base.specs.Schema.{SchemaEntry};
-ghost use Rattle.ii_schema_text.specs.SchemaText.{AnswersFromText, fields_in, schema_entries_from, table_schema, text_schema};
+ghost use Rattle.ii_tokenizers.specs.declared.analyzer.Analyzer.{Analyzer};
+ghost use Rattle.ii_schema_text.specs.SchemaText.{AnswersFromText, TextSchemaState, fields_from, fields_in, line_unless, new_schema_text, table_schema, text_schema, text_table, tokenized_schema, without_fields};
 
-use crate::entry_table::entry_of;
 use crate::faults::SchemaFault;
 use crate::keys::KnownKeys;
-use ii_base::{FieldEntry, Schema};
+use crate::text_schema::{ReadFields, TextSchema};
+use crate::tokenizers::{check_unicode, default_of};
+use ii_base::Schema;
+use ii_tokenizers::Analyzer;
 use std::alloc::Global;
 use toml::{Table, Value};
 
-/// Reads a schema from TOML: a table `[[field]]` for each field, in order, with these keys:
+/// Reads a schema and its tokenizers from TOML: a table `[[field]]` for each field, in order, with these keys:
 /// - `name`: a text that isn't empty and differs from the names before it,
 /// - `type`: `text`, `u64`, `i64`, `bool`, `bytes`, `ip_addr` or `json`,
 /// - `indexed`: whether it is indexed; the default is `true`,
@@ -20,20 +22,61 @@ use toml::{Table, Value};
 ///   the default,
 /// - `fieldnorms`, for an indexed field that isn't JSON: whether field norms are kept; the default is
 ///   `true` for texts, else `false`,
-/// - `expand_dots`, for an indexed JSON field: whether dots in keys are expanded; the default is `false`.
+/// - `expand_dots`, for an indexed JSON field: whether dots in keys are expanded; the default is `false`,
+/// - `tokenizer`, for an indexed text or JSON field: `default`, `raw`, `whitespace` or `ascii` (`Analyzer`).
+///
+/// Before the tables, `tokenizer` names the tokenizer of fields that name none, `ascii` if it is missing;
+/// `unicode` names the version of Unicode that the words of an index follow.
 ///
 /// # Errors
 ///
-/// The first fault: `NotToml`; `UnknownKey` for the first key, in byte order, that isn't `field`;
-/// `NoFields`; then for each field `UnknownFieldKey`, or `WrongKey` for the first invalid key in the order
-/// of `FieldKey`; `TooManyFields`. `OutOfMemory` if allocation fails.
+/// The first fault: `NotToml`; `UnknownKey` for the first key, in byte order, that isn't one of the text;
+/// `WrongTokenizer` or `UnknownTokenizer`; `NoFields`; then for each field `UnknownFieldKey`, or `WrongKey` for
+/// the first invalid key in the order of `FieldKey`, or `UnknownFieldTokenizer`; `TooManyFields`; `WrongUnicode`, or
+/// `OtherUnicode` for another version than this program's if a tokenizer depends on it. `OutOfMemory` if allocation
+/// fails.
+#[tactic(auto, unfolding(crate::specs::SchemaText::tokenized_schema))]
+pub fn read_text_schema(alloc: Global, text: &str) -> Result<TextSchema, SchemaFault>
+    ensures { AnswersFromText (λ (s : TextSchemaState). s) result (tokenized_schema text.now) }
+{
+    let table = table_of(alloc, text)?;
+    schema_of(alloc, &table)
+}
+
+/// Reads a schema from TOML, as `read_text_schema`, without its tokenizers.
 #[tactic(auto, unfolding(crate::specs::SchemaText::text_schema))]
 pub fn read_schema(alloc: Global, text: &str) -> Result<Schema, SchemaFault>
     ensures { AnswersFromText (λ (s : List SchemaEntry). s) result (text_schema text.now) }
 {
-    match toml::table_from_str(alloc, text) {
-        Ok(table) => schema_of(alloc, &table),
-        Err(error) => Err(SchemaFault::of_toml(error)),
+    let schema = read_text_schema(alloc, text)?;
+    Ok(schema.into_parts().0)
+}
+
+/// Returns the text of the schema of a new index: the given text, after lines that name the tokenizer `default` and
+/// this program's version of Unicode, each unless the text has its key.
+///
+/// # Errors
+///
+/// `NotToml` if the text isn't TOML; `OutOfMemory`.
+#[tactic(auto, unfolding(crate::specs::SchemaText::new_schema_text))]
+pub fn new_schema_text(alloc: Global, text: &str) -> Result<String, SchemaFault>
+    ensures { AnswersFromText (λ s. string_bytes s) result (new_schema_text text.now) }
+{
+    let table = table_of(alloc, text)?;
+    let mut lines = String::new(alloc);
+    lines.push_str(line_unless(member(&table, "tokenizer"), "tokenizer = \"default\"\n"))?;
+    lines.push_str(line_unless(member(&table, "unicode"), "unicode = \"18.0.0\"\n"))?;
+    lines.push_str(text)?;
+    Ok(lines)
+}
+
+// Returns a line, unless a key is there.
+fn line_unless(value: Option<&Value>, line: &'static str) -> &'static str
+    ensures { result.now ≡ line_unless (option_map (λ v. view v.now) value.entry) line.now }
+{
+    match value {
+        Some(_) => "",
+        None => line,
     }
 }
 
@@ -48,10 +91,7 @@ pub fn field_name_at(
     text: &str,
     number: usize,
 ) -> Result<Option<String>, SchemaFault> {
-    let table = match toml::table_from_str(alloc, text) {
-        Ok(table) => table,
-        Err(error) => return Err(SchemaFault::of_toml(error)),
-    };
+    let table = table_of(alloc, text)?;
     match name_at(&table, number) {
         Some(name) => Ok(Some(String::from_str(alloc, name)?)),
         None => Ok(None),
@@ -66,43 +106,67 @@ fn name_at(table: &Table, number: usize) -> Option<&str> {
     }
 }
 
+// Reads the table of a text.
+fn table_of(alloc: Global, text: &str) -> Result<Table, SchemaFault>
+    ensures { AnswersFromText (λ t. table_view t) result (text_table text.now) }
+{
+    match toml::table_from_str(alloc, text) {
+        Ok(table) => Ok(table),
+        Err(error) => Err(SchemaFault::of_toml(error)),
+    }
+}
+
 // Reads the schema from the complete table.
 #[tactic(auto, unfolding(crate::specs::SchemaText::table_schema))]
-fn schema_of(alloc: Global, table: &Table) -> Result<Schema, SchemaFault>
-    ensures { AnswersFromText (λ (s : List SchemaEntry). s) result (table_schema (table_view table.now)) }
+fn schema_of(alloc: Global, table: &Table) -> Result<TextSchema, SchemaFault>
+    ensures { AnswersFromText (λ (s : TextSchemaState). s) result (table_schema (table_view table.now)) }
 {
     if let Some(key) = KnownKeys::OfText.unknown(table) {
         let key = String::from_str(alloc, key)?;
         return Err(SchemaFault::UnknownKey(key));
     }
+    let default = default_of(alloc, member(table, "tokenizer"))?;
     let Some(fields) = fields_of(table) else {
         return Err(SchemaFault::NoFields);
     };
-    let entries = entries_of(alloc, fields)?;
-    if entries.len() >= 1 << 32 {
-        return Err(SchemaFault::TooManyFields);
-    }
-    Ok(Schema::new(entries))
+    let read = fields_from(alloc, default, fields)?;
+    let schema = read.into_schema()?;
+    check_unicode(
+        alloc,
+        schema.tokenizers().as_slice(),
+        member(table, "unicode"),
+    )?;
+    Ok(schema)
+}
+
+// Returns the value of a key.
+fn member<'t>(table: &'t Table, key: &str) -> Option<&'t Value>
+    ensures { option_map (λ v. view v.now) result ≡ get_member key.now (table_view table.now) }
+{
+    table.get(key)
 }
 
 // Returns the tables of the fields.
 fn fields_of(table: &Table) -> Option<&Vec<Value>>
     ensures { option_map (λ fields. items_view fields.now.items) result ≡ fields_in (get_member (codes "field") (table_view table.now)) }
 {
-    match table.get("field") {
+    match member(table, "field") {
         Some(value) => value.as_array(),
         None => None,
     }
 }
 
-// Reads the entries of the fields.
-fn entries_of(alloc: Global, fields: &Vec<Value>) -> Result<Vec<FieldEntry>, SchemaFault>
-    ensures { AnswersFromText (λ v. v.items) result (schema_entries_from [] (items_view fields.now.items)) }
+// Reads the fields from their tables.
+fn fields_from(
+    alloc: Global,
+    default: Analyzer,
+    fields: &Vec<Value>,
+) -> Result<ReadFields, SchemaFault>
+    ensures { AnswersFromText (λ (s : TextSchemaState). s) result (fields_from default without_fields (items_view fields.now.items)) }
 {
-    let mut entries = Vec::new(alloc);
+    let mut read = ReadFields::new(alloc);
     for field in fields {
-        let entry = entry_of(alloc, entries.as_slice(), field)?;
-        entries.push(entry)?;
+        read.read(alloc, default, field)?;
     }
-    Ok(entries)
+    Ok(read)
 }

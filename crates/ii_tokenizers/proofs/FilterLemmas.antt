@@ -1,7 +1,5 @@
 -- Laws of filters.
-use Rattle.std.proofs.Common.{◌≡◌, ℕ, Bool, true, false, List, [], ◌∷◌, ◌++◌, length, map, nat_lt, take, drop, string_bytes, chars, refl, sym, ap, ◌∙◌, filter, get_or, set, zero, suc, arith, ◌<◌, ◌+◌, subst}
-use Rattle.std.specs.Prelude.{encode_utf8_all}
-use Rattle.caseless.specs.Caseless.{default_case_fold}
+use Rattle.std.proofs.Common.{◌≡◌, ℕ, Bool, true, false, List, [], ◌∷◌, ◌++◌, length, nat_lt, take, drop, string_bytes, refl, sym, ap, ◌∙◌, filter, get_or, set, ◌<◌, ◌+◌, subst}
 use Rattle.std.proofs.Math.ListN.{get_or-map}
 use Rattle.std.proofs.lemmas.List.{length-map, map-set}
 use Rattle.std.proofs.lemmas.List.Edits.{map_over_more}
@@ -26,9 +24,3 @@ folded_next old now k t u within is here made =
     map-set word_of now k u
     ∙ ap (set (words_of now) k) made
     ∙ map_over_more folded (words_of old) (words_of now) k (word_of t) (subst (λ (n : ℕ). k < n) (sym (length-map old word_of)) within) is (ap word_of here ∙ sym (get_or-map word_of now k t))
-
--- an item that is there is the same by any default
-pub same_item : {X : Type 0} (xs : List X) (i : ℕ) (d e : X) → i < length xs → get_or xs i d ≡ get_or xs i e
-same_item [] i d e within = absurd (omega (arith, within))
-same_item (x ∷ xs) zero d e within = refl
-same_item (x ∷ xs) (suc i) d e within = same_item xs i d e (omega (arith, within))

@@ -1,7 +1,7 @@
 -- Computed examples of parts and of filters.
-use Rattle.std.proofs.Common.{◌≡◌, ℕ, ◌==◌, Bool, [], ◌∷◌, length, map, refl}
+use Rattle.std.proofs.Common.{◌≡◌, ℕ, ◌==◌, Bool, [], ◌∷◌, map, refl}
 use Rattle.ii_base.specs.Words.{Word}
-use Rattle.ii_tokenizers.specs.Analyzers.{Part, nonempty_parts, part_word, parts_between, raw_words, remove_long, words_from}
+use Rattle.ii_tokenizers.specs.Analyzers.{nonempty_parts, part_word, parts_between, remove_long, words_from}
 
 abbrev is_comma : ℕ → Bool
 is_comma c = c == 44

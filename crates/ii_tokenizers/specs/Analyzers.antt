@@ -1,5 +1,5 @@
 -- Analyzers of texts: a text is cut into parts, these become tokens, and filters change the tokens.
-use Rattle.std.specs.Prelude.{ℕ, ◌+◌, Bool, true, false, not, List, [], ◌∷◌, ◌++◌, chars, encode_utf8_all, filter, length, map, nat_lt, if◌then◌else◌}
+use Rattle.std.specs.Prelude.{ℕ, ◌+◌, Bool, true, false, List, [], ◌∷◌, chars, encode_utf8_all, filter, length, map, nat_lt, if◌then◌else◌}
 use Rattle.std.specs.Char.{is_whitespace, len_utf8}
 use Rattle.std.specs.List.{flat_map}
 use Rattle.caseless.specs.Caseless.{default_case_fold}

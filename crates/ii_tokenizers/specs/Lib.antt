@@ -1,1 +1,2 @@
 pub mod Analyzers
+pub mod Tokenizers

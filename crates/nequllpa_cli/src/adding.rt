@@ -2,14 +2,14 @@
 use crate::commands::{PROGRAM, REFUSED, refuse, refuse_path, tell_no_index};
 use crate::indexing::{Intake, Target, begun, take_inputs, target_of, tell_long_words};
 use clap::ArgMatches;
-use ii_base::{AsciiTokenizer, Schema};
+use ii_schema_text::TextSchema;
 use ii_segment_store::{
     CommitFault, SegmentFiles, append_segment, load_latest, remove_slots, upgrade,
 };
 use ii_store::collect::collect;
 use ii_store::segments::load_meta;
 use ii_store::{Folder, IndexFault, StoreFault};
-use nequllpa_folder::schema_of;
+use nequllpa_folder::text_schema_of;
 use std::process::ExitCode;
 
 /// Indexes JSON lines as a new segment of an index.
@@ -41,13 +41,13 @@ fn added(rt: &HostRuntime, path: &str, given: &ArgMatches<'_>) -> anyhow::Result
 }
 
 // Reads the schema of an index, or returns the status if there is none.
-fn current_schema(rt: &HostRuntime, path: &str) -> anyhow::Result<Result<Schema, u8>> {
+fn current_schema(rt: &HostRuntime, path: &str) -> anyhow::Result<Result<TextSchema, u8>> {
     let bytes = match schema_bytes(rt, path) {
         Ok(bytes) => bytes,
         Err(StoreFault::Index(fault)) => return Ok(Err(tell_no_index(rt, path, fault)?)),
         Err(StoreFault::Directory(fault)) => return Ok(Err(refuse_path(rt, path, fault)?)),
     };
-    match schema_of(rt.alloc(), bytes.as_slice()) {
+    match text_schema_of(rt.alloc(), bytes.as_slice()) {
         Ok(schema) => Ok(Ok(schema)),
         Err(fault) => Ok(Err(refuse_path(rt, path, fault)?)),
     }
@@ -70,12 +70,12 @@ fn schema_bytes(rt: &HostRuntime, path: &str) -> Result<Vec<u8>, StoreFault> {
 
 // Indexes the documents that were read, and adds them to the index.
 fn add_segment(rt: &HostRuntime, path: &str, intake: Intake) -> anyhow::Result<ExitCode> {
-    let (documents, bad_lines) = intake.into_documents();
-    match documents.num_long_words(rt.alloc(), &AsciiTokenizer) {
+    let (documents, tokenizers, bad_lines) = intake.into_documents();
+    match documents.num_long_words(rt.alloc(), &tokenizers) {
         Ok(count) => tell_long_words(rt, count)?,
         Err(fault) => return Ok(ExitCode::from(refuse(rt, fault)?)),
     }
-    let segment = match documents.into_segment(rt.alloc(), &AsciiTokenizer) {
+    let segment = match documents.into_segment(rt.alloc(), &tokenizers) {
         Ok(segment) => segment,
         Err(fault) => return Ok(ExitCode::from(refuse(rt, fault)?)),
     };

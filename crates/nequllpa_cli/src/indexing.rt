@@ -1,11 +1,12 @@
 //! The command `index`.
 use crate::commands::{NO, PROGRAM, REFUSED, refuse, refuse_file, refuse_path};
 use clap::ArgMatches;
-use ii_base::{AsciiTokenizer, Field, Schema, ValueType};
+use ii_base::{Field, ValueType};
 use ii_documents::{LineFault, ValueFault};
-use ii_schema_text::{SchemaFault, field_name_at, read_schema};
+use ii_schema_text::{SchemaFault, TextSchema, field_name_at, new_schema_text, read_text_schema};
 use ii_store::save::{remove_unused, save};
 use ii_store::{Directory, DirectoryFault, Folder, FolderLock, Name, StoredIndex};
+use ii_tokenizers::FieldTokenizers;
 use nequllpa_indexing::{Documents, InputFault, MAX_TOKEN_LEN, add_line, store};
 use serde_json::Error as JsonError;
 use std::fs;
@@ -32,6 +33,7 @@ const BYTE_ORDER_MARK: &[u8] = &[0xef, 0xbb, 0xbf];
 #[derive(Drop)]
 pub struct Intake {
     documents: Documents,
+    tokenizers: FieldTokenizers,
     skips_bad: bool,
     bad_lines: u64,
     bytes: u64,
@@ -52,7 +54,11 @@ pub fn answer_index(
         Ok(text) => text,
         Err(e) => return Ok(ExitCode::from(refuse_file(rt, schema_path, e.kind())?)),
     };
-    let schema = match schema_of(rt, schema_path, text.as_slice())? {
+    let text = match new_text_of(rt, schema_path, text.as_slice())? {
+        Ok(text) => text,
+        Err(status) => return Ok(ExitCode::from(status)),
+    };
+    let schema = match schema_of(rt, schema_path, text.as_str())? {
         Ok(schema) => schema,
         Err(status) => return Ok(ExitCode::from(status)),
     };
@@ -64,7 +70,7 @@ pub fn answer_index(
     if let Err(status) = take_inputs(rt, given, &mut intake)? {
         return Ok(ExitCode::from(status));
     }
-    save_index(rt, target, intake, text)
+    save_index(rt, target, intake, text.into_bytes())
 }
 
 /// The folder in which an index is saved, with its lock if it exists.
@@ -138,13 +144,19 @@ fn refuse_orphan(rt: &HostRuntime, path: &str) -> anyhow::Result<Result<(), u8>>
 }
 
 /// Prints how much memory indexing takes, and returns the initial state.
-pub fn begun(rt: &HostRuntime, given: &ArgMatches<'_>, schema: Schema) -> anyhow::Result<Intake> {
+pub fn begun(
+    rt: &HostRuntime,
+    given: &ArgMatches<'_>,
+    schema: TextSchema,
+) -> anyhow::Result<Intake> {
     let begun = Instant::now(rt)?;
     eprintln!(rt;
         "{PROGRAM}: this takes up to about {MEMORY_MULTIPLE} bytes of memory for each byte of input"
     )?;
+    let (schema, tokenizers) = schema.into_parts();
     Ok(Intake {
         documents: Documents::new(rt.alloc(), schema),
+        tokenizers,
         skips_bad: given.get_flag("skip-bad"),
         bad_lines: 0,
         bytes: 0,
@@ -153,12 +165,20 @@ pub fn begun(rt: &HostRuntime, given: &ArgMatches<'_>, schema: Schema) -> anyhow
     })
 }
 
-// Reads the schema from a text.
-fn schema_of(rt: &HostRuntime, path: &str, text: &[u8]) -> anyhow::Result<Result<Schema, u8>> {
+// Returns the text of the schema of the new index.
+fn new_text_of(rt: &HostRuntime, path: &str, text: &[u8]) -> anyhow::Result<Result<String, u8>> {
     let Ok(text) = std::str::from_utf8(text) else {
         return Ok(Err(refuse_path(rt, path, "not UTF-8")?));
     };
-    match read_schema(rt.alloc(), text) {
+    match new_schema_text(rt.alloc(), text) {
+        Ok(text) => Ok(Ok(text)),
+        Err(fault) => Ok(Err(refuse_path(rt, path, fault)?)),
+    }
+}
+
+// Reads the schema from a text.
+fn schema_of(rt: &HostRuntime, path: &str, text: &str) -> anyhow::Result<Result<TextSchema, u8>> {
+    match read_text_schema(rt.alloc(), text) {
         Ok(schema) => Ok(Ok(schema)),
         Err(fault) => Ok(Err(refuse_schema(rt, path, text, fault)?)),
     }
@@ -174,6 +194,7 @@ fn refuse_schema(
     let number = match &fault {
         SchemaFault::UnknownFieldKey(number, _) => *number,
         SchemaFault::WrongKey(number, _) => *number,
+        SchemaFault::UnknownFieldTokenizer(number, _) => *number,
         _ => return refuse_path(rt, path, fault),
     };
     match field_name_at(rt.alloc(), text, number)? {
@@ -245,17 +266,18 @@ fn take_lines<R: BufRead>(
 }
 
 impl Intake {
-    /// Returns the documents, and the number of lines that were left out.
-    pub fn into_documents(self) -> (Documents, u64) {
+    /// Returns the documents, the tokenizers of their fields, and the number of lines that were left out.
+    pub fn into_documents(self) -> (Documents, FieldTokenizers, u64) {
         let Intake {
             documents,
+            tokenizers,
             skips_bad: _,
             bad_lines,
             bytes: _,
             reported: _,
             begun: _,
         } = self;
-        (documents, bad_lines)
+        (documents, tokenizers, bad_lines)
     }
 
     // Adds a line.
@@ -422,12 +444,12 @@ fn save_index(
     intake: Intake,
     schema: Vec<u8>,
 ) -> anyhow::Result<ExitCode> {
-    let (documents, bad_lines) = intake.into_documents();
-    match documents.num_long_words(rt.alloc(), &AsciiTokenizer) {
+    let (documents, tokenizers, bad_lines) = intake.into_documents();
+    match documents.num_long_words(rt.alloc(), &tokenizers) {
         Ok(count) => tell_long_words(rt, count)?,
         Err(fault) => return Ok(ExitCode::from(refuse(rt, fault)?)),
     }
-    let stored = match store(rt.alloc(), documents, schema) {
+    let stored = match store(rt.alloc(), documents, &tokenizers, schema) {
         Ok(stored) => stored,
         Err(fault) => return Ok(ExitCode::from(refuse(rt, fault)?)),
     };

@@ -1,8 +1,10 @@
 //! Messages about a query text: why it is refused, and which fields a phrase is not searched in.
 use crate::commands::{PROGRAM, REFUSED, refuse_path};
-use ii_base::{AsciiTokens, Field, TokenStream};
+use ii_base::{Fault, Field, TextAnalyzer, TokenStream};
 use ii_query_parser::{QueryParserError, UserInputAst, parse, unknown_field_name};
+use ii_tokenizers::{Analyzer, FieldAnalyzers};
 use nequllpa_folder::OpenedIndex;
+use std::alloc::Global;
 
 /// Prints why a text is no query, with the name of the field concerned. Returns the status.
 pub(crate) fn refuse_query(
@@ -56,24 +58,36 @@ pub(crate) fn tell_left_out(
     fields: &[Field],
     text: &str,
 ) -> anyhow::Result<()> {
-    let schema = opened.schema();
     let Ok(ast) = parse(rt.alloc(), text) else {
         return Ok(());
     };
-    let has_phrase = has_default_phrase(&ast);
+    let told = tell_fields(rt, opened, fields, &ast);
     drop(ast);
-    if !has_phrase {
-        return Ok(());
-    }
+    told
+}
+
+// Prints which of these fields keep no positions, and have a phrase in a tree.
+fn tell_fields(
+    rt: &HostRuntime,
+    opened: &OpenedIndex,
+    fields: &[Field],
+    ast: &UserInputAst,
+) -> anyhow::Result<()> {
+    let schema = opened.schema();
     for field in fields {
-        if (field.field_id() as usize) < schema.num_fields() {
-            let entry = schema.get_field_entry(*field);
-            if !entry.index_record_option().has_positions() {
-                let name = entry.name();
-                eprintln!(rt;
-                    "{PROGRAM}: the field {name} keeps no positions, so the phrase is not looked up in it; a word such as don't is a phrase of two"
-                )?;
-            }
+        if (field.field_id() as usize) >= schema.num_fields() {
+            continue;
+        }
+        let entry = schema.get_field_entry(*field);
+        if entry.index_record_option().has_positions() {
+            continue;
+        }
+        let analyzer = *opened.tokenizers().analyzer(*field);
+        if has_default_phrase(rt.alloc(), analyzer, ast).unwrap_or(false) {
+            let name = entry.name();
+            eprintln!(rt;
+                "{PROGRAM}: the field {name} keeps no positions, so the phrase is not looked up in it; a word such as don't is a phrase of two"
+            )?;
         }
     }
     Ok(())
@@ -81,31 +95,48 @@ pub(crate) fn tell_left_out(
 
 // Whether a tree has a text of several words without a field name.
 #[cycle(has_default_phrase)]
-fn has_default_phrase(ast: &UserInputAst) -> bool {
+fn has_default_phrase(
+    alloc: Global,
+    analyzer: Analyzer,
+    ast: &UserInputAst,
+) -> Result<bool, Fault> {
     match ast {
         UserInputAst::Leaf(literal) => {
-            literal.field_name.is_none() && has_words(literal.phrase.as_str())
+            if literal.field_name.is_some() {
+                return Ok(false);
+            }
+            has_words(alloc, analyzer, literal.phrase.as_str())
         }
-        UserInputAst::And(parts) => have_default_phrase(parts),
-        UserInputAst::Or(parts) => have_default_phrase(parts),
+        UserInputAst::And(parts) => have_default_phrase(alloc, analyzer, parts),
+        UserInputAst::Or(parts) => have_default_phrase(alloc, analyzer, parts),
         UserInputAst::AndNot(first, other) => {
-            has_default_phrase(first) || has_default_phrase(other)
+            if has_default_phrase(alloc, analyzer, first)? {
+                return Ok(true);
+            }
+            has_default_phrase(alloc, analyzer, other)
         }
     }
 }
 
 #[cycle(has_default_phrase)]
-fn have_default_phrase(parts: &Vec<UserInputAst>) -> bool {
+fn have_default_phrase(
+    alloc: Global,
+    analyzer: Analyzer,
+    parts: &Vec<UserInputAst>,
+) -> Result<bool, Fault> {
     for part in parts {
-        if has_default_phrase(part) {
-            return true;
+        if has_default_phrase(alloc, analyzer, part)? {
+            return Ok(true);
         }
     }
-    false
+    Ok(false)
 }
 
 // Whether a text has several words.
-fn has_words(text: &str) -> bool {
-    let mut stream = AsciiTokens::new(text);
-    stream.advance() && stream.advance()
+fn has_words(alloc: Global, analyzer: Analyzer, text: &str) -> Result<bool, Fault> {
+    let mut stream = analyzer.token_stream(alloc, text)?;
+    if !stream.advance() {
+        return Ok(false);
+    }
+    Ok(stream.advance())
 }

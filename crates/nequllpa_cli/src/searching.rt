@@ -2,8 +2,8 @@
 use crate::commands::{REFUSED, ended, field_named, number_given, opened_at, refuse};
 use crate::query_texts::{refuse_query, tell_left_out};
 use clap::ArgMatches;
-use ii_base::{AsciiTokenizer, Field, ValueType};
-use ii_query_parser::{Query, parse_query};
+use ii_base::{Field, ValueType};
+use ii_query_parser::Query;
 use nequllpa_folder::{
     CountFormat, Listing, OpenedIndex, id_field_of_all, write_count, write_listing,
 };
@@ -121,7 +121,7 @@ fn query_given(
         Ok(fields) => fields,
         Err(status) => return Ok(Err(status)),
     };
-    match parse_query(rt.alloc(), opened.schema(), &fields, &AsciiTokenizer, text) {
+    match opened.parse_query(rt.alloc(), &fields, text) {
         Ok(query) => {
             tell_left_out(rt, opened, &fields, text)?;
             Ok(Ok(query))

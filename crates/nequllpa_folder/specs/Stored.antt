@@ -9,7 +9,7 @@ use Rattle.ii_definitions.specs.Norms.{HoldNorms}
 use Rattle.ii_definitions.specs.Tokens.{IndexToken}
 use Rattle.ii_reader.specs.InvertedIndexReader.{IsRefusal}
 use Rattle.ii_reader.specs.OpenIndex.{OpenIndexState, index_of_files}
-use Rattle.ii_schema_text.specs.SchemaText.{TellsOfText, text_schema, told_of_text}
+use Rattle.ii_schema_text.specs.SchemaText.{TellsOfText, text_schema, tokenized_schema, told_of_text}
 use Rattle.ii_store.specs.Index.{Index}
 use Rattle.nequllpa_folder.specs.declared.faults.OpenFault.{OpenFault}
 use Rattle.nequllpa_folder.specs.declared.faults.OpenFault.TheVariants.{Files, Schema, SchemaBytes}
@@ -28,6 +28,12 @@ abbrev pub IsSchemaRefusal : List ℕ → OpenFault → Type 0
 IsSchemaRefusal bytes SchemaBytes = IsUtf8 bytes → ⊥
 IsSchemaRefusal bytes (Schema fault) = TellsOfText (told_of_text fault) (text_schema bytes)
 IsSchemaRefusal bytes (Files fault) = ⊥
+
+-- Why bytes are no schema with tokenizers: they aren't UTF-8, or their text is no schema.
+abbrev pub IsTextSchemaRefusal : List ℕ → OpenFault → Type 0
+IsTextSchemaRefusal bytes SchemaBytes = IsUtf8 bytes → ⊥
+IsTextSchemaRefusal bytes (Schema fault) = TellsOfText (told_of_text fault) (tokenized_schema bytes)
+IsTextSchemaRefusal bytes (Files fault) = ⊥
 
 -- Why an index doesn't open: its schema is invalid, or its files don't open with it.
 abbrev pub IsOpenRefusal : Index → OpenFault → Type 0

@@ -14,6 +14,7 @@ use ii_reader::SegmentPostings;
 use ii_schema_text::type_name;
 use ii_search::{Query, count};
 use ii_term_text::{push_key, push_path_bytes};
+use ii_tokenizers::FieldAnalyzers;
 use std::alloc::Global;
 use std::io::Write;
 
@@ -330,6 +331,7 @@ pub fn write_fields<W: Write>(
             type_name(entry.value_type())
         )?;
         write_settings(out, entry)?;
+        write_tokenizer(out, opened, field)?;
         writeln!(
             out,
             ": {} terms, {} tokens",
@@ -384,6 +386,31 @@ fn write_settings<W: Write>(out: &mut W, entry: &FieldEntry) -> Result<(), Answe
     };
     write!(out, " {option}{norms}{dots}")?;
     Ok(())
+}
+
+// Writes how the texts of an indexed field are cut into words, if it has texts.
+fn write_tokenizer<W: Write>(
+    out: &mut W,
+    opened: &OpenedIndex,
+    field: Field,
+) -> Result<(), AnswerFault>
+    requires { field < length opened.now.schema }
+{
+    let entry = opened.entry(field);
+    if !entry.is_indexed() {
+        return Ok(());
+    }
+    match entry.value_type() {
+        ValueType::Str | ValueType::Json => {
+            write!(
+                out,
+                " tokenizer {}",
+                opened.tokenizers().analyzer(field).name()
+            )?;
+            Ok(())
+        }
+        _ => Ok(()),
+    }
 }
 
 // Returns the name of an option in the text of a schema.

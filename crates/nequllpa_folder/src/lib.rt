@@ -25,6 +25,6 @@ pub use inspecting::{
 };
 pub use listing::{Listing, write_listing};
 pub use merged_terms::{MergedTerm, MergedTerms};
-pub use opened::{Opened, schema_of};
+pub use opened::{Opened, schema_of, text_schema_of};
 pub use opened_index::{Bases, OpenedIndex, reader_of};
 pub use stats::write_stats;

@@ -11,10 +11,10 @@ ghost use Rattle.ii_definitions.specs.Norms.{HoldNorms};
 ghost use Rattle.ii_definitions.specs.Tokens.{IndexToken};
 ghost use Rattle.ii_reader.specs.InvertedIndexReader.{IsRefusal};
 ghost use Rattle.ii_reader.specs.OpenIndex.{IndexHolds, index_of_files};
-ghost use Rattle.ii_schema_text.specs.SchemaText.{text_schema};
+ghost use Rattle.ii_schema_text.specs.SchemaText.{TextSchemaState, text_schema, tokenized_schema};
 ghost use Rattle.ii_query_parser.specs.QueryTexts.{field_named};
 ghost use Rattle.ii_store.specs.Index.{view};
-ghost use Rattle.nequllpa_folder.specs.Stored.{HoldsTokens, IsOpenRefusal, IsSchemaRefusal, readers_of};
+ghost use Rattle.nequllpa_folder.specs.Stored.{HoldsTokens, IsOpenRefusal, IsSchemaRefusal, IsTextSchemaRefusal, readers_of};
 
 use crate::faults::OpenFault;
 use bytes::Bytes;
@@ -23,7 +23,7 @@ use ii_base::{DocId, Fault, Field, FieldEntry, Part, Schema};
 use ii_counts::{CountReader, CountReaders};
 use ii_query_parser::field_named;
 use ii_reader::{InvertedIndexReader, OpenIndex, open_index_with_norms};
-use ii_schema_text::read_schema;
+use ii_schema_text::{TextSchema, read_schema, read_text_schema};
 use ii_store::StoredIndex;
 use std::alloc::Global;
 
@@ -262,6 +262,22 @@ pub fn schema_of(alloc: Global, bytes: &[u8]) -> Result<Schema, OpenFault>
     match read_schema(alloc, text) {
         Ok(schema) => Ok(schema),
         Err(fault) => Err(OpenFault::Schema(fault)),
+    }
+}
+
+/// Reads the schema of an index, with the tokenizers of its fields. Returns `SchemaBytes` if the bytes aren't
+/// UTF-8, and `Schema` if the text is no schema.
+pub fn text_schema_of(alloc: Global, bytes: &[u8]) -> Result<TextSchema, OpenFault>
+    ensures says { IfOk result (λ schema. tokenized_schema bytes.now ≡ Ok schema) }
+    ensures taken { (s : TextSchemaState) → tokenized_schema bytes.now ≡ Ok s → IfOk result (λ schema. schema ≡ s) }
+    ensures refused { IfErr result (IsTextSchemaRefusal bytes.now) }
+{
+    let Ok(text) = std::str::from_utf8(bytes) else {
+        return Err(OpenFault::SchemaBytes);
+    };
+    match read_text_schema(alloc, text) {
+        Ok(schema) => Ok(schema),
+        Err(error) => Err(OpenFault::Schema(error)),
     }
 }
 

@@ -3,22 +3,25 @@ ghost use Rattle.std.specs.Prelude.{◌≡◌, ◌<◌, IfOk, IfSome, Ok, Some, 
 ghost use Rattle.std.specs.Option.{option_map};
 ghost use Rattle.ii_io.specs.Composite.{composite};
 ghost use Rattle.std.specs.List.{AllZip};
-ghost use Rattle.ii_query_parser.specs.QueryTexts.{field_named};
-ghost use Rattle.ii_schema_text.specs.SchemaText.{text_schema};
+ghost use Rattle.ii_query_parser.specs.QueryTexts.{IsQueryOfTextBy, field_named};
+ghost use Rattle.ii_schema_text.specs.SchemaText.{text_schema, tokenized_schema};
+ghost use Rattle.ii_tokenizers.specs.Tokenizers.{analyzed_in};
 ghost use Rattle.nequllpa_folder.specs.OpenedSegments.{OpensAs};
 
 use crate::faults::OpenFault;
-use crate::opened::{Opened, schema_of};
+use crate::opened::{Opened, text_schema_of};
 use ii_base::{Field, FieldEntry, Schema};
-use ii_query_parser::field_named;
+use ii_query_parser::{Query, QueryParserError, field_named, parse_query_by};
 use ii_reader::InvertedIndexReader;
 use ii_segment_store::{SegmentFiles, StoredSegment, StoredSegments};
 use ii_store::StoredIndex;
+use ii_tokenizers::FieldTokenizers;
 use std::alloc::Global;
 
-/// An open index: its schema, and its open segments in the order of their documents.
+/// An open index: its schema, the tokenizers of its fields, and its open segments in the order of their documents.
 pub struct OpenedIndex {
     schema: Schema,
+    tokenizers: FieldTokenizers,
     segments: Vec<Opened>,
 }
 
@@ -27,6 +30,7 @@ impl Drop for OpenedIndex {
     fn drop(self) {
         let OpenedIndex {
             schema: _,
+            tokenizers: _,
             segments: _,
         } = self;
     }
@@ -36,8 +40,10 @@ impl OpenedIndex {
     /// Opens each segment of an index, with the schema of the index. Its readers are those over its files, and
     /// hold the tokens that these hold. Returns the errors of `Opened::open`, of the first segment that doesn't
     /// open.
+    #[tactic(auto, using(ii_schema_text::proofs::SchemaLaws::schema_alone))]
     pub fn open(alloc: Global, stored: StoredSegments) -> Result<OpenedIndex, OpenFault>
         ensures schema { IfOk result (λ o. text_schema stored.schema.items ≡ Ok o.schema) }
+        ensures tokenizers { IfOk result (λ o. tokenized_schema stored.schema.items ≡ Ok (record { schema = o.schema; tokenizers = o.tokenizers })) }
         ensures segments { IfOk result (λ o. AllZip (OpensAs stored.schema.items) stored.segments.items o.segments.items) }
     {
         let StoredSegments { schema, segments } = stored;
@@ -46,8 +52,15 @@ impl OpenedIndex {
             Ok(segments) => segments,
             Err(fault) => return Err(fault),
         };
-        match schema_of(alloc, schema.as_slice()) {
-            Ok(schema) => Ok(OpenedIndex { schema, segments }),
+        match text_schema_of(alloc, schema.as_slice()) {
+            Ok(schema) => {
+                let (schema, tokenizers) = schema.into_parts();
+                Ok(OpenedIndex {
+                    schema,
+                    tokenizers,
+                    segments,
+                })
+            }
             Err(fault) => Err(fault),
         }
     }
@@ -57,6 +70,26 @@ impl OpenedIndex {
         ensures { result.now ≡ self.now.schema }
     {
         &self.schema
+    }
+
+    /// Returns the tokenizers of the fields.
+    pub fn tokenizers(&self) -> &FieldTokenizers
+        ensures { result.now ≡ self.now.tokenizers }
+    {
+        &self.tokenizers
+    }
+
+    /// Parses the text of a query over the fields of the index, each with its tokenizer (`parse_query_by` of
+    /// `ii_query_parser`).
+    pub fn parse_query(
+        &self,
+        alloc: Global,
+        default_fields: &[Field],
+        text: &str,
+    ) -> Result<Query, QueryParserError>
+        ensures { IsQueryOfTextBy (record { texts = record { analyze = analyzed_in self.now.tokenizers; entries = self.now.schema }; defaults = default_fields.now }) text.now result }
+    {
+        parse_query_by(alloc, &self.schema, default_fields, &self.tokenizers, text)
     }
 
     /// Returns the segments, in the order of their documents.

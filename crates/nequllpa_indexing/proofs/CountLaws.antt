@@ -10,13 +10,14 @@ use Rattle.ii_base.specs.Schema.{SchemaEntry}
 use Rattle.ii_base.specs.Words.{Word}
 use Rattle.ii_counts.specs.CountsWriter.{SetsCount, count_at, first_counts, is_limit}
 use Rattle.ii_definitions.specs.Postings.{doc_count}
-use Rattle.ii_definitions.specs.Tokens.{Call, Content, IndexToken, Piece, begin_after, call_pieces, content_pieces, kept_words, leaf_pieces, leaves, piece_tokens, piece_tokens_from, pieces_of, text, tokens_after, tokens_of, value, word_token, words}
-use Rattle.ii_indexing.proofs.CallLaws.{pieces_with}
+use Rattle.ii_definitions.specs.Tokens.{Call, Content, IndexToken, Piece, begin_after, call_pieces, content_pieces, kept_words, leaf_pieces, leaves, piece_tokens, piece_tokens_from, text, tokens_after, value, word_token, words}
 use Rattle.ii_definitions.proofs.PieceLaws.{tokens_after-append}
 use Rattle.ii_segments.specs.HoldCounts.{HasManyTokens, field_counts}
 use Rattle.ii_segments.specs.Segments.{doc_counts}
 use Rattle.ii_segments.proofs.CountLaws.{map_all}
 use Rattle.nequllpa_indexing.specs.Counted.{HasCounts}
+use Rattle.nequllpa_indexing.specs.FieldTokens.{pieces_by, tokens_by}
+use Rattle.nequllpa_indexing.proofs.FieldLaws.{pieces_with_by}
 
 -- the tokens of a call are of its document, in its field
 
@@ -109,8 +110,8 @@ counts_more entries ts us old new field doc count all has set is = record { fiel
         by false y differ same_doc = other (λ a b. eqb-false f field differ a)
 
 -- the tokens of one call more
-pub tokens_with_call : (analyze : List ℕ → List Word) (cs : List Call) (c : Call) → tokens_of analyze (cs ++ c ∷ []) ≡ tokens_of analyze cs ++ tokens_after (pieces_of analyze cs) (call_pieces analyze c)
-tokens_with_call analyze cs c = ap (tokens_after []) (pieces_with analyze cs c) ∙ tokens_after-append [] (pieces_of analyze cs) (call_pieces analyze c)
+pub tokens_with_call : (analyze : ℕ → List ℕ → List Word) (cs : List Call) (c : Call) → tokens_by analyze (cs ++ c ∷ []) ≡ tokens_by analyze cs ++ tokens_after (pieces_by analyze cs) (call_pieces (analyze c.field) c)
+tokens_with_call analyze cs c = ap (tokens_after []) (pieces_with_by analyze cs c) ∙ tokens_after-append [] (pieces_by analyze cs) (call_pieces (analyze c.field) c)
 
 -- rows without the limit are the counts
 

@@ -1,3 +1,4 @@
 mod DocumentLemmas
+mod FieldLaws
 mod StoredLaws
 mod CountLaws

@@ -1,3 +1,4 @@
 pub mod Counted
 pub mod Documents
+pub mod FieldTokens
 pub mod Inputs

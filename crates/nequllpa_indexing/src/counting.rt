@@ -1,43 +1,45 @@
 //! Indexes documents, and counts their tokens.
-ghost use Rattle.std.specs.Prelude.{◌≡◌, ◌≤◌, [], Err, IfErr, IfOk, IfSome, IsSomeAnd, List, Some, false, map};
+ghost use Rattle.std.specs.Prelude.{◌≡◌, ◌≤◌, [], Err, IfErr, IfOk, IsSomeAnd, List, Some, false, map};
 ghost use Rattle.ii_base.specs.declared.doc_id.TheConstants.{TERMINATED};
 ghost use Rattle.ii_definitions.specs.Fields.{option_of};
 ghost use Rattle.ii_definitions.specs.Files.{HoldTokens};
 ghost use Rattle.ii_definitions.specs.IndexCalls.{MayAllBeIndexed, call_of};
 ghost use Rattle.ii_definitions.specs.Norms.{HoldNorms};
-ghost use Rattle.ii_definitions.specs.Tokens.{Piece, pieces_of, tokens_after, tokens_of};
+ghost use Rattle.ii_definitions.specs.Tokens.{Piece, tokens_after};
 ghost use Rattle.ii_indexing.specs.Indexer.{Stores};
-ghost use Rattle.ii_indexing.specs.Refusals.{calls_fault};
 ghost use Rattle.ii_json.specs.LeafVisit.{IsRefusedBy};
 ghost use Rattle.ii_segments.specs.HoldCounts.{HasManyTokens, HoldCounts};
 ghost use Rattle.nequllpa_indexing.specs.Counted.{HasCounts, IsSegmentFault};
+ghost use Rattle.nequllpa_indexing.specs.FieldTokens.{calls_fault_by, pieces_by, tokens_by};
 
-use ii_base::{DocId, Fault, LimitName, Schema, TextAnalyzer};
+use ii_base::{DocId, Fault, LimitName, Schema};
 use ii_counts::CountsWriter;
 use ii_indexing::{IndexCall, IndexWriters, Indexer};
 use ii_segment_store::SegmentFiles;
+use ii_tokenizers::FieldAnalyzers;
 use std::alloc::Global;
 
-// Creates an indexer, indexes all calls, and counts the tokens of each document.
-pub(crate) fn index_counted<A: TextAnalyzer>(
+// Creates an indexer, indexes all calls, each by the analyzer of its field, and counts the tokens of each document.
+pub(crate) fn index_counted<F: FieldAnalyzers>(
     alloc: Global,
     schema: Schema,
     num_docs: DocId,
     calls: Vec<IndexCall>,
-    analyzer: &A,
+    analyzers: &F,
 ) -> Result<(Indexer, CountsWriter), Fault>
     requires docs { num_docs ≤ TERMINATED }
     requires calls { MayAllBeIndexed schema num_docs calls.items }
-    ensures stored { IfOk result (λ r. Stores r.0 (pieces_of (A.words analyzer.now) (map (call_of schema) calls.items))) }
+    ensures stored { IfOk result (λ r. Stores r.0 (pieces_by (F.words analyzers.now) (map (call_of schema) calls.items))) }
     ensures rest { IfOk result (λ r. (r.0.schema ≡ schema) × (r.0.num_docs ≡ num_docs) × (r.0.failed ≡ false)) }
-    ensures counted { IfOk result (λ r. HasCounts schema (tokens_of (A.words analyzer.now) (map (call_of schema) calls.items)) r.1) }
-    ensures refused { IsRefusedBy (calls_fault (A.words analyzer.now) (option_of schema) [] (map (call_of schema) calls.items)) result }
+    ensures counted { IfOk result (λ r. HasCounts schema (tokens_by (F.words analyzers.now) (map (call_of schema) calls.items)) r.1) }
+    ensures refused { IsRefusedBy (calls_fault_by (F.words analyzers.now) (option_of schema) [] (map (call_of schema) calls.items)) result }
 {
     let mut counts = CountsWriter::for_schema(alloc, &schema)?;
     let mut indexer = Indexer::new(alloc, schema, num_docs)?;
     for call in calls {
         let doc = call.doc();
         let field = call.field();
+        let analyzer = analyzers.analyzer(field);
         indexer.index(call, analyzer)?;
         let num_tokens = indexer.last_num_tokens(field);
         counts.record(doc, field, num_tokens)?;

@@ -1,12 +1,15 @@
 //! Documents to be indexed.
-ghost use Rattle.std.specs.Prelude.{◌≡◌, ◌⊎◌, [], Err, IfErr, IfOk, IfSome, IsSomeAnd, None, OnErr, OnOk};
+ghost use Rattle.std.specs.Prelude.{◌≡◌, ◌⊎◌, [], Err, IfErr, IfOk, IfSome, IsSomeAnd, None, OnErr, OnOk, false};
 ghost use Rattle.ii_io.specs.Faults.{OnlyMemory};
 ghost use Rattle.ii_definitions.specs.Fields.{option_of};
 ghost use Rattle.ii_definitions.specs.Files.{HoldTokens};
 ghost use Rattle.ii_definitions.specs.Norms.{HoldNorms};
 ghost use Rattle.ii_definitions.specs.Tokens.{tokens_of};
 ghost use Rattle.ii_segments.specs.HoldCounts.{HasManyTokens, HoldCounts};
-ghost use Rattle.nequllpa_indexing.specs.Counted.{IsSegmentFault};
+ghost use Rattle.ii_indexing.specs.Indexer.{Stores};
+ghost use Rattle.ii_json.specs.LeafVisit.{IsRefusedBy};
+ghost use Rattle.nequllpa_indexing.specs.Counted.{HasCounts, IsSegmentFault};
+ghost use Rattle.nequllpa_indexing.specs.FieldTokens.{calls_fault_by, pieces_by, tokens_by};
 ghost use Rattle.ii_indexing.specs.IndexFiles.{CountsIndexFailures, FilesGrow, IsIndexFault, WroteIndex};
 ghost use Rattle.ii_indexing.specs.Refusals.{calls_fault};
 ghost use Rattle.nequllpa_indexing.specs.Documents.{AddsLine, DocumentsState, WereCalls, next_calls};
@@ -15,10 +18,12 @@ ghost use Rattle.ii_documents.specs.JsonLines.{TellsOfLine, told_of_line};
 use crate::counting::{finish_counted, index_counted};
 use crate::long_words::count_long_words;
 use ii_base::{Fault, LimitName, Schema, TextAnalyzer};
+use ii_counts::CountsWriter;
 use ii_docset::{DocId, TERMINATED};
 use ii_documents::{LineFault, line_calls};
-use ii_indexing::{IndexCall, IndexWriters, write_index};
+use ii_indexing::{IndexCall, IndexWriters, Indexer, write_index};
 use ii_segment_store::SegmentFiles;
+use ii_tokenizers::FieldAnalyzers;
 use std::alloc::Global;
 use std::io::Write;
 use std::marker::Model;
@@ -108,13 +113,36 @@ impl Documents {
 
     /// Returns how many words of the documents are too long to be indexed (`count_long_words`).
     /// Returns `OutOfMemory` if allocation fails.
-    pub fn num_long_words<A: TextAnalyzer>(&self, alloc: Global, analyzer: &A) -> Result<u64, Fault>
+    pub fn num_long_words<F: FieldAnalyzers>(
+        &self,
+        alloc: Global,
+        analyzers: &F,
+    ) -> Result<u64, Fault>
         ensures only { OnlyMemory result }
     {
-        count_long_words(alloc, analyzer, self.calls.as_slice())
+        count_long_words(alloc, analyzers, self.calls.as_slice())
     }
 
-    /// Writes the files of an index of the documents, with texts split by `analyzer`, and returns the
+    // Indexes the documents, with the texts of each field split by its analyzer, and counts the tokens of each.
+    pub(crate) fn indexed<F: FieldAnalyzers>(
+        self,
+        alloc: Global,
+        analyzers: &F,
+    ) -> Result<(Indexer, CountsWriter), Fault>
+        ensures stored { IfOk result (λ r. Stores r.0 (pieces_by (F.words analyzers.now) self.calls)) }
+        ensures rest { IfOk result (λ r. (r.0.schema ≡ self.schema) × (r.0.num_docs ≡ self.num_docs) × (r.0.failed ≡ false)) }
+        ensures counted { IfOk result (λ r. HasCounts self.schema (tokens_by (F.words analyzers.now) self.calls) r.1) }
+        ensures refused { IsRefusedBy (calls_fault_by (F.words analyzers.now) (option_of self.schema) [] self.calls) result }
+    {
+        let Documents {
+            schema,
+            num_docs,
+            calls,
+        } = self;
+        index_counted(alloc, schema, num_docs, calls, analyzers)
+    }
+
+    /// Writes the files of an index of the documents, with all texts split by `analyzer`, and returns the
     /// writers. If the calls have a fault, the writers are unchanged. See `write_index` for the
     /// faults.
     pub fn write<A: TextAnalyzer, W: Write>(
@@ -139,37 +167,33 @@ impl Documents {
         write_index(alloc, schema, num_docs, calls, analyzer, writers)
     }
 
-    /// Builds the files of a segment of the documents, with texts split by `analyzer`. They hold exactly the
-    /// tokens of the documents' calls, their norms, and how many tokens each document has in each field.
+    /// Builds the files of a segment of the documents, with the texts of each field split by its analyzer. They
+    /// hold exactly the tokens of the documents' calls, their norms, and how many tokens each document has in each field.
     ///
     /// # Errors
     ///
     /// The first fault of the calls (`Indexer::index`). Otherwise `Limit(Tokens)` if a document has 2^32 - 1
     /// tokens in a field, or more; a limit of the written files (`Indexer::finish`); or `OutOfMemory`.
-    pub fn into_segment<A: TextAnalyzer>(
+    pub fn into_segment<F: FieldAnalyzers>(
         self,
         alloc: Global,
-        analyzer: &A,
+        analyzers: &F,
     ) -> Result<SegmentFiles, Fault>
         ensures docs { IfOk result (λ f. f.num_docs ≡ self.num_docs) }
-        ensures holds { IfOk result (λ f. HoldTokens (option_of self.schema) f.terms.items f.postings.items f.positions.items (tokens_of (A.words analyzer.now) self.calls)) }
-        ensures norms { IfOk result (λ f. HoldNorms self.schema self.num_docs f.fieldnorms.items (tokens_of (A.words analyzer.now) self.calls)) }
-        ensures counts { IfOk result (λ f. IsSomeAnd f.counts (λ v. HoldCounts self.schema self.num_docs v.items (tokens_of (A.words analyzer.now) self.calls))) }
+        ensures holds { IfOk result (λ f. HoldTokens (option_of self.schema) f.terms.items f.postings.items f.positions.items (tokens_by (F.words analyzers.now) self.calls)) }
+        ensures norms { IfOk result (λ f. HoldNorms self.schema self.num_docs f.fieldnorms.items (tokens_by (F.words analyzers.now) self.calls)) }
+        ensures counts { IfOk result (λ f. IsSomeAnd f.counts (λ v. HoldCounts self.schema self.num_docs v.items (tokens_by (F.words analyzers.now) self.calls))) }
 
         // Errors.
-        ensures refused { IfSome (calls_fault (A.words analyzer.now) (option_of self.schema) [] self.calls) (λ fault. (result ≡ Err fault) ⊎ (result ≡ Err Fault.OutOfMemory)) }
-        ensures many { calls_fault (A.words analyzer.now) (option_of self.schema) [] self.calls ≡ None → HasManyTokens self.schema (tokens_of (A.words analyzer.now) self.calls)
+        ensures refused { IfSome (calls_fault_by (F.words analyzers.now) (option_of self.schema) [] self.calls) (λ fault. (result ≡ Err fault) ⊎ (result ≡ Err Fault.OutOfMemory)) }
+        ensures many { calls_fault_by (F.words analyzers.now) (option_of self.schema) [] self.calls ≡ None → HasManyTokens self.schema (tokens_by (F.words analyzers.now) self.calls)
             → (result ≡ Err (Fault.Limit LimitName.Tokens)) ⊎ (result ≡ Err Fault.OutOfMemory) }
-        ensures fault { calls_fault (A.words analyzer.now) (option_of self.schema) [] self.calls ≡ None
-            → IfErr result (IsSegmentFault self.schema self.num_docs (tokens_of (A.words analyzer.now) self.calls)) }
+        ensures fault { calls_fault_by (F.words analyzers.now) (option_of self.schema) [] self.calls ≡ None
+            → IfErr result (IsSegmentFault self.schema self.num_docs (tokens_by (F.words analyzers.now) self.calls)) }
     {
-        let Documents {
-            schema,
-            num_docs,
-            calls,
-        } = self;
-        match index_counted(alloc, schema, num_docs, calls, analyzer) {
-            Ok(counted) => finish_counted(alloc, num_docs, counted.0, counted.1),
+        let num_docs = self.num_docs;
+        match self.indexed(alloc, analyzers) {
+            Ok(indexed) => finish_counted(alloc, num_docs, indexed.0, indexed.1),
             Err(fault) => Err(fault),
         }
     }

@@ -4,13 +4,15 @@ ghost use Rattle.ii_io.specs.Faults.{OnlyMemory};
 use ii_base::{Fault, JsonValue, TextAnalyzer, TokenStream};
 use ii_indexing::IndexCall;
 use ii_postings_writer::postings_writer::MAX_TOKEN_LEN;
+use ii_tokenizers::FieldAnalyzers;
 use std::alloc::Global;
 
 /// Returns how many words in the texts of index calls have more than `MAX_TOKEN_LEN` bytes and so
-/// aren't indexed, at most `u64::MAX`. Returns `OutOfMemory` if allocation fails.
-pub fn count_long_words<A: TextAnalyzer>(
+/// aren't indexed, at most `u64::MAX`; words are those by the analyzer of the call's field. Returns
+/// `OutOfMemory` if allocation fails.
+pub fn count_long_words<F: FieldAnalyzers>(
     alloc: Global,
-    analyzer: &A,
+    analyzers: &F,
     calls: &[IndexCall],
 ) -> Result<u64, Fault>
     ensures only { OnlyMemory result }
@@ -18,8 +20,12 @@ pub fn count_long_words<A: TextAnalyzer>(
     let mut count = 0u64;
     for call in calls {
         let more = match call {
-            IndexCall::Text(_, _, text) => long_words_of(alloc, analyzer, text.as_str())?,
-            IndexCall::Json(_, _, value) => long_words_in(alloc, analyzer, value)?,
+            IndexCall::Text(_, field, text) => {
+                long_words_of(alloc, analyzers.analyzer(*field), text.as_str())?
+            }
+            IndexCall::Json(_, field, value) => {
+                long_words_in(alloc, analyzers.analyzer(*field), value)?
+            }
             _ => 0,
         };
         count = count.saturating_add(more);

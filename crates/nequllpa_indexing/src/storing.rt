@@ -1,21 +1,22 @@
 //! Builds the index of lines.
-ghost use Rattle.std.specs.Prelude.{◌≡◌, ◌⊎◌, [], Err, IfErr, IfOk, IfSome, None, Some};
+ghost use Rattle.std.specs.Prelude.{◌≡◌, ◌⊎◌, [], Err, IfErr, IfOk, IfSome, List, None, Some, false};
 ghost use Rattle.std.specs.Str.{IsUtf8};
-ghost use Rattle.ii_base.specs.AsciiWords.{ascii_words};
 ghost use Rattle.ii_definitions.specs.Fields.{option_of};
 ghost use Rattle.ii_definitions.specs.Files.{HoldTokens};
 ghost use Rattle.ii_definitions.specs.Norms.{HoldNorms};
-ghost use Rattle.ii_definitions.specs.Tokens.{tokens_of};
+ghost use Rattle.ii_definitions.specs.Tokens.{Piece, tokens_after};
 ghost use Rattle.ii_indexing.specs.RamFiles.{IsRamFault};
-ghost use Rattle.ii_indexing.specs.Refusals.{calls_fault};
+ghost use Rattle.ii_indexing.specs.Indexer.{Stores};
 ghost use Rattle.nequllpa_indexing.specs.Documents.{WereCalls};
+ghost use Rattle.nequllpa_indexing.specs.FieldTokens.{calls_fault_by, tokens_by};
 ghost use Rattle.nequllpa_indexing.specs.Inputs.{AddsInput};
 
 use crate::documents::Documents;
 use crate::faults::InputFault;
-use ii_base::{AsciiTokenizer, Fault};
-use ii_indexing::IndexWriters;
+use ii_base::Fault;
+use ii_indexing::{IndexWriters, Indexer};
 use ii_store::StoredIndex;
+use ii_tokenizers::FieldAnalyzers;
 use std::alloc::Global;
 
 /// Adds the document of a line, given as bytes with or without the line end. Returns whether there
@@ -40,23 +41,47 @@ pub fn add_line(alloc: Global, documents: &mut Documents, line: &[u8]) -> Result
     }
 }
 
-/// Builds the index of documents, with texts split by `AsciiTokenizer`, and with the text of a
+/// Builds the index of documents, with the texts of each field split by its analyzer, and with the text of a
 /// schema. Its files hold exactly the tokens of the documents' calls, and their norms.
 ///
 /// Returns the first fault of the calls, a limit of the written files (`write_index`), or
 /// `OutOfMemory`.
-pub fn store(alloc: Global, documents: Documents, schema: Vec<u8>) -> Result<StoredIndex, Fault>
+pub fn store<F: FieldAnalyzers>(
+    alloc: Global,
+    documents: Documents,
+    analyzers: &F,
+    schema: Vec<u8>,
+) -> Result<StoredIndex, Fault>
     ensures says { IfOk result (λ s. (s.num_docs ≡ documents.num_docs) × (s.schema.items ≡ schema.items)) }
-    ensures holds { IfOk result (λ s. HoldTokens (option_of documents.schema) s.terms.items s.postings.items s.positions.items (tokens_of ascii_words documents.calls)) }
-    ensures norms { IfOk result (λ s. HoldNorms documents.schema documents.num_docs s.fieldnorms.items (tokens_of ascii_words documents.calls)) }
+    ensures holds { IfOk result (λ s. HoldTokens (option_of documents.schema) s.terms.items s.postings.items s.positions.items (tokens_by (F.words analyzers.now) documents.calls)) }
+    ensures norms { IfOk result (λ s. HoldNorms documents.schema documents.num_docs s.fieldnorms.items (tokens_by (F.words analyzers.now) documents.calls)) }
     ensures calls { IfOk result (λ s. WereCalls documents.schema documents.num_docs documents.calls) }
-    ensures refused { IfSome (calls_fault ascii_words (option_of documents.schema) [] documents.calls) (λ fault. (result ≡ Err fault) ⊎ (result ≡ Err Fault.OutOfMemory)) }
-    ensures fault { calls_fault ascii_words (option_of documents.schema) [] documents.calls ≡ None
-        → IfErr result (λ e. (e ≡ Fault.OutOfMemory) ⊎ IsRamFault documents.schema documents.num_docs (tokens_of ascii_words documents.calls) e) }
+    ensures refused { IfSome (calls_fault_by (F.words analyzers.now) (option_of documents.schema) [] documents.calls) (λ fault. (result ≡ Err fault) ⊎ (result ≡ Err Fault.OutOfMemory)) }
+    ensures fault { calls_fault_by (F.words analyzers.now) (option_of documents.schema) [] documents.calls ≡ None
+        → IfErr result (λ e. (e ≡ Fault.OutOfMemory) ⊎ IsRamFault documents.schema documents.num_docs (tokens_by (F.words analyzers.now) documents.calls) e) }
 {
     let num_docs = documents.num_docs();
-    let files = IndexWriters::in_memory(alloc);
-    let (files, written) = documents.write(alloc, &AsciiTokenizer, files);
+    match documents.indexed(alloc, analyzers) {
+        Ok(indexed) => written(alloc, num_docs, schema, indexed.0),
+        Err(fault) => Err(fault),
+    }
+}
+
+// Writes the files of an index to memory.
+fn written(
+    alloc: Global,
+    num_docs: u32,
+    schema: Vec<u8>,
+    indexer: Indexer,
+) -> Result<StoredIndex, Fault>
+    requires running { indexer.failed ≡ false }
+    requires docs { indexer.num_docs ≡ num_docs }
+    ensures says { IfOk result (λ s. (s.num_docs ≡ num_docs) × (s.schema.items ≡ schema.items)) }
+    ensures holds { (ps : List Piece) → Stores indexer ps → IfOk result (λ s. HoldTokens (option_of indexer.schema) s.terms.items s.postings.items s.positions.items (tokens_after [] ps)) }
+    ensures norms { (ps : List Piece) → Stores indexer ps → IfOk result (λ s. HoldNorms indexer.schema num_docs s.fieldnorms.items (tokens_after [] ps)) }
+    ensures fault { (ps : List Piece) → Stores indexer ps → IfErr result (λ e. (e ≡ Fault.OutOfMemory) ⊎ IsRamFault indexer.schema num_docs (tokens_after [] ps) e) }
+{
+    let (files, written) = indexer.finish(IndexWriters::in_memory(alloc));
     match written {
         Ok(()) => Ok(stored(num_docs, schema, files)),
         Err(fault) => Err(fault.in_memory()),

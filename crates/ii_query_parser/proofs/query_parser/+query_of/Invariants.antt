@@ -1,7 +1,0 @@
-use Rattle.std.proofs.Common.{drop}
-use Rattle.ii_query_parser.proofs.WordsQueryLemmas.{IsReading}
-use Rattle.ii_query_parser.proofs.query_parser.+query_of.Given as goal
-
-abbrev pub invariant-queries_of-loop-part : goal.invariant-queries_of-loop-part
-invariant-queries_of-loop-part g l =
-    IsReading (record { texts = record { analyze = g.A.TextAnalyzer.words l.analyzer; entries = l.schema }; defaults = l.default_fields }) l.part-items (drop l.part-index l.part-items) l.queries.items

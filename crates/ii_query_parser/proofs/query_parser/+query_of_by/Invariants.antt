@@ -1,0 +1,7 @@
+use Rattle.std.proofs.Common.{drop}
+use Rattle.ii_query_parser.proofs.WordsQueryLemmas.{IsReading}
+use Rattle.ii_query_parser.proofs.query_parser.+query_of_by.Given as goal
+
+abbrev pub invariant-queries_of-loop-part : goal.invariant-queries_of-loop-part
+invariant-queries_of-loop-part g l =
+    IsReading (record { texts = record { analyze = g.F.FieldAnalyzers.words l.analyzers; entries = l.schema }; defaults = l.default_fields }) l.part-items (drop l.part-index l.part-items) l.queries.items

@@ -1,0 +1,136 @@
+//! The schema of a text, with its tokenizers.
+ghost use Rattle.std.specs.Prelude.{◌≡◌, codes};
+ghost use Rattle.toml.specs.View.{view};
+ghost use Rattle.ii_schema_text.specs.SchemaText.{AnswersFromText, TextSchemaState, field_in, few, without_fields};
+
+use crate::entry_table::entry_of;
+use crate::faults::SchemaFault;
+use crate::tokenizers::{takes_texts, tokenizer_of};
+use ii_base::{FieldEntry, Schema};
+use ii_tokenizers::{Analyzer, FieldTokenizers};
+use std::alloc::Global;
+use std::marker::Model;
+use toml::Value;
+
+/// A schema, and the tokenizer of each of its fields.
+///
+/// Its model is the entries of the schema, and the tokenizers.
+pub struct TextSchema {
+    schema: Schema,
+    tokenizers: FieldTokenizers,
+}
+
+// Makes each drop a call.
+impl Drop for TextSchema {
+    fn drop(self) {
+        let TextSchema {
+            schema: _,
+            tokenizers: _,
+        } = self;
+    }
+}
+
+impl Model for TextSchema {
+    ghost use Rattle.ii_schema_text.specs.SchemaText.{TextSchemaState};
+
+    ghost Value = { TextSchemaState };
+
+    ghost view = { λ s. record { schema = s.schema; tokenizers = s.tokenizers } };
+}
+
+impl TextSchema {
+    /// Returns the schema.
+    pub fn schema(&self) -> &Schema
+        ensures { result.now ≡ self.now.schema }
+    {
+        &self.schema
+    }
+
+    /// Returns the tokenizers of the fields.
+    pub fn tokenizers(&self) -> &FieldTokenizers
+        ensures { result.now ≡ self.now.tokenizers }
+    {
+        &self.tokenizers
+    }
+
+    /// Returns the schema and the tokenizers of its fields.
+    pub fn into_parts(self) -> (Schema, FieldTokenizers)
+        ensures schema { result.0 ≡ self.schema }
+        ensures tokenizers { result.1 ≡ self.tokenizers }
+    {
+        let TextSchema { schema, tokenizers } = self;
+        (schema, tokenizers)
+    }
+}
+
+// The fields that were read of a text.
+pub(crate) struct ReadFields {
+    entries: Vec<FieldEntry>,
+    tokenizers: FieldTokenizers,
+}
+
+// Makes each drop a call.
+impl Drop for ReadFields {
+    fn drop(self) {
+        let ReadFields {
+            entries: _,
+            tokenizers: _,
+        } = self;
+    }
+}
+
+impl Model for ReadFields {
+    ghost use Rattle.ii_schema_text.specs.SchemaText.{TextSchemaState};
+
+    ghost Value = { TextSchemaState };
+
+    ghost view = { λ s. record { schema = s.entries.items; tokenizers = s.tokenizers } };
+}
+
+impl ReadFields {
+    // Creates an empty list.
+    pub(crate) fn new(alloc: Global) -> ReadFields
+        ensures { result ≡ without_fields }
+    {
+        ReadFields {
+            entries: Vec::new(alloc),
+            tokenizers: FieldTokenizers::new(alloc),
+        }
+    }
+
+    // Reads one more field from its table. After an error they are of no use.
+    #[tactic(auto, unfolding(crate::specs::SchemaText::field_in))]
+    pub(crate) fn read(
+        &mut self,
+        alloc: Global,
+        default: Analyzer,
+        field: &Value,
+    ) -> Result<(), SchemaFault>
+        ensures { AnswersFromText (λ (done : Unit {0}). self.new) result (field_in default self.old (view field.now)) }
+    {
+        let place = self.entries.len();
+        let entry = entry_of(alloc, self.entries.as_slice(), field)?;
+        let allowed = takes_texts(&entry);
+        let tokenizer = tokenizer_of(alloc, place, default, allowed, field.get("tokenizer"))?;
+        self.entries.push(entry)?;
+        self.tokenizers.push(tokenizer)?;
+        Ok(())
+    }
+
+    // Returns their schema, unless they are too many.
+    pub(crate) fn into_schema(self) -> Result<TextSchema, SchemaFault>
+        ensures { AnswersFromText (λ (s : TextSchemaState). s) result (few self) }
+    {
+        let ReadFields {
+            entries,
+            tokenizers,
+        } = self;
+        if entries.len() >= 1 << 32 {
+            return Err(SchemaFault::TooManyFields);
+        }
+        Ok(TextSchema {
+            schema: Schema::new(entries),
+            tokenizers,
+        })
+    }
+}

@@ -1,0 +1,37 @@
+-- The names of analyzers, and the analyzers of fields.
+use Rattle.std.specs.Prelude.{ℕ, Bool, true, false, List, Option, None, Some, bytes_eq, codes, get_or, if◌then◌else◌}
+use Rattle.ii_base.specs.Words.{Word}
+use Rattle.ii_tokenizers.specs.Analyzers.{analyzed}
+use Rattle.ii_tokenizers.specs.declared.analyzer.Analyzer.{Analyzer}
+use Rattle.ii_tokenizers.specs.declared.analyzer.Analyzer.TheVariants.{Ascii, Default, Raw, Whitespace}
+
+-- the name of an analyzer in a schema
+abbrev pub analyzer_name : Analyzer → List ℕ
+analyzer_name Ascii = codes "ascii"
+analyzer_name Raw = codes "raw"
+analyzer_name Whitespace = codes "whitespace"
+analyzer_name Default = codes "default"
+
+-- the analyzer with this name
+unfoldable pub analyzer_named : List ℕ → Option Analyzer
+analyzer_named name =
+    if bytes_eq name (codes "default") then Some Default
+    else if bytes_eq name (codes "raw") then Some Raw
+    else if bytes_eq name (codes "whitespace") then Some Whitespace
+    else if bytes_eq name (codes "ascii") then Some Ascii
+    else None
+
+-- whether the words of an analyzer depend on the version of Unicode
+abbrev pub uses_unicode : Analyzer → Bool
+uses_unicode Ascii = false
+uses_unicode Raw = false
+uses_unicode Whitespace = true
+uses_unicode Default = true
+
+-- the version of Unicode that analyzers follow
+abbrev pub unicode_version : List ℕ
+unicode_version = codes "18.0.0"
+
+-- the tokens of a text in a field, given the analyzers of fields in their order; other fields have the ASCII analyzer
+abbrev pub analyzed_in : List Analyzer → ℕ → List ℕ → List Word
+analyzed_in analyzers field text = analyzed (get_or analyzers field Ascii) text

@@ -1,0 +1,220 @@
+#!/usr/bin/env python3
+"""Indexes texts with each tokenizer, and compares the answers of `nequllpa` with a plain reading of them. An index whose
+schema names no tokenizer, as earlier programs wrote it, has the ASCII one."""
+import base64
+import hashlib
+import json
+import os
+import random
+import struct
+import subprocess
+import sys
+import tempfile
+import time
+
+sys.dont_write_bytecode = True
+HERE = os.path.dirname(os.path.abspath(__file__))
+sys.path[:0] = [HERE, os.path.join(os.path.dirname(os.path.dirname(HERE)), 'tools')]
+import analyzers
+import programs
+
+PROGRAM = 'nequllpa_cli'
+SEED = 20261127
+ROUNDS = 12
+LINES = 40
+QUERIES = 60
+
+# The pieces of random texts: words that differ in case alone, and words joined by marks.
+PIECES = ['sea', 'Sea', 'SEA', 'The', 'the', 'old', 'Old', 'man', 'man\u2019s', "man's", '\u201csea\u201d', 'Stra\u00dfe', 'STRASSE', 'Na\u00efve', 'sea\u0301', 'e.g.', '3.14', 'host.org', 'foo_bar',
+          'co-op', '\u8001\u4eba', '\u30ab\u30ca', '\u3072\u3089', '\U0001f44d', '--', 'x' * 39, 'y' * 40, 'ID-7', 'a:b', '_', '9', '\u0391\u03c3', '\u0391\u03a3', '\u00a0', '\t']
+FIELDS = [('plain', 'text', None), ('raw', 'text', 'raw'), ('spaces', 'text', 'whitespace'), ('ascii', 'text', 'ascii'), ('words', 'text', 'default'), ('about', 'json', None), ('ids', 'json', 'raw')]
+
+# The files of an index of "The Sea" and "the man\u2019s sea", as written by a program that knew no tokenizers.
+EARLIER = {
+    'schema.0': base64.b85encode(b'[[field]]\nname = "body"\ntype = "text"\n').decode(),
+    'term.0': '1poj5000000{{R3000001^@s6000004FCWD000005C8xG000006951J00000Q)OXPXk~3-ZsLHMb8}^3bZBKK000000000500000000000000000001000000000000002000000000000002000011Oy_9nnkP%000000000000000fB*mh000000RR91',
+    'idx.0': '1poj500000fPsL4fq{X6fq?)30000000000000sI0000000031000',
+    'pos.0': 'fPsL3fPsL5fPer10000000000000UA0000000031000',
+    'fieldnorm.0': '0s{a50000000000000620000000031000',
+}
+
+
+class Failed(Exception):
+    """A result that differs from the expected one."""
+
+
+class User:
+    """Runs the program in a room."""
+
+    def __init__(self, program, room):
+        self.program, self.room = program, room
+
+    def run(self, *words, given=b''):
+        return subprocess.run([self.program, *words], input=given, stdout=subprocess.PIPE, stderr=subprocess.PIPE, cwd=self.room, timeout=110)
+
+    def wants(self, words, status, out=None, err='', given=b''):
+        """Checks the status, the output if it is given, and that standard error contains `err`."""
+        done = self.run(*words, given=given)
+        told = done.stdout.decode()
+        if done.returncode != status or (out is not None and told != out) or err not in done.stderr.decode():
+            raise Failed(f'{words}: status {done.returncode}, {told[-300:]!r}, {done.stderr[-300:]!r}; wanted {status}, {out!r}, {err!r}')
+        return told
+
+    def write(self, name, text):
+        with open(os.path.join(self.room, name), 'w', encoding='utf-8') as file:
+            file.write(text)
+
+
+def schema_text(default):
+    """Returns a schema with a field for each tokenizer, and two that name none."""
+    head = f'tokenizer = "{default}"\n' if default else ''
+    return head + ''.join(f'[[field]]\nname = "{name}"\ntype = "{kind}"\n' + (f'tokenizer = "{tokenizer}"\n' if tokenizer else '') for name, kind, tokenizer in FIELDS)
+
+
+def random_text(chosen):
+    return ''.join(piece + chosen.choice([' ', ' ', ' ', '', ', ', '  ']) for piece in chosen.choices(PIECES, k=chosen.randrange(5)))
+
+
+def random_line(chosen):
+    """Returns a line: some fields have a text, or several."""
+    line = {}
+    for name, kind, tokenizer in FIELDS:
+        if chosen.random() < 0.7:
+            texts = [random_text(chosen) for place in range(chosen.choice([1, 1, 1, 2]))]
+            value = texts if len(texts) > 1 else texts[0]
+            line[name] = {'x': value} if kind == 'json' else value
+    return line
+
+
+def texts_of(line, name):
+    """Returns the texts of a field of a line."""
+    value = line.get(name, [])
+    value = value.get('x', []) if isinstance(value, dict) else value
+    return value if isinstance(value, list) else [value]
+
+
+def places_of(line, name, words_by):
+    """Returns the positions of each word of a field: a text begins where the one before ends, and one later."""
+    places, begin = {}, 0
+    for text in texts_of(line, name):
+        end = begin
+        for position, word in words_by(text):
+            places.setdefault(word, set()).add(begin + position)
+            end = max(end, begin + position + 1)
+        begin = end + 1
+    return places
+
+
+def has_phrase(places, words):
+    """Returns whether words are at their distances."""
+    first, word = words[0]
+    return any(all(place + position - first in places.get(other, ()) for position, other in words) for place in places.get(word, ()))
+
+
+def quoted(text):
+    return '"' + text.replace('\\', '\\\\').replace('"', '\\"') + '"'
+
+
+def compares(user, chosen, default):
+    """Compares the terms of each field, and random queries, with the reading of random lines."""
+    lines = [random_line(chosen) for number in range(LINES)]
+    rows = [json.dumps(line) + '\n' for line in lines]
+    user.write('schema.toml', schema_text(default))
+    cut = chosen.randrange(LINES)
+    user.wants(['index', 'folder', '--schema', 'schema.toml'], 0, f'{cut} documents indexed\n', given=''.join(rows[:cut]).encode())
+    user.wants(['add', 'folder'], 0, f'{LINES - cut} documents added\n', given=''.join(rows[cut:]).encode())
+    told = user.wants(['fields', 'folder'], 0)
+    readings = {}
+    for number, (name, kind, tokenizer) in enumerate(FIELDS):
+        tokenizer = tokenizer or default or 'default'
+        if f'{number} {name} {kind} position' not in told or f'tokenizer {tokenizer}: ' not in told.split(f'{number} {name} ')[1].split('\n')[0]:
+            raise Failed(f'fields: {name} has no tokenizer {tokenizer} in {told!r}')
+        words_by = analyzers.WORDS_BY[tokenizer]
+        readings[name] = (words_by, [places_of(line, name, words_by) for line in lines])
+        counts = {}
+        for places in readings[name][1]:
+            for word in places:
+                counts[word] = counts.get(word, 0) + 1
+        wanted = ''.join(f'{counts[word]} {"x s " if kind == "json" else ""}{word}\n' for word in sorted(counts, key=lambda word: word.encode()))
+        user.wants(['terms', 'folder', name], 0, wanted)
+    for number in range(QUERIES):
+        name, kind, tokenizer = chosen.choice(FIELDS)
+        words_by, places = readings[name]
+        text = random_text(chosen).strip() if chosen.random() < 0.5 else chosen.choice(PIECES)
+        words = words_by(text)
+        query = f'{name}.x:{quoted(text)}' if kind == 'json' else f'{name}:{quoted(text)}'
+        found = [doc for doc in range(LINES) if words and has_phrase(places[doc], words)]
+        if words or (kind == 'json' and text in ('true', 'false', '9')):
+            user.wants(['search', 'folder', query], 0 if found else 1, ''.join(f'{doc}\n' for doc in found))
+        else:
+            user.wants(['search', 'folder', query], 2, '', 'expected a text with words')
+        if words and kind == 'text':
+            user.wants(['search', 'folder', quoted(text), '--field', name, '--count'], 0 if found else 1, f'{len(found)}\n')
+    user.wants(['check', 'folder'], 0)
+
+
+def rows(user):
+    """Single answers: a word in any case, between marks, past a long word, and in the default fields of two tokenizers."""
+    user.write('schema.toml', '[[field]]\nname = "body"\ntype = "text"\n[[field]]\nname = "id"\ntype = "text"\ntokenizer = "raw"\n')
+    lines = [{'body': 'The old man\u2019s \u201csea\u201d', 'id': 'ID-7 a'}, {'body': 'a ' + 'x' * 40 + ' b', 'id': 'id-7'}, {'body': '\u8001\u4eba STRASSE'}]
+    user.wants(['index', 'rows', '--schema', 'schema.toml'], 0, '3 documents indexed\n', given=''.join(json.dumps(line) + '\n' for line in lines).encode())
+    for query, found in (('the', [0]), ('SEA', [0]), ('man', [0]), ('"MAN S SEA"', [0]), ('"old sea"', []), ('"a b"', []), ('\u8001\u4eba', [2]), ('"\u4eba \u8001"', []), ('stra\u00dfe', [2]),
+                         ('ID-7', []), ('id:ID-7', []), ('id:"ID-7 a"', [0]), ('id:id-7', [1]), ('the AND -id:"ID-7 a"', [])):
+        user.wants(['search', 'rows', query], 0 if found else 1, ''.join(f'{doc}\n' for doc in found))
+    for text, err in (
+            ('tokenizer = "Raw"\n[[field]]\nname = "a"\ntype = "text"', 'unknown tokenizer Raw: one of default, raw, whitespace, ascii'),
+            ('tokenizer = 1\n[[field]]\nname = "a"\ntype = "text"', 'tokenizer: one of default, raw, whitespace, ascii'),
+            ('[[field]]\nname = "a"\ntype = "text"\ntokenizer = "english"', 'field 0: unknown tokenizer english: one of default, raw, whitespace, ascii (the field a)'),
+            ('[[field]]\nname = "a"\ntype = "u64"\ntokenizer = "raw"', 'field 0: tokenizer: one of default, raw, whitespace, ascii, where an indexed field has texts or JSON values (the field a)'),
+            ('[[field]]\nname = "a"\ntype = "text"\nindexed = false\ntokenizer = "raw"', 'field 0: tokenizer: '),
+            ('[[field]]\nname = "a"\ntype = "text"\ntokenizer = 1', 'field 0: tokenizer: '),
+            ('unicode = 18\n[[field]]\nname = "a"\ntype = "text"', 'unicode: a version, as a text'),
+            ('unicode = "17.0.0"\n[[field]]\nname = "a"\ntype = "text"', "its words are by Unicode 17.0.0, which this program doesn't have: index again")):
+        user.write('bad.toml', text)
+        user.wants(['index', 'bad', '--schema', 'bad.toml'], 2, '', err)
+    # words that don't depend on Unicode
+    user.write('other.toml', 'unicode = "17.0.0"\ntokenizer = "raw"\n[[field]]\nname = "a"\ntype = "text"')
+    user.wants(['index', 'other', '--schema', 'other.toml'], 0, '1 documents indexed\n', given=b'{"a": "A b"}\n')
+    user.wants(['search', 'other', '"A b"'], 0, '0\n')
+
+
+def earlier(user):
+    """An index that knows no tokenizers: its words, and those that are added, are those of the ASCII tokenizer."""
+    files = {name: base64.b85decode(text) for name, text in EARLIER.items()}
+    meta = b'nequllpa' + struct.pack('<IBI', 1, 0, 2) + b''.join(struct.pack('<Q', len(file)) + hashlib.sha256(file).digest() for file in files.values())
+    files['meta'] = meta + hashlib.sha256(meta).digest()
+    os.mkdir(os.path.join(user.room, 'earlier'))
+    for name, file in files.items():
+        with open(os.path.join(user.room, 'earlier', name), 'wb') as out:
+            out.write(file)
+    if '0 body text position fieldnorms tokenizer ascii: 5 terms, 5 tokens\n' not in user.wants(['fields', 'earlier'], 0):
+        raise Failed('fields of an index without tokenizers')
+    for query, found in (('the', [1]), ('The', [0]), ('man\u2019s', [1]), ('man', [])):
+        user.wants(['search', 'earlier', query], 0 if found else 1, ''.join(f'{doc}\n' for doc in found))
+    user.wants(['check', 'earlier'], 0)
+    user.wants(['add', 'earlier'], 0, '1 documents added\n', given=b'{"body": "The man"}\n')
+    for query, found in (('the', [1]), ('The', [0, 2]), ('man', [2])):
+        user.wants(['search', 'earlier', query], 0, ''.join(f'{doc}\n' for doc in found))
+
+
+def main():
+    if 'NEQULLPA' not in os.environ and not programs.build(PROGRAM):
+        print('tests/folder: the program was not built')
+        return 1
+    program, begun = os.environ.get('NEQULLPA', programs.program_of(PROGRAM)), time.time()
+    chosen = random.Random(SEED)
+    with tempfile.TemporaryDirectory() as room:
+        user = User(program, room)
+        try:
+            rows(user)
+            earlier(user)
+            for number in range(ROUNDS):
+                compares(user, chosen, [None, 'default', 'raw', 'whitespace', 'ascii'][number % 5])
+        except Failed as why:
+            print(f'tests/folder: {why}')
+            return 1
+    print(f'tests/folder: {ROUNDS} folders of {LINES} lines with each tokenizer, {ROUNDS * QUERIES} queries, in {time.time() - begun:.0f} s')
+    return 0
+
+
+sys.exit(main())
