@@ -378,7 +378,7 @@ def first_versions(user, docs):
 
 def damages_file(user, kind, what):
     """Changes a file of a segment with deleted documents: it must be named."""
-    name, = (name for name in sorted(os.listdir(user.path('three'))) if name.endswith('.' + kind))
+    name, = (name for name in sorted(os.listdir(user.path('three'))) if name.startswith(f'{1:016x}.') and name.endswith('.' + kind))
     path = os.path.join(user.path('three'), name)
     with open(path, 'rb') as file:
         text = file.read()
