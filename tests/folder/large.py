@@ -3,7 +3,7 @@
 first has no words, queries of 128 clauses, a phrase of 20 words, a word of 10 kB, a line of 8 MB. The answers must be
 those of a plain reading. Then bytes of each file change: `check` must name the file and count a damage. Last, each part
 of a list of 1,000 documents changes, then the number of tokens and the norms: `check` must say which part of which
-term is damaged, and nothing else."""
+term is damaged, and nothing else. The damaged indexes are of version 1 and of version 2."""
 import json
 import os
 import random
@@ -18,6 +18,7 @@ sys.path.insert(0, HERE)
 sys.path.insert(0, os.path.join(os.path.dirname(os.path.dirname(HERE)), 'tools'))
 import programs
 import texts
+import versions
 
 PROGRAM = 'nequllpa_cli'
 DOCS = 20_000
@@ -30,6 +31,8 @@ BLOCKS = LISTED // 128
 ENTRY = 12
 LAST_DOC, WIDTH, COUNT_WIDTH, SUM, GREATEST = 0, 4, 5, 6, 11
 FILES = {'term.0': 'terms', 'idx.0': 'postings', 'pos.0': 'positions', 'fieldnorm.0': 'field norms'}
+# The same files in the only segment of an index of version 2.
+SEGMENT_FILES = {'term.0': '0000000000000000.term', 'idx.0': '0000000000000000.idx', 'pos.0': '0000000000000000.pos', 'fieldnorm.0': '0000000000000000.norm'}
 
 
 class Failed(Exception):
@@ -100,10 +103,16 @@ def searches(user, lists, chosen):
     user.wants(['search', 'folder', 'x', '--count'], 0, f'{DOCS}\n')
 
 
-def damages(user, chosen):
+def path_of(user, folder, name, version):
+    """Returns the path of a file of version 1, or of the file of the only segment of version 2 that has the same bytes."""
+    return os.path.join(user.room, folder, SEGMENT_FILES[name] if version == 2 else name)
+
+
+def damages(user, chosen, version):
     """Changes a byte of each file at several places. `check` must name the file, and no other."""
+    of_segment = ' of segment 0' if version == 2 else ''
     for name, kind in FILES.items():
-        path = os.path.join(user.room, 'folder', name)
+        path = path_of(user, 'folder', name, version)
         with open(path, 'rb') as file:
             whole = file.read()
         for place in [0, len(whole) - 1] + [chosen.randrange(len(whole)) for _ in range(4)]:
@@ -112,8 +121,8 @@ def damages(user, chosen):
             with open(path, 'wb') as file:
                 file.write(changed)
             done = user.run('check', 'folder')
-            said = f'folder: the file of {kind} has another checksum than meta says, bytes 0..{len(whole)}\n'
-            others = [other for other in FILES.values() if other != kind and f'the file of {other} has another' in done.stdout.decode()]
+            said = f'folder: the file of {kind}{of_segment} has another checksum than meta says, bytes 0..{len(whole)}\n'
+            others = [other for other in FILES.values() if other != kind and f'the file of {other}{of_segment} has another' in done.stdout.decode()]
             if done.returncode != 1 or not done.stdout.decode().startswith(said) or others:
                 raise Failed(f'{name} changed at {place}: status {done.returncode}, {done.stdout[:300]!r}')
         with open(path, 'wb') as file:
@@ -191,29 +200,32 @@ def miscounts(files, tokens):
         yield 'idx.0', 0, byte, f'the file of postings, field body: the field counts {told} tokens, but its terms have {tokens}, bytes 0..8'
 
 
-def list_parts(user, chosen):
-    """Damages each part of a list of 1,000 documents, and looks at each line that `check` prints."""
+def list_parts(user, chosen, version):
+    """Damages each part of a list of 1,000 documents in an index of a version, and looks at each line that `check` prints."""
     counts = counted(chosen)
     lines = [{'body': 'sea ' * counts.get(doc, 0) + 'zero'} for doc in range(3 * LISTED)]
     user.wants(['index', 'listed', '--schema', 'schema.toml'], 0, f'{len(lines)} documents indexed\n', given=''.join(json.dumps(line) + '\n' for line in lines).encode())
+    if version == 1:
+        versions.to_first(os.path.join(user.room, 'listed'))
     files = {}
     for name in FILES:
-        with open(os.path.join(user.room, 'listed', name), 'rb') as file:
+        with open(path_of(user, 'listed', name, version), 'rb') as file:
             files[name] = file.read()
     where = List(files['idx.0'], files['pos.0'], counts)
+    segment = 'segment 0: ' if version == 2 else ''
     tried = 0
     for name, place, byte, line in [*changes(where, files), *miscounts(files, sum(counts.values()) + len(lines)), *changed_norms(counts, chosen)]:
         changed = bytearray(files[name])
         if changed[place] == byte:
             raise Failed(f'{name} at {place} has {byte} already')
         changed[place] = byte
-        path = os.path.join(user.room, 'listed', name)
+        path = path_of(user, 'listed', name, version)
         with open(path, 'wb') as file:
             file.write(changed)
         done = user.run('check', 'listed')
-        told = [said for said in done.stdout.decode().splitlines() if said.startswith('the file of ')]
-        if done.returncode != 1 or told != [line]:
-            raise Failed(f'{name} changed at {place} to {byte}: status {done.returncode}, {done.stdout[:400]!r}; wanted {line!r}')
+        told = [said for said in done.stdout.decode().splitlines() if said.startswith(f'{segment}the file of ')]
+        if done.returncode != 1 or told != [segment + line]:
+            raise Failed(f'{name} changed at {place} to {byte}: status {done.returncode}, {done.stdout[:400]!r}; wanted {segment + line!r}')
         with open(path, 'wb') as file:
             file.write(files[name])
         tried += 1
@@ -234,10 +246,13 @@ def main():
             given = ''.join(json.dumps(doc) + '\n' for doc in docs).encode()
             user.wants(['index', 'folder', '--schema', 'schema.toml'], 0, f'{DOCS} documents indexed\n', given=given)
             searches(user, texts.lists_of(docs, 'body'), chosen)
-            damages(user, chosen)
-            if not user.run('check', 'folder').stdout.decode().endswith('\n0 damages\n'):
-                raise Failed('check: damages in a folder that was restored')
-            tried = list_parts(user, chosen)
+            for version in (2, 1):
+                if version == 1:
+                    versions.to_first(os.path.join(room, 'folder'))
+                damages(user, chosen, version)
+                if not user.run('check', 'folder').stdout.decode().endswith('\n0 damages\n'):
+                    raise Failed('check: damages in a folder that was restored')
+            tried = sum(list_parts(user, chosen, version) for version in (1, 2))
         except Failed as why:
             print(f'tests/folder: {why}')
             return 1

@@ -22,9 +22,11 @@ sys.path.insert(0, os.path.dirname(os.path.abspath(__file__)))
 sys.path.insert(0, os.path.join(os.path.dirname(os.path.dirname(os.path.dirname(os.path.abspath(__file__)))), 'tools'))
 import programs
 import texts
+import versions
 
 PROGRAM = 'nequllpa_cli'
 FILES = {'schema': 'schema', 'term': 'terms', 'idx': 'postings', 'pos': 'positions', 'fieldnorm': 'field norms'}
+SEGMENT_FILES = {'term': 'terms', 'idx': 'postings', 'pos': 'positions', 'norm': 'field norms', 'count': 'counts'}
 
 
 class Failed(Exception):
@@ -88,10 +90,12 @@ def indexes(user, docs):
     if f'{len(docs)} documents; each file is as it was saved\n' not in told or '\n0 damages\n' not in told:
         raise Failed(f'check: {told!r}')
     stats = user.wants(['stats', 'folder'], 0)
-    for kind, name in FILES.items():
-        size = os.path.getsize(os.path.join(user.path('folder'), f'{kind}.0'))
+    for kind, name in SEGMENT_FILES.items():
+        size = os.path.getsize(os.path.join(user.path('folder'), f'{0:016x}.{kind}'))
         if f'{size:>12} bytes of {name}\n' not in stats:
             raise Failed(f'stats: no {size} bytes of {name} in {stats!r}')
+    if f'{os.path.getsize(schema):>12} bytes of schema\n' not in stats:
+        raise Failed(f'stats: no bytes of the schema in {stats!r}')
 
 
 def placed(lists, words, found):
@@ -230,9 +234,6 @@ def values(user, docs):
             raise Failed(f'terms of address: no {wanted!r}')
 
 
-SEGMENT_FILES = {'term': 'terms', 'idx': 'postings', 'pos': 'positions', 'norm': 'field norms', 'count': 'counts'}
-
-
 def grows(user, docs, chosen):
     """Compares an index to which documents were added with one of all documents: each command must answer the
     same. Then damages each file of each segment."""
@@ -338,16 +339,46 @@ def deletes(user):
     user.wants(['delete', 'kept', 'body', 'b'], 0, '0 documents deleted\n')
     user.wants(['delete', 'nowhere', 'body', 'b'], 1, 'nowhere: no index here\n')
     user.wants(['index', 'first', '--schema', 'deleted.toml'], 0, '1 documents indexed\n', given=b'{"body": "a"}\n')
+    versions.to_first(user.path('first'))
     user.wants(['delete', 'first', 'body', 'a'], 2, '', 'segment 0 has no counts of tokens, so that none of its documents can be deleted')
     user.wants(['search', 'first', 'a'], 0, '0\n')
+    # an index of lines, without an `add`
+    user.wants(['index', 'first', '--schema', 'deleted.toml'], 0, '2 documents indexed\n', given=b'{"body": "a"}\n{"body": "a b"}\n')
+    user.wants(['delete', 'first', 'body', 'b'], 0, '1 documents deleted\n')
+    user.wants(['search', 'first', 'a'], 0, '0\n')
+    user.wants(['check', 'first'], 0)
     # files of counts and of flags
     for kind, what in (('count', 'counts'), ('alive', 'living documents')):
         damages_file(user, kind, what)
 
 
+def first_versions(user, docs):
+    """Reads an index of version 1 as the same index of version 2, upgrades it, adds to it, and replaces it."""
+    shutil.copytree(user.path('folder'), user.path('first'))
+    versions.to_first(user.path('first'))
+    asked = [['fields'], ['terms', 'body'], ['search', 'the', '--positions'], ['postings', 'body', 'a', '--positions'], ['search', 'a', '--count']]
+    answers = lambda folder: [(words, user.run(words[0], folder, *words[1:]).stdout) for words in asked]
+    wanted = answers('folder')
+    if answers('first') != wanted or f'{len(docs)} documents; each file is as it was saved\n' not in user.wants(['check', 'first'], 0):
+        raise Failed('an index of version 1 answers otherwise')
+    if f'{1:>12} segments\n' not in user.wants(['stats', 'first'], 0):
+        raise Failed('stats of an index of version 1')
+    shutil.copytree(user.path('first'), user.path('again'))
+    user.wants(['upgrade', 'first'], 0, 'the index is of version 2 now\n')
+    if answers('first') != wanted or os.path.exists(os.path.join(user.path('first'), 'term.0')):
+        raise Failed('an upgraded index answers otherwise, or its old files are there')
+    user.wants(['add', 'again'], 0, '1 documents added\n', given=b'{"body": "nosuchword"}\n')
+    user.wants(['search', 'again', 'nosuchword'], 0, f'{len(docs)}\n')
+    user.wants(['index', 'first', '--schema', user.path('schema.toml')], 0, '1 documents indexed\n', given=b'{"body": "nosuchword"}\n')
+    user.wants(['search', 'first', 'nosuchword'], 0, '0\n')
+    for name in ('first', 'again'):
+        user.wants(['check', name], 0)
+        shutil.rmtree(user.path(name))
+
+
 def damages_file(user, kind, what):
     """Changes a file of a segment with deleted documents: it must be named."""
-    name, = (name for name in sorted(os.listdir(user.path('three'))) if name.endswith('.' + kind))
+    name, = (name for name in sorted(os.listdir(user.path('three'))) if name.startswith(f'{1:016x}.') and name.endswith('.' + kind))
     path = os.path.join(user.path('three'), name)
     with open(path, 'rb') as file:
         text = file.read()
@@ -475,9 +506,11 @@ def refusals(user, docs):
 
 
 def damages(user, chosen, places):
-    """Cuts, changes and removes each file at many places: `check` must report the file each time, with its
-    byte range."""
+    """Cuts, changes and removes each file of an index of version 1 at many places: `check` must report the file each
+    time, with its byte range."""
     whole, damaged_places, located = user.path('folder'), 0, 0
+    shutil.copytree(whole, user.path('kept'), dirs_exist_ok=True)
+    versions.to_first(whole)
     for name in sorted(os.listdir(whole)):
         if name == 'lock':
             continue
@@ -509,6 +542,8 @@ def damages(user, chosen, places):
         with open(os.path.join(whole, name), 'wb') as file:
             file.write(text)
     user.wants(['check', 'folder'], 0)
+    shutil.rmtree(whole)
+    os.rename(user.path('kept'), whole)
     print(f'tests/folder: {damaged_places} damaged places, each in the file that check names; the lists tell of {located} where')
 
 
@@ -531,7 +566,14 @@ def places_of_damage(user):
     """Damages one list: `check` must report its file, field, term, part and bytes."""
     docs = [{'body': 'sea ' * 3 + 'bird'}] * 3
     user.wants(['index', 'small', '--schema', user.write('ids.toml', IDS)], 0, given=lines(docs).encode())
-    path = os.path.join(user.path('small'), 'idx.0')
+    for version, name, segment in ((2, f'{0:016x}.idx', 'segment 0: '), (1, 'idx.0', '')):
+        if version == 1:
+            versions.to_first(user.path('small'))
+        damages_list(user, os.path.join(user.path('small'), name), segment)
+
+
+def damages_list(user, path, segment):
+    """Damages a list in a file of postings, of a segment or of an index of version 1."""
     with open(path, 'rb') as file:
         text = file.read()
     # the number of tokens in 8 bytes, then documents and counts of `bird`, then those of `sea`
@@ -547,8 +589,11 @@ def places_of_damage(user):
         with open(path, 'wb') as file:
             file.write(changed)
         told = user.wants(['check', 'small'], 1)
-        if not told.startswith('small: the file of postings has another checksum') or f'\nthe file of postings{said}\n' not in told:
+        of_segment = ' of segment 0' if segment else ''
+        if not told.startswith(f'small: the file of postings{of_segment} has another checksum') or f'\n{segment}the file of postings{said}\n' not in told:
             raise Failed(f'the list changed at {place}: {told!r}; wanted {said!r}')
+    with open(path, 'wb') as file:
+        file.write(text)
 
 
 def stopped(user, docs):
@@ -633,6 +678,7 @@ def main():
             refusals(user, docs)
             grows(user, docs, chosen)
             deletes(user)
+            first_versions(user, docs)
             ids(user)
             damages(user, chosen, 82)
             values_twice(user)

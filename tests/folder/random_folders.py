@@ -20,6 +20,7 @@ sys.path.insert(0, HERE)
 sys.path.insert(0, os.path.join(os.path.dirname(os.path.dirname(HERE)), 'tools'))
 import programs
 import texts
+import versions
 
 PROGRAM = 'nequllpa_cli'
 WORDS = ['sea', 'old', 'The', 'the', 'bird', 'x1', '42', 'naïve', '老人', 'a', 'new', 'york', 'of', 'man', 'true', '7', 'co', 'op', '-3', 'it’s']
@@ -244,9 +245,9 @@ class Reader:
         if got != status or said != out:
             raise Failed(f'{words}: status {got}, {said[-400:]!r}, {err[-300:]!r}; wanted {status}, {out[-400:]!r}')
 
-    def indexes(self, fields, cuts, only_adds):
+    def indexes(self, fields, cuts, only_adds, version):
         """Indexes the lines up to the first cut, and adds those between each two cuts as a segment. Or indexes
-        nothing, and adds all lines."""
+        nothing, and adds all lines. What is indexed is an index of a version."""
         with open(os.path.join(self.room, 'schema.toml'), 'w', encoding='utf-8') as file:
             file.write(schema_text(fields))
         parts = [self.lines[begin:end] for begin, end in zip([0, *cuts], [*cuts, len(self.lines)])]
@@ -254,6 +255,8 @@ class Reader:
         if only_adds:
             parts, texts = [[], *parts], [b'', *texts]
         self.wants(['index', 'folder', '--schema', 'schema.toml'], 0, f'{len(parts[0])} documents indexed\n', texts[0])
+        if version == 1:
+            versions.to_first(os.path.join(self.room, 'folder'))
         for part, text in zip(parts[1:], texts[1:]):
             self.wants(['add', 'folder'], 0, f'{len(part)} documents added\n', text)
         self.is_sound()
@@ -335,11 +338,11 @@ def one_folder(program, room, chosen, is_large):
     lines = [random_line(chosen, fields) for _ in range(chosen.randint(300, 900) if is_large else chosen.randint(0, 30))]
     reader = Reader(program, room, fields, lines)
     cuts = sorted(chosen.randint(0, len(lines)) for _ in range(chosen.choice((0, 0, 1, 2, 4))))
-    only_adds = chosen.random() < 0.6
-    reader.indexes(fields, cuts, only_adds)
+    version = chosen.choice((1, 2, 2))
+    reader.indexes(fields, cuts, chosen.random() < 0.3, version)
     reader.looks(chosen)
     reader.searches(chosen)
-    if only_adds:
+    if version == 2:
         reader.deletes(chosen)
         reader.looks(chosen)
         reader.searches(chosen)

@@ -13,7 +13,9 @@ import time
 sys.dont_write_bytecode = True
 HERE = os.path.dirname(os.path.abspath(__file__))
 sys.path.insert(0, os.path.dirname(HERE))
+sys.path.insert(0, HERE)
 import refusing
+import versions
 
 PROGRAM = 'nequllpa_cli'
 SCHEMA = '[[field]]\nname = "body"\ntype = "text"\n'
@@ -66,13 +68,15 @@ class Folder:
         raise Failed(f'check: status {done.returncode}, {done.stdout!r}; wanted one of {answers}')
 
 
-def stopped_everywhere(folder, old):
-    """Stops the program before each of its calls, over a folder with the old index or without one. Returns
+def stopped_everywhere(folder, old, version=2):
+    """Stops the program before each of its calls, over a folder with the old index of a version, or without one. Returns
     its calls."""
     for stop in range(1, 1000):
         shutil.rmtree(folder.path('index'), ignore_errors=True)
         if old is not None:
             folder.wants(folder.index('old.jsonl')[0], 0, '1 documents indexed')
+            if version == 1:
+                versions.to_first(folder.path('index'))
         done, calls = folder.index('new.jsonl', STOP_AT=stop)
         if done.returncode == 0:
             folder.holds(2)
@@ -87,12 +91,15 @@ def stopped_everywhere(folder, old):
     raise Failed('the program makes no end of calls')
 
 
-def adds_everywhere(folder, before):
-    """Stops `add` before each of its calls, over an index with these files of lines. Returns its calls."""
+def adds_everywhere(folder, before, version=2):
+    """Stops `add` before each of its calls, over an index with these files of lines, whose first segment is of a
+    version. Returns its calls."""
     many = len(before) + 1
     for stop in range(1, 1000):
         shutil.rmtree(folder.path('index'), ignore_errors=True)
         folder.wants(folder.index(before[0])[0], 0, '1 documents indexed')
+        if version == 1:
+            versions.to_first(folder.path('index'))
         for lines in before[1:]:
             folder.wants(folder.run('add', 'index', lines)[0], 0, '1 documents added')
         done, calls = folder.run('add', 'index', 'old.jsonl', STOP_AT=stop)
@@ -147,7 +154,8 @@ def replaced(folder):
     folder.wants(folder.index('new.jsonl')[0], 0, '2 documents indexed')
     folder.holds(2)
     left = sorted(os.listdir(folder.path('index')))
-    if [name.split('.')[0] for name in left] != ['fieldnorm', 'idx', 'lock', 'meta', 'pos', 'schema', 'term']:
+    named = {name.split('.')[0] for name in left}
+    if len(named) != 3 or sorted(name.split('.')[-1] for name in left) != ['count', 'idx', 'lock', 'meta', 'norm', 'pos', 'term']:
         raise Failed(f'index over segments leaves {left}')
 
 
@@ -209,27 +217,31 @@ def wait_paused(process):
 
 
 def orphans(folder):
-    """Files with names of an index in a folder without meta: must be reported, and never removed without
-    --force."""
+    """Files with names of an index of either version in a folder without meta: must be reported, and never removed
+    without --force."""
     index = folder.path('index')
-    shutil.rmtree(index, ignore_errors=True)
-    os.mkdir(index)
-    with open(os.path.join(index, 'term.0'), 'w', encoding='ascii') as file:
-        file.write('my own')
-    folder.wants(folder.index('new.jsonl')[0], 2, 'there is term.0, and no meta')
-    with open(os.path.join(index, 'term.0'), encoding='ascii') as file:
-        if file.read() != 'my own':
-            raise Failed('a file of the user was changed')
-    shutil.rmtree(index)
-    folder.wants(folder.index('new.jsonl')[0], 0, '2 documents indexed')
-    os.remove(os.path.join(index, 'meta'))
-    folder.wants(folder.run('search', 'index', 'sea')[0], 1, 'index: an index whose meta is missing: there is schema.0')
-    before = sorted(os.listdir(index))
-    folder.wants(folder.index('old.jsonl')[0], 2, 'no meta')
-    if sorted(os.listdir(index)) != before:
-        raise Failed('files of an index whose meta is missing were changed')
-    folder.wants(folder.run('index', 'index', '--force', '--schema', 'schema.toml', 'old.jsonl')[0], 0, '1 documents indexed')
-    folder.holds(1)
+    for name in ('term.0', '0000000000000007.idx'):
+        shutil.rmtree(index, ignore_errors=True)
+        os.mkdir(index)
+        with open(os.path.join(index, name), 'w', encoding='ascii') as file:
+            file.write('my own')
+        folder.wants(folder.index('new.jsonl')[0], 2, f'there is {name}, and no meta')
+        with open(os.path.join(index, name), encoding='ascii') as file:
+            if file.read() != 'my own':
+                raise Failed('a file of the user was changed')
+    for version, name in ((2, '0000000000000000.term'), (1, 'schema.0')):
+        shutil.rmtree(index)
+        folder.wants(folder.index('new.jsonl')[0], 0, '2 documents indexed')
+        if version == 1:
+            versions.to_first(index)
+        os.remove(os.path.join(index, 'meta'))
+        folder.wants(folder.run('search', 'index', 'sea')[0], 1, f'index: an index whose meta is missing: there is {name}')
+        before = sorted(os.listdir(index))
+        folder.wants(folder.index('old.jsonl')[0], 2, 'no meta')
+        if sorted(os.listdir(index)) != before:
+            raise Failed('files of an index whose meta is missing were changed')
+        folder.wants(folder.run('index', 'index', '--force', '--schema', 'schema.toml', 'old.jsonl')[0], 0, '1 documents indexed')
+        folder.holds(1)
 
 
 def main():
@@ -244,8 +256,10 @@ def main():
             calls = stopped_everywhere(folder, 1)
             in_order(calls)
             in_order(stopped_everywhere(folder, None))
+            in_order(stopped_everywhere(folder, 1, 1))
             refused = two_writers(folder, len(calls))
             orphans(folder)
+            adds_everywhere(folder, ['old.jsonl'], 1)
             adds_everywhere(folder, ['old.jsonl'])
             adds_everywhere(folder, ['old.jsonl', 'old.jsonl'])
             deletes_everywhere(folder)

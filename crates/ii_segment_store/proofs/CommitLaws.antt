@@ -1,5 +1,5 @@
 -- What an index holds, before and after a commit.
-use Rattle.std.proofs.Common.{◌≡◌, inl, inr, ⊎_elim, ℕ, zero, suc, ◌<◌, ◌≤◌, ◌==◌, ◌-◌, ◌&&◌, length, take, drop, bytes_eq, nat_lt, Bool, true, false, not, List, [], ◌∷◌, ◌++◌, Option, None, Some, Result, Ok, Err, refl, sym, ap, subst, ◌∙◌, arith, if◌then◌else◌}
+use Rattle.std.proofs.Common.{◌≡◌, inl, inr, ⊎_elim, ℕ, zero, suc, ◌<◌, ◌≤◌, ◌==◌, ◌-◌, length, take, drop, bytes_eq, nat_lt, Bool, true, false, not, List, [], ◌∷◌, ◌++◌, Option, None, Some, Result, Ok, Err, refl, sym, ap, subst, ◌∙◌, arith, if◌then◌else◌}
 use Rattle.std.specs.Prelude.{IfSome, map, replicate}
 use Rattle.std.specs.List.{AllByRecursion, find, list_all}
 use Rattle.std.proofs.lemmas.List.Folds.{sum_by-replicate}
@@ -25,7 +25,7 @@ use Rattle.ii_directory.specs.Names.{other_slot}
 use Rattle.ii_store.specs.Segments.{list_in, listed_bytes}
 use Rattle.ii_directory.proofs.Elapsing.{elapses_implies, elapses_none}
 use Rattle.ii_store.proofs.SaveLaws.{index_outside}
-use Rattle.ii_segment_store.specs.Commits.{HasSegment, HaveIdsBelow, HoldsOldOr, IsCommitted, IsFresh, KeepsUncommitted, LeavesOneIndex, MayBeCommitted, listed_counts, listed_segment, next_list}
+use Rattle.ii_segment_store.specs.Commits.{HasSegment, HaveIdsBelow, HoldsOldOr, IsCommitted, IsFresh, KeepsUncommitted, LeavesOneIndex, MayBeCommitted, emptied, index_of_segment, listed_counts, listed_segment, next_list}
 use Rattle.ii_segment_store.specs.Contents.{IndexContents, SegmentContents, alive_file, bytes_if_listed, contents_at, contents_in, index_contents, file_of, bytes_of_component, flags_with, list_contents, one_segment, only_segment, segment_in, all_contents, with_segment}
 
 -- lists that a `meta` file holds
@@ -342,6 +342,25 @@ module _ {D : Type 0} (moment : D → ℕ) (left_since : D → ℕ → Files →
       → Elapses (moment old) (moment new) (left_since old) (left_since new) (HoldsOldOr (with_segment s (list_contents m (seen old))) (seen old))
   commit_time m s new below all fresh time = elapses_implies moment left_since old new (MayBeCommitted m.next_segment_id (next_list m s) s (seen old)) (HoldsOldOr (with_segment s (list_contents m (seen old))) (seen old)) time
       (λ c may. may_hold m s (seen old) c below all fresh may)
+
+-- a list without segments, which replaces an index
+
+pub emptied_below : (schema : List ℕ) (found : Result MetaState IndexFault) → HaveIdsBelow (emptied schema found).next_segment_id (emptied schema found).segments
+emptied_below schema (Ok m) = tt
+emptied_below schema (Err fault) = tt
+
+emptied_follows : (schema : List ℕ) (found : Result MetaState IndexFault) → next_of found ≤ (emptied schema found).next_segment_id
+emptied_follows schema (Ok m) = omega arith
+emptied_follows schema (Err fault) = omega arith
+
+pub emptied_fresh : (schema : List ℕ) (files : Files) → IsFresh (emptied schema (list_in (files Meta))).next_segment_id files
+emptied_fresh schema files m is = omega (arith, below_next (list_in (files Meta)) m is, emptied_follows schema (list_in (files Meta)))
+
+-- a list of one segment holds that segment
+pub emptied_contents : (schema : List ℕ) (found : Result MetaState IndexFault) (s : SegmentContents) (files : Files) → with_segment s (list_contents (emptied schema found) files) ≡ Ok (index_of_segment schema s)
+unfolding list_contents all_contents
+emptied_contents schema (Ok m) s files = refl
+emptied_contents schema (Err fault) s files = refl
 
 -- an index of version 1
 

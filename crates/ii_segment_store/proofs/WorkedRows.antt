@@ -2,14 +2,14 @@
 use Rattle.std.proofs.Common.{◌≡◌, ℕ, List, [], ◌∷◌, Option, None, Some, Ok, Err, refl}
 use Rattle.std.specs.Prelude.{Bool, Result, map, replicate, true, false}
 use Rattle.ii_store.specs.declared.faults.IndexFault.{IndexFault}
-use Rattle.ii_store.specs.declared.faults.IndexFault.TheVariants.{DeletedDocuments, MissingFile}
+use Rattle.ii_store.specs.declared.faults.IndexFault.TheVariants.{DeletedDocuments, MissingFile, NoIndex}
 use Rattle.ii_store.specs.declared.index_meta.FileMeta.{FileMeta}
 use Rattle.ii_directory.specs.declared.name.SegmentComponent.{SegmentComponent}
 use Rattle.ii_directory.specs.declared.name.SegmentComponent.TheVariants.{Alive, FieldNorms, Positions, Postings, Terms}
 use Rattle.ii_directory.specs.Directory.{Files}
 use Rattle.ii_store.specs.IndexMeta.{MetaState, SegmentState}
 use Rattle.ii_segment_store.specs.Changes.{first_uncounted, latest_file, segments_without, without}
-use Rattle.ii_segment_store.specs.Commits.{listed_segment, next_list}
+use Rattle.ii_segment_store.specs.Commits.{emptied, listed_segment, next_list}
 use Rattle.ii_store.specs.Segments.{listed_bytes}
 use Rattle.ii_segment_store.specs.Contents.{IndexContents, SegmentContents, alive_file, bytes_of_component, file_of, fitting_flags, flags_in, flags_with, segment_in, with_segment}
 
@@ -90,6 +90,17 @@ index segments = record { schema = 9 ∷ []; segments = segments }
 
 abbrev holds : List SegmentContents → Result IndexContents IndexFault
 holds segments = Ok (index segments)
+
+-- an index is replaced: the numbers continue those of its list, or begin again if there was none
+
+abbrev read : MetaState → Result MetaState IndexFault
+read m = Ok m
+
+continues : emptied (8 ∷ []) (read (list 3 (segment 2 [] ∷ []))) ≡ record (list 3 []) { schema = 8 ∷ [] }
+continues = refl
+
+begins_again : emptied (9 ∷ []) (Err NoIndex) ≡ list 0 []
+begins_again = refl
 
 comes_last : with_segment (words 5) (holds (words 2 ∷ [])) ≡ holds (words 2 ∷ words 5 ∷ [])
 comes_last = refl

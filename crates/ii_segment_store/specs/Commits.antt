@@ -41,6 +41,15 @@ next_list m s = record {
   segments = m.segments ++ listed_segment m.next_segment_id s ∷ [];
 }
 
+-- a list without segments, with a schema; its numbers continue those of a list, if there is one
+abbrev pub emptied : List ℕ → Result MetaState IndexFault → MetaState
+emptied schema (Ok m) = record { generation = m.generation; next_segment_id = m.next_segment_id; schema = schema; segments = [] }
+emptied schema (Err fault) = record { generation = 0; next_segment_id = 0; schema = schema; segments = [] }
+
+-- an index with one segment
+abbrev pub index_of_segment : List ℕ → SegmentContents → IndexContents
+index_of_segment schema s = record { schema = schema; segments = s ∷ [] }
+
 -- The ids of segments are below the next one.
 abbrev pub HaveIdsBelow : ℕ → List SegmentState → Type 0
 HaveIdsBelow next ss = AllByRecursion (λ (s : SegmentState). s.id < next) ss

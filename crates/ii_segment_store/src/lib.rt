@@ -1,5 +1,5 @@
-//! An index of several segments in a folder: what it holds, and how a segment is added, so that a stop leaves
-//! the old index or the new one.
+//! An index of several segments in a folder: what it holds, and how it is replaced or a segment is added, so that
+//! a stop leaves the old index or the new one.
 #![tactic(auto)]
 
 pub mod clearing;
@@ -7,6 +7,7 @@ pub mod committing;
 pub mod deleting;
 pub mod faults;
 pub mod loading;
+pub mod replacing;
 pub mod stored_segments;
 
 pub use clearing::remove_slots;
@@ -14,4 +15,5 @@ pub use committing::{append_segment, upgrade};
 pub use deleting::commit_changes;
 pub use faults::CommitFault;
 pub use loading::{load_latest, load_segments};
+pub use replacing::replace_index;
 pub use stored_segments::{SegmentFiles, StoredSegment, StoredSegments};

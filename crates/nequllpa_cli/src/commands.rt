@@ -1,6 +1,7 @@
 //! The commands other than `index`, `search` and `check`, and what all commands share.
 ghost use Rattle.std.specs.Prelude.{◌<◌, IfOk, length};
 
+use crate::orphans::orphan;
 use clap::ArgMatches;
 use ii_base::{Field, Term};
 use ii_segment_store::{StoredSegment, StoredSegments, load_latest};
@@ -230,7 +231,7 @@ pub fn tell_no_index(rt: &HostRuntime, path: &str, fault: IndexFault) -> anyhow:
 
 // Does the same for a folder without `meta`, which has files of an index or none.
 fn tell_none(rt: &HostRuntime, path: &str) -> anyhow::Result<u8> {
-    match Folder::new(rt, path).orphan() {
+    match orphan(rt, path) {
         Ok(Some(name)) => {
             let name = name.text(rt.alloc())?;
             println!(rt; "{path}: an index whose meta is missing: there is {name}")?;

@@ -1,13 +1,15 @@
 //! The command `index`.
 use crate::commands::{NO, PROGRAM, REFUSED, refuse, refuse_file, refuse_path};
+use crate::orphans::refuse_orphan;
 use clap::ArgMatches;
 use ii_base::{Field, ValueType};
 use ii_documents::{LineFault, ValueFault};
 use ii_schema_text::{SchemaFault, TextSchema, field_name_at, new_schema_text, read_text_schema};
-use ii_store::save::{remove_unused, save};
-use ii_store::{Directory, DirectoryFault, Folder, FolderLock, Name, StoredIndex};
+use ii_segment_store::{CommitFault, SegmentFiles, remove_slots, replace_index};
+use ii_store::collect::collect;
+use ii_store::{Folder, FolderLock};
 use ii_tokenizers::FieldTokenizers;
-use nequllpa_indexing::{Documents, InputFault, MAX_TOKEN_LEN, add_line, store};
+use nequllpa_indexing::{Documents, InputFault, MAX_TOKEN_LEN, add_line};
 use serde_json::Error as JsonError;
 use std::fs;
 use std::io::{BufRead, BufReader, Input};
@@ -125,21 +127,6 @@ impl<'a> Target<'a> {
             replaces_orphans: self.replaces_orphans,
             lock: Some(lock),
         }))
-    }
-}
-
-// Returns the status if a folder without `meta` has a file with a name of an index.
-fn refuse_orphan(rt: &HostRuntime, path: &str) -> anyhow::Result<Result<(), u8>> {
-    match Folder::new(rt, path).orphan() {
-        Ok(None) => Ok(Ok(())),
-        Ok(Some(name)) => {
-            let name = name.text(rt.alloc())?;
-            eprintln!(rt;
-                "{PROGRAM}: {path}: there is {name}, and no meta: a file of an index whose meta is missing, or a file of yours; --force replaces the files of an index"
-            )?;
-            Ok(Err(REFUSED))
-        }
-        Err(fault) => Ok(Err(refuse_path(rt, path, fault)?)),
     }
 }
 
@@ -449,14 +436,14 @@ fn save_index(
         Ok(count) => tell_long_words(rt, count)?,
         Err(fault) => return Ok(ExitCode::from(refuse(rt, fault)?)),
     }
-    let stored = match store(rt.alloc(), documents, &tokenizers, schema) {
-        Ok(stored) => stored,
+    let segment = match documents.into_segment(rt.alloc(), &tokenizers) {
+        Ok(segment) => segment,
         Err(fault) => return Ok(ExitCode::from(refuse(rt, fault)?)),
     };
-    if let Err(status) = save_at(rt, target, &stored)? {
+    if let Err(status) = save_at(rt, target, schema, &segment)? {
         return Ok(ExitCode::from(status));
     }
-    tell_indexed(rt, stored.num_docs, bad_lines)?;
+    tell_indexed(rt, segment.num_docs, bad_lines)?;
     Ok(ExitCode::SUCCESS)
 }
 
@@ -464,7 +451,8 @@ fn save_index(
 fn save_at(
     rt: &HostRuntime,
     target: Target<'_>,
-    stored: &StoredIndex,
+    schema: Vec<u8>,
+    segment: &SegmentFiles,
 ) -> anyhow::Result<Result<(), u8>> {
     let path = target.path;
     if let Err(e) = fs::create_dir_all(rt, path) {
@@ -474,7 +462,7 @@ fn save_at(
         Ok(target) => target,
         Err(status) => return Ok(Err(status)),
     };
-    let saved = put(rt, path, stored);
+    let saved = put(rt, path, schema, segment);
     drop(target);
     let Err(fault) = saved else {
         return Ok(Ok(()));
@@ -496,24 +484,17 @@ fn tell_indexed(rt: &HostRuntime, num_docs: u32, bad_lines: u64) -> anyhow::Resu
     Ok(())
 }
 
-// Saves an index and removes the files of the previous one.
-fn put(rt: &HostRuntime, path: &str, stored: &StoredIndex) -> Result<(), DirectoryFault> {
+// Saves an index of one segment, and removes the files of the previous index.
+fn put(
+    rt: &HostRuntime,
+    path: &str,
+    schema: Vec<u8>,
+    segment: &SegmentFiles,
+) -> Result<(), CommitFault> {
     let mut folder = Folder::new(rt, path);
     folder.begin_first_save()?;
-    save(rt.alloc(), &mut folder, stored)?;
-    remove_unused(rt.alloc(), &mut folder)?;
-    remove_segments(rt, &mut folder)
-}
-
-// Removes the files of segments, which an index of version 1 doesn't have.
-fn remove_segments(
-    rt: &HostRuntime,
-    folder: &mut Folder<'_, HostRuntime>,
-) -> Result<(), DirectoryFault> {
-    for name in folder.list(rt.alloc())? {
-        if let Name::Segment(_, _) = name {
-            folder.remove(name)?;
-        }
-    }
+    replace_index(rt.alloc(), &mut folder, schema, segment)?;
+    collect(rt.alloc(), &mut folder)?;
+    remove_slots(rt.alloc(), &mut folder)?;
     Ok(())
 }

@@ -6,6 +6,7 @@ mod checking;
 mod commands;
 mod deleting;
 mod indexing;
+mod orphans;
 mod query_texts;
 mod searching;
 mod usage;
