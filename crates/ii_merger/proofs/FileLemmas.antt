@@ -11,7 +11,7 @@ use Rattle.ii_definitions.specs.Tokens.{IndexToken}
 use Rattle.ii_recorder.specs.IndexBodies.{IndexBodiesState}
 use Rattle.ii_segments.specs.Segments.{AreSegmentTokens, Segment, index_tokens}
 use Rattle.ii_segments.specs.SegmentLaws.{MergedIsSegment}
-use Rattle.ii_merger.specs.MergedFiles.{AreBegun, CountsIndexFailures}
+use Rattle.ii_merger.specs.MergedFiles.{AreBegun}
 use Rattle.ii_merger.specs.MergedIndex.{FieldsBelow, HasMergedFields, MergeSourceState, MergeSourcesHold, positions_body_of, postings_body_of, terms_body_of}
 use Rattle.ii_merger.proofs.IndexMergeLemmas.{fit_parts, hold_tokens}
 use Rattle.ii_merger.proofs.NormLemmas.{starts_none}
@@ -87,12 +87,12 @@ closed_files entries begun now t p q result ss gs few same law hold h terms post
 -- nothing was written
 pub none_failed : {W : Type 0} (w : IndexWriters W) (e : Fault) → ¬ (e ≡ Write) → CountsIndexFailures w w (Err e)
 none_failed w e other = record {
-  once = record { ok = tt; write = ((λ is. absurd (other (write_is e is))), (λ more. absurd (omega (arith, more)))); by_one = λ is. absurd (other (write_is e is)) };
+  once = record { ok = tt; write = ((λ is. absurd (other (write_is (Err e) refl is))), (λ more. absurd (omega (arith, more)))); by_one = λ is. absurd (other (write_is (Err e) refl is)) };
   terms = omega arith;
   postings = omega arith;
   positions = omega arith;
   fieldnorms = omega arith;
 }
   where
-    write_is : (f : Fault) → IsErrOf {A = Unit {0}} (Err f) Write → f ≡ Write
-    write_is f is = cc
+    write_is : (r : Result (Unit {0}) Fault) → r ≡ Err e → IsErrOf r Write → e ≡ Write
+    write_is r here is = cc

@@ -160,3 +160,11 @@ writes_well a b (Err e) went h = absurd (true≢false went)
 pub went_well : (P : Type 0) (result : Result (Unit {0}) Fault) → is_err result ≡ false → OnOk result P → P
 went_well P (Ok tt) went h = h
 went_well P (Err e) went h = absurd (true≢false went)
+
+-- nothing was written
+pub writes_none : (a : IndexSerializerState) → a.closed ≡ false → EndsWriting {A = Unit {0}} a a (Ok tt)
+writes_none a unclosed = record {
+  entries = refl;
+  failures = record { once = record { ok = refl; write = ((λ is. absurd (cc)), (λ low. absurd (omega (arith, low)))); by_one = λ is. absurd (cc) }; terms_kept = omega arith; postings_kept = omega arith; positions_kept = omega arith };
+  closing = (ends_same a tt unclosed).closing;
+}

@@ -196,6 +196,11 @@ fails_in_memory closed old new bytes fault unclosed h = by fault refl
     by (Limit name) is = only (λ e. absurd (cc))
     by (Damaged part) is = only (λ e. absurd (cc))
 
+-- the norms of a field have no room
+pub field_full : (P : Type 0) (keeps : Bool) (w : CountingWriterState) (bytes ids : List ℕ) (e : Fault) → keeps ≡ true → bytes ≡ ids → (e ≡ OutOfMemory) ⊎ ((e ≡ Limit Offset) × IsFull w (length bytes)) → (e ≡ OutOfMemory) ⊎ ((e ≡ Limit Offset) × (keeps ≡ true) × IsFull w (length ids)) ⊎ P
+field_full P keeps w bytes ids e is same (inl memory) = inl memory
+field_full P keeps w bytes ids e is same (inr full) = inr (inl (full.0, is, subst (λ (xs : List ℕ). IsFull w (length xs)) same full.1))
+
 -- a writer without output has no room only for a file that is too long
 fresh_full : (w : CountingWriterState) (n : ℕ) → w.written_bytes ≡ 0 → w.failed_calls ≡ 0 → IsFull w n → 2 ^ 64 ≤ n
 fresh_full w n none whole full = ⊎_elim (λ many. omega (arith, many, none)) (λ failed. omega (arith, failed, whole)) full

@@ -1,5 +1,5 @@
 -- The fields that are merged, one after the other, and the files that they make.
-use Rattle.std.proofs.Common.{inl, inr, ◌≡◌, ℕ, zero, suc, ◌+◌, ◌-◌, ◌^◌, ◌<◌, ◌×◌, Bool, true, false, List, [], ◌∷◌, ◌++◌, length, map, Result, Ok, Err, refl, sym, ap, ◌∙◌, subst, arith, append-nil, nat_lt, true≢false, ⊎_elim, is_err}
+use Rattle.std.proofs.Common.{inl, inr, ◌≡◌, ℕ, zero, suc, ◌+◌, ◌-◌, ◌^◌, ◌<◌, Bool, true, false, List, [], ◌∷◌, ◌++◌, length, map, Result, Ok, Err, refl, sym, ap, ◌∙◌, subst, arith, append-nil, nat_lt, true≢false, ⊎_elim, is_err}
 use Rattle.std.specs.Prelude.{◌⊎◌, ◌↔◌, IfErr, IsErrOf, IsTrue, OnOk, filter, slice_index}
 use Rattle.std.specs.List.{AllByRecursion, range_with_len}
 use Rattle.std.proofs.lemmas.Bool.{lt-ltb}
@@ -183,7 +183,7 @@ fields_below n [] below = tt
 fields_below n (p ∷ ps) below = (below.0, fields_below n ps below.1)
 
 parts_below : (m : Merging) (n : ℕ) (ps : List MergedPart) → AreMergedParts m n ps → AllByRecursion (λ (p : MergedPart). p.field < n) ps
-parts_below m n ps are = fields_below n ps (subst (AllByRecursion (λ (k : ℕ). k < n)) (sym are.fields) (kept_below n (λ (field : ℕ). nat_lt 0 (slice_index m.num_tokens field)) (range_with_len 0 n) (range_below 0 n)))
+parts_below m n ps are = fields_below n ps (subst (AllByRecursion (λ (k : ℕ). k < n)) (sym are.fields) (kept_below n (λ (field : ℕ). nat_lt 0 (slice_index m.num_tokens field)) (range_with_len 0 n) (subst (λ (limit : ℕ). AllByRecursion (λ (k : ℕ). k < limit) (range_with_len 0 n)) (omega arith) (range_below 0 n))))
 
 module _ (m : Merging) (old now : IndexBodiesState) (h : WroteFieldsBelow m old now (length m.entries)) where
   pub closed_parts : (t p q : CountingWriterState) (result : Result (Unit {0}) Fault) → length m.entries < 2 ^ 32 - 1 → Closes now.terms t result → Closes now.postings p result → Closes now.positions q result

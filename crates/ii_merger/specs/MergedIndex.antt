@@ -103,11 +103,11 @@ pub record Merging : Type 0 where
   pub segments : List MergeSourceState
 
 -- Segments may be merged: they have the fields of the schema, few documents, and norms for each.
-pub record MayBeMerged (entries : List SchemaEntry) (norms : List Body) (ss : List MergeSourceState) : Type 0 where
+pub record MayBeMerged (entries : List SchemaEntry) (bodies : List Body) (ss : List MergeSourceState) : Type 0 where
   pub many : length entries < 2 ^ 32 - 1
   pub fields : AllByRecursion (λ (s : MergeSourceState). length s.index.readers ≡ length entries) ss
   pub few : all_living ss ≤ TERMINATED
-  pub norms : AreNormsOf (all_living ss) norms
+  pub norms : AreNormsOf (all_living ss) bodies
 
 -- How a call that writes complete fields ends: entries stay, a writer's failure counts once, and output is kept.
 pub record EndsFields (old new : IndexSerializerState) (result : Result (Unit {0}) Fault) : Type 0 where

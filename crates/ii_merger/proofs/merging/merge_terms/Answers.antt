@@ -12,15 +12,14 @@ use Rattle.ii_merger.specs.MergedField.{IsSoundTerm, IsTermMergeFault, merged_te
 use Rattle.ii_merger.specs.MergedTerm.{CoversBelow}
 use Rattle.ii_merger.proofs.FieldMergeLemmas.{IsMergingField, all_infos, err_more, field_all, field_next, field_none, kept_kind, key_fault, lent_dictionaries, may_start, same_mode, same_norms}
 use Rattle.ii_merger.proofs.KeyLemmas.{behind_lighter, weight}
-use Rattle.ii_merger.proofs.MergeLemmas.{went_well, writes_after, writes_well}
+use Rattle.ii_merger.proofs.MergeLemmas.{went_well, writes_after, writes_well, writes_none}
 use Rattle.ii_merger.proofs.merging.merge_terms.Goals as goal
-use Rattle.ii_postings_writer.proofs.TermsLemmas.{none_ends}
 
 pub loop-key-init : goal.loop-key-init
 loop-key-init g c = record {
   same = refl;
   merging = field_none c.args.entry.now (map source_of c.args.sources.now) c.args.serializer.now.index.now c.args.terms.now (c.requires.terms ∙ lent_dictionaries c.args.sources.now) c.requires.ascending c.requires.between
-      (none_ends c.args.serializer.now.index.now c.requires.open);
+      (writes_none c.args.serializer.now.index.now c.requires.open);
 }
 
 pub merge_term-merged-requires-clause-start : goal.merge_term-merged-requires-clause-start

@@ -1,12 +1,12 @@
 use Rattle.std.proofs.Common.{◌≡◌, ◌∙◌, [], List, ℕ, map, sym, ap, subst, Some}
 use Rattle.std.specs.Prelude.{OnOk, Result}
-use Rattle.ii_io.specs.Composite.{composite, written_composite}
-use Rattle.ii_io.specs.CompositeWrite.{CompositeWriteState, HasBodies, WroteComposite}
-use Rattle.ii_io.specs.CountingWriter.{CountingWriterState}
+use Rattle.ii_io.specs.Composite.{composite, written_composite, table_bytes}
+use Rattle.ii_io.specs.CompositeWrite.{CompositeWriteState, HasBodies, WroteComposite, places_of}
+use Rattle.ii_io.specs.CountingWriter.{CountingWriterState, WritesUnlessClosed}
 use Rattle.ii_io.specs.declared.faults.Fault.{Fault}
 use Rattle.ii_merger.specs.MergedIndex.{opened_segment}
 use Rattle.ii_merger.specs.MergedNorms.{merged_norm_file}
-use Rattle.ii_merger.proofs.NormLemmas.{holds_norms, in_memory_written, merged_fit, norms_fault}
+use Rattle.ii_merger.proofs.NormLemmas.{holds_norms, in_memory_written, merged_fit, norms_fault, table_fails}
 use Rattle.ii_merger.proofs.norms.merge_norms.Goals as goal
 use Rattle.ii_recorder.proofs.GrowthLemmas.{begun_bodies}
 
@@ -41,3 +41,13 @@ returns-in-Err-clause-fault c =
     let w = c.wrap-writer.result in
     let began = subst (λ (s : CompositeWriteState). HasBodies w s []) (sym c.from_write-serializer.ensures) (begun_bodies w) in
     norms_fault c.args.schema.now (map opened_segment c.args.sources.now) w c.in-Err.fault (ap (λ (s : CountingWriterState). s.written_bytes) c.wrap-writer.ensures) (ap (λ (s : CountingWriterState). s.failed_calls) c.wrap-writer.ensures) (c.in-Err.ensures.fault w began)
+
+pub returns-in-Err-written-clause-fault : goal.returns-in-Err-written-clause-fault
+returns-in-Err-written-clause-fault c =
+    let w = c.wrap-writer.result in
+    let s = c.add_all_norms.new.serializer in
+    let began = subst (λ (s : CompositeWriteState). HasBodies w s []) (sym c.from_write-serializer.ensures) (begun_bodies w) in
+    let failed = subst (λ (r : Result (Unit {0}) Fault). WritesUnlessClosed s.closed s.writer c.close-writer.result.0 (table_bytes (places_of s)) r) c.in-Err-written.is c.close-writer.ensures.written in
+    rw c.in_memory.ensures
+    (table_fails c.args.schema.now (map opened_segment c.args.sources.now) w c.close-writer.result.0 s c.in-Err-written.fault (ap (λ (s : CountingWriterState). s.written_bytes) c.wrap-writer.ensures) (ap (λ (s : CountingWriterState). s.failed_calls) c.wrap-writer.ensures)
+    (c.in_default.ensures.adds w began) c.in_default.ensures.open failed)
