@@ -28,7 +28,7 @@ returns-clause-grow g c =
 pub returns-clause-failures : goal.returns-clause-failures
 returns-clause-failures g c =
     let r = c.write_terms-terms.result in
-    files_counted c.args.writers c.write_file-written.new.writer r.0 r.1 r.2 c.args.file.now c.open.result.bodies c.write_file-written.result r.3 (sym c.if-is_err.false ∙ c.is_err.ensures.value) c.write_file-written.ensures.written c.open.ensures.bodies c.write_terms-terms.ensures.failures
+    files_counted c.args.writers c.write_file-written.new.writer r.0 r.1 r.2 c.args.file.now c.open.result.bodies c.write_file-written.result r.3 (sym c.if-is_err.false ∙ c.is_err.ensures.value) (subst (λ (bytes : List ℕ). Writes c.args.writers.fieldnorms c.write_file-written.new.writer bytes c.write_file-written.result) c.deref.ensures c.write_file-written.ensures.written) c.open.ensures.bodies c.write_terms-terms.ensures.failures
 
 pub returns-clause-fault : goal.returns-clause-fault
 returns-clause-fault g c =
@@ -43,14 +43,14 @@ returns-clause-wrote g c =
     let r = c.write_terms-terms.result in
     let w = c.args.writers in
     wrote_merged c.args.schema.now c.args.num_tokens.now c.args.norms.now ss w c.write_file-written.new.writer r.0 r.1 r.2 c.write_file-written.result r.3 c.requires.norms c.requires.sound (sym c.if-is_err.false ∙ c.is_err.ensures.value)
-    (subst (λ (bytes : List ℕ). Writes w.fieldnorms c.write_file-written.new.writer bytes c.write_file-written.result) c.requires.file c.write_file-written.ensures.written)
+    (subst (λ (bytes : List ℕ). Writes w.fieldnorms c.write_file-written.new.writer bytes c.write_file-written.result) c.requires.file (subst (λ (bytes : List ℕ). Writes c.args.writers.fieldnorms c.write_file-written.new.writer bytes c.write_file-written.result) c.deref.ensures c.write_file-written.ensures.written))
     (subst (λ (b : IndexBodiesState). OnOk r.3 (WroteParts (record { entries = c.args.schema.now; num_tokens = c.args.num_tokens.now; norms = c.args.norms.now; segments = ss }) b.terms.writer b.postings.writer b.positions.writer r.0 r.1 r.2)) c.open.ensures.bodies c.write_terms-terms.ensures.wrote)
 
 pub returns-then-is_err-clause-failures : goal.returns-then-is_err-clause-failures
-returns-then-is_err-clause-failures g c = norms_refused c.args.writers c.write_file-written.new.writer c.args.file.now c.write_file-written.result c.write_file-written.ensures.written
+returns-then-is_err-clause-failures g c = norms_refused c.args.writers c.write_file-written.new.writer c.args.file.now c.write_file-written.result (subst (λ (bytes : List ℕ). Writes c.args.writers.fieldnorms c.write_file-written.new.writer bytes c.write_file-written.result) c.deref.ensures c.write_file-written.ensures.written)
 
 pub returns-then-is_err-clause-fault : goal.returns-then-is_err-clause-fault
 returns-then-is_err-clause-fault g c =
     let ss = map opened_segment c.args.sources.now in
     norm_file_fails (merging_of c.args.schema.now c.args.num_tokens.now ss) (begun_files c.args.writers) c.args.writers.fieldnorms c.write_file-written.new.writer (merged_norm_bytes c.args.schema.now ss) c.write_file-written.result
-    (subst (λ (bytes : List ℕ). Writes c.args.writers.fieldnorms c.write_file-written.new.writer bytes c.write_file-written.result) c.requires.file c.write_file-written.ensures.written)
+    (subst (λ (bytes : List ℕ). Writes c.args.writers.fieldnorms c.write_file-written.new.writer bytes c.write_file-written.result) c.requires.file (subst (λ (bytes : List ℕ). Writes c.args.writers.fieldnorms c.write_file-written.new.writer bytes c.write_file-written.result) c.deref.ensures c.write_file-written.ensures.written))

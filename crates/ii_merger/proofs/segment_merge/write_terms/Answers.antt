@@ -14,7 +14,7 @@ returns-in-Ok-clause-wrote g c =
 
 pub returns-in-Ok-clause-failures : goal.returns-in-Ok-clause-failures
 returns-in-Ok-clause-failures g c =
-    three_counted c.args.serializer.bodies c.merge_fields.new.serializer.bodies _ tt c.close.result.0 c.close.result.1 c.close.result.2 c.close.result.3 refl c.merge_fields.ensures.ends.failures c.close.ensures.failures
+    three_counted c.args.serializer.bodies c.merge_fields.new.serializer.bodies c.merge_fields.result c.in-Ok.field-0 c.close.result.0 c.close.result.1 c.close.result.2 c.close.result.3 c.in-Ok.is c.merge_fields.ensures.ends.failures c.close.ensures.failures
 
 pub returns-in-Ok-clause-fault : goal.returns-in-Ok-clause-fault
 returns-in-Ok-clause-fault g c =
