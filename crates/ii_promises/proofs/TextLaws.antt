@@ -12,7 +12,7 @@ use Rattle.ii_query_parser.specs.declared.query_parser_error.QueryParserError.Th
 use Rattle.ii_promises.specs.Texts.{GivesOrTells}
 use Rattle.ii_query_grammar.specs.Parsed.{IsReadAs, parsed}
 use Rattle.ii_query_grammar.specs.Spelling.{spelled}
-use Rattle.ii_query_grammar.specs.Trees.{Ast, ast_of}
+use Rattle.ii_query_grammar.specs.Trees.{Ast}
 use Rattle.ii_query_grammar.specs.declared.parse_error.ParseError.TheVariants as parse_errors
 use Rattle.ii_query_grammar.specs.declared.user_input_ast.UserInputAst.{UserInputAst}
 use Rattle.ii_query_grammar.specs.declared.parse_error.ParseError.{ParseError}
@@ -28,13 +28,6 @@ text_refused q text query ts (Ok cursor) found = tt
 text_refused q text query ts (Err e) memory = inl memory
 
 -- a text that was spelled
-pub spelled_is_read : (text : List ℕ) (t : Ast) (r : Result UserInputAst ParseError) → IsReadAs r (parsed 128 text) → text ≡ spelled t → parsed 128 (spelled t) ≡ Ok t → IfOk r (λ read. ast_of read ≡ t)
-spelled_is_read text t (Ok ast) reads same law = inside (sym reads ∙ ap (parsed 128) same ∙ law)
-  where
-    inside : Ok (ast_of ast) ≡ Ok t → ast_of ast ≡ t
-    inside e = cc
-spelled_is_read text t (Err e) reads same law = tt
-
 pub spelled_only_memory : (text : List ℕ) (t : Ast) (r : Result UserInputAst ParseError) → IsReadAs r (parsed 128 text) → text ≡ spelled t → parsed 128 (spelled t) ≡ Ok t → IfErr r (λ e. e ≡ parse_errors.OutOfMemory)
 spelled_only_memory text t (Ok ast) reads same law = tt
 spelled_only_memory text t (Err (parse_errors.Syntax expected at)) reads same law = let wrong = sym reads ∙ ap (parsed 128) same ∙ law in absurd (cc)

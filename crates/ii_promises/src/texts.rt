@@ -87,7 +87,7 @@ pub fn or_keeps_the_order(alloc: Global, first: Query, other: Query) -> Result<Q
 
 /// A tree that can be written, with at most 128 open parentheses, is parsed back from its text. This fails only
 /// with `OutOfMemory`.
-#[tactic(auto, using(crate::proofs::TextLaws::spelled_is_read, crate::proofs::TextLaws::spelled_only_memory))]
+#[tactic(auto, using(crate::proofs::TextLaws::spelled_only_memory))]
 pub fn spelled_trees_are_parsed_back(
     alloc: Global,
     written: &UserInputAst,
