@@ -1,5 +1,5 @@
 -- What a search returns over segments, and over merged ones.
-use Rattle.std.proofs.Common.{◌≡◌, List, Result, Ok, Err, ◌∙◌}
+use Rattle.std.proofs.Common.{◌≡◌, List, Result, Ok, Err, ◌∙◌, ℕ}
 use Rattle.std.specs.Prelude.{IfErr, IfOk, filter}
 use Rattle.std.specs.List.{range_with_len}
 use Rattle.ii_io.specs.declared.faults.Fault.{Fault}
