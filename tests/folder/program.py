@@ -94,7 +94,8 @@ def indexes(user, docs):
         size = os.path.getsize(os.path.join(user.path('folder'), f'{0:016x}.{kind}'))
         if f'{size:>12} bytes of {name}\n' not in stats:
             raise Failed(f'stats: no {size} bytes of {name} in {stats!r}')
-    if f'{os.path.getsize(schema):>12} bytes of schema\n' not in stats:
+    unicode = 'unicode = "18.0.0"\n'
+    if f'{os.path.getsize(schema) + len(unicode):>12} bytes of schema\n' not in stats:
         raise Failed(f'stats: no bytes of the schema in {stats!r}')
 
 

@@ -32,6 +32,10 @@ pub opened_holds : (entries : List SchemaEntry) (n : ℕ) (ts : List IndexToken)
 opened_holds entries n ts (Ok index) gives = record { readers = gives.0; norms = gives.1 }
 opened_holds entries n ts (Err e) gives = tt
 
+-- a fault of memory isn't damage
+not_damaged : (e : Fault) (part : Part) → e ≡ OutOfMemory → e ≡ Damaged part → ⊥
+not_damaged e part memory is = absurd (cc)
+
 pub opened_undamaged : (entries : List SchemaEntry) (n : ℕ) (ts : List IndexToken) (r : Result OpenIndexState Fault) → GivesAll entries n ts r → IfErr r (λ e. (part : Part) → ¬ (e ≡ Damaged part))
 opened_undamaged entries n ts (Ok index) gives = tt
-opened_undamaged entries n ts (Err e) gives part is = let memory = gives.0 in absurd (cc)
+opened_undamaged entries n ts (Err e) gives = λ part is. not_damaged e part gives.0 is
