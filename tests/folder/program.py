@@ -339,15 +339,15 @@ def deletes(user):
     user.wants(['delete', 'kept', 'nothing', 'a'], 2, '', 'no field nothing')
     user.wants(['delete', 'kept', 'body', 'b'], 0, '0 documents deleted\n')
     user.wants(['delete', 'nowhere', 'body', 'b'], 1, 'nowhere: no index here\n')
-    user.wants(['index', 'first', '--schema', 'deleted.toml'], 0, '1 documents indexed\n', given=b'{"body": "a"}\n')
-    versions.to_first(user.path('first'))
-    user.wants(['delete', 'first', 'body', 'a'], 2, '', 'segment 0 has no counts of tokens, so that none of its documents can be deleted')
-    user.wants(['search', 'first', 'a'], 0, '0\n')
+    user.wants(['index', 'older', '--schema', 'deleted.toml'], 0, '1 documents indexed\n', given=b'{"body": "a"}\n')
+    versions.to_first(user.path('older'))
+    user.wants(['delete', 'older', 'body', 'a'], 2, '', 'segment 0 has no counts of tokens, so that none of its documents can be deleted')
+    user.wants(['search', 'older', 'a'], 0, '0\n')
     # an index of lines, without an `add`
-    user.wants(['index', 'first', '--schema', 'deleted.toml'], 0, '2 documents indexed\n', given=b'{"body": "a"}\n{"body": "a b"}\n')
-    user.wants(['delete', 'first', 'body', 'b'], 0, '1 documents deleted\n')
-    user.wants(['search', 'first', 'a'], 0, '0\n')
-    user.wants(['check', 'first'], 0)
+    user.wants(['index', 'older', '--schema', 'deleted.toml'], 0, '2 documents indexed\n', given=b'{"body": "a"}\n{"body": "a b"}\n')
+    user.wants(['delete', 'older', 'body', 'b'], 0, '1 documents deleted\n')
+    user.wants(['search', 'older', 'a'], 0, '0\n')
+    user.wants(['check', 'older'], 0)
     # files of counts and of flags
     for kind, what in (('count', 'counts'), ('alive', 'living documents')):
         damages_file(user, kind, what)
