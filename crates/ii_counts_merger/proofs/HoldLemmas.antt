@@ -12,7 +12,7 @@ use Rattle.ii_definitions.specs.Postings.{doc_count, field_count}
 use Rattle.ii_segments.specs.HoldCounts.{field_counts}
 use Rattle.ii_segments.specs.SegmentLaws.{CountsOfSegments}
 use Rattle.ii_segments.specs.Segments.{Segment, doc_counts, index_tokens, living_counts, living_docs, num_docs_of}
-use Rattle.ii_counts_merger.specs.CountsSources.{CountsSourceHolds, CountsSourceState, CountsSourcesHold, HaveCounts, counts_in, counts_in_body, living_row, merged_row, merged_rows, merged_totals}
+use Rattle.ii_counts_merger.specs.CountsSources.{CountsSourceHolds, CountsSourceState, CountsSourcesHold, HaveCounts, counts_of_source, counts_in_body, living_row, merged_row, merged_rows, merged_totals}
 
 row_at : (F : ℕ → List ℕ) (first n k : ℕ) → k < n → slice_get (map F (range_with_len first n)) k ≡ Some (F (first + k))
 row_at F first zero k low = absurd (omega (arith, low))
@@ -26,7 +26,7 @@ same_bodies xs ys o is are = inside (sym is ∙ are)
     inside e = cc
 
 -- the counts of a field are those of its tokens
-counts_are : (entries : List SchemaEntry) (field : ℕ) (c : CountsSourceState) (s : Segment) → field < length entries → CountsSourceHolds entries c s → counts_in field c ≡ Some (doc_counts (length s.alive) field s.tokens)
+pub counts_are : (entries : List SchemaEntry) (field : ℕ) (c : CountsSourceState) (s : Segment) → field < length entries → CountsSourceHolds entries c s → counts_of_source field c ≡ Some (doc_counts (length s.alive) field s.tokens)
 counts_are entries field c s known h =
     let n = length s.alive in
     let rows = field_counts entries n s.tokens in

@@ -1,2 +1,2 @@
-mod RowLemmas
 pub mod HoldLemmas
+pub mod RowLemmas

@@ -1,18 +1,19 @@
 -- Counts of living documents: one document, one segment and one field after the other.
-use Rattle.std.proofs.Common.{inl, inr, ◌≡◌, ℕ, zero, suc, ◌+◌, ◌-◌, ◌<◌, ◌==◌, Bool, true, false, List, [], ◌∷◌, ◌++◌, drop, get_or, length, map, replicate, refl, sym, ap, ◌∙◌, subst, arith, append_assoc, length-append, ⊎_elim}
+use Rattle.std.proofs.Common.{inl, inr, ◌≡◌, ℕ, zero, suc, ◌+◌, ◌-◌, ◌<◌, ◌≤◌, ◌==◌, Bool, true, false, List, [], ◌∷◌, ◌++◌, drop, get_or, length, map, refl, sym, ap, ◌∙◌, subst, arith, append_assoc, length-append, ⊎_elim}
 use Rattle.std.specs.Prelude.{◌⊎◌, filter, slice_index, unwrap_or}
 use Rattle.std.specs.List.{AllByRecursion, range_with_len}
 use Rattle.std.proofs.lemmas.Bool.{cases_lt, eqb-false, eqb-true}
-use Rattle.std.proofs.lemmas.List.{drop_more, get_or-map, get_or_past, length-map, length-replicate}
+use Rattle.std.proofs.lemmas.List.{drop_more, get_or-map, get_or_past, length-map}
 use Rattle.std.proofs.lemmas.List.FromFn.{length-range_with_len}
 use Rattle.ii_io.specs.declared.faults.Fault.{Fault}
 use Rattle.ii_io.specs.declared.faults.Fault.TheVariants.{Damaged, OutOfMemory}
 use Rattle.ii_io.specs.declared.faults.Part.TheVariants.{TokenCount}
 use Rattle.ii_alive.specs.Alive.{num_living, rank}
+use Rattle.ii_alive.proofs.RankLemmas.{living_cons}
 use Rattle.ii_counts.specs.CountsWriter.{count_at, first_counts}
 use Rattle.ii_segments.specs.Segments.{is_living, living_docs}
 use Rattle.ii_segments.proofs.CountLaws.{map_all, ranks_of_living}
-use Rattle.ii_counts_merger.specs.CountsSources.{CountsSourceState, HasCounts, HasRows, HaveCounts, SetsRow, all_living, counts_in, living_row, merged_row, merged_rows, source_of}
+use Rattle.ii_counts_merger.specs.CountsSources.{CountsSourceState, HasCounts, HasRows, HaveCounts, SetsRow, num_merged_docs, counts_of_source, living_row, merged_row, merged_rows, opened_counts}
 use Rattle.ii_counts_merger.specs.declared.counts_source.CountsSource.{CountsSource}
 
 -- ---- documents
@@ -33,45 +34,43 @@ module _ (alive : List Bool) (f : ℕ → ℕ) (n doc : ℕ) (low : doc < n) (be
   next_dead dead = rw dead at from_here
 
 -- ---- segments
-pub source_at : (xs : List CountsSource) (i : ℕ) (x : CountsSource) → i < length xs → x ≡ get_or xs i x → drop i (map source_of xs) ≡ source_of x ∷ drop (i + 1) (map source_of xs)
+pub source_at : (xs : List CountsSource) (i : ℕ) (x : CountsSource) → i < length xs → x ≡ get_or xs i x → drop i (map opened_counts xs) ≡ opened_counts x ∷ drop (i + 1) (map opened_counts xs)
 source_at xs i x inside is =
-    drop_more (map source_of xs) i (source_of x) (omega (arith, inside, length-map xs source_of))
-    ∙ ap (λ (s : CountsSourceState). s ∷ drop (i + 1) (map source_of xs)) (get_or-map source_of xs i x (source_of x) inside ∙ ap source_of (sym is))
+    drop_more (map opened_counts xs) i (opened_counts x) (omega (arith, inside, length-map xs opened_counts))
+    ∙ ap (λ (s : CountsSourceState). s ∷ drop (i + 1) (map opened_counts xs)) (get_or-map opened_counts xs i x (opened_counts x) inside ∙ ap opened_counts (sym is))
 
 all_drop : {X : Type 0} (P : X → Type 0) (i : ℕ) (xs : List X) → AllByRecursion P xs → AllByRecursion P (drop i xs)
 all_drop P zero xs all = all
 all_drop P (suc i) [] all = tt
 all_drop P (suc i) (x ∷ xs) all = all_drop P i xs all.1
 
-each_source : (P : CountsSourceState → Type 0) (xs : List CountsSource) (i : ℕ) (x : CountsSource) → i < length xs → x ≡ get_or xs i x → AllByRecursion P (map source_of xs) → P (source_of x)
-each_source P xs i x inside is all = (subst (AllByRecursion P) (source_at xs i x inside is) (all_drop P i (map source_of xs) all)).0
+each_source : (P : CountsSourceState → Type 0) (xs : List CountsSource) (i : ℕ) (x : CountsSource) → i < length xs → x ≡ get_or xs i x → AllByRecursion P (map opened_counts xs) → P (opened_counts x)
+each_source P xs i x inside is all = (subst (AllByRecursion P) (source_at xs i x inside is) (all_drop P i (map opened_counts xs) all)).0
 
-pub one_damaged : (field : ℕ) (xs : List CountsSource) (i : ℕ) (x : CountsSource) (e : Fault) → i < length xs → x ≡ get_or xs i x → (e ≡ OutOfMemory) ⊎ ((e ≡ Damaged TokenCount) × ¬ HasCounts field (source_of x))
-    → (e ≡ OutOfMemory) ⊎ ((e ≡ Damaged TokenCount) × ¬ AllByRecursion (HasCounts field) (map source_of xs))
+pub one_damaged : (field : ℕ) (xs : List CountsSource) (i : ℕ) (x : CountsSource) (e : Fault) → i < length xs → x ≡ get_or xs i x → (e ≡ OutOfMemory) ⊎ ((e ≡ Damaged TokenCount) × ¬ HasCounts field (opened_counts x))
+    → (e ≡ OutOfMemory) ⊎ ((e ≡ Damaged TokenCount) × ¬ AllByRecursion (HasCounts field) (map opened_counts xs))
 one_damaged field xs i x e inside is (inl memory) = inl memory
 one_damaged field xs i x e inside is (inr damaged) = inr (damaged.0, λ all. damaged.1 (each_source (HasCounts field) xs i x inside is all))
 
 living_length : (alive : List Bool) → length (living_docs alive) ≡ num_living alive
 living_length alive = sym (length-map (living_docs alive) (λ (d : ℕ). 0 + rank alive d)) ∙ ap length (ranks_of_living 0 alive) ∙ length-range_with_len 0 (num_living alive)
 
-pub merged_length : (field : ℕ) (ss : List CountsSourceState) → length (merged_row field ss) ≡ all_living ss
+-- no more documents are alive than there are
+pub few_living : (alive : List Bool) → num_living alive ≤ length alive
+few_living [] = omega arith
+few_living (true ∷ bs) = omega (arith, living_cons true bs, few_living bs)
+few_living (false ∷ bs) = omega (arith, living_cons false bs, few_living bs)
+
+pub row_length : (field : ℕ) (s : CountsSourceState) → length (living_row field s) ≤ length s.alive
+row_length field s =
+    omega (arith, length-map (living_docs s.alive) (slice_index (unwrap_or (counts_of_source field s) [])), living_length s.alive, few_living s.alive)
+
+pub merged_length : (field : ℕ) (ss : List CountsSourceState) → length (merged_row field ss) ≡ num_merged_docs ss
 merged_length field [] = refl
 merged_length field (s ∷ ss) =
-    omega (arith, length-append (living_row field s) (merged_row field ss), merged_length field ss, length-map (living_docs s.alive) (slice_index (unwrap_or (counts_in field s) [])), living_length s.alive)
+    omega (arith, length-append (living_row field s) (merged_row field ss), merged_length field ss, length-map (living_docs s.alive) (slice_index (unwrap_or (counts_of_source field s) [])), living_length s.alive)
 
 -- ---- rows of fields
-none_recorded : (n f : ℕ) → get_or (replicate {A = List ℕ} n []) f [] ≡ []
-none_recorded zero f = refl
-none_recorded (suc n) zero = refl
-none_recorded (suc n) (suc f) = none_recorded n f
-
-pub rows_begin : (n : ℕ) (ss : List CountsSourceState) (rows : List (List ℕ)) → rows ≡ replicate n [] → HasRows n 0 ss rows
-rows_begin n ss rows is = record {
-  fields = ap length is ∙ length-replicate n [];
-  below = λ field doc lt. absurd (omega (arith, lt));
-  after = λ field doc le. ap (λ (rs : List (List ℕ)). count_at rs field doc) is ∙ ap (λ (row : List ℕ). get_or row doc 0) (none_recorded n field);
-}
-
 pub rows_next : (n place : ℕ) (ss : List CountsSourceState) (old new : List (List ℕ)) (row : List ℕ) → HasRows n place ss old → SetsRow old new place (length row) row → row ≡ merged_row place ss → HasRows n (place + 1) ss new
 rows_next n place ss old new row has sets is = record {
   fields = sets.fields ∙ has.fields;
@@ -113,7 +112,7 @@ whole_row [] = refl
 whole_row (x ∷ row) =
     ap (λ (xs : List ℕ). x ∷ xs) (shifted (λ (i : ℕ). get_or (x ∷ row) i 0) 0 (length row) ∙ whole_row row)
 
-rows_from : (first n : ℕ) (ss : List CountsSourceState) (rows : List (List ℕ)) → n ≡ all_living ss → ((field doc : ℕ) → field < length rows → count_at rows field doc ≡ slice_index (merged_row (first + field) ss) doc)
+rows_from : (first n : ℕ) (ss : List CountsSourceState) (rows : List (List ℕ)) → n ≡ num_merged_docs ss → ((field doc : ℕ) → field < length rows → count_at rows field doc ≡ slice_index (merged_row (first + field) ss) doc)
     → map (first_counts n) rows ≡ map (λ (field : ℕ). merged_row field ss) (range_with_len first (length rows))
 rows_from first n ss [] docs each = refl
 rows_from first n ss (row ∷ rows) docs each =
@@ -125,7 +124,7 @@ rows_from first n ss (row ∷ rows) docs each =
     let rest = rows_from (first + 1) n ss rows docs (λ field doc lt. each (suc field) doc (omega (arith, lt)) ∙ ap (λ (f : ℕ). slice_index (merged_row f ss) doc) (omega arith)) in
     ap (λ (r : List ℕ). r ∷ map (first_counts n) rows) own ∙ ap (λ (rs : List (List ℕ)). merged_row first ss ∷ rs) rest
 
-pub rows_are : (n docs : ℕ) (ss : List CountsSourceState) (rows : List (List ℕ)) → docs ≡ all_living ss → HasRows n n ss rows → map (first_counts docs) rows ≡ merged_rows n ss
+pub rows_are : (n docs : ℕ) (ss : List CountsSourceState) (rows : List (List ℕ)) → docs ≡ num_merged_docs ss → HasRows n n ss rows → map (first_counts docs) rows ≡ merged_rows n ss
 rows_are n docs ss rows many has =
     rows_from 0 docs ss rows many (λ field doc lt. has.below field doc (omega (arith, lt, has.fields)) ∙ ap (λ (f : ℕ). slice_index (merged_row f ss) doc) (omega arith))
     ∙ ap (λ (k : ℕ). map (λ (field : ℕ). merged_row field ss) (range_with_len 0 k)) has.fields

@@ -16,8 +16,8 @@ pub record CountsSourceState : Type 0 where
   pub alive : List Bool
 
 -- the model of borrowed counts
-abbrev pub source_of : CountsSource → CountsSourceState
-source_of s = record { counts = s.counts.now; alive = s.alive.now }
+abbrev pub opened_counts : CountsSource → CountsSourceState
+opened_counts s = record { counts = s.counts.now; alive = s.alive.now }
 
 -- the counts in a body, if there is one and it has a count for each document
 abbrev pub counts_in_body : ℕ → Option (List ℕ) → Option (List ℕ)
@@ -25,21 +25,21 @@ counts_in_body num_docs None = None
 counts_in_body num_docs (Some bytes) = counts_at num_docs bytes
 
 -- how many tokens each document of a segment has in a field, if its file of counts says so
-abbrev pub counts_in : ℕ → CountsSourceState → Option (List ℕ)
-counts_in field s = counts_in_body (length s.alive) (body_of field s.counts)
+abbrev pub counts_of_source : ℕ → CountsSourceState → Option (List ℕ)
+counts_of_source field s = counts_in_body (length s.alive) (body_of field s.counts)
 
 -- the counts of the living documents of a segment in a field
 abbrev pub living_row : ℕ → CountsSourceState → List ℕ
-living_row field s = map (slice_index (unwrap_or (counts_in field s) [])) (living_docs s.alive)
+living_row field s = map (slice_index (unwrap_or (counts_of_source field s) [])) (living_docs s.alive)
 
 -- the counts of the living documents of segments in a field
 abbrev pub merged_row : ℕ → List CountsSourceState → List ℕ
 merged_row field ss = flat_map (living_row field) ss
 
 -- the number of living documents of segments
-abbrev pub all_living : List CountsSourceState → ℕ
-all_living [] = 0
-all_living (s ∷ ss) = num_living s.alive + all_living ss
+abbrev pub num_merged_docs : List CountsSourceState → ℕ
+num_merged_docs [] = 0
+num_merged_docs (s ∷ ss) = num_living s.alive + num_merged_docs ss
 
 -- the counts of the living documents of segments, in each of n fields
 abbrev pub merged_rows : ℕ → List CountsSourceState → List (List ℕ)
@@ -51,7 +51,7 @@ merged_totals n ss = map (λ (field : ℕ). sum (merged_row field ss)) (range_wi
 
 -- A segment has a count for each document in a field.
 abbrev pub HasCounts : ℕ → CountsSourceState → Type 0
-HasCounts field s = IsSome (counts_in field s)
+HasCounts field s = IsSome (counts_of_source field s)
 
 -- Each segment has counts in each of n fields.
 abbrev pub HaveCounts : ℕ → List CountsSourceState → Type 0

@@ -6,4 +6,4 @@ pub mod merged_counts;
 mod rows;
 
 pub use counts_source::CountsSource;
-pub use merged_counts::{MergedCounts, merge_counts};
+pub use merged_counts::{MergedCounts, count_tokens, merge_counts};

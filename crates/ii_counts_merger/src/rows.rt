@@ -3,7 +3,7 @@ ghost use Rattle.std.specs.Prelude.{◌≡◌, ◌<◌, ◌⊎◌, ◌^◌, ◌+
 ghost use Rattle.std.specs.List.{AllByRecursion};
 ghost use Rattle.ii_io.specs.Faults.{OnlyMemory};
 ghost use Rattle.ii_segments.specs.Segments.{living_docs};
-ghost use Rattle.ii_counts_merger.specs.CountsSources.{HasCounts, SetsRow, living_row, merged_row, source_of};
+ghost use Rattle.ii_counts_merger.specs.CountsSources.{HasCounts, SetsRow, living_row, merged_row, opened_counts};
 
 use crate::counts_source::CountsSource;
 use ii_alive::AliveBits;
@@ -17,9 +17,9 @@ pub(crate) fn merged_row(
     field: Field,
     sources: &[CountsSource<'_>],
 ) -> Result<Vec<u32>, Fault>
-    ensures ok { IfOk result (λ row. row.items ≡ merged_row field (map source_of sources.now)) }
-    ensures sound { OnOk result (AllByRecursion (HasCounts field) (map source_of sources.now)) }
-    ensures fault { IfErr result (λ e. (e ≡ Fault.OutOfMemory) ⊎ ((e ≡ Fault.Damaged Part.TokenCount) × ¬ AllByRecursion (HasCounts field) (map source_of sources.now))) }
+    ensures ok { IfOk result (λ row. row.items ≡ merged_row field (map opened_counts sources.now)) }
+    ensures sound { OnOk result (AllByRecursion (HasCounts field) (map opened_counts sources.now)) }
+    ensures fault { IfErr result (λ e. (e ≡ Fault.OutOfMemory) ⊎ ((e ≡ Fault.Damaged Part.TokenCount) × ¬ AllByRecursion (HasCounts field) (map opened_counts sources.now))) }
 {
     let mut row = Vec::new(alloc);
     for place in 0..sources.len() {
@@ -31,10 +31,14 @@ pub(crate) fn merged_row(
 }
 
 // Adds the counts of the living documents of a segment in a field.
-fn push_row(field: Field, source: CountsSource<'_>, row: &mut Vec<u32>) -> Result<(), Fault>
-    ensures ok { OnOk result (row.new.items ≡ row.old.items ++ living_row field (source_of source.entry)) }
-    ensures sound { OnOk result (HasCounts field (source_of source.entry)) }
-    ensures fault { IfErr result (λ e. (e ≡ Fault.OutOfMemory) ⊎ ((e ≡ Fault.Damaged Part.TokenCount) × ¬ HasCounts field (source_of source.entry))) }
+pub(crate) fn push_row(
+    field: Field,
+    source: CountsSource<'_>,
+    row: &mut Vec<u32>,
+) -> Result<(), Fault>
+    ensures ok { OnOk result (row.new.items ≡ row.old.items ++ living_row field (opened_counts source.entry)) }
+    ensures sound { OnOk result (HasCounts field (opened_counts source.entry)) }
+    ensures fault { IfErr result (λ e. (e ≡ Fault.OutOfMemory) ⊎ ((e ≡ Fault.Damaged Part.TokenCount) × ¬ HasCounts field (opened_counts source.entry))) }
 {
     let mut counts = match source.counts.get_field(field, source.alive.num_docs()) {
         Ok(Some(counts)) => counts,

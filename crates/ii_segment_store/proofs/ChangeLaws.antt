@@ -1,5 +1,5 @@
 -- What an index holds after documents were deleted.
-use Rattle.std.proofs.Common.{◌≡◌, ◌≢◌, inl, inr, ⊎_elim, ℕ, ◌<◌, ◌≤◌, ◌==◌, Bool, true, false, not, List, [], ◌∷◌, ◌++◌, length, replicate, Option, None, Some, Result, Ok, Err, refl, sym, ap, subst, ◌∙◌, arith, if◌then◌else◌}
+use Rattle.std.proofs.Common.{◌≡◌, ◌≢◌, inr, ⊎_elim, ℕ, ◌<◌, ◌≤◌, ◌==◌, Bool, true, false, not, List, [], ◌∷◌, ◌++◌, length, replicate, Option, None, Some, Result, Ok, Err, refl, sym, ap, subst, ◌∙◌, arith, if◌then◌else◌}
 use Rattle.std.specs.Prelude.{filter, slice_set}
 use Rattle.std.specs.List.{AllByRecursion}
 use Rattle.std.proofs.lemmas.Bool.{eq-eqb, eqb-true, ne_eqb}
@@ -174,18 +174,6 @@ flagged_reads docs s g alive old new later known put =
       flagged = inr (alive, known, refl);
       keeps = keeps;
     }
-
-result_of_none : (r : Result SegmentContents IndexFault) → result_without [] r ≡ r
-result_of_none (Ok s) = refl
-result_of_none (Err fault) = refl
-
--- a segment none of whose documents was deleted
-pub unchanged_reads : (docs : List ℕ) (s : SegmentState) (g : ℕ) (files : Files) → docs ≡ [] → IsChangedTo docs g s s files files
-unchanged_reads docs s g files none = record {
-  read = sym (ap (λ (ds : List ℕ). result_without ds (segment_in s files)) none ∙ result_of_none (segment_in s files));
-  flagged = inl (none, refl);
-  keeps = λ name other. refl;
-}
 
 -- the generation and the id of a segment with new flags
 

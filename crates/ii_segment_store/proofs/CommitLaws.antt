@@ -2,8 +2,7 @@
 use Rattle.std.proofs.Common.{◌≡◌, inl, inr, ⊎_elim, ℕ, zero, suc, ◌<◌, ◌≤◌, ◌==◌, ◌-◌, length, take, drop, bytes_eq, nat_lt, Bool, true, false, not, List, [], ◌∷◌, ◌++◌, Option, None, Some, Result, Ok, Err, refl, sym, ap, subst, ◌∙◌, arith, if◌then◌else◌}
 use Rattle.std.specs.Prelude.{IfSome, map, replicate}
 use Rattle.std.specs.List.{AllByRecursion, find, list_all}
-use Rattle.std.proofs.lemmas.List.Folds.{sum_by-replicate}
-use Rattle.ii_alive.specs.Alive.{num_living}
+use Rattle.ii_alive.proofs.RankLemmas.{all_living}
 use Rattle.std.proofs.lemmas.Bool.{and_parts, eq-eqb, ltb-true, ne_eqb}
 use Rattle.std.proofs.lemmas.Cmp.{nat_list_eq_equiv}
 use Rattle.sha2.specs.Sha256.{sha256}
@@ -232,9 +231,6 @@ counts_again id a b d e (Some bytes) files there = rw (read_back id Counts bytes
 no_flags : (a b d e : List ℕ) (counts : Option (List ℕ)) → alive_file (file_meta Terms a ∷ file_meta Postings b ∷ file_meta Positions d ∷ file_meta FieldNorms e ∷ listed_counts counts) ≡ None
 no_flags a b d e None = refl
 no_flags a b d e (Some bytes) = refl
-
-all_living : (n : ℕ) → num_living (replicate n true) ≡ n
-all_living n = sum_by-replicate (λ (b : Bool). if b then 1 else 0) n true ∙ omega arith
 
 flags_again : (s : SegmentState) → s.num_living ≡ s.num_docs → (files : Files) → flags_with s None files ≡ Ok (replicate s.num_docs true)
 unfolding flags_with

@@ -1,5 +1,5 @@
 -- What lists of segments hold after documents were deleted.
-use Rattle.std.proofs.Common.{◌≡◌, inl, inr, ⊎_elim, ℕ, zero, suc, ◌+◌, ◌<◌, ◌≤◌, List, [], ◌∷◌, ◌++◌, length, get_or, drop, Option, None, Some, Result, Ok, Err, refl, sym, ap, subst, ◌∙◌, arith, if◌then◌else◌, length-append, drop-cons}
+use Rattle.std.proofs.Common.{◌≡◌, inl, inr, ⊎_elim, ℕ, zero, suc, ◌+◌, ◌<◌, ◌≤◌, List, [], ◌∷◌, ◌++◌, length, get_or, drop, Some, Result, Ok, Err, refl, sym, ap, subst, ◌∙◌, arith, if◌then◌else◌, length-append, drop-cons}
 use Rattle.std.proofs.lemmas.List.{length-map}
 use Rattle.std.specs.Prelude.{map}
 use Rattle.std.proofs.lemmas.Bool.{cases_lt}
@@ -16,10 +16,8 @@ use Rattle.ii_store.specs.Index.{◌>>=◌}
 use Rattle.ii_store.specs.IndexMeta.{MetaState, SegmentState, segment_view}
 use Rattle.ii_store.specs.Segments.{KeepsOtherFiles, MayBeReplaced, list_in}
 use Rattle.ii_directory.proofs.Elapsing.{elapses_implies, elapses_then}
-use Rattle.ii_segment_store.specs.declared.faults.CommitFault.{CommitFault}
-use Rattle.ii_segment_store.specs.declared.faults.CommitFault.TheVariants as faults
-use Rattle.ii_segment_store.specs.Changes.{AreChanged, FailsForFlags, IsChangeFault, IsChangedTo, IsDeleteFault, IsFlagged, IsFlaggedList, IsFlagsFault, IsListFault, KeepsButFlags, KeepsOlder, first_uncounted, index_without, is_uncounted, latest_file, latest_generation, result_without, segments_without}
-use Rattle.ii_segment_store.specs.Commits.{HaveIdsBelow, HoldsOldOr, IsCommitFault}
+use Rattle.ii_segment_store.specs.Changes.{AreChanged, FailsForFlags, IsChangedTo, IsFlagged, IsFlaggedList, IsFlagsFault, KeepsButFlags, KeepsOlder, first_uncounted, index_without, is_uncounted, latest_file, latest_generation, result_without, segments_without}
+use Rattle.ii_segment_store.specs.Commits.{HaveIdsBelow, HoldsOldOr}
 use Rattle.ii_segment_store.specs.Contents.{IndexContents, SegmentContents, all_contents, index_contents, list_contents, segment_in}
 use Rattle.ii_segment_store.proofs.ChangeLaws.{flagged_id, flagged_latest, later_keeps, older_flags, older_segment, older_then}
 use Rattle.ii_segment_store.proofs.CommitLaws.{listed_contents, meta_same_contents, segment_same}
@@ -32,13 +30,6 @@ latest_at (s ∷ ss) zero d lt = omega arith
 latest_at (s ∷ ss) (suc i) d lt = omega (arith, latest_at ss i d (omega (arith, lt)))
 
 -- segments are changed one by one
-
-pub changed_none : (deleted : List (List ℕ)) (latest : ℕ) (ss : List SegmentState) (a : Files) → AreChanged deleted latest ss [] a a
-changed_none deleted latest ss a = record {
-  each = λ place d lt. absurd (omega (arith, lt));
-  flagged = λ place d lt. absurd (omega (arith, lt));
-  keeps = λ name other. refl;
-}
 
 module _ (deleted : List (List ℕ)) (latest : ℕ) (ss ts : List SegmentState) (s t : SegmentState) (old mid new : Files) (all : (place : ℕ) (d : SegmentState) → place < length ss → latest_file (get_or ss place d).files ≤ latest)
     (is : s ≡ get_or ss (length ts) s) (lt : length ts < length ss) (h : AreChanged deleted latest ss ts old mid) (step : IsChangedTo (get_or deleted (length ts) []) (latest + 1 + length ts) s t mid new) where
@@ -214,23 +205,6 @@ module _ {D : Type 0} (moment : D → ℕ) (left_since : D → ℕ → Files →
   flags_time m wanted is first = elapses_implies moment left_since old mid (KeepsOlder (latest_generation m.segments) (seen old)) (HoldsOldOr wanted (seen old)) first (λ c kept. inl (older_index m (seen old) c is kept))
 
 -- why documents aren't deleted
-
-pub delete_fails : (e : CommitFault) (deleted : List (List ℕ)) (added : Option SegmentContents) (m : MetaState) (files : Files) → list_in (files Meta) ≡ Ok m → IsDeleteFault e deleted m files → IsChangeFault e deleted added files
-delete_fails (faults.Store fault) deleted added m files is fails = inr (m, is, fails)
-delete_fails (faults.NoCounts id) deleted added m files is fails = absurd fails
-delete_fails faults.TooMany deleted added m files is fails = (m, is, inl fails)
-
-pub commit_fails : (e : CommitFault) (deleted : List (List ℕ)) (s : SegmentContents) (m n : MetaState) (files : Files) → list_in (files Meta) ≡ Ok m → IsFlaggedList deleted m n files → IsCommitFault e (Ok n) s → IsChangeFault e deleted (Some s) files
-commit_fails (faults.Store (stores.Directory fault)) deleted s m n files is flagged fails = inl tt
-commit_fails (faults.Store (stores.Index fault)) deleted s m n files is flagged fails = absurd cc
-commit_fails (faults.NoCounts id) deleted s m n files is flagged fails = absurd fails
-commit_fails faults.TooMany deleted s m n files is flagged fails = (m, is, inr (n, flagged, fails))
-
-pub list_fails : (e : CommitFault) (deleted : List (List ℕ)) (m n : MetaState) (files : Files) → list_in (files Meta) ≡ Ok m → IsFlaggedList deleted m n files → IsListFault e n → IsChangeFault e deleted None files
-list_fails (faults.Store (stores.Directory fault)) deleted m n files is flagged fails = inl tt
-list_fails (faults.Store (stores.Index fault)) deleted m n files is flagged fails = absurd fails
-list_fails (faults.NoCounts id) deleted m n files is flagged fails = absurd fails
-list_fails faults.TooMany deleted m n files is flagged fails = (m, is, inr (n, flagged, fails))
 
 pub flags_fail : (e : StoreFault) (deleted : List (List ℕ)) (ss : List SegmentState) (place : ℕ) (s : SegmentState) (files : Files) → place < length ss → s ≡ get_or ss place s → FailsForFlags e (get_or deleted place []) s files → IsFlagsFault e deleted ss files
 flags_fail (stores.Directory fault) deleted ss place s files lt is fails = tt

@@ -1,6 +1,6 @@
 use Rattle.std.proofs.Common.{◌∙◌, ◌++◌, ◌+◌, List, ℕ, drop, map, sym, ap, subst, append_assoc}
 use Rattle.std.specs.List.{AllByRecursion}
-use Rattle.ii_counts_merger.specs.CountsSources.{CountsSourceState, HasCounts, living_row, merged_row, source_of}
+use Rattle.ii_counts_merger.specs.CountsSources.{CountsSourceState, HasCounts, living_row, merged_row, opened_counts}
 use Rattle.ii_counts_merger.proofs.RowLemmas.{one_damaged, source_at}
 use Rattle.ii_counts_merger.proofs.rows.merged_row.Goals as goal
 
@@ -11,9 +11,9 @@ returns-in-Err-clause-fault c =
 pub loop-place-preserved : goal.loop-place-preserved
 loop-place-preserved c =
     let field = c.args.field in
-    let all = map source_of c.args.sources.now in
+    let all = map opened_counts c.args.sources.now in
     let place = c.loop-place.place in
-    let s = source_of c.index-sources-place.result in
+    let s = opened_counts c.index-sources-place.result in
     let at = source_at c.args.sources.now place c.index-sources-place.result c.loop-place-test.true c.index-sources-place.is in
     let h = c.loop-place.invariant in
     record {
