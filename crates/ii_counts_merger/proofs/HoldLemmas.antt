@@ -50,7 +50,7 @@ row_same entries field (c ∷ cs) [] known h = absurd h
 row_same entries field (c ∷ cs) (s ∷ ss) known h =
     ap (λ (xs : List ℕ). xs ++ merged_row field cs) (living_same entries field c s known h.0) ∙ ap (λ (xs : List ℕ). living_counts field s ++ xs) (row_same entries field cs ss known h.1)
 
-below_same : {X : Type 0} (F G : ℕ → X) (first n : ℕ) → ((k : ℕ) → k < n → F (first + k) ≡ G (first + k)) → map F (range_with_len first n) ≡ map G (range_with_len first n)
+pub below_same : {X : Type 0} (F G : ℕ → X) (first n : ℕ) → ((k : ℕ) → k < n → F (first + k) ≡ G (first + k)) → map F (range_with_len first n) ≡ map G (range_with_len first n)
 below_same F G first zero same = refl
 below_same F G first (suc n) same =
     let here : F first ≡ G first = ap F (omega arith) ∙ same 0 (omega arith) ∙ ap G (omega arith) in

@@ -1,0 +1,5 @@
+mod FileLemmas
+mod LoopLemmas
+mod MergeLemmas
+pub mod OpenLemmas
+mod ResultLemmas

@@ -1,0 +1,4 @@
+pub mod Faults
+pub mod HeldSegments
+pub mod MergedSegments
+pub mod OpenedSegments

@@ -1,0 +1,55 @@
+ghost use Rattle.std.specs.Prelude.{◌≡◌, ◌↔◌, IsTrue};
+ghost use Rattle.ii_io.specs.declared.faults.Fault.TheVariants.{OutOfMemory};
+ghost use Rattle.nequllpa_merging.specs.Faults.{IsDamage};
+ghost use Rattle.nequllpa_merging.specs.declared.faults.MergeFault.TheVariants as faults;
+
+use ii_base::{Fault, Part};
+use std::alloc::{AllocError, AllocFailed};
+use thiserror::Error;
+
+/// Why segments aren't merged.
+#[derive(Clone, Copy, Debug, PartialEq, Eq, Error)]
+pub enum MergeFault {
+    /// The files of the segment at this place, from 0, can't be opened because of a damaged part. `TokenCount`
+    /// also if it isn't known how many tokens its living documents have.
+    #[error("segment {0}: damaged: {1}")]
+    Segment(usize, Part),
+    /// The segments have 2^31 living documents or more.
+    #[error("more than 2147483647 documents")]
+    TooManyDocuments,
+    /// The schema has 2^32 - 1 fields.
+    #[error("too many fields")]
+    TooManyFields,
+    /// All segments are open, but their lists are damaged, a limit of the merged files is exceeded, or an
+    /// allocation failed.
+    #[error("{0}")]
+    Merge(Fault),
+}
+
+impl MergeFault {
+    /// Returns whether a part of a segment is damaged.
+    pub fn is_damage(&self) -> bool
+        ensures { IsTrue result ↔ IsDamage self.now }
+    {
+        matches!(
+            self,
+            MergeFault::Segment(_, _) | MergeFault::Merge(Fault::Damaged(_))
+        )
+    }
+}
+
+impl From<AllocError> for MergeFault {
+    ghost from_gives = { λ _ e. e ≡ faults.Merge OutOfMemory };
+
+    fn from(_: AllocError) -> MergeFault {
+        MergeFault::Merge(Fault::OutOfMemory)
+    }
+}
+
+impl<T: Drop> From<AllocFailed<T>> for MergeFault {
+    ghost from_gives = { λ _ e. e ≡ faults.Merge OutOfMemory };
+
+    fn from(_: AllocFailed<T>) -> MergeFault {
+        MergeFault::Merge(Fault::OutOfMemory)
+    }
+}

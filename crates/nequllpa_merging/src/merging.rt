@@ -1,0 +1,192 @@
+//! Merges the segments of an index.
+ghost use Rattle.std.specs.Prelude.{◌≡◌, ◌<◌, ◌≤◌, ◌-◌, ◌⊎◌, ◌^◌, IfErr, IfOk, List, length, map};
+ghost use Rattle.std.specs.List.{AllByRecursion};
+ghost use Rattle.std.specs.Option.{option_map};
+ghost use Rattle.ii_base.specs.declared.doc_id.TheConstants.{TERMINATED};
+ghost use Rattle.ii_merger.specs.MergedFiles.{WroteMerged};
+ghost use Rattle.ii_merger.specs.MergedIndex.{all_living};
+ghost use Rattle.ii_indexing.specs.IndexFiles.{WroteIndex};
+ghost use Rattle.ii_indexing.specs.RamFiles.{empty_files};
+ghost use Rattle.ii_segment_store.specs.Contents.{files_contents, segment_contents};
+ghost use Rattle.ii_segments.specs.Segments.{Segment, index_tokens, merged, num_docs_of};
+ghost use Rattle.nequllpa_merging.specs.Faults.{IsDamage, IsPartDamage};
+ghost use Rattle.nequllpa_merging.specs.HeldSegments.{HasCountsOf, HoldSegments, HoldsSegment, IsOpenedFor, OpenedHold};
+ghost use Rattle.nequllpa_merging.specs.MergedSegments.{AreMergedFiles, HasMergedCounts, HasTooManyTokens, IsCountsFault, IsListsFault, IsMergedFrom, IsMergingFault, IsOpenMergeFault, IsOpenedFault, counts_sources, merge_source, merging};
+ghost use Rattle.nequllpa_merging.specs.OpenedSegments.{opened_view};
+
+use crate::faults::MergeFault;
+use crate::opening::{OpenedSegment, open_segments};
+use crate::sources::{counts_sources, merge_sources};
+use crate::totals::{all_totals, num_living};
+use ii_base::{DocId, Fault, LimitName, Schema};
+use ii_counts_merger::{MergedCounts, merge_counts};
+use ii_merger::{IndexWriters, merge};
+use ii_segment_store::{SegmentFiles, StoredSegment};
+use ii_segments::{counts_of_segments, merged_is_segment};
+use std::alloc::Global;
+
+/// Returns the files of one segment of the living documents of several segments, numbered one segment after the
+/// other. It has a file of counts if each of the segments has one.
+///
+/// # Errors
+///
+/// * `Segment` with the place of the first segment whose files don't open, and its first damaged part.
+/// * `TooManyFields` if the schema has 2^32 - 1 fields, `TooManyDocuments` if 2^31 documents are alive or more.
+/// * `Merge` with `Damaged` for the first list that no index has (`merge` of `ii_merger`), with a limit of the
+///   merged files, or with `OutOfMemory` if an allocation fails.
+pub fn merge_segments(
+    alloc: Global,
+    schema: &Schema,
+    segments: Vec<StoredSegment>,
+) -> Result<SegmentFiles, MergeFault>
+    ensures merged { IfOk result (λ f. IsMergedFrom schema.now (map segment_contents segments.items) (files_contents f)) }
+    ensures holds { (ss : List Segment) → HoldSegments schema.now (map segment_contents segments.items) ss → IfOk result (λ f. HoldsSegment schema.now (files_contents f) (merged ss)) }
+
+    // Which errors it returns, and when.
+    ensures fault { IfErr result (IsMergingFault schema.now (map segment_contents segments.items)) }
+    ensures undamaged { (ss : List Segment) → HoldSegments schema.now (map segment_contents segments.items) ss → IfErr result (λ e. ¬ IsDamage e) }
+{
+    let opened = match open_segments(alloc, schema, segments) {
+        Ok(opened) => opened,
+        Err(fault) => return Err(fault),
+    };
+    merge_opened(alloc, schema, opened.as_slice())
+}
+
+// Merges open segments.
+fn merge_opened(
+    alloc: Global,
+    schema: &Schema,
+    segments: &[OpenedSegment],
+) -> Result<SegmentFiles, MergeFault>
+    requires opened { AllByRecursion (IsOpenedFor schema.now) (map opened_view segments.now) }
+    ensures merged { IfOk result (λ f. AreMergedFiles schema.now (map opened_view segments.now) (files_contents f)) }
+    ensures holds { (ss : List Segment) → OpenedHold schema.now (map opened_view segments.now) ss → IfOk result (λ f. HoldsSegment schema.now (files_contents f) (merged ss)) }
+    ensures fault { IfErr result (λ e. IsOpenedFault e schema.now (map opened_view segments.now)) }
+    ensures undamaged { (ss : List Segment) → OpenedHold schema.now (map opened_view segments.now) ss → IfErr result (λ e. ¬ IsDamage e) }
+{
+    if schema.num_fields() >= u32::MAX as usize {
+        return Err(MergeFault::TooManyFields);
+    }
+    let num_docs = match num_living(segments) {
+        Ok(num_docs) => num_docs,
+        Err(fault) => return Err(fault),
+    };
+    match merge_files(alloc, schema, segments, num_docs) {
+        Ok(files) => Ok(files),
+        Err(fault) => Err(MergeFault::Merge(fault)),
+    }
+}
+
+// Merges all files of open segments.
+fn merge_files(
+    alloc: Global,
+    schema: &Schema,
+    segments: &[OpenedSegment],
+    num_docs: DocId,
+) -> Result<SegmentFiles, Fault>
+    requires opened { AllByRecursion (IsOpenedFor schema.now) (map opened_view segments.now) }
+    requires many { length schema.now < 2 ^ 32 - 1 }
+    requires docs { num_docs ≡ all_living (map merge_source (map opened_view segments.now)) }
+    requires few { num_docs ≤ TERMINATED }
+    ensures merged { IfOk result (λ f. AreMergedFiles schema.now (map opened_view segments.now) (files_contents f)) }
+    ensures holds { (ss : List Segment) → OpenedHold schema.now (map opened_view segments.now) ss → IfOk result (λ f. HoldsSegment schema.now (files_contents f) (merged ss)) }
+    ensures fault { IfErr result (IsOpenMergeFault schema.now (map opened_view segments.now)) }
+    ensures undamaged { (ss : List Segment) → OpenedHold schema.now (map opened_view segments.now) ss → IfErr result (λ e. ¬ IsPartDamage e) }
+{
+    merged_is_segment();
+    let counts = match merge_all_counts(alloc, schema, segments, num_docs) {
+        Ok(counts) => counts,
+        Err(fault) => return Err(fault),
+    };
+    let files = match merge_lists(alloc, schema, segments) {
+        Ok(files) => files,
+        Err(fault) => return Err(fault),
+    };
+    let IndexWriters {
+        terms,
+        postings,
+        positions,
+        fieldnorms,
+    } = files;
+    Ok(SegmentFiles {
+        num_docs,
+        terms: terms.finish(),
+        postings: postings.finish(),
+        positions: positions.finish(),
+        fieldnorms: fieldnorms.finish(),
+        counts,
+    })
+}
+
+// Merges the files of counts, if each segment has one.
+fn merge_all_counts(
+    alloc: Global,
+    schema: &Schema,
+    segments: &[OpenedSegment],
+    num_docs: DocId,
+) -> Result<Option<Vec<u8>>, Fault>
+    requires opened { AllByRecursion (IsOpenedFor schema.now) (map opened_view segments.now) }
+    requires docs { num_docs ≡ all_living (map merge_source (map opened_view segments.now)) }
+    ensures merged { IfOk result (λ counts. HasMergedCounts (length schema.now) (counts_sources (map opened_view segments.now)) (option_map (λ v. v.items) counts)) }
+    ensures holds { (ss : List Segment) → OpenedHold schema.now (map opened_view segments.now) ss → IfOk result (λ counts. HasCountsOf schema.now (option_map (λ v. v.items) counts) (merged ss)) }
+    ensures fault { IfErr result (λ e. (e ≡ Fault.OutOfMemory) ⊎ IsCountsFault (length schema.now) (counts_sources (map opened_view segments.now)) e) }
+{
+    let sources = match counts_sources(alloc, segments) {
+        Ok(Some(sources)) => sources,
+        Ok(None) => return Ok(None),
+        Err(fault) => return Err(fault),
+    };
+    match merge_counts(alloc, schema, sources.as_slice(), num_docs) {
+        Ok(merged) => Ok(Some(bytes_of(merged))),
+        Err(fault) => Err(fault),
+    }
+}
+
+// Returns the file of counts.
+fn bytes_of(merged: MergedCounts) -> Vec<u8>
+    ensures { result ≡ merged.bytes }
+{
+    let MergedCounts {
+        num_tokens: _,
+        bytes,
+    } = merged;
+    bytes
+}
+
+// Merges the files of terms, postings, positions and field norms.
+fn merge_lists(
+    alloc: Global,
+    schema: &Schema,
+    segments: &[OpenedSegment],
+) -> Result<IndexWriters<Vec<u8>>, Fault>
+    requires opened { AllByRecursion (IsOpenedFor schema.now) (map opened_view segments.now) }
+    requires many { length schema.now < 2 ^ 32 - 1 }
+    requires few { all_living (map merge_source (map opened_view segments.now)) ≤ TERMINATED }
+    ensures wrote { IfOk result (λ files. WroteMerged (merging schema.now (map opened_view segments.now)) empty_files files) }
+    ensures holds { (ss : List Segment) → OpenedHold schema.now (map opened_view segments.now) ss → IfOk result (λ files. WroteIndex schema.now (num_docs_of ss) empty_files files (index_tokens ss)) }
+    ensures fault { IfErr result (λ e. (e ≡ Fault.OutOfMemory) ⊎ ((e ≡ Fault.Limit LimitName.Tokens) × HasTooManyTokens schema.now (map opened_view segments.now)) ⊎ IsListsFault schema.now (map opened_view segments.now) e) }
+    ensures undamaged { (ss : List Segment) → OpenedHold schema.now (map opened_view segments.now) ss → IfErr result (λ e. ¬ IsPartDamage e) }
+{
+    counts_of_segments();
+    let num_tokens = match all_totals(alloc, schema, segments) {
+        Ok(num_tokens) => num_tokens,
+        Err(fault) => return Err(fault),
+    };
+    let sources = match merge_sources(alloc, segments) {
+        Ok(sources) => sources,
+        Err(fault) => return Err(fault),
+    };
+    let writers = IndexWriters::in_memory(alloc);
+    let (files, merged) = merge(
+        alloc,
+        schema,
+        sources.as_slice(),
+        num_tokens.as_slice(),
+        writers,
+    );
+    match merged {
+        Ok(()) => Ok(files),
+        Err(fault) => Err(fault.in_memory()),
+    }
+}
