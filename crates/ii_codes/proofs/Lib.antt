@@ -18,3 +18,4 @@ pub mod WidthLemmas
 pub mod WindowLemmas
 pub mod WorkedRows
 pub mod BitsLemmas
+pub mod SizeLemmas

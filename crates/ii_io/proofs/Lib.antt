@@ -5,4 +5,5 @@ pub mod CompositeWriteLemmas
 pub mod CountingWriterLemmas
 pub mod VintLemmas
 pub mod CompositeSteps
+pub mod WriteCallsLemmas
 pub mod WriteSteps

@@ -11,3 +11,4 @@ pub mod Vints
 pub mod Parts
 pub mod StepLemmas
 pub mod VintLemmas
+pub mod WriteCalls

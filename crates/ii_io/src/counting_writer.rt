@@ -1,7 +1,9 @@
-ghost use Rattle.std.specs.Prelude.{◌≡◌, ◌-◌, ◌^◌, ◌<◌, ◌↔◌, ◌⊎◌, [], length, OnOk, OnErr, IfErr, IsErrOf};
+ghost use Rattle.std.specs.Prelude.{◌≡◌, ◌-◌, ◌^◌, ◌↔◌, [], length, IsErrOf};
 ghost use Rattle.ii_io.specs.CountingWriter.{Writes, IsFull};
 
+use super::counted_calls::CountedCalls;
 use super::faults::{Fault, LimitName};
+use super::write_calls::AnyWriter;
 use std::io::Write;
 use std::marker::Model;
 
@@ -11,9 +13,7 @@ use std::marker::Model;
 /// `Interrupted` is an error too, and isn't retried.
 #[derive(Drop)]
 pub struct CountingWriter<W: Write> {
-    underlying: W,
-    written_bytes: u64,
-    failed_calls: u64,
+    calls: CountedCalls<AnyWriter<W>>,
 }
 
 impl<W: Write> Model for CountingWriter<W> {
@@ -21,11 +21,7 @@ impl<W: Write> Model for CountingWriter<W> {
 
     ghost Value = { CountingWriterState };
 
-    ghost view = { λ a. record {
-      contents = W.contents a.underlying;
-      written_bytes = a.written_bytes;
-      failed_calls = a.failed_calls;
-    } };
+    ghost view = { λ a. a.calls.counts };
 }
 
 impl<W: Write> CountingWriter<W> {
@@ -34,9 +30,7 @@ impl<W: Write> CountingWriter<W> {
         ensures { result ≡ record { contents = W.contents underlying; written_bytes = 0; failed_calls = 0 } }
     {
         CountingWriter {
-            underlying,
-            written_bytes: 0,
-            failed_calls: 0,
+            calls: CountedCalls::wrap(AnyWriter { writer: underlying }),
         }
     }
 
@@ -44,25 +38,22 @@ impl<W: Write> CountingWriter<W> {
     pub fn written_bytes(&self) -> u64
         ensures { result ≡ self.now.written_bytes }
     {
-        self.written_bytes
+        self.calls.written_bytes()
     }
 
     /// Returns how many calls failed.
     pub fn failed_calls(&self) -> u64
         ensures { result ≡ self.now.failed_calls }
     {
-        self.failed_calls
+        self.calls.failed_calls()
     }
 
     /// Returns the underlying writer without flushing it.
     pub fn finish(self) -> W
         ensures { W.contents result ≡ self.contents }
     {
-        let CountingWriter {
-            underlying: writer,
-            written_bytes: _,
-            failed_calls: _,
-        } = self;
+        let CountingWriter { calls } = self;
+        let AnyWriter { writer } = calls.finish();
         writer
     }
 
@@ -77,23 +68,7 @@ impl<W: Write> CountingWriter<W> {
         ensures limit { IsErrOf result (Fault.Limit LimitName.Offset) ↔ IsFull self.old (length buf.now) }
         ensures full { IsFull self.old (length buf.now) → self.new ≡ self.old }
     {
-        if self.failed_calls == u64::MAX || u64::MAX - self.written_bytes < buf.len() as u64 {
-            return Err(Fault::Limit(LimitName::Offset));
-        }
-        let mut done = 0;
-        while done < buf.len() {
-            match self.underlying.write(&buf[done..]) {
-                Ok(0) | Err(_) => {
-                    self.failed_calls += 1;
-                    return Err(Fault::Write);
-                }
-                Ok(n) => {
-                    self.written_bytes += n as u64;
-                    done += n;
-                }
-            }
-        }
-        Ok(())
+        self.calls.write_all(buf)
     }
 
     /// Flushes the writer.
@@ -107,15 +82,6 @@ impl<W: Write> CountingWriter<W> {
         ensures limit { IsErrOf result (Fault.Limit LimitName.Offset) ↔ (self.old.failed_calls ≡ 2 ^ 64 - 1) }
         ensures full { self.old.failed_calls ≡ 2 ^ 64 - 1 → self.new ≡ self.old }
     {
-        if self.failed_calls == u64::MAX {
-            return Err(Fault::Limit(LimitName::Offset));
-        }
-        match self.underlying.flush() {
-            Ok(()) => Ok(()),
-            Err(_) => {
-                self.failed_calls += 1;
-                Err(Fault::Write)
-            }
-        }
+        self.calls.flush()
     }
 }

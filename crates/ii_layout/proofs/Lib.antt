@@ -18,3 +18,4 @@ pub mod PositionRows
 pub mod PositionSums
 pub mod WrittenLaws
 mod TermLaws
+pub mod SizeLemmas

@@ -9,6 +9,7 @@ ghost use Rattle.ii_indexing.specs.Indexer.{Stores};
 ghost use Rattle.ii_indexing.specs.Refusals.{call_fault, calls_fault, leaf_fault};
 ghost use Rattle.ii_promises.specs.DeepValues.{in_arrays};
 
+use ii_io::{CountedCalls, FailingWriter};
 use nequllpa::{
     DocId, Fault, Field, IndexCall, IndexWriters, Indexer, JsonValue, Schema, TextAnalyzer,
     ValueType, write_index,
@@ -155,4 +156,20 @@ pub fn failed_indexers_write_nothing<W: Write>(
     ensures stays { result.0 ≡ writers }
 {
     indexer.finish(writers)
+}
+
+/// Exactly the failed calls of a writer are counted, of a write of some bytes and a flush. The writer
+/// knows how many of its calls failed.
+pub fn failed_calls_are_counted(
+    alloc: Global,
+    failing_call: u64,
+    bytes: &[u8],
+) -> (FailingWriter, u64, Result<(), Fault>)
+    ensures { result.0.failures ≡ result.1 }
+{
+    let mut writer = CountedCalls::wrap(FailingWriter::new(alloc, failing_call));
+    let written = writer.write_all(bytes);
+    let flushed = writer.flush();
+    let failed_calls = writer.failed_calls();
+    (writer.finish(), failed_calls, written.and(flushed))
 }

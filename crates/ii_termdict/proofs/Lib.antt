@@ -8,3 +8,4 @@ pub mod FirstKey
 pub mod ReadBackLemmas
 mod MergerLemmas
 pub mod LeastKey
+pub mod SizeLemmas

@@ -9,3 +9,4 @@ pub mod ReadStoreLemmas
 pub mod GatherLemmas
 pub mod ListLemmas
 pub mod ReadBackLemmas
+pub mod SizeLemmas
