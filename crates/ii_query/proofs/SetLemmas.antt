@@ -1,22 +1,27 @@
 -- Sets of documents, a bit for each document.
 use Rattle.std.proofs.Common.{◌≡◌, ◌∙◌, ℕ, zero, suc, ◌+◌, ◌-◌, ◌*◌, ◌/◌, ◌%◌, ◌^◌, ◌<◌, ◌≤◌, Bool, true, false, ◌||◌, List, [], ◌∷◌, ◌++◌, drop, get_or, length, nat_eq, set, inl, inr, refl, sym, ap, arith}
-use Rattle.std.proofs.lemmas.Bool.{cases_lt, eq-eqb, ne_eqb}
+use Rattle.std.proofs.Math.Bool.{and-false}
+use Rattle.std.proofs.Math.ListN.{get_or-eq_default}
+use Rattle.std.proofs.lemmas.Bool.{cases_lt, eq-eqb, le-leb, lt-ltb, ne_eqb}
 use Rattle.std.proofs.lemmas.Bool.Decides.{eqb_tells}
 use Rattle.std.proofs.lemmas.List.{get_or-set_other}
 use Rattle.std.proofs.lemmas.Grind.{get_or-set_at}
 use Rattle.std.proofs.lemmas.Nat.{one_shl, shr-shr}
 use Rattle.std.proofs.lemmas.Nat.Bits.{bit_at-lt, bit_at-pow_other, bit_at-pow_same, bit_at-trailing_zeros, bit_at-zero, bit_at_above, bit_at_or}
+use Rattle.std.specs.Prelude.{map}
 use Rattle.std.specs.Int.{bit_at, trailing_zeros, w64}
 use Rattle.std.specs.Int.Bits.{bit_or}
 use Rattle.ii_base.specs.declared.doc_id.TheConstants.{TERMINATED}
-use Rattle.ii_base.specs.Entries.{Entry, document}
-use Rattle.ii_docset.specs.Cursor.{doc_at, from_doc, IsSound}
+use Rattle.ii_base.specs.Entries.{Entry, docs_of, document}
+use Rattle.ii_docset.specs.Cursor.{doc_at, from_doc, IsAscending, IsSound}
 use Rattle.ii_docset.specs.Intersection.{has_doc}
-use Rattle.ii_docset.proofs.CursorLemmas.{nothing_left}
-use Rattle.ii_query.specs.BitSet.{IsFirstFrom, StandsIn, is_in}
+use Rattle.ii_docset.proofs.CursorLemmas.{doc_below, nothing_left}
+use Rattle.ii_query.specs.BitSet.{IsFirstFrom, StandsIn, bits_end, docs_in, is_in}
 use Rattle.ii_query.specs.Combined.{all_from, picked}
-use Rattle.ii_query.proofs.AllLemmas.{all_goes_to, all_none, all_sound, all_stays}
+use Rattle.ii_query.proofs.AllLemmas.{all_goes_to, all_has, all_none, all_sound, all_stays}
+use Rattle.ii_query.proofs.CommonLemmas.{docs_again, picked_again, same_docs}
 use Rattle.ii_query.proofs.HintLemmas.{all_long, picked_short}
+use Rattle.ii_query.proofs.MatchLaws.{picked_has}
 use Rattle.ii_query.proofs.PickedLemmas.{picked_from, picked_sound}
 
 zero_more : (words : List ℕ) (i : ℕ) → get_or (words ++ 0 ∷ []) i 0 ≡ get_or words i 0
@@ -233,3 +238,39 @@ set_short words next end =
     let few = picked_short (is_in words) (all_from next (end - next)) in
     let long = all_long next (end - next) in
     omega (arith, few, long)
+
+-- a set's list has its documents
+docs_in_has : (words : List ℕ) (d : ℕ) → d < TERMINATED → has_doc (docs_in words) d ≡ is_in words d
+docs_in_has words d low = picked_has (is_in words) (all_from 0 (bits_end words - 0)) d ∙ elim (cases_lt d (bits_end words)) [
+  | inl inside ↦
+      let here : has_doc (all_from 0 (bits_end words - 0)) d ≡ true = all_has 0 (bits_end words - 0) d ∙ rw (le-leb 0 d (omega arith), lt-ltb d (0 + (bits_end words - 0)) (omega (arith, inside))) refl in
+      rw here refl
+  | inr past ↦
+      let few : length words ≤ d / 64 = omega (arith, low, past) in
+      let word : get_or words (d / 64) 0 ≡ 0 = get_or-eq_default words 0 few in
+      let none : is_in words d ≡ false = ap (λ (w : ℕ). nat_eq (bit_at w (d % 64)) 1) word ∙ ap (λ (b : ℕ). nat_eq b 1) (bit_at-zero (d % 64)) in
+      rw none (and-false (has_doc (all_from 0 (bits_end words - 0)) d))
+]
+
+none_above : (es : List Entry) (d : ℕ) → IsAscending es → TERMINATED ≤ d → has_doc es d ≡ false
+none_above [] d ascend above = refl
+none_above (e ∷ es) d ascend above =
+    let low = ascend.0 in
+    let most = doc_below es ascend.1 in
+    rw (ne_eqb e.doc d (λ same. omega (arith, low, most, above, same))) (none_above es d ascend.1 above)
+
+-- a set with exactly the documents of a list
+pub collected : (words docs : List ℕ) (es : List Entry) → es ≡ map document docs → IsAscending es → ((d : ℕ) → is_in words d ≡ has_doc es d) → docs_in words ≡ es
+collected words docs es is ascend same =
+    let sound = picked_sound (is_in words) (all_from 0 (bits_end words - 0)) (all_sound 0 (bits_end words) (omega arith)) in
+    let alike : (d : ℕ) → has_doc (docs_in words) d ≡ has_doc es d = λ d. elim (cases_lt d TERMINATED) [
+      | inl low ↦ docs_in_has words d low ∙ same d
+      | inr above ↦ none_above (docs_in words) d sound.ascending above ∙ sym (none_above es d ascend above)
+    ] in
+    sym (picked_again (is_in words) (all_from 0 (bits_end words - 0)))
+    ∙ ap (λ (ds : List ℕ). map document ds) (same_docs (docs_in words) es sound.ascending ascend alike ∙ ap docs_of is ∙ docs_again docs)
+    ∙ sym is
+
+-- an empty set has no document
+pub none_in : (d : ℕ) → is_in [] d ≡ false
+none_in d = ap (λ (w : ℕ). nat_eq (bit_at w (d % 64)) 1) (get_or-eq_default [] 0 {n = d / 64} (omega arith)) ∙ ap (λ (b : ℕ). nat_eq b 1) (bit_at-zero (d % 64))
