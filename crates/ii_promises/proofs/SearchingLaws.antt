@@ -1,6 +1,7 @@
 -- What a search returns for the tokens that an index has.
-use Rattle.std.proofs.Common.{inl, ◌≡◌, ◌∙◌, ℕ, true, List, length, Result, Ok, Err, ap}
+use Rattle.std.proofs.Common.{inl, ◌≡◌, ◌∙◌, ◌<◌, ℕ, Bool, true, nat_lt, List, length, Result, Ok, Err, ap}
 use Rattle.std.specs.Prelude.{◌⊎◌, IfErr, IfOk}
+use Rattle.std.proofs.lemmas.Bool.{lt-ltb}
 use Rattle.ii_io.specs.declared.faults.Fault.{Fault}
 use Rattle.ii_io.specs.declared.faults.Fault.TheVariants.{OutOfMemory}
 use Rattle.ii_base.specs.Schema.{SchemaEntry}
@@ -47,3 +48,13 @@ matches_are_counted query ts (Err fault) gives found ascending exact = tt
 pub memory_of_counting : (query : Query) (ts : List IndexToken) (answer : Result ℕ Fault) → GivesCount query ts answer → IfErr answer (λ fault. fault ≡ OutOfMemory)
 memory_of_counting query ts (Ok n) gives = tt
 memory_of_counting query ts (Err fault) gives = gives
+
+-- the documents that match, said in another way
+pub matches_as : {T : Type 0} (query : Query) (ts : List IndexToken) (answer : Result (QueryCursorState T) Fault) (holds : ℕ → Bool) → GivesMatches query ts answer → ((doc : ℕ) → matches query ts doc ≡ holds doc)
+    → IfOk answer (λ cursor. (doc : ℕ) → has_doc cursor.rest doc ≡ holds doc)
+matches_as query ts (Ok cursor) holds gives same = λ doc. gives.exact doc ∙ same doc
+matches_as query ts (Err fault) holds gives same = tt
+
+-- the field of a query is one of the first n
+pub field_is_there : (n field : ℕ) (query : Query) → has_fields n query ≡ nat_lt field n → field < n → has_fields n query ≡ true
+field_is_there n field query is inside = is ∙ lt-ltb field n inside

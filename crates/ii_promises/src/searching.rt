@@ -1,6 +1,6 @@
 // What queries find.
-ghost use Rattle.std.specs.Prelude.{◌≡◌, ◌≤◌, ◌⊎◌, ℕ, [], List, true, length, map, min, None, IfErr, IfOk, OnOk};
-ghost use Rattle.std.specs.List.{AllByRecursion, Contains};
+ghost use Rattle.std.specs.Prelude.{◌≡◌, ◌<◌, ◌≤◌, ◌⊎◌, ◌&&◌, ◌==◌, ℕ, [], List, true, length, map, min, nat_eq, None, IfErr, IfOk, OnOk};
+ghost use Rattle.std.specs.List.{AllByRecursion, Contains, list_any, starts_with};
 ghost use Rattle.ii_base.specs.Entries.{Entry};
 ghost use Rattle.ii_docset.specs.Cursor.{IsAscending, IsTarget};
 ghost use Rattle.ii_docset.specs.Intersection.{has_doc};
@@ -11,13 +11,17 @@ ghost use Rattle.ii_definitions.specs.Tokens.{IndexToken, tokens_of};
 ghost use Rattle.ii_definitions.specs.IndexCalls.{MayAllBeIndexed, call_of};
 ghost use Rattle.ii_indexing.specs.Refusals.{calls_fault};
 ghost use Rattle.ii_query_parser.specs.Queries.{has_fields, keeps_positions, matches};
+ghost use Rattle.ii_query_parser.specs.Ranges.{in_range};
+ghost use Rattle.ii_base.specs.Schema.{SchemaEntry};
+ghost use Rattle.ii_reader.specs.OpenIndex.{IndexHolds};
 ghost use Rattle.ii_indexing.specs.RamFiles.{IsRamFault};
 ghost use Rattle.ii_promises.specs.Decodes.{HaveDecodedFew};
 
 use bytes::Bytes;
 use nequllpa::{
-    DocId, DocSet, Fault, IndexCall, OpenIndex, Query, QueryCursor, Schema, SegmentPostings,
-    TermOrPhrase, TextAnalyzer, count, index_in_ram, open_index_with_norms, search, top_by_count,
+    DocId, DocSet, Fault, IndexCall, OpenIndex, Query, QueryCursor, Schema, SegmentPostings, Term,
+    TermOrPhrase, TermRange, TextAnalyzer, count, index_in_ram, open_index_with_norms, search,
+    top_by_count,
 };
 use std::alloc::Global;
 
@@ -95,6 +99,48 @@ pub fn matches_are_counted(
         Ok(index) => count(alloc, &index, query),
         Err(fault) => Err(fault),
     }
+}
+
+/// A prefix finds exactly the documents with a token of its field whose key starts with it, in ascending order.
+/// Where the index holds tokens, this fails only with `OutOfMemory`.
+#[tactic(auto, using(crate::proofs::SearchingLaws::matches_as, crate::proofs::SearchingLaws::memory_of_search, crate::proofs::SearchingLaws::found_ascend, crate::proofs::SearchingLaws::field_is_there))]
+pub fn prefixes_find_what_starts_with_them(
+    alloc: Global,
+    index: &OpenIndex,
+    prefix: Term,
+) -> Result<QueryCursor<TermOrPhrase<SegmentPostings>>, Fault>
+    requires field { prefix.field < length index.now.readers }
+    ensures ascending { IfOk result (λ cursor. IsAscending cursor.rest) }
+    ensures found { (schema : List SchemaEntry) (num_docs : ℕ) (tokens : List IndexToken) → IndexHolds schema num_docs index.now tokens → prefix.field < length schema
+        → IfOk result (λ cursor. (doc : ℕ) → has_doc cursor.rest doc ≡ list_any (λ t. (t.doc == doc) && (t.field == prefix.field) && starts_with nat_eq t.key prefix.value) tokens) }
+    ensures memory { (schema : List SchemaEntry) (num_docs : ℕ) (tokens : List IndexToken) → IndexHolds schema num_docs index.now tokens → prefix.field < length schema
+        → IfErr result (λ fault. fault ≡ Fault.OutOfMemory) }
+{
+    let query = Query::prefix(prefix);
+    let found = search(alloc, index, &query);
+    drop(query);
+    found
+}
+
+/// A range finds exactly the documents with a token of its field whose key it has, in ascending order. Where the
+/// index holds tokens, this fails only with `OutOfMemory`.
+#[tactic(auto, using(crate::proofs::SearchingLaws::matches_as, crate::proofs::SearchingLaws::memory_of_search, crate::proofs::SearchingLaws::found_ascend, crate::proofs::SearchingLaws::field_is_there))]
+pub fn ranges_find_what_is_between(
+    alloc: Global,
+    index: &OpenIndex,
+    range: TermRange,
+) -> Result<QueryCursor<TermOrPhrase<SegmentPostings>>, Fault>
+    requires field { range.prefix.field < length index.now.readers }
+    ensures ascending { IfOk result (λ cursor. IsAscending cursor.rest) }
+    ensures found { (schema : List SchemaEntry) (num_docs : ℕ) (tokens : List IndexToken) → IndexHolds schema num_docs index.now tokens → range.prefix.field < length schema
+        → IfOk result (λ cursor. (doc : ℕ) → has_doc cursor.rest doc ≡ list_any (λ t. (t.doc == doc) && (t.field == range.prefix.field) && in_range range t.key) tokens) }
+    ensures memory { (schema : List SchemaEntry) (num_docs : ℕ) (tokens : List IndexToken) → IndexHolds schema num_docs index.now tokens → range.prefix.field < length schema
+        → IfErr result (λ fault. fault ≡ Fault.OutOfMemory) }
+{
+    let query = Query::range(range);
+    let found = search(alloc, index, &query);
+    drop(query);
+    found
 }
 
 /// Each cursor of a search has decoded at most as many blocks of its term's list as it has reached.

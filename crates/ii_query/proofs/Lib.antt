@@ -10,6 +10,7 @@ pub mod PhraseSteps
 pub mod PickedLemmas
 pub mod PieceLemmas
 pub mod ReadsLemmas
+pub mod SetLemmas
 pub mod StartLemmas
 pub mod UnionLemmas
 pub mod WorkLemmas

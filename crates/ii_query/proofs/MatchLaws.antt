@@ -12,7 +12,7 @@ use Rattle.ii_query.specs.Combined.{all_have, common, either, intersection_of, p
 use Rattle.ii_docset.proofs.IntersectionLemmas.{has_doc_below}
 
 -- a picked document is in the list, and what picks holds of it
-picked_has : (holds : ℕ → Bool) (es : List Entry) (doc : ℕ) → has_doc (picked holds es) doc ≡ (has_doc es doc && holds doc)
+pub picked_has : (holds : ℕ → Bool) (es : List Entry) (doc : ℕ) → has_doc (picked holds es) doc ≡ (has_doc es doc && holds doc)
 picked_has holds [] doc = refl
 picked_has holds (e ∷ es) doc = elim (eqb_tells e.doc doc) [
   | inl h ↦ here h (picked_has holds es doc) (holds e.doc) refl (ap holds h.1)

@@ -1,3 +1,4 @@
+pub mod BitSet
 pub mod Combined
 pub mod Phrase
 pub mod PositionPiece

@@ -4,9 +4,10 @@ use Rattle.std.specs.List.{AllByRecursion, AllZip, sum_by}
 use Rattle.ii_base.specs.Entries.{Entry}
 use Rattle.ii_docset.specs.Cursor.{IsSound, from_doc}
 use Rattle.ii_docset.specs.Intersection.{has_doc}
+use Rattle.ii_query.specs.BitSet.{docs_between}
 use Rattle.ii_query.specs.Combined.{QueryCursorState, all_from, either, intersection_of, union_of, without}
 use Rattle.ii_query.specs.declared.query_cursor.QueryParts.{QueryParts}
-use Rattle.ii_query.specs.declared.query_cursor.QueryParts.TheVariants.{Nothing, One, All, Intersection, Either, Union, Without}
+use Rattle.ii_query.specs.declared.query_cursor.QueryParts.TheVariants.{Nothing, One, All, Set, Intersection, Either, Union, Without}
 
 -- the remaining documents of each of some cursors
 abbrev pub rests : {T : Type 0} → List (QueryCursorState T) → List (List Entry)
@@ -53,6 +54,7 @@ abbrev pub rest_of : {T : Type 0} → (T → List Entry) → QueryParts T → Li
 rest_of rest Nothing = []
 rest_of rest (One cursor) = rest cursor
 rest_of rest (All docs) = all_from docs.next (docs.end - docs.next)
+rest_of rest (Set docs) = docs_between docs.docs docs.next docs.end
 rest_of rest (Intersection leader others) = intersection_of (rests (leader.value ∷ others.items))
 rest_of rest (Either first other) = either first.value.rest other.value.rest
 rest_of rest (Union parts) = union_of (rests parts.items)
@@ -63,6 +65,7 @@ abbrev pub depth_of : {T : Type 0} → QueryParts T → ℕ
 depth_of Nothing = 0
 depth_of (One cursor) = 0
 depth_of (All docs) = 0
+depth_of (Set docs) = 0
 depth_of (Intersection leader others) = depth_over (leader.value ∷ others.items)
 depth_of (Either first other) = max first.value.depth other.value.depth + 1
 depth_of (Union parts) = depth_over parts.items
@@ -73,6 +76,7 @@ abbrev pub cursors_of : {T : Type 0} → QueryParts T → List T
 cursors_of Nothing = []
 cursors_of (One cursor) = cursor ∷ []
 cursors_of (All docs) = []
+cursors_of (Set docs) = []
 cursors_of (Intersection leader others) = cursors_under (leader.value ∷ others.items)
 cursors_of (Either first other) = first.value.cursors ++ other.value.cursors
 cursors_of (Union parts) = cursors_under parts.items

@@ -2,6 +2,7 @@
 #![tactic(auto)]
 
 pub mod all_docs;
+pub mod bit_set;
 pub mod exclude;
 pub mod intersection;
 pub mod phrase;
@@ -11,6 +12,7 @@ pub mod term_or_phrase;
 pub mod union;
 
 pub use all_docs::AllDocs;
+pub use bit_set::{BitSet, BitSetDocSet};
 pub use exclude::Exclude;
 pub use intersection::Intersection;
 pub use phrase::{PhraseMatch, PhrasePart};

@@ -2,17 +2,19 @@ ghost use Rattle.std.specs.Prelude.{◌≡◌, ◌≤◌, ◌<◌, ◌+◌, ◌+
 ghost use Rattle.std.specs.List.{AllByRecursion, AllZip};
 ghost use Rattle.ii_io.specs.Faults.{OnlyMemory};
 ghost use Rattle.ii_docset.specs.Cursor.{doc_at, from_doc, IsSound};
+ghost use Rattle.ii_query.specs.BitSet.{bits_end, docs_in};
 ghost use Rattle.ii_query.specs.Combined.{IsAtFirst, QueryCursorState, SeekAnswer, StandsAt, all_from, either, intersection_of, union_of, without};
 ghost use Rattle.ii_query.specs.QueryCursor.{HasLeastHint, KeptFrom, LeadsWith, WentTo, cursors_of, cursors_under, depth_of, depth_over, rest_of, rests, sum_of_hints};
 
 use crate::all_docs::AllDocs;
+use crate::bit_set::{BitSet, BitSetDocSet};
 use ii_base::Fault;
 use ii_docset::{DocId, DocSet, TERMINATED};
 use std::alloc::Global;
 use std::marker::Model;
 
 /// A cursor over the documents that a query matches, in ascending order. Its form is chosen at run time: no
-/// documents, those of one cursor, all below a number, or an intersection, a union or a difference.
+/// documents, those of one cursor, all below a number, those of a set, or an intersection, a union or a difference.
 #[cycle(query_cursor)]
 #[derive(Drop)]
 pub struct QueryCursor<T: DocSet> {
@@ -29,6 +31,7 @@ enum QueryParts<T: DocSet> {
     Nothing,
     One(T),
     All(AllDocs),
+    Set(BitSetDocSet),
     // the first cursor leads; the others seek its documents
     Intersection(Box<QueryCursor<T>>, Vec<QueryCursor<T>>),
     // a union of two, kept apart so that there is no loop over the parts
@@ -96,6 +99,22 @@ impl<T: DocSet> QueryCursor<T> {
         let hint = docs.size_hint();
         QueryCursor {
             parts: QueryParts::All(docs),
+            doc,
+            hint,
+        }
+    }
+
+    /// Returns a cursor over the documents of a set. Its hint is at most the number of bits of the set.
+    pub fn set(docs: BitSet) -> QueryCursor<T>
+        ensures rest { result.rest ≡ docs_in docs }
+        ensures hint { result.hint ≤ bits_end docs }
+        ensures cursors { result.cursors ≡ [] }
+    {
+        let docs = BitSetDocSet::new(docs);
+        let doc = docs.doc();
+        let hint = docs.size_hint();
+        QueryCursor {
+            parts: QueryParts::Set(docs),
             doc,
             hint,
         }
@@ -300,6 +319,9 @@ fn move_to<T: DocSet>(parts: &mut QueryParts<T>, doc: DocId, target: DocId) -> D
             return go_above(cursor, doc, target);
         }
         QueryParts::All(docs) => {
+            return go_above(docs, doc, target);
+        }
+        QueryParts::Set(docs) => {
             return go_above(docs, doc, target);
         }
         QueryParts::Intersection(leader, others) => {

@@ -4,7 +4,7 @@ use Rattle.std.proofs.lemmas.List.{length-drop}
 use Rattle.std.specs.List.{take_while}
 use Rattle.ii_query_grammar.specs.declared.cut.Stop.TheVariants as stops
 use Rattle.ii_query_grammar.specs.declared.parse_error.Feature.{Feature}
-use Rattle.ii_query_grammar.specs.Lexemes.{Front, Token, after_spaces, before_stop, begins, feature_after, feature_in_front, from_stop, front, front_at, is_empty, is_space, lexemes, one_more, phrase_front, place_of, tokens, unless_feature, value_front, word_front}
+use Rattle.ii_query_grammar.specs.Lexemes.{Front, Token, after_spaces, before_stop, begins, feature_after, feature_in_front, from_stop, front, front_at, has_star, is_empty, is_prefix, is_space, lexemes, one_more, phrase_front, place_of, tokens, unless_feature, value_front, word_front}
 
 -- The text after the first lexeme has fewer than n bytes.
 abbrev Leaves : ℕ → Front → Type 0
@@ -32,8 +32,10 @@ value_leaves : (size at n : ℕ) (name text : List ℕ) → length text < n → 
 value_leaves size at n name text less =
     let some : 0 < n = omega (arith, less) in
     either (begins 34 text) n _ _ (λ is. phrase_leaves size at n (Some name) (drop 1 text) (end_leaves 1 n text less))
-    (λ is. unless (feature_in_front text) _ n _ some (unless (feature_after (from_stop stops.WordEnd text)) _ n _ some
-    (either (is_empty (before_stop stops.WordEnd text)) n _ _ (λ is. some) (λ is. end_leaves (place_of stops.WordEnd false text) n text less))))
+    (λ is. unless (feature_in_front text) _ n _ some
+    (either (has_star (from_stop stops.WordEnd text)) n _ _ (λ star. end_leaves 1 n (from_stop stops.WordEnd text) (end_leaves (place_of stops.WordEnd false text) n text less))
+    (λ none. unless (feature_after (from_stop stops.WordEnd text)) _ n _ some
+    (either (is_empty (before_stop stops.WordEnd text)) n _ _ (λ is. some) (λ is. end_leaves (place_of stops.WordEnd false text) n text less)))))
 
 -- a word that isn't empty takes a byte
 taken : (k : ℕ) (text : List ℕ) → is_empty (take k text) ≡ false → length (drop k text) < length text
@@ -41,15 +43,22 @@ taken zero text some = absurd (cc)
 taken (suc k) [] some = absurd (cc)
 taken (suc k) (b ∷ bs) some = omega (arith, length-drop k bs)
 
+-- the word of a prefix isn't empty
+prefix_some : (word rest : List ℕ) → is_prefix word rest ≡ true → is_empty word ≡ false
+prefix_some [] rest is = absurd (cc)
+prefix_some (b ∷ bs) rest is = refl
+
 word_leaves : (size at : ℕ) (text : List ℕ) → 0 < length text → Leaves (length text) (word_front size at text)
 word_leaves size at text some =
     let n = length text in
     let word = before_stop stops.WordEnd text in
     let rest = from_stop stops.WordEnd text in
-    unless (feature_in_front text) at n _ some (unless (feature_after rest) _ n _ some
+    unless (feature_in_front text) at n _ some
+    (either (is_prefix word rest) n _ _ (λ star. end_leaves 1 n rest (taken (place_of stops.WordEnd false text) text (prefix_some word rest star)))
+    (λ none. unless (feature_after rest) _ n _ some
     (either (is_empty word) n _ _ (λ is. some)
     (λ is. let less = taken (place_of stops.WordEnd false text) text is in
-    either (begins 58 rest) n _ _ (λ colon. value_leaves size at n word (drop 1 rest) (end_leaves 1 n rest less)) (λ none. less))))
+    either (begins 58 rest) n _ _ (λ colon. value_leaves size at n word (drop 1 rest) (end_leaves 1 n rest less)) (λ none. less)))))
 
 -- each lexeme takes a byte
 front_leaves : (size at : ℕ) (text : List ℕ) → is_empty text ≡ false → Leaves (length text) (front_at size at text)

@@ -13,7 +13,7 @@ use Rattle.ii_query_grammar.specs.declared.parse_error.Feature.{Feature}
 use Rattle.ii_query_grammar.specs.declared.user_input_ast.Delimiter.{Delimiter}
 use Rattle.ii_query_grammar.specs.declared.user_input_ast.Delimiter.TheVariants as delimiters
 use Rattle.ii_query_grammar.specs.Grammar.{Kind, Spells, all, alone, and, and_not, chain, in_parentheses, next_to, nothing, one, or, part, query, token, wanted, wants}
-use Rattle.ii_query_grammar.specs.Lexemes.{Front, Lexeme, Token, after_spaces, and_word, before_stop, begins, closing, ended_phrase, ends_word, feature_after, feature_in_front, first_feature_of, from_stop, front_at, front_with, is_empty, is_escape, is_space, is_special, lexemes, literal, literal_with, minus, one_more, opening, or_word, phrase_front, place_of, stops_at, unescaped, unless_feature, value_front, value_word, word_front, word_lexeme, word_or_name}
+use Rattle.ii_query_grammar.specs.Lexemes.{Front, Lexeme, Token, after_spaces, and_word, before_stop, begins, closing, ended_phrase, ends_word, feature_after, feature_in_front, first_feature_of, from_stop, front_at, front_with, has_star, is_empty, is_escape, is_prefix, is_prefix_end, is_space, is_special, lexemes, literal, literal_with, minus, one_more, opening, or_word, phrase_front, place_of, stops_at, unescaped, unless_feature, value_front, value_or_prefix, value_word, word_front, word_lexeme, word_or_name, word_or_prefix}
 use Rattle.ii_query_grammar.specs.Parsed.{ChainState, chain_tree, parsed}
 use Rattle.ii_query_grammar.specs.Spelling.{are_several, delimited, escaped, field_text, has_spelling, have_spelling, is_literal, is_no_operator, is_value, is_writable, is_writable_word, literal_text, may_be_alone, nesting, part_nesting, part_text, parts_nesting, parts_text, spelled, word_text}
 use Rattle.ii_query_grammar.specs.Trees.{Ast, Asts, Literal, all_of, and_asts, any_of, asts_from, leaf, no_asts, without}
@@ -220,6 +220,7 @@ plain_front size at b bs is =
 record MayFollow (rest : List ℕ) : Type 0 where
   stop : place_of stops.WordEnd false rest ≡ 0
   feature : feature_after rest ≡ None
+  star : has_star rest ≡ false
 
 unless_none : (o : Option Feature) (at : ℕ) (f : Front) → o ≡ None → unless_feature o at f ≡ f
 unless_none o at f is = rw is refl
@@ -229,21 +230,33 @@ record IsCut (text word rest : List ℕ) : Type 0 where
   before : before_stop stops.WordEnd text ≡ word
   after : from_stop stops.WordEnd text ≡ rest
 
-is_cut : (text rest : List ℕ) → is_writable text ≡ true → MayFollow rest → IsCut (word_text text ++ rest) (word_text text) rest
-is_cut text rest may follows =
-    let place = ends_there stops.WordEnd stops.WordEscape words false true text rest (writable text may) follows.stop in
+is_cut : (text rest : List ℕ) → is_writable text ≡ true → place_of stops.WordEnd false rest ≡ 0 → IsCut (word_text text ++ rest) (word_text text) rest
+is_cut text rest may stop =
+    let place = ends_there stops.WordEnd stops.WordEscape words false true text rest (writable text may) stop in
     record {
       before = ap (λ (n : ℕ). take n (word_text text ++ rest)) place ∙ take_at (word_text text) rest _ refl;
       after = ap (λ (n : ℕ). drop n (word_text text ++ rest)) place ∙ drop_at (word_text text) rest _ refl;
     }
 
-front_of_plain : (size at : ℕ) (text word rest : List ℕ) (b : ℕ) (bs : List ℕ) → text ≡ b ∷ bs → is_special b ≡ false → IsCut text word rest → feature_after rest ≡ None → front_at size at text ≡ word_or_name size at word rest
-front_of_plain size at text word rest b bs is plain cut none =
+front_of_plain : (size at : ℕ) (text word rest : List ℕ) (b : ℕ) (bs : List ℕ) → text ≡ b ∷ bs → is_special b ≡ false → IsCut text word rest → front_at size at text ≡ word_or_prefix size at word rest
+front_of_plain size at text word rest b bs is plain cut =
     ap (front_at size at) is ∙ plain_front size at b bs plain ∙ ap (word_front size at) (sym is)
     ∙ unless_none (feature_in_front text) at _ (ap feature_in_front is ∙ first_none b plain)
-    ∙ unless_none (feature_after (from_stop stops.WordEnd text)) _ _ (ap feature_after cut.after ∙ none)
-    ∙ ap (λ (w : List ℕ). word_or_name size at w (from_stop stops.WordEnd text)) cut.before
-    ∙ ap (word_or_name size at word) cut.after
+    ∙ ap (λ (w : List ℕ). word_or_prefix size at w (from_stop stops.WordEnd text)) cut.before
+    ∙ ap (word_or_prefix size at word) cut.after
+
+one_fails : (p : Bool) (a b : Front) → p ≡ false → cond p a b ≡ b
+one_fails p a b h = rw h refl
+
+one_holds : (p : Bool) (a b : Front) → p ≡ true → cond p a b ≡ a
+one_holds p a b h = rw h refl
+
+-- no star follows a word
+no_prefix : (word rest : List ℕ) → has_star rest ≡ false → is_prefix word rest ≡ false
+no_prefix word rest is = ap (λ (b : Bool). not (is_empty word) && b) is ∙ and-false (not (is_empty word))
+
+word_follows : (size at : ℕ) (word rest : List ℕ) → MayFollow rest → word_or_prefix size at word rest ≡ word_or_name size at word rest
+word_follows size at word rest follows = one_fails (is_prefix word rest) _ _ (no_prefix word rest follows.star) ∙ unless_none (feature_after rest) _ _ follows.feature
 
 some_in_word : (text : List ℕ) → is_empty text ≡ false → is_empty (word_text text) ≡ false
 some_in_word text some = let p = is_plain text some in ap is_empty p.text_is
@@ -256,7 +269,8 @@ front_of_word : (size at : ℕ) (text rest : List ℕ) → is_writable_word text
 front_of_word size at text rest is follows =
     let parts = and_parts (not (is_empty text)) (is_writable text) is in
     let p = is_plain text (not-true (is_empty text) parts.0) in
-    front_of_plain size at (word_text text ++ rest) (word_text text) rest p.first (p.others ++ rest) (after_plain (word_text text) rest p) p.plain (is_cut text rest parts.1 follows) follows.feature
+    front_of_plain size at (word_text text ++ rest) (word_text text) rest p.first (p.others ++ rest) (after_plain (word_text text) rest p) p.plain (is_cut text rest parts.1 follows.stop)
+    ∙ word_follows size at (word_text text) rest follows
 
 -- a word that is written as an operator is one
 same_word : (text word : List ℕ) → unescaped word ≡ word → bytes_eq word word ≡ true → bytes_eq text word ≡ false → bytes_eq (word_text text) word ≡ false
@@ -300,36 +314,58 @@ quoted_front size at field phrase rest may =
 two_fail : (p q : Bool) (a b c : Front) → p ≡ false → q ≡ false → cond p a (cond q b c) ≡ c
 two_fail p q a b c h i = rw (h, i) refl
 
-one_fails : (p : Bool) (a b : Front) → p ≡ false → cond p a b ≡ b
-one_fails p a b h = rw h refl
-
 -- a word after a name
-plain_value : (size at : ℕ) (name text word rest : List ℕ) (b : ℕ) (bs : List ℕ) → text ≡ b ∷ bs → is_special b ≡ false → IsCut text word rest → feature_after rest ≡ None → is_empty word ≡ false
-    → value_front size at name text ≡ front_with at (literal_with (Some name) word delimiters.None) rest
-plain_value size at name text word rest b bs is plain cut none some =
+plain_value : (size at : ℕ) (name text word rest : List ℕ) (b : ℕ) (bs : List ℕ) → text ≡ b ∷ bs → is_special b ≡ false → IsCut text word rest
+    → value_front size at name text ≡ value_or_prefix size at name word rest
+plain_value size at name text word rest b bs is plain cut =
     one_fails (begins 34 text) _ _ (ap (begins 34) is ∙ begins_not b 34 bs plain refl)
     ∙ unless_none (feature_in_front text) _ _ (ap feature_in_front is ∙ first_none b plain)
-    ∙ unless_none (feature_after (from_stop stops.WordEnd text)) _ _ (ap feature_after cut.after ∙ none)
-    ∙ ap (λ (w : List ℕ). value_word size at name w (from_stop stops.WordEnd text)) cut.before
-    ∙ ap (value_word size at name word) cut.after
-    ∙ one_fails (is_empty word) _ _ some
+    ∙ ap (λ (w : List ℕ). value_or_prefix size at name w (from_stop stops.WordEnd text)) cut.before
+    ∙ ap (value_or_prefix size at name word) cut.after
 
--- a word or a phrase after a name
-named_value : (size at : ℕ) (name : List ℕ) (delimiter : Delimiter) (phrase rest : List ℕ) → is_value delimiter phrase ≡ true → MayFollow rest
-    → value_front size at name (delimited delimiter phrase ++ rest) ≡ front_with at (literal (record { field_name = Some (unescaped name); phrase = phrase; delimiter = delimiter })) rest
-named_value size at name delimiters.None phrase rest h follows =
-    let parts = and_parts (not (is_empty phrase)) (is_writable phrase) h in
-    let some = not-true (is_empty phrase) parts.0 in
-    let p = is_plain phrase some in
-    plain_value size at name (word_text phrase ++ rest) (word_text phrase) rest p.first (p.others ++ rest) (after_plain (word_text phrase) rest p) p.plain (is_cut phrase rest parts.1 follows) follows.feature (some_in_word phrase some)
-    ∙ ap (λ (w : List ℕ). front_with at (literal (record { field_name = Some (unescaped name); phrase = w; delimiter = delimiters.None })) rest) (word_unescapes phrase)
-named_value size at name delimiters.DoubleQuotes phrase rest h follows =
-    ap (phrase_front size at (Some name)) (append_assoc (escaped stops.PhraseEscape false phrase) (34 ∷ []) rest) ∙ quoted_front size at (Some name) phrase rest h
+value_follows : (size at : ℕ) (name word rest : List ℕ) → MayFollow rest → is_empty word ≡ false → value_or_prefix size at name word rest ≡ front_with at (literal_with (Some name) word delimiters.None) rest
+value_follows size at name word rest follows some =
+    one_fails (has_star rest) _ _ follows.star ∙ unless_none (feature_after rest) _ _ follows.feature ∙ one_fails (is_empty word) _ _ some
 
 -- whether what is spelled may end before this: nothing, a space or a parenthesis that closes
 abbrev ends : List ℕ → Bool
 ends [] = true
 ends (b ∷ bs) = b == 32 || b == 41
+
+-- a star that ends a prefix
+star_ends : (rest : List ℕ) → ends rest ≡ true → has_star (42 ∷ rest) ≡ true
+star_ends [] end = refl
+star_ends (b ∷ bs) end = by (b == 32) refl end
+  where
+    by : (space : Bool) → (b == 32) ≡ space → (space || b == 41) ≡ true → is_prefix_end b ≡ true
+    by true is h = rw (eqb-true b 32 is) refl
+    by false is h = rw (eqb-true b 41 h) refl
+
+-- a prefix after a name, which may be empty
+prefix_value : (size at : ℕ) (name phrase rest : List ℕ) → is_writable phrase ≡ true → ends rest ≡ true
+    → value_front size at name (word_text phrase ++ 42 ∷ rest) ≡ front_with at (literal_with (Some name) (word_text phrase) delimiters.Star) rest
+prefix_value size at name [] rest may end = one_holds (has_star (42 ∷ rest)) _ _ (star_ends rest end)
+prefix_value size at name (b ∷ bs) rest may end =
+    let phrase = b ∷ bs in
+    let p = is_plain phrase refl in
+    plain_value size at name (word_text phrase ++ 42 ∷ rest) (word_text phrase) (42 ∷ rest) p.first (p.others ++ 42 ∷ rest) (after_plain (word_text phrase) (42 ∷ rest) p) p.plain (is_cut phrase (42 ∷ rest) may refl)
+    ∙ one_holds (has_star (42 ∷ rest)) _ _ (star_ends rest end)
+
+-- a word or a phrase after a name
+named_value : (size at : ℕ) (name : List ℕ) (delimiter : Delimiter) (phrase rest : List ℕ) → is_value delimiter phrase ≡ true → MayFollow rest → ends rest ≡ true
+    → value_front size at name (delimited delimiter phrase ++ rest) ≡ front_with at (literal (record { field_name = Some (unescaped name); phrase = phrase; delimiter = delimiter })) rest
+named_value size at name delimiters.None phrase rest h follows end =
+    let parts = and_parts (not (is_empty phrase)) (is_writable phrase) h in
+    let some = not-true (is_empty phrase) parts.0 in
+    let p = is_plain phrase some in
+    plain_value size at name (word_text phrase ++ rest) (word_text phrase) rest p.first (p.others ++ rest) (after_plain (word_text phrase) rest p) p.plain (is_cut phrase rest parts.1 follows.stop)
+    ∙ value_follows size at name (word_text phrase) rest follows (some_in_word phrase some)
+    ∙ ap (λ (w : List ℕ). front_with at (literal (record { field_name = Some (unescaped name); phrase = w; delimiter = delimiters.None })) rest) (word_unescapes phrase)
+named_value size at name delimiters.DoubleQuotes phrase rest h follows end =
+    ap (phrase_front size at (Some name)) (append_assoc (escaped stops.PhraseEscape false phrase) (34 ∷ []) rest) ∙ quoted_front size at (Some name) phrase rest h
+named_value size at name delimiters.Star phrase rest h follows end =
+    ap (value_front size at name) (append_assoc (word_text phrase) (42 ∷ []) rest) ∙ prefix_value size at name phrase rest h end
+    ∙ ap (λ (w : List ℕ). front_with at (literal (record { field_name = Some (unescaped name); phrase = w; delimiter = delimiters.Star })) rest) (word_unescapes phrase)
 
 follows_by : (b c : ℕ) (bs : List ℕ) → b ≡ c → MayFollow (c ∷ bs) → MayFollow (b ∷ bs)
 follows_by b c bs is follows = subst (λ (d : ℕ). MayFollow (d ∷ bs)) (sym is) follows
@@ -338,12 +374,12 @@ begins_by : (b c : ℕ) (bs : List ℕ) → b ≡ c → (c == 58) ≡ false → 
 begins_by b c bs is other = ap (λ (d : ℕ). d == 58) is ∙ other
 
 ends_either : (b : ℕ) (bs : List ℕ) (space : Bool) → (b == 32) ≡ space → (space || b == 41) ≡ true → MayFollow (b ∷ bs) × (begins 58 (b ∷ bs) ≡ false)
-ends_either b bs true is h = (follows_by b 32 bs (eqb-true b 32 is) (record { stop = refl; feature = refl }), begins_by b 32 bs (eqb-true b 32 is) refl)
-ends_either b bs false is h = (follows_by b 41 bs (eqb-true b 41 h) (record { stop = refl; feature = refl }), begins_by b 41 bs (eqb-true b 41 h) refl)
+ends_either b bs true is h = (follows_by b 32 bs (eqb-true b 32 is) (record { stop = refl; feature = refl; star = refl }), begins_by b 32 bs (eqb-true b 32 is) refl)
+ends_either b bs false is h = (follows_by b 41 bs (eqb-true b 41 h) (record { stop = refl; feature = refl; star = refl }), begins_by b 41 bs (eqb-true b 41 h) refl)
 
 -- a word ends there, and is no name
 word_ends : (rest : List ℕ) → ends rest ≡ true → MayFollow rest × (begins 58 rest ≡ false)
-word_ends [] h = (record { stop = refl; feature = refl }, refl)
+word_ends [] h = (record { stop = refl; feature = refl; star = refl }, refl)
 word_ends (b ∷ bs) h = ends_either b bs (b == 32) refl h
 
 no_spaces : (b : ℕ) (bs : List ℕ) → is_space b ≡ false → after_spaces (b ∷ bs) ≡ b ∷ bs
@@ -378,6 +414,22 @@ begins_alone size delimiters.None phrase rest h end =
           ∙ two_fail (is_empty (word_text phrase)) (begins 58 rest) _ _ _ (some_in_word phrase some) follows.1
           ∙ ap (λ (l : Lexeme). front_with at l rest) (word_literal phrase parts.1);
     }
+begins_alone size delimiters.Star phrase rest h end =
+    let parts = and_parts (not (is_empty phrase)) (is_writable phrase) h in
+    let some = not-true (is_empty phrase) parts.0 in
+    let p = is_plain phrase some in
+    let joined : (word_text phrase ++ 42 ∷ []) ++ rest ≡ word_text phrase ++ 42 ∷ rest = append_assoc (word_text phrase) (42 ∷ []) rest in
+    let text = plain_text phrase (42 ∷ rest) some in
+    let prefix : is_prefix (word_text phrase) (42 ∷ rest) ≡ true = rw (some_in_word phrase some, star_ends rest end) refl in
+    record {
+      no_space_first = ap after_spaces joined ∙ text.0 ∙ sym joined;
+      some = ap is_empty joined ∙ text.1;
+      front_is = λ at.
+          ap (front_at size at) joined
+          ∙ front_of_plain size at (word_text phrase ++ 42 ∷ rest) (word_text phrase) (42 ∷ rest) p.first (p.others ++ 42 ∷ rest) (after_plain (word_text phrase) (42 ∷ rest) p) p.plain (is_cut phrase (42 ∷ rest) parts.1 refl)
+          ∙ one_holds (is_prefix (word_text phrase) (42 ∷ rest)) _ _ prefix
+          ∙ ap (λ (w : List ℕ). front_with at (literal (record { field_name = None; phrase = w; delimiter = delimiters.Star })) rest) (word_unescapes phrase);
+    }
 begins_alone size delimiters.DoubleQuotes phrase rest h end = record {
   no_space_first = refl;
   some = refl;
@@ -394,9 +446,9 @@ begins_named size name delimiter phrase rest h value end =
       no_space_first = text.0;
       some = text.1;
       front_is = λ at.
-          front_of_word size at name (58 ∷ after) h (record { stop = refl; feature = refl })
+          front_of_word size at name (58 ∷ after) h (record { stop = refl; feature = refl; star = refl })
           ∙ one_fails (is_empty (word_text name)) _ _ (some_in_word name some)
-          ∙ named_value size at (word_text name) delimiter phrase rest value (word_ends rest end).0
+          ∙ named_value size at (word_text name) delimiter phrase rest value (word_ends rest end).0 end
           ∙ ap (λ (n : List ℕ). front_with at (literal (record { field_name = Some n; phrase = phrase; delimiter = delimiter })) rest) (word_unescapes name);
     }
 

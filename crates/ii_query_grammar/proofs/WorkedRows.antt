@@ -22,6 +22,12 @@ in_field name text = leaf (record { field_name = Some name; phrase = text; delim
 abbrev phrase : List ℕ → Ast
 phrase text = leaf (record { field_name = None; phrase = text; delimiter = delimiters.DoubleQuotes })
 
+abbrev prefix : List ℕ → Ast
+prefix text = leaf (record { field_name = None; phrase = text; delimiter = delimiters.Star })
+
+abbrev prefix_in : List ℕ → List ℕ → Ast
+prefix_in name text = leaf (record { field_name = Some name; phrase = text; delimiter = delimiters.Star })
+
 abbrev all : List Ast → Ast
 all ts = all_of (asts_from ts)
 
@@ -106,9 +112,35 @@ abbrev quoted_row : parsed 0 (codes "\"se* \\\"a\\\" [x\"") ≡ tree (phrase (co
 unfolding tokens
 quoted_row = refl
 
-abbrev wildcard_row : parsed 9 (codes "se*") ≡ unsupported Wildcards 2
+abbrev prefix_row : parsed 9 (codes "se* AND (a x:se*)") ≡ tree (all (prefix (codes "se") ∷ any (a ∷ prefix_in (codes "x") (codes "se") ∷ []) ∷ []))
+unfolding tokens
+prefix_row = refl
+
+-- a word that is an operator, and one with a star in it
+abbrev odd_prefix_row : parsed 9 (codes "AND* a\\*b*") ≡ tree (any (prefix (codes "AND") ∷ prefix (codes "a*b") ∷ []))
+unfolding tokens
+odd_prefix_row = refl
+
+-- all terms of a field
+abbrev any_term_row : parsed 9 (codes "x:*") ≡ tree (prefix_in (codes "x") [])
+unfolding tokens
+any_term_row = refl
+
+abbrev wildcard_row : parsed 9 (codes "s*a") ≡ unsupported Wildcards 1
 unfolding tokens
 wildcard_row = refl
+
+abbrev two_stars_row : parsed 9 (codes "se**") ≡ unsupported Wildcards 2
+unfolding tokens
+two_stars_row = refl
+
+abbrev suffix_row : parsed 9 (codes "x:*a") ≡ unsupported Wildcards 2
+unfolding tokens
+suffix_row = refl
+
+abbrev starred_name_row : parsed 9 (codes "x*:a") ≡ unsupported Wildcards 1
+unfolding tokens
+starred_name_row = refl
 
 abbrev any_word_row : parsed 9 (codes "a *") ≡ unsupported Wildcards 2
 unfolding tokens
@@ -198,3 +230,6 @@ spelled_chain_row = refl
 
 abbrev spelled_escapes_row : spelled (any (phrase (codes "new \"york\" a\\*") ∷ in_field (codes "na:me") (codes "-a-b*\\.c") ∷ [])) ≡ codes "\"new \\\"york\\\" a\\\\*\" OR na\\:me:\\-a-b\\*\\.c"
 spelled_escapes_row = refl
+
+abbrev spelled_prefix_row : spelled (all (prefix (codes "a*b") ∷ prefix_in (codes "t") [] ∷ [])) ≡ codes "a\\*b* AND t:*"
+spelled_prefix_row = refl

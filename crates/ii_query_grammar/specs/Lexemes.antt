@@ -95,6 +95,19 @@ abbrev pub begins : ℕ → List ℕ → Bool
 begins c [] = false
 begins c (b ∷ bs) = b == c
 
+-- whether a byte may come after a prefix: a space or `)`
+abbrev pub is_prefix_end : ℕ → Bool
+is_prefix_end b = is_space b || b == 41
+
+-- whether a prefix may end before a text
+abbrev pub ends_prefix : List ℕ → Bool
+ends_prefix [] = true
+ends_prefix (b ∷ bs) = is_prefix_end b
+
+-- whether a text starts with a `*` that ends a prefix
+abbrev pub has_star : List ℕ → Bool
+has_star text = begins 42 text && ends_prefix (drop 1 text)
+
 -- the unsupported feature that a byte means anywhere in a word
 abbrev pub feature_of : ℕ → Option Feature
 feature_of b =
@@ -134,7 +147,7 @@ abbrev pub unless_feature : Option Feature → ℕ → Front → Front
 unless_feature None at front = front
 unless_feature (Some feature) at front = broken_front at (Unsupported feature at)
 
--- a word or a phrase, from its text in the query
+-- a word, a phrase or a prefix, from its text in the query
 abbrev pub literal_with : Option (List ℕ) → List ℕ → Delimiter → Lexeme
 literal_with field phrase delimiter = literal (record { field_name = option_map unescaped field; phrase = unescaped phrase; delimiter = delimiter })
 
@@ -152,13 +165,18 @@ value_word size at name word rest =
     if is_empty word then broken_front (size - length rest) (Syntax expected.Value (size - length rest))
     else front_with at (literal_with (Some name) word delimiters.None) rest
 
--- a phrase or a word after a field name and its colon
+-- a word or a prefix after a field name, from the word and the text after it
+abbrev pub value_or_prefix : ℕ → ℕ → List ℕ → List ℕ → List ℕ → Front
+value_or_prefix size at name word rest =
+    if has_star rest then front_with at (literal_with (Some name) word delimiters.Star) (drop 1 rest)
+    else unless_feature (feature_after rest) (size - length rest) (value_word size at name word rest)
+
+-- a phrase, a word or a prefix after a field name and its colon
 abbrev pub value_front : ℕ → ℕ → List ℕ → List ℕ → Front
 value_front size at name text =
     if begins 34 text then phrase_front size at (Some name) (drop 1 text)
     else unless_feature (feature_in_front text) (size - length text)
-    (unless_feature (feature_after (from_stop stops.WordEnd text)) (size - length (from_stop stops.WordEnd text))
-    (value_word size at name (before_stop stops.WordEnd text) (from_stop stops.WordEnd text)))
+    (value_or_prefix size at name (before_stop stops.WordEnd text) (from_stop stops.WordEnd text))
 
 -- the kind of a word: an operator, or a word to search for
 abbrev pub word_lexeme : List ℕ → Lexeme
@@ -175,12 +193,21 @@ word_or_name size at word rest =
     else if begins 58 rest then value_front size at word (drop 1 rest)
     else front_with at (word_lexeme word) rest
 
--- a word at the start
+-- whether a word and the text after it are a prefix: a `*` follows the word, which isn't empty
+abbrev pub is_prefix : List ℕ → List ℕ → Bool
+is_prefix word rest = not (is_empty word) && has_star rest
+
+-- a word, a field name or a prefix, given the text after it
+abbrev pub word_or_prefix : ℕ → ℕ → List ℕ → List ℕ → Front
+word_or_prefix size at word rest =
+    if is_prefix word rest then front_with at (literal_with None word delimiters.Star) (drop 1 rest)
+    else unless_feature (feature_after rest) (size - length rest) (word_or_name size at word rest)
+
+-- a word or a prefix at the start
 abbrev pub word_front : ℕ → ℕ → List ℕ → Front
 word_front size at text =
     unless_feature (feature_in_front text) at
-    (unless_feature (feature_after (from_stop stops.WordEnd text)) (size - length (from_stop stops.WordEnd text))
-    (word_or_name size at (before_stop stops.WordEnd text) (from_stop stops.WordEnd text)))
+    (word_or_prefix size at (before_stop stops.WordEnd text) (from_stop stops.WordEnd text))
 
 -- the first lexeme of a text that starts at a byte
 abbrev pub front_at : ℕ → ℕ → List ℕ → Front

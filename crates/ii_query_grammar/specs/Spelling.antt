@@ -24,6 +24,7 @@ quoted text = 34 ∷ escaped stops.PhraseEscape false text ++ 34 ∷ []
 abbrev pub delimited : Delimiter → List ℕ → List ℕ
 delimited delimiters.None phrase = word_text phrase
 delimited delimiters.DoubleQuotes phrase = quoted phrase
+delimited delimiters.Star phrase = word_text phrase ++ 42 ∷ []
 
 -- the text of a word or a phrase without the name of its field
 abbrev pub phrase_text : Literal → List ℕ
@@ -77,11 +78,13 @@ is_no_operator text = not (bytes_eq text (codes "AND")) && not (bytes_eq text (c
 abbrev pub is_value : Delimiter → List ℕ → Bool
 is_value delimiters.None phrase = is_writable_word phrase
 is_value delimiters.DoubleQuotes phrase = is_writable phrase
+is_value delimiters.Star phrase = is_writable phrase
 
 -- whether a phrase can be written alone
 abbrev pub may_be_alone : Delimiter → List ℕ → Bool
 may_be_alone delimiters.None phrase = is_writable_word phrase && is_no_operator phrase
 may_be_alone delimiters.DoubleQuotes phrase = is_writable phrase
+may_be_alone delimiters.Star phrase = is_writable_word phrase
 
 -- whether a word or a phrase can be written
 abbrev pub is_literal : Option (List ℕ) → Delimiter → List ℕ → Bool

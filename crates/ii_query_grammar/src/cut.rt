@@ -1,5 +1,5 @@
 ghost use Rattle.std.specs.Prelude.{◌≡◌, ◌<◌, ◌≤◌, ℕ, drop, take, false, true, length, take_while, IfSome, MatchOption};
-ghost use Rattle.ii_query_grammar.specs.Lexemes.{Strips, after_spaces, before_stop, begins, ends_word, from_stop, is_empty, is_space, is_special, place_of, stops_at};
+ghost use Rattle.ii_query_grammar.specs.Lexemes.{Strips, after_spaces, before_stop, begins, ends_prefix, ends_word, from_stop, has_star, is_empty, is_prefix_end, is_space, is_special, place_of, stops_at};
 
 /// The byte to search for.
 #[derive(Clone, Copy)]
@@ -77,6 +77,37 @@ pub(crate) fn strip(text: &str, byte: u8) -> Option<&str>
         return None;
     }
     Some(text.split_at(1).1)
+}
+
+/// Returns the text after a `*` that ends a prefix, if the text starts with one: a space, a closing parenthesis
+/// or nothing follows.
+pub(crate) fn strip_star(text: &str) -> Option<&str>
+    ensures cases { MatchOption result (has_star text.now ≡ false) (λ rest. (has_star text.now ≡ true) × (rest.now ≡ drop 1 text.now)) }
+    ensures shorter { IfSome result (λ rest. length rest.now ≤ length text.now) }
+{
+    let Some(rest) = strip(text, b'*') else {
+        return None;
+    };
+    if !ends_prefix(rest.as_bytes()) {
+        return None;
+    }
+    Some(rest)
+}
+
+// Returns whether a prefix may end before a text.
+fn ends_prefix(text: &[u8]) -> bool
+    ensures { result ≡ ends_prefix text.now }
+{
+    if text.is_empty() {
+        return true;
+    }
+    is_prefix_end(text[0])
+}
+
+fn is_prefix_end(byte: u8) -> bool
+    ensures { result ≡ is_prefix_end byte }
+{
+    is_space(byte) || byte == b')'
 }
 
 /// Returns whether a text is empty.

@@ -1,9 +1,9 @@
-ghost use Rattle.std.specs.Prelude.{◌≡◌, ◌∷◌, ◌<◌, ◌≤◌, [], length, drop, false, true, MatchOption};
+ghost use Rattle.std.specs.Prelude.{◌≡◌, ◌∷◌, ◌<◌, ◌≤◌, [], length, drop, false, true, IfSome, MatchOption};
 ghost use Rattle.std.specs.Option.{option_copied};
 ghost use Rattle.ii_query_grammar.specs.declared.parse_error.ParseError.TheVariants.{Syntax, Unsupported};
-ghost use Rattle.ii_query_grammar.specs.Lexemes.{IsFront, broken, feature_after, feature_in_front, feature_of, first_feature_of, front, front_at, lexeme_seen, lexemes, literal_with, phrase_front, token_seen, unless_feature, value_front, value_word, word_front, word_lexeme, word_or_name, is_empty};
+ghost use Rattle.ii_query_grammar.specs.Lexemes.{IsFront, broken, feature_after, feature_in_front, feature_of, first_feature_of, front, front_at, lexeme_seen, lexemes, literal_with, has_star, is_prefix, phrase_front, token_seen, unless_feature, value_front, value_or_prefix, value_word, word_front, word_lexeme, word_or_name, word_or_prefix, is_empty};
 
-use crate::cut::{Stop, after_spaces, cut_at, is_nothing, strip};
+use crate::cut::{Stop, after_spaces, cut_at, is_nothing, strip, strip_star};
 use crate::lexeme::{Lexeme, LiteralView, Token};
 use crate::parse_error::{Expected, Feature, ParseError};
 use crate::user_input_ast::Delimiter;
@@ -88,10 +88,34 @@ fn word(size: usize, at: usize, text: &str) -> (Token<'_>, &str)
         return (unsupported(at, feature), "");
     }
     let (word, rest) = cut_at(text, Stop::WordEnd);
+    word_or_prefix(size, at, word, rest)
+}
+
+// Returns the lexeme of a word, given the text after it: a prefix if a star follows, or a field name if a colon
+// does.
+fn word_or_prefix<'a>(size: usize, at: usize, word: &'a str, rest: &'a str) -> (Token<'a>, &'a str)
+    requires { length rest.now ≤ size }
+    ensures front { IsFront (word_or_prefix size at word.now rest.now) (token_seen result.0) result.1.now }
+    ensures shorter { length result.1.now ≤ size }
+{
+    if let Some(after) = star_after(word, rest) {
+        return (literal(at, None, word, Delimiter::Star), after);
+    }
     if let Some(feature) = feature_after(rest.as_bytes()) {
         return (unsupported(size - rest.len(), feature), "");
     }
     word_or_name(size, at, word, rest)
+}
+
+// Returns the text after the star of a prefix.
+fn star_after<'a>(word: &str, rest: &'a str) -> Option<&'a str>
+    ensures cases { MatchOption result (is_prefix word.now rest.now ≡ false) (λ after. (is_prefix word.now rest.now ≡ true) × (after.now ≡ drop 1 rest.now)) }
+    ensures shorter { IfSome result (λ after. length after.now ≤ length rest.now) }
+{
+    if is_nothing(word) {
+        return None;
+    }
+    strip_star(rest)
 }
 
 // Returns the lexeme of a word, given the text after it. The word is a field name if a colon follows.
@@ -109,7 +133,7 @@ fn word_or_name<'a>(size: usize, at: usize, word: &'a str, rest: &'a str) -> (To
     (sign(at, word_lexeme(word)), rest)
 }
 
-// Reads a phrase or a word after a field name and its colon.
+// Reads a phrase, a word or a prefix after a field name and its colon.
 fn value<'a>(size: usize, at: usize, name: &'a str, text: &'a str) -> (Token<'a>, &'a str)
     requires { length text.now ≤ size }
     ensures front { IsFront (value_front size at name.now text.now) (token_seen result.0) result.1.now }
@@ -122,6 +146,24 @@ fn value<'a>(size: usize, at: usize, name: &'a str, text: &'a str) -> (Token<'a>
         return (unsupported(size - text.len(), feature), "");
     }
     let (word, rest) = cut_at(text, Stop::WordEnd);
+    value_or_prefix(size, at, name, word, rest)
+}
+
+// Reads a word or a prefix after a field name.
+fn value_or_prefix<'a>(
+    size: usize,
+    at: usize,
+    name: &'a str,
+    word: &'a str,
+    rest: &'a str,
+) -> (Token<'a>, &'a str)
+    requires { length rest.now ≤ size }
+    ensures front { IsFront (value_or_prefix size at name.now word.now rest.now) (token_seen result.0) result.1.now }
+    ensures shorter { length result.1.now ≤ size }
+{
+    if let Some(after) = strip_star(rest) {
+        return (literal(at, Some(name), word, Delimiter::Star), after);
+    }
     if let Some(feature) = feature_after(rest.as_bytes()) {
         return (unsupported(size - rest.len(), feature), "");
     }

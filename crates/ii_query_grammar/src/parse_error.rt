@@ -55,7 +55,7 @@ impl fmt::Display for Expected {
 /// A feature of other query languages that this one does not support.
 #[derive(Clone, Copy, Debug, PartialEq, Eq)]
 pub enum Feature {
-    /// `se*`, `s?a`.
+    /// `s*a`, `*a`, `s?a`.
     Wildcards,
     /// `sea~1`, and `"a b"~2` for a phrase with slop.
     Fuzzy,
@@ -76,7 +76,7 @@ impl Feature {
     fn message(self) -> &'static str {
         match self {
             Feature::Wildcards => {
-                "prefixes and wildcards (se*, s?a) are not supported; put the word in quotes to search for it as it is"
+                "wildcards (s*a, s?a) are not supported, but for a * that ends a word; put the word in quotes to search for it as it is"
             }
             Feature::Fuzzy => {
                 "fuzzy words and phrases with slop (sea~1, \"new york\"~2) are not supported; put the word in quotes to search for it as it is"

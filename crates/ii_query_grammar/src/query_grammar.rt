@@ -23,15 +23,16 @@ const _: () = prove!(MAX_NESTING == 128);
 /// Parses a query:
 ///
 /// - A word is a run of characters without spaces, double quotes, parentheses and colons. A phrase is a text
-///   between double quotes. A field name, also a word, and a colon may come before each of them.
-/// - A part is a word, a phrase, or a query in parentheses. At most `MAX_NESTING` parentheses may be open.
+///   between double quotes. A prefix is a word and a `*` after it, before a space, a closing parenthesis or the
+///   end. A field name, also a word, and a colon may come before each of them; then a prefix may be `*` alone.
+/// - A part is a word, a phrase, a prefix, or a query in parentheses. At most `MAX_NESTING` parentheses may be open.
 /// - `a AND b` matches what both match, and `a AND -b` what the first matches and the other doesn't.
 /// - `a OR b` and `a b` match what at least one of the two matches; AND binds tighter.
 /// - `-b` next to other parts excludes `b` from all that they match. At least one part must not be excluded.
 /// - `NOT b` is `-b`; to search for the words `AND`, `OR` and `NOT`, write them in quotes.
 /// - In a word or a phrase, a backslash makes a space, `"`, `(`, `)`, `:`, `*`, `?`, `~`, `^`, `[`, `]`, `{`,
 ///   `}`, `-`, `+`, `/`, `<` or `>` after it literal, and is left out. Other backslashes belong to the text.
-/// - A `*`, `?`, `~`, `^`, `[` or `{` in a word, a `/`, `<` or `>` at its start, and a `+` at the start of a
+/// - Any other `*`, and a `?`, `~`, `^`, `[` or `{` in a word, a `/`, `<` or `>` at its start, and a `+` at the start of a
 ///   part are `Unsupported`.
 ///
 /// # Errors

@@ -6,30 +6,33 @@ use crate::cut::Stop;
 use crate::escapes::push_escaped;
 use std::alloc::{AllocError, Global};
 
-/// The delimiters of a word or a phrase.
+/// The delimiters of a word, a phrase or a prefix.
 #[derive(Clone, Copy, Debug, PartialEq, Eq)]
 pub enum Delimiter {
     /// Double quotes.
     DoubleQuotes,
+    /// A `*` after it: the text is a prefix of the words to search for.
+    Star,
     /// None.
     None,
 }
 
-/// A word or a phrase to search for.
+/// A word, a phrase or a prefix to search for.
 #[derive(Drop)]
 pub struct UserInputLiteral {
     /// The name of the field, written before a colon; `None` for the default fields.
     pub field_name: Option<String>,
-    /// The word, or the text between quotes, without escapes.
+    /// The word, the text between quotes, or the prefix, without escapes. A prefix after a field's name may be
+    /// empty.
     pub phrase: String,
-    /// Whether it is in quotes.
+    /// Whether it is in quotes, or a prefix.
     pub delimiter: Delimiter,
 }
 
 /// The syntax tree of a query.
 #[derive(Drop)]
 pub enum UserInputAst {
-    /// A word or a phrase.
+    /// A word, a phrase or a prefix.
     Leaf(UserInputLiteral),
     /// Matches the documents that all parts match.
     And(Vec<UserInputAst>),
@@ -59,6 +62,10 @@ impl UserInputLiteral {
         let phrase = self.phrase.as_str();
         match self.delimiter {
             Delimiter::None => push_escaped(Stop::WordEscape, true, phrase, text),
+            Delimiter::Star => {
+                push_escaped(Stop::WordEscape, true, phrase, text)?;
+                text.push_str("*")
+            }
             Delimiter::DoubleQuotes => {
                 text.push_str("\"")?;
                 push_escaped(Stop::PhraseEscape, false, phrase, text)?;

@@ -1,15 +1,18 @@
 -- The trees of queries, one equation for each variant, and what these mean.
-use Rattle.std.proofs.Common.{◌≡◌, ◌∙◌, ℕ, Bool, true, ◌&&◌, ◌||◌, List, [], ◌∷◌, Vec, Box, Global, sym, ap, refl}
-use Rattle.std.specs.List.{list_all, list_any}
+use Rattle.std.proofs.Common.{◌≡◌, ◌∙◌, ℕ, Bool, true, ◌&&◌, ◌||◌, ◌==◌, List, [], ◌∷◌, nat_eq, Vec, Box, Global, sym, ap, refl}
+use Rattle.std.specs.List.{list_all, list_any, starts_with}
+use Rattle.std.proofs.Math.Bool.{and-true}
 use Rattle.ii_base.specs.Schema.{SchemaEntry}
 use Rattle.ii_base.specs.Terms.{TermState}
 use Rattle.ii_definitions.specs.Tokens.{IndexToken}
 use Rattle.ii_query_parser.specs.declared.query.PhraseTerm.{PhraseTerm}
 use Rattle.ii_query_parser.specs.declared.query.Query.{Query}
+use Rattle.ii_query_parser.specs.declared.term_range.KeyBound.TheVariants.{Unbounded}
+use Rattle.ii_query_parser.specs.declared.term_range.TermRange.{TermRange}
 use Rattle.ii_query_parser.specs.declared.query.Query.TheOpen.{Query-F}
 use Rattle.ii_query_parser.specs.declared.query.Query.TheFolds.{fold-roll-Query}
-use Rattle.ii_query_parser.specs.declared.query.Query.TheVariants.{Empty, All, Term, Phrase, And, Or, AndNot, rolls-Empty, rolls-All, rolls-Term, rolls-Phrase, rolls-And, rolls-Or, rolls-AndNot}
-use Rattle.ii_query_parser.specs.Queries.{QueryTree, all_below, all_match, any_matches, any_of, each_of, has_fields, has_tree, hold_for_all, holds_for_all, is_within, keeps_positions, matches, nothing, one_phrase, one_term, phrase_has_positions, phrase_is_within, tree_matches, tree_of, tree_step, trees_of, without}
+use Rattle.ii_query_parser.specs.declared.query.Query.TheVariants.{Empty, All, Term, Phrase, Range, And, Or, AndNot, rolls-Empty, rolls-All, rolls-Term, rolls-Phrase, rolls-Range, rolls-And, rolls-Or, rolls-AndNot}
+use Rattle.ii_query_parser.specs.Queries.{QueryTree, all_below, all_match, any_matches, any_of, each_of, has_fields, has_tree, hold_for_all, holds_for_all, is_token_in, is_within, keeps_positions, matches, nothing, one_phrase, one_range, one_term, phrase_has_positions, phrase_is_within, tree_matches, tree_of, tree_step, trees_of, without}
 
 pub nothing_tree : tree_of Empty ≡ nothing
 nothing_tree = ap tree_of (sym rolls-Empty) ∙ fold-roll-Query QueryTree tree_step Query-F.Empty
@@ -22,6 +25,9 @@ term_tree term = ap tree_of (sym (rolls-Term term)) ∙ fold-roll-Query QueryTre
 
 pub phrase_tree : (first : TermState) (others : Vec PhraseTerm Global) → tree_of (Phrase first others) ≡ one_phrase first others.items
 phrase_tree first others = ap tree_of (sym (rolls-Phrase first others)) ∙ fold-roll-Query QueryTree tree_step (Query-F.Phrase first others)
+
+pub range_tree : (range : TermRange) → tree_of (Range range) ≡ one_range range
+range_tree range = ap tree_of (sym (rolls-Range range)) ∙ fold-roll-Query QueryTree tree_step (Query-F.Range range)
 
 pub and_tree : (qs : Vec Query Global) → tree_of (And qs) ≡ each_of (trees_of qs.items)
 and_tree qs = ap tree_of (sym (rolls-And qs)) ∙ fold-roll-Query QueryTree tree_step (Query-F.And qs)
@@ -59,6 +65,9 @@ term_fields n term = ap (holds_for_all (is_within n) (phrase_is_within n)) (term
 pub phrase_fields : (n : ℕ) (first : TermState) (others : Vec PhraseTerm Global) → has_fields n (Phrase first others) ≡ phrase_is_within n first others.items
 phrase_fields n first others = ap (holds_for_all (is_within n) (phrase_is_within n)) (phrase_tree first others)
 
+pub range_fields : (n : ℕ) (range : TermRange) → has_fields n (Range range) ≡ is_within n range.prefix
+range_fields n range = ap (holds_for_all (is_within n) (phrase_is_within n)) (range_tree range)
+
 pub and_fields : (n : ℕ) (qs : Vec Query Global) → has_fields n (And qs) ≡ list_all (has_fields n) qs.items
 and_fields n qs = ap (holds_for_all (is_within n) (phrase_is_within n)) (and_tree qs) ∙ held_for_all (is_within n) (phrase_is_within n) qs.items
 
@@ -82,6 +91,9 @@ pub phrase_positions : (entries : List SchemaEntry) (first : TermState) (others 
     → keeps_positions entries (Phrase first others) ≡ phrase_has_positions entries first others.items
 phrase_positions entries first others = ap (holds_for_all (λ (t : TermState). true) (phrase_has_positions entries)) (phrase_tree first others)
 
+pub range_positions : (entries : List SchemaEntry) (range : TermRange) → keeps_positions entries (Range range) ≡ true
+range_positions entries range = ap (holds_for_all (λ (t : TermState). true) (phrase_has_positions entries)) (range_tree range)
+
 pub and_positions : (entries : List SchemaEntry) (qs : Vec Query Global) → keeps_positions entries (And qs) ≡ list_all (keeps_positions entries) qs.items
 and_positions entries qs = ap (holds_for_all (λ (t : TermState). true) (phrase_has_positions entries)) (and_tree qs) ∙ held_for_all (λ (t : TermState). true) (phrase_has_positions entries) qs.items
 
@@ -97,3 +109,13 @@ or_matches qs ts doc = ap (λ (t : QueryTree). tree_matches t ts doc) (or_tree q
 
 pub and_matches : (qs : Vec Query Global) (ts : List IndexToken) (doc : ℕ) → matches (And qs) ts doc ≡ (has_tree (trees_of qs.items) && list_all (λ (q : Query). matches q ts doc) qs.items)
 and_matches qs ts doc = ap (λ (t : QueryTree). tree_matches t ts doc) (and_tree qs) ∙ ap (λ (b : Bool). has_tree (trees_of qs.items) && b) (all_matched qs.items ts doc)
+
+pub range_matches : (range : TermRange) (ts : List IndexToken) (doc : ℕ) → matches (Range range) ts doc ≡ list_any (is_token_in range doc) ts
+range_matches range ts doc = ap (λ (t : QueryTree). tree_matches t ts doc) (range_tree range)
+
+-- a range without bounds has the keys that start with its prefix
+pub prefix_matches : (range : TermRange) (ts : List IndexToken) (doc : ℕ) → range.lower ≡ Unbounded → range.upper ≡ Unbounded
+    → list_any (is_token_in range doc) ts ≡ list_any (λ (t : IndexToken). (t.doc == doc) && (t.field == range.prefix.field) && starts_with nat_eq t.key range.prefix.value) ts
+prefix_matches range [] doc lower upper = refl
+prefix_matches range (t ∷ ts) doc lower upper =
+    rw (lower, upper, prefix_matches range ts doc lower upper, and-true (starts_with nat_eq t.key range.prefix.value), and-true (starts_with nat_eq t.key range.prefix.value)) refl

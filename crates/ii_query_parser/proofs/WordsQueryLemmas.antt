@@ -1,6 +1,7 @@
 -- The queries of words and phrases in a list, and those of trees.
-use Rattle.std.proofs.Common.{◌≡◌, ◌∙◌, ℕ, Bool, true, ◌&&◌, ◌||◌, List, [], ◌∷◌, ◌++◌, append_assoc, length, map, Option, None, Vec, Global, refl, sym, ap, subst}
+use Rattle.std.proofs.Common.{◌≡◌, ◌∙◌, ℕ, Bool, true, ◌&&◌, ◌||◌, List, [], ◌∷◌, ◌++◌, append_assoc, length, map, nat_lt, Option, None, Vec, Global, refl, sym, ap, subst, arith}
 use Rattle.std.proofs.Math.Bool.{and-true, and_assoc, or-false, or_assoc}
+use Rattle.std.proofs.lemmas.Bool.{and_parts, eqb-true}
 use Rattle.std.proofs.lemmas.List.{append-nil}
 use Rattle.std.proofs.lemmas.List.Folds.{list_all-append, list_any-append}
 use Rattle.std.specs.List.{list_all, list_any}
@@ -8,12 +9,15 @@ use Rattle.std.specs.Option.{option_or}
 use Rattle.ii_base.specs.Schema.{SchemaEntry}
 use Rattle.ii_definitions.specs.Tokens.{IndexToken}
 use Rattle.ii_query_grammar.specs.Trees.{Asts, all_of, and_asts, any_of, ast_of, asts_from, no_asts}
+use Rattle.ii_query_grammar.specs.declared.user_input_ast.Delimiter.{Delimiter}
+use Rattle.ii_query_grammar.specs.declared.user_input_ast.Delimiter.TheVariants as delimiters
 use Rattle.ii_query_grammar.specs.declared.user_input_ast.UserInputAst.{UserInputAst}
+use Rattle.ii_query_parser.specs.declared.query.PhraseTerm.{PhraseTerm}
 use Rattle.ii_query_parser.specs.declared.query.Query.{Query}
 use Rattle.ii_query_parser.specs.declared.query.Query.TheVariants.{And, Or}
 use Rattle.ii_query_parser.specs.declared.query_parser_error.QueryParserError.{QueryParserError}
 use Rattle.ii_query_parser.specs.Queries.{has_fields, has_tree, keeps_positions, matches, trees_of}
-use Rattle.ii_query_parser.specs.QueryTexts.{HasPushed, MeanEach, Means, PhraseState, AnalyzedFields, all_match, any_matches, are_some, asts_refusal, has_term, has_words, phrase_kept, phrase_within}
+use Rattle.ii_query_parser.specs.QueryTexts.{HasPushed, MeanEach, Means, PhraseState, AnalyzedFields, all_match, any_matches, are_some, asts_refusal, AreAlone, has_delimited, has_term, is_alone, phrase_kept, phrase_within}
 use Rattle.ii_query_parser.proofs.QueryLemmas.{and_fields, and_matches, and_positions, or_fields, or_matches, or_positions}
 
 -- a query at the end of a list
@@ -23,22 +27,23 @@ pushed_any old new query test has is same = ap (list_any test) is ∙ list_any-a
 pub pushed_all : (old new : List Query) (query : Query) (test : Query → Bool) (has : Bool) → new ≡ old ++ query ∷ [] → test query ≡ has → list_all test new ≡ (list_all test old && has)
 pushed_all old new query test has is same = ap (list_all test) is ∙ list_all-append test old (query ∷ []) ∙ ap (λ (b : Bool). list_all test old && b) (and-true (test query) ∙ same)
 
-pub pushes : (old new : List Query) (query : Query) (words : PhraseState) → new ≡ old ++ query ∷ [] → ((ts : List IndexToken) (doc : ℕ) → matches query ts doc ≡ has_words ts doc words.first words.others)
-    → ((n : ℕ) → has_fields n query ≡ phrase_within n words) → ((entries : List SchemaEntry) → keeps_positions entries query ≡ phrase_kept entries words) → HasPushed old new words
-pushes old new query words is means fields positions = record {
-  found = λ ts doc. pushed_any old new query (λ (q : Query). matches q ts doc) (has_words ts doc words.first words.others) is (means ts doc);
+pub pushes : (delimiter : Delimiter) (old new : List Query) (query : Query) (words : PhraseState) → new ≡ old ++ query ∷ [] → ((ts : List IndexToken) (doc : ℕ) → matches query ts doc ≡ has_delimited delimiter ts doc words)
+    → ((n : ℕ) → has_fields n query ≡ phrase_within n words) → ((entries : List SchemaEntry) → keeps_positions entries query ≡ phrase_kept entries words) → HasPushed delimiter old new words
+pushes delimiter old new query words is means fields positions = record {
+  found = λ ts doc. pushed_any old new query (λ (q : Query). matches q ts doc) (has_delimited delimiter ts doc words) is (means ts doc);
   within = λ n. pushed_all old new query (has_fields n) (phrase_within n words) is (fields n);
   kept = λ entries. pushed_all old new query (keeps_positions entries) (phrase_kept entries words) is (positions entries);
 }
 
 -- The queries of some terms and phrases, and the others, are those of all.
-pub record IsCollecting (queries : List Query) (left all : List PhraseState) : Type 0 where
-  pub found : (ts : List IndexToken) (doc : ℕ) → (list_any (λ (q : Query). matches q ts doc) queries || has_term ts doc left) ≡ has_term ts doc all
+pub record IsCollecting (delimiter : Delimiter) (queries : List Query) (left all : List PhraseState) : Type 0 where
+  pub alone : AreAlone delimiter left
+  pub found : (ts : List IndexToken) (doc : ℕ) → (list_any (λ (q : Query). matches q ts doc) queries || has_term delimiter ts doc left) ≡ has_term delimiter ts doc all
   pub within : (n : ℕ) → (list_all (has_fields n) queries && list_all (phrase_within n) left) ≡ list_all (phrase_within n) all
   pub kept : (entries : List SchemaEntry) → (list_all (keeps_positions entries) queries && list_all (phrase_kept entries) left) ≡ list_all (phrase_kept entries) all
 
-pub collects_none : (all : List PhraseState) → IsCollecting [] all all
-collects_none all = record { found = λ ts doc. refl; within = λ n. refl; kept = λ entries. refl }
+pub collects_none : (delimiter : Delimiter) (all : List PhraseState) → AreAlone delimiter all → IsCollecting delimiter [] all all
+collects_none delimiter all alone = record { alone = alone; found = λ ts doc. refl; within = λ n. refl; kept = λ entries. refl }
 
 or_on : (a q r all whole : Bool) → whole ≡ (a || q) → (a || (q || r)) ≡ all → (whole || r) ≡ all
 or_on a q r all whole is left = ap (λ (b : Bool). b || r) is ∙ or_assoc a q r ∙ left
@@ -46,12 +51,31 @@ or_on a q r all whole is left = ap (λ (b : Bool). b || r) is ∙ or_assoc a q r
 and_on : (a q r all whole : Bool) → whole ≡ (a && q) → (a && (q && r)) ≡ all → (whole && r) ≡ all
 and_on a q r all whole is left = ap (λ (b : Bool). b && r) is ∙ and_assoc a q r ∙ left
 
-pub collects_more : (old new : List Query) (words : PhraseState) (left here all : List PhraseState) → here ≡ words ∷ left → HasPushed old new words → IsCollecting old here all → IsCollecting new left all
-collects_more old new words left here all is pushed i = record {
-  found = λ ts doc. or_on (list_any (λ (q : Query). matches q ts doc) old) (has_words ts doc words.first words.others) (has_term ts doc left) (has_term ts doc all) _ (pushed.found ts doc) (ap (λ (ps : List PhraseState). list_any (λ (q : Query). matches q ts doc) old || has_term ts doc ps) (sym is) ∙ i.found ts doc);
+pub collects_more : (delimiter : Delimiter) (old new : List Query) (words : PhraseState) (left here all : List PhraseState) → here ≡ words ∷ left → HasPushed delimiter old new words → IsCollecting delimiter old here all → IsCollecting delimiter new left all
+collects_more delimiter old new words left here all is pushed i = record {
+  alone = λ star. (and_parts (is_alone words) (list_all is_alone left) (ap (list_all is_alone) (sym is) ∙ i.alone star)).1;
+  found = λ ts doc. or_on (list_any (λ (q : Query). matches q ts doc) old) (has_delimited delimiter ts doc words) (has_term delimiter ts doc left) (has_term delimiter ts doc all) _ (pushed.found ts doc) (ap (λ (ps : List PhraseState). list_any (λ (q : Query). matches q ts doc) old || has_term delimiter ts doc ps) (sym is) ∙ i.found ts doc);
   within = λ n. and_on (list_all (has_fields n) old) (phrase_within n words) (list_all (phrase_within n) left) (list_all (phrase_within n) all) _ (pushed.within n) (ap (λ (ps : List PhraseState). list_all (has_fields n) old && list_all (phrase_within n) ps) (sym is) ∙ i.within n);
   kept = λ entries. and_on (list_all (keeps_positions entries) old) (phrase_kept entries words) (list_all (phrase_kept entries) left) (list_all (phrase_kept entries) all) _ (pushed.kept entries) (ap (λ (ps : List PhraseState). list_all (keeps_positions entries) old && list_all (phrase_kept entries) ps) (sym is) ∙ i.kept entries);
 }
+
+-- the next one of terms that are left
+pub next_alone : (delimiter : Delimiter) (queries : List Query) (words : PhraseState) (left here all : List PhraseState) → here ≡ words ∷ left → IsCollecting delimiter queries here all → delimiter ≡ delimiters.Star → is_alone words ≡ true
+next_alone delimiter queries words left here all is i star = (and_parts (is_alone words) (list_all is_alone left) (ap (list_all is_alone) (sym is) ∙ i.alone star)).0
+
+none_others : (words : PhraseState) → is_alone words ≡ true → words.others ≡ []
+none_others words alone = none words.others (eqb-true (length words.others) 0 alone)
+  where
+    none : (os : List PhraseTerm) → length os ≡ 0 → os ≡ []
+    none [] is = refl
+    none (o ∷ os) is = absurd (omega (arith, is))
+
+-- of a term alone only its field matters, and it needs no positions
+pub alone_within : (n : ℕ) (words : PhraseState) → is_alone words ≡ true → nat_lt words.first.field n ≡ phrase_within n words
+alone_within n words alone = rw (none_others words alone) (sym (and-true (nat_lt words.first.field n)))
+
+pub alone_kept : (entries : List SchemaEntry) (words : PhraseState) → is_alone words ≡ true → true ≡ phrase_kept entries words
+alone_kept entries words alone = rw alone refl
 
 -- What holds of each of some queries.
 record EachMeans (q : AnalyzedFields) (us : Asts) (queries : List Query) : Type 0 where

@@ -11,6 +11,8 @@ use Rattle.ii_definitions.specs.Tokens.{IndexToken}
 use Rattle.ii_query_parser.specs.declared.query.Query.{Query, fold-Query}
 use Rattle.ii_query_parser.specs.declared.query.Query.TheOpen.{Query-F}
 use Rattle.ii_query_parser.specs.declared.query.PhraseTerm.{PhraseTerm}
+use Rattle.ii_query_parser.specs.declared.term_range.TermRange.{TermRange}
+use Rattle.ii_query_parser.specs.Ranges.{in_range}
 
 -- whether a token of a document has the field and the key of a term
 abbrev pub is_token_of : TermState → ℕ → IndexToken → Bool
@@ -37,13 +39,18 @@ follow ts doc others start = list_all (λ (o : PhraseTerm). stands_at ts doc o.t
 abbrev pub has_phrase : List IndexToken → ℕ → TermState → List PhraseTerm → Bool
 has_phrase ts doc first others = is_text_key first ts && list_any (λ (t : IndexToken). is_token_of first doc t && follow ts doc others t.position) ts
 
--- What a query is made of: none; all documents below a number; a term; a phrase; what each of some queries matches, or any of them; what one matches and another one doesn't.
+-- whether a token of a document has the field of a range, and a key that the range has
+abbrev pub is_token_in : TermRange → ℕ → IndexToken → Bool
+is_token_in range doc t = (t.doc == doc) && (t.field == range.prefix.field) && in_range range t.key
+
+-- What a query is made of: none; all documents below a number; a term; a phrase; a range of terms; what each of some queries matches, or any of them; what one matches and another one doesn't.
 mutual
   pub data QueryTree : Type 0 where
     nothing : QueryTree
     all_below : ℕ → QueryTree
     one_term : TermState → QueryTree
     one_phrase : TermState → List PhraseTerm → QueryTree
+    one_range : TermRange → QueryTree
     each_of : QueryTrees → QueryTree
     any_of : QueryTrees → QueryTree
     without : QueryTree → QueryTree → QueryTree
@@ -63,6 +70,7 @@ tree_step Query-F.Empty = nothing
 tree_step (Query-F.All n) = all_below n
 tree_step (Query-F.Term term) = one_term term
 tree_step (Query-F.Phrase first others) = one_phrase first others.items
+tree_step (Query-F.Range range) = one_range range
 tree_step (Query-F.And queries) = each_of (trees_from queries.items)
 tree_step (Query-F.Or queries) = any_of (trees_from queries.items)
 tree_step (Query-F.AndNot first other) = without first.value other.value
@@ -80,13 +88,14 @@ abbrev pub has_tree : QueryTrees → Bool
 has_tree no_tree = false
 has_tree (tree t ts) = true
 
--- Whether a document matches: it is below a number, has a token with the term's field and key, has the phrase, or matches as the parts say.
+-- Whether a document matches: it is below a number, has a token with the term's field and key, has the phrase, has a token in the range, or matches as the parts say.
 abbrev mutual
   pub tree_matches : QueryTree → List IndexToken → ℕ → Bool
   tree_matches nothing ts doc = false
   tree_matches (all_below n) ts doc = nat_lt doc (min n TERMINATED)
   tree_matches (one_term term) ts doc = list_any (is_token_of term doc) ts
   tree_matches (one_phrase first others) ts doc = has_phrase ts doc first others
+  tree_matches (one_range range) ts doc = list_any (is_token_in range doc) ts
   tree_matches (each_of qs) ts doc = has_tree qs && all_match qs ts doc
   tree_matches (any_of qs) ts doc = any_matches qs ts doc
   tree_matches (without first other) ts doc = tree_matches first ts doc && not (tree_matches other ts doc)
@@ -103,13 +112,14 @@ abbrev mutual
 abbrev pub matches : Query → List IndexToken → ℕ → Bool
 matches query ts doc = tree_matches (tree_of query) ts doc
 
--- Whether a test of terms and of phrases holds for all of a query.
+-- Whether a test of terms and of phrases holds for all of a query; a range is tested by its prefix.
 abbrev mutual
   pub holds_for_all : (TermState → Bool) → (TermState → List PhraseTerm → Bool) → QueryTree → Bool
   holds_for_all of_term of_phrase nothing = true
   holds_for_all of_term of_phrase (all_below n) = true
   holds_for_all of_term of_phrase (one_term term) = of_term term
   holds_for_all of_term of_phrase (one_phrase first others) = of_phrase first others
+  holds_for_all of_term of_phrase (one_range range) = of_term range.prefix
   holds_for_all of_term of_phrase (each_of qs) = hold_for_all of_term of_phrase qs
   holds_for_all of_term of_phrase (any_of qs) = hold_for_all of_term of_phrase qs
   holds_for_all of_term of_phrase (without first other) = holds_for_all of_term of_phrase first && holds_for_all of_term of_phrase other

@@ -1,7 +1,7 @@
 -- What the text of a query means, by the fields of a schema.
 use Rattle.std.specs.Prelude.{◌≡◌, ◌⊎◌, ℕ, Bool, true, false, ◌&&◌, ◌||◌, ◌==◌, ◌+◌, ◌-◌, not, List, [], ◌∷◌, ◌++◌, Option, None, Some, Result, Ok, Err, bytes_eq, drop, if◌then◌else◌, length, map, nat_eq, nat_le, nat_lt, option_map, position, slice_get, take, Vec}
 use Rattle.std.specs.Borrow.{Bor}
-use Rattle.std.specs.List.{AllByRecursion, list_all, list_any, position_from}
+use Rattle.std.specs.List.{AllByRecursion, find, list_all, list_any, position_from, starts_with}
 use Rattle.std.specs.Option.{option_or, option_to_list}
 use Rattle.std.specs.declared.alloc.Global.{Global}
 use Rattle.ii_io.specs.declared.faults.Fault.TheVariants.{OutOfMemory}
@@ -19,6 +19,8 @@ use Rattle.ii_definitions.specs.Tokens.{IndexToken}
 use Rattle.ii_query_grammar.specs.Parsed.{parsed}
 use Rattle.ii_query_grammar.specs.Trees.{Ast, Asts, Literal, all_of, and_asts, any_of, leaf, no_asts, without}
 use Rattle.ii_query_grammar.specs.declared.parse_error.ParseError.{ParseError}
+use Rattle.ii_query_grammar.specs.declared.user_input_ast.Delimiter.{Delimiter}
+use Rattle.ii_query_grammar.specs.declared.user_input_ast.Delimiter.TheVariants as delimiters
 use Rattle.ii_query_grammar.specs.declared.query_grammar.TheConstants.{MAX_NESTING}
 use Rattle.ii_query_parser.specs.Queries.{has_fields, has_phrase, has_positions_in, is_token_of, keeps_positions, matches}
 use Rattle.ii_query_parser.specs.ParserErrors.{as_parser_error}
@@ -172,6 +174,7 @@ needs_positions errors.NoDefaultFieldDeclared = false
 needs_positions (errors.ExpectedInt field) = false
 needs_positions (errors.ExpectedBool field) = false
 needs_positions (errors.UnsupportedPhrase field) = false
+needs_positions (errors.UnsupportedPrefix field) = false
 needs_positions (errors.UnsupportedPath field) = false
 needs_positions (errors.UnsupportedType field) = false
 needs_positions (errors.Fault fault) = false
@@ -202,23 +205,69 @@ abbrev pub literal_terms : FieldTexts → List ℕ → Option (List ℕ) → Lis
 literal_terms q defaults None phrase = some_default q phrase defaults
 literal_terms q defaults (Some name) phrase = named_terms q name phrase (field_named q.entries name)
 
+-- whether values of a type are texts, or may be
+abbrev pub are_texts : ValueType → Bool
+are_texts types.Str = true
+are_texts types.Json = true
+are_texts types.U64 = false
+are_texts types.I64 = false
+are_texts types.Bool = false
+are_texts types.Date = false
+are_texts types.Bytes = false
+are_texts types.IpAddr = false
+
+-- whether a field has texts
+abbrev pub has_texts : Option SchemaEntry → Bool
+has_texts None = false
+has_texts (Some e) = are_texts e.value_type
+
+-- whether a term may be a prefix: no other follows it, and its field has texts
+abbrev pub may_be_prefix : List SchemaEntry → PhraseState → Bool
+may_be_prefix entries p = is_alone p && has_texts (slice_get entries p.first.field)
+
+-- the first term or phrase that may be no prefix
+abbrev pub no_prefix : List SchemaEntry → List PhraseState → Option PhraseState
+no_prefix entries terms = find (λ (p : PhraseState). not (may_be_prefix entries p)) terms
+
+-- the terms of a prefix, unless this one may be none
+abbrev pub prefix_terms : List PhraseState → Option PhraseState → Terms
+prefix_terms terms None = Ok terms
+prefix_terms terms (Some p) = Err (errors.UnsupportedPrefix p.first.field)
+
+-- the terms of a text by its delimiter: those of a prefix are terms of which each may be one
+abbrev pub delimited_terms : List SchemaEntry → Terms → Delimiter → Terms
+delimited_terms entries (Err e) delimiter = Err e
+delimited_terms entries (Ok terms) delimiters.None = Ok terms
+delimited_terms entries (Ok terms) delimiters.DoubleQuotes = Ok terms
+delimited_terms entries (Ok terms) delimiters.Star = prefix_terms terms (no_prefix entries terms)
+
 -- the terms of a literal of a tree
 abbrev pub terms_of : AnalyzedFields → Literal → Terms
-terms_of q l = literal_terms q.texts q.defaults l.field_name l.phrase
+terms_of q l = delimited_terms q.texts.entries (literal_terms q.texts q.defaults l.field_name l.phrase) l.delimiter
 
 -- whether a document has a term, or the phrase where others follow it
 abbrev pub has_words : List IndexToken → ℕ → TermState → List PhraseTerm → Bool
 has_words ts doc first [] = list_any (is_token_of first doc) ts
 has_words ts doc first (o ∷ os) = has_phrase ts doc first (o ∷ os)
 
--- whether a document has one of these terms and phrases
-abbrev pub has_term : List IndexToken → ℕ → List PhraseState → Bool
-has_term ts doc terms = list_any (λ (p : PhraseState). has_words ts doc p.first p.others) terms
+-- whether a token of a document has the field of a term, and a key that starts with the term's
+abbrev pub is_token_under : TermState → ℕ → IndexToken → Bool
+is_token_under term doc t = (t.doc == doc) && (t.field == term.field) && starts_with nat_eq t.key term.value
 
--- whether a document has what a word or a phrase means
-abbrev pub has_one : List IndexToken → ℕ → Terms → Bool
-has_one ts doc (Err e) = false
-has_one ts doc (Ok terms) = has_term ts doc terms
+-- whether a document has a term or a phrase, or a term of which it is a prefix
+abbrev pub has_delimited : Delimiter → List IndexToken → ℕ → PhraseState → Bool
+has_delimited delimiters.None ts doc p = has_words ts doc p.first p.others
+has_delimited delimiters.DoubleQuotes ts doc p = has_words ts doc p.first p.others
+has_delimited delimiters.Star ts doc p = list_any (is_token_under p.first doc) ts
+
+-- whether a document has one of these terms, phrases or prefixes
+abbrev pub has_term : Delimiter → List IndexToken → ℕ → List PhraseState → Bool
+has_term delimiter ts doc terms = list_any (has_delimited delimiter ts doc) terms
+
+-- whether a document has what a word, a phrase or a prefix means
+abbrev pub has_one : Delimiter → List IndexToken → ℕ → Terms → Bool
+has_one delimiter ts doc (Err e) = false
+has_one delimiter ts doc (Ok terms) = has_term delimiter ts doc terms
 
 -- whether there is a tree
 abbrev pub are_some : Asts → Bool
@@ -228,7 +277,7 @@ are_some (and_asts t ts) = true
 -- Whether a document matches the tree of a text; whether it matches each of some trees, of which there has to be one; or any of them.
 abbrev mutual
   pub ast_matches : AnalyzedFields → Ast → List IndexToken → ℕ → Bool
-  ast_matches q (leaf l) ts doc = has_one ts doc (terms_of q l)
+  ast_matches q (leaf l) ts doc = has_one l.delimiter ts doc (terms_of q l)
   ast_matches q (all_of us) ts doc = are_some us && all_match q us ts doc
   ast_matches q (any_of us) ts doc = any_matches q us ts doc
   ast_matches q (without first other) ts doc = ast_matches q first ts doc && not (ast_matches q other ts doc)
@@ -386,9 +435,13 @@ abbrev pub AreQueriesOf : AnalyzedFields → Asts → Result (Vec Query Global) 
 AreQueriesOf q us (Ok queries) = MeanEach q us queries.items
 AreQueriesOf q us (Err e) = IsWhyRefused (asts_refusal q us) e
 
--- The query of a term or a phrase was added to a list.
-pub record HasPushed (old new : List Query) (words : PhraseState) : Type 0 where
-  pub found : (ts : List IndexToken) (doc : ℕ) → list_any (λ (q : Query). matches q ts doc) new ≡ (list_any (λ (q : Query). matches q ts doc) old || has_words ts doc words.first words.others)
+-- Only terms alone are prefixes.
+abbrev pub AreAlone : Delimiter → List PhraseState → Type 0
+AreAlone delimiter terms = delimiter ≡ delimiters.Star → list_all is_alone terms ≡ true
+
+-- The query of a term, a phrase or a prefix was added to a list.
+pub record HasPushed (delimiter : Delimiter) (old new : List Query) (words : PhraseState) : Type 0 where
+  pub found : (ts : List IndexToken) (doc : ℕ) → list_any (λ (q : Query). matches q ts doc) new ≡ (list_any (λ (q : Query). matches q ts doc) old || has_delimited delimiter ts doc words)
   pub within : (n : ℕ) → list_all (has_fields n) new ≡ (list_all (has_fields n) old && phrase_within n words)
   pub kept : (entries : List SchemaEntry) → list_all (keeps_positions entries) new ≡ (list_all (keeps_positions entries) old && phrase_kept entries words)
 

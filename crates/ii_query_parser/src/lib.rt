@@ -6,6 +6,7 @@ mod phrase_words;
 pub mod query;
 pub mod query_parser;
 pub mod query_parser_error;
+pub mod term_range;
 mod unknown_field;
 
 pub use ii_query_grammar::{
@@ -16,4 +17,5 @@ pub use literal::field_named;
 pub use query::{PhraseTerm, Query};
 pub use query_parser::{parse_query, parse_query_by, query_of, query_of_by};
 pub use query_parser_error::QueryParserError;
+pub use term_range::{KeyBound, TermRange};
 pub use unknown_field::unknown_field_name;

@@ -1,21 +1,23 @@
-ghost use Rattle.std.specs.Prelude.{◌≡◌, ◌==◌, ◌<◌, ◌++◌, [], false, Err, None, length, position, slice_get, IfErr, IfOk, IfSome};
+ghost use Rattle.std.specs.Prelude.{◌≡◌, ◌==◌, ◌<◌, ◌++◌, [], false, true, Err, None, Ok, length, position, slice_get, IfErr, IfOk, IfSome, OnOk};
 ghost use Rattle.ii_io.specs.Faults.{OnlyMemory};
 ghost use Rattle.ii_base.specs.Options.{has_positions};
 ghost use Rattle.ii_base.specs.Values.{text_key};
 ghost use Rattle.ii_base.specs.declared.schema.value_type.ValueType.TheVariants as types;
 ghost use Rattle.ii_query_grammar.specs.Trees.{literal_of};
 ghost use Rattle.ii_query_parser.specs.declared.query_parser_error.QueryParserError.TheVariants as errors;
-ghost use Rattle.ii_query_parser.specs.QueryTexts.{Adds, AddsIn, AddsOrKeeps, AddsMaybe, AddsText, CutsAtDot, field_named, has_json_values, left_out, named_terms, some_default, terms_in_field, terms_of, typed_terms, words_phrase};
+ghost use Rattle.ii_query_parser.specs.QueryTexts.{Adds, AddsIn, AddsOrKeeps, AddsMaybe, AddsText, AreAlone, CutsAtDot, delimited_terms, field_named, has_json_values, has_texts, is_alone, left_out, literal_terms, may_be_prefix, named_terms, no_prefix, prefix_terms, some_default, terms_in_field, terms_of, typed_terms, words_phrase};
+ghost use Rattle.std.specs.List.{list_all};
 
 use crate::phrase_words::{PhraseWords, words_phrase};
 use crate::query_parser_error::QueryParserError;
 use ii_base::{Fault, Field, IndexRecordOption, Schema, Term, TextAnalyzer, ValueType};
 use ii_json::{bool_term, convert_to_fast_value_and_append_to_json_term, i64_term, u64_term};
-use ii_query_grammar::UserInputLiteral;
+use ii_query_grammar::{Delimiter, UserInputLiteral};
 use ii_tokenizers::FieldAnalyzers;
 use std::alloc::Global;
 
-/// Appends the terms and phrases of a literal. A document matches if it has any of them.
+/// Appends the terms, phrases or prefixes of a literal to an empty list. A document matches if it has any of
+/// them.
 pub(crate) fn push_literal<F: FieldAnalyzers>(
     alloc: Global,
     schema: &Schema,
@@ -24,7 +26,85 @@ pub(crate) fn push_literal<F: FieldAnalyzers>(
     literal: &UserInputLiteral,
     terms: &mut Vec<PhraseWords>,
 ) -> Result<(), QueryParserError>
-    ensures { Adds (terms_of (record { texts = record { analyze = F.words analyzers.now; entries = schema.now }; defaults = default_fields.now }) (literal_of literal.now)) schema.now terms.old.items terms.new.items result }
+    requires empty { terms.old.items ≡ [] }
+    ensures added { Adds (terms_of (record { texts = record { analyze = F.words analyzers.now; entries = schema.now }; defaults = default_fields.now }) (literal_of literal.now)) schema.now terms.old.items terms.new.items result }
+    ensures alone { OnOk result (AreAlone literal.now.delimiter terms.new.items) }
+{
+    match push_text(alloc, schema, default_fields, analyzers, literal, terms) {
+        Ok(()) => check_delimiter(schema, literal.delimiter, terms),
+        Err(error) => Err(error),
+    }
+}
+
+// Returns an error if terms are prefixes and one of them may be none.
+fn check_delimiter(
+    schema: &Schema,
+    delimiter: Delimiter,
+    terms: &[PhraseWords],
+) -> Result<(), QueryParserError>
+    ensures taken { OnOk result (delimited_terms schema.now (Ok terms.now) delimiter ≡ Ok terms.now) }
+    ensures alone { OnOk result (AreAlone delimiter terms.now) }
+    ensures refused { IfErr result (λ e. delimited_terms schema.now (Ok terms.now) delimiter ≡ Err e) }
+{
+    match delimiter {
+        Delimiter::Star => check_prefixes(schema, terms),
+        Delimiter::None => Ok(()),
+        Delimiter::DoubleQuotes => Ok(()),
+    }
+}
+
+// Returns an error if one of some terms may be no prefix.
+fn check_prefixes(schema: &Schema, terms: &[PhraseWords]) -> Result<(), QueryParserError>
+    ensures taken { OnOk result (no_prefix schema.now terms.now ≡ None) }
+    ensures alone { OnOk result (list_all is_alone terms.now ≡ true) }
+    ensures refused { IfErr result (λ e. prefix_terms terms.now (no_prefix schema.now terms.now) ≡ Err e) }
+{
+    for words in terms {
+        if !may_be_prefix(schema, words) {
+            return Err(QueryParserError::UnsupportedPrefix(words.field()));
+        }
+    }
+    Ok(())
+}
+
+// Whether a term may be a prefix: no other follows it, and its field has texts.
+fn may_be_prefix(schema: &Schema, words: &PhraseWords) -> bool
+    ensures { result ≡ may_be_prefix schema.now words.now }
+{
+    if !words.is_alone() {
+        return false;
+    }
+    has_texts(schema, words.field())
+}
+
+// Whether a field of the schema has texts.
+fn has_texts(schema: &Schema, field: Field) -> bool
+    ensures { result ≡ has_texts (slice_get schema.now field) }
+{
+    if field.field_id() as usize >= schema.num_fields() {
+        return false;
+    }
+    match schema.get_field_entry(field).value_type() {
+        ValueType::Str | ValueType::Json => true,
+        ValueType::U64
+        | ValueType::I64
+        | ValueType::Bool
+        | ValueType::Date
+        | ValueType::Bytes
+        | ValueType::IpAddr => false,
+    }
+}
+
+// Appends the terms and phrases of the text of a literal.
+fn push_text<F: FieldAnalyzers>(
+    alloc: Global,
+    schema: &Schema,
+    default_fields: &[Field],
+    analyzers: &F,
+    literal: &UserInputLiteral,
+    terms: &mut Vec<PhraseWords>,
+) -> Result<(), QueryParserError>
+    ensures { Adds (literal_terms (record { analyze = F.words analyzers.now; entries = schema.now }) default_fields.now (literal_of literal.now).field_name (literal_of literal.now).phrase) schema.now terms.old.items terms.new.items result }
 {
     let phrase = literal.phrase.as_str();
     match &literal.field_name {

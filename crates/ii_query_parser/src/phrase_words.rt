@@ -4,7 +4,7 @@ ghost use Rattle.ii_io.specs.Faults.{OnlyMemory};
 ghost use Rattle.ii_query_parser.specs.QueryTexts.{is_alone, one_term, stand_after, terms_after, word_term, words_phrase};
 
 use crate::query::PhraseTerm;
-use ii_base::{Fault, Term, TextAnalyzer, TokenStream};
+use ii_base::{Fault, Field, Term, TextAnalyzer, TokenStream};
 use std::alloc::Global;
 use std::marker::Model;
 
@@ -48,6 +48,13 @@ impl PhraseWords {
         ensures { result ≡ is_alone self.now }
     {
         self.others.is_empty()
+    }
+
+    // The field of its first term.
+    pub(crate) fn field(&self) -> Field
+        ensures { result ≡ self.now.first.field }
+    {
+        self.first.field()
     }
 
     // Its first term, and the others.

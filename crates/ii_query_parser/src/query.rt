@@ -1,10 +1,11 @@
-ghost use Rattle.std.specs.Prelude.{◌≡◌, ◌&&◌, ◌||◌, ◌∷◌, [], ℕ, List, IfOk, length, nat_lt, not};
-ghost use Rattle.std.specs.List.{list_all, list_any};
+ghost use Rattle.std.specs.Prelude.{◌≡◌, ◌&&◌, ◌||◌, ◌==◌, ◌∷◌, [], ℕ, List, IfOk, length, nat_eq, nat_lt, not, true};
+ghost use Rattle.std.specs.List.{list_all, list_any, starts_with};
 ghost use Rattle.ii_io.specs.Faults.{OnlyMemory};
 ghost use Rattle.ii_base.specs.Schema.{SchemaEntry};
 ghost use Rattle.ii_definitions.specs.Tokens.{IndexToken};
-ghost use Rattle.ii_query_parser.specs.Queries.{any_of, each_of, has_fields, has_positions_in, keeps_positions, matches, no_tree, tree, tree_of, trees_of, without};
+ghost use Rattle.ii_query_parser.specs.Queries.{any_of, each_of, has_fields, has_positions_in, is_token_in, keeps_positions, matches, no_tree, one_range, tree, tree_of, trees_of, without};
 
+use crate::term_range::TermRange;
 use ii_base::{DocId, Fault, Schema, Term};
 use std::alloc::Global;
 
@@ -32,6 +33,9 @@ pub enum Query {
     /// Matches the documents with a phrase: a token of its first term, with each other term at its distance
     /// after that. The fields of the terms keep positions.
     Phrase(Term, Vec<PhraseTerm>),
+    /// Matches the documents with a token whose field is that of the range, and whose key the range has. A
+    /// search collects these documents when it is opened.
+    Range(TermRange),
     /// Matches the documents that all queries match; no document if there are no queries.
     And(Vec<Query>),
     /// Matches the documents that at least one of the queries matches.
@@ -41,6 +45,29 @@ pub enum Query {
 }
 
 impl Query {
+    /// Returns the query that matches the documents with a token whose field is that of the range, and whose
+    /// key the range has.
+    #[tactic(auto, using(crate::proofs::QueryLemmas::range_tree, crate::proofs::QueryLemmas::range_matches, crate::proofs::QueryLemmas::range_fields, crate::proofs::QueryLemmas::range_positions))]
+    pub fn range(range: TermRange) -> Query
+        ensures tree { tree_of result ≡ one_range range }
+        ensures matches { (ts : List IndexToken) (doc : ℕ) → matches result ts doc ≡ list_any (is_token_in range doc) ts }
+        ensures fields { (n : ℕ) → has_fields n result ≡ nat_lt range.prefix.field n }
+        ensures positions { (entries : List SchemaEntry) → keeps_positions entries result ≡ true }
+    {
+        Query::Range(range)
+    }
+
+    /// Returns the query that matches the documents with a token whose field is that of the prefix, and whose
+    /// key starts with its value.
+    #[tactic(auto, using(crate::proofs::QueryLemmas::prefix_matches))]
+    pub fn prefix(prefix: Term) -> Query
+        ensures matches { (ts : List IndexToken) (doc : ℕ) → matches result ts doc ≡ list_any (λ t. (t.doc == doc) && (t.field == prefix.field) && starts_with nat_eq t.key prefix.value) ts }
+        ensures fields { (n : ℕ) → has_fields n result ≡ nat_lt prefix.field n }
+        ensures positions { (entries : List SchemaEntry) → keeps_positions entries result ≡ true }
+    {
+        Query::range(TermRange::with_prefix(prefix))
+    }
+
     /// Returns the query that matches what both match. Fails only with `OutOfMemory`.
     #[tactic(auto, using(crate::proofs::QueryLemmas::and_tree))]
     pub fn and(alloc: Global, first: Query, other: Query) -> Result<Query, Fault>
@@ -117,7 +144,7 @@ impl Query {
 
     /// Returns whether each term belongs to a field of the schema.
     #[cycle(has_fields)]
-    #[tactic(auto, using(crate::proofs::QueryLemmas::nothing_fields, crate::proofs::QueryLemmas::all_fields, crate::proofs::QueryLemmas::term_fields, crate::proofs::QueryLemmas::phrase_fields, crate::proofs::QueryLemmas::and_fields, crate::proofs::QueryLemmas::or_fields, crate::proofs::QueryLemmas::and_not_fields))]
+    #[tactic(auto, using(crate::proofs::QueryLemmas::nothing_fields, crate::proofs::QueryLemmas::all_fields, crate::proofs::QueryLemmas::term_fields, crate::proofs::QueryLemmas::phrase_fields, crate::proofs::QueryLemmas::range_fields, crate::proofs::QueryLemmas::and_fields, crate::proofs::QueryLemmas::or_fields, crate::proofs::QueryLemmas::and_not_fields))]
     pub fn has_fields(&self, schema: &Schema) -> bool
         ensures { result ≡ has_fields (length schema.now) self.now }
     {
@@ -126,6 +153,7 @@ impl Query {
             Query::All(_) => true,
             Query::Term(term) => is_in(term, schema),
             Query::Phrase(first, others) => is_in(first, schema) && are_in(others, schema),
+            Query::Range(range) => is_in(&range.prefix, schema),
             Query::And(queries) => have_fields(queries, schema),
             Query::Or(queries) => have_fields(queries, schema),
             Query::AndNot(first, other) => first.has_fields(schema) && other.has_fields(schema),
@@ -134,7 +162,7 @@ impl Query {
 
     /// Returns whether the fields of all phrases keep positions.
     #[cycle(keeps_positions)]
-    #[tactic(auto, using(crate::proofs::QueryLemmas::nothing_positions, crate::proofs::QueryLemmas::all_positions, crate::proofs::QueryLemmas::term_positions, crate::proofs::QueryLemmas::phrase_positions, crate::proofs::QueryLemmas::and_positions, crate::proofs::QueryLemmas::or_positions, crate::proofs::QueryLemmas::and_not_positions))]
+    #[tactic(auto, using(crate::proofs::QueryLemmas::nothing_positions, crate::proofs::QueryLemmas::all_positions, crate::proofs::QueryLemmas::term_positions, crate::proofs::QueryLemmas::phrase_positions, crate::proofs::QueryLemmas::range_positions, crate::proofs::QueryLemmas::and_positions, crate::proofs::QueryLemmas::or_positions, crate::proofs::QueryLemmas::and_not_positions))]
     pub fn keeps_positions(&self, schema: &Schema) -> bool
         ensures { result ≡ keeps_positions schema.now self.now }
     {
@@ -142,6 +170,7 @@ impl Query {
             Query::Empty => true,
             Query::All(_) => true,
             Query::Term(_) => true,
+            Query::Range(_) => true,
             Query::Phrase(first, others) => {
                 has_positions_in(first, schema) && have_positions_in(others, schema)
             }

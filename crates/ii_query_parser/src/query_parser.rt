@@ -1,18 +1,18 @@
-ghost use Rattle.std.specs.Prelude.{◌≡◌, ℕ, List, IfOk, OnOk, map};
+ghost use Rattle.std.specs.Prelude.{◌≡◌, ℕ, List, IfOk, OnOk, map, true};
 ghost use Rattle.std.specs.List.{list_all, list_any};
 ghost use Rattle.ii_io.specs.Faults.{OnlyMemory};
 ghost use Rattle.ii_base.specs.Schema.{SchemaEntry};
 ghost use Rattle.ii_definitions.specs.Tokens.{IndexToken};
 ghost use Rattle.ii_query_grammar.specs.Trees.{Ast, Asts, all_of, any_of, ast_of, asts_from, leaf, literal_of, without};
 ghost use Rattle.ii_query_parser.specs.Queries.{has_fields, keeps_positions, matches};
-ghost use Rattle.ii_query_parser.specs.QueryTexts.{AnalyzedFields, AreQueriesOf, HasPushed, IsQueryBy, IsQueryOf, IsQueryOfText, IsQueryOfTextBy, has_term, has_words, phrase_kept, phrase_within};
+ghost use Rattle.ii_query_parser.specs.QueryTexts.{AnalyzedFields, AreAlone, AreQueriesOf, HasPushed, IsQueryBy, IsQueryOf, IsQueryOfText, IsQueryOfTextBy, has_delimited, has_term, has_words, is_alone, is_token_under, phrase_kept, phrase_within};
 
 use crate::literal::push_literal;
 use crate::phrase_words::PhraseWords;
 use crate::query::Query;
 use crate::query_parser_error::QueryParserError;
 use ii_base::{Fault, Field, Schema, TextAnalyzer};
-use ii_query_grammar::{UserInputAst, UserInputLiteral, parse};
+use ii_query_grammar::{Delimiter, UserInputAst, UserInputLiteral, parse};
 use ii_tokenizers::{FieldAnalyzers, OneAnalyzer};
 use std::alloc::Global;
 
@@ -170,7 +170,7 @@ fn and_not_query(
     }
 }
 
-// The query of a word or a phrase.
+// The query of a word, a phrase or a prefix.
 fn literal_query<F: FieldAnalyzers>(
     alloc: Global,
     schema: &Schema,
@@ -189,21 +189,22 @@ fn literal_query<F: FieldAnalyzers>(
         literal,
         &mut terms,
     ) {
-        Ok(()) => Ok(any_of(alloc, terms)?),
+        Ok(()) => Ok(any_of(alloc, terms, literal.delimiter)?),
         Err(error) => Err(error),
     }
 }
 
-// The query that matches what has one of some terms and phrases: a list of them, or a single one itself.
-fn any_of(alloc: Global, terms: Vec<PhraseWords>) -> Result<Query, Fault>
-    ensures matches { IfOk result (λ query. (ts : List IndexToken) (doc : ℕ) → matches query ts doc ≡ has_term ts doc terms.items) }
+// The query that matches what has one of some terms, phrases or prefixes: a list of them, or a single one itself.
+fn any_of(alloc: Global, terms: Vec<PhraseWords>, delimiter: Delimiter) -> Result<Query, Fault>
+    requires alone { AreAlone delimiter terms.items }
+    ensures matches { IfOk result (λ query. (ts : List IndexToken) (doc : ℕ) → matches query ts doc ≡ has_term delimiter ts doc terms.items) }
     ensures fields { IfOk result (λ query. (n : ℕ) → has_fields n query ≡ list_all (phrase_within n) terms.items) }
     ensures positions { IfOk result (λ query. (entries : List SchemaEntry) → keeps_positions entries query ≡ list_all (phrase_kept entries) terms.items) }
     ensures only { OnlyMemory result }
 {
     let mut queries = Vec::new(alloc);
     for words in terms {
-        match push_words(&mut queries, words) {
+        match push_words(&mut queries, words, delimiter) {
             Ok(()) => {}
             Err(fault) => return Err(fault),
         }
@@ -211,12 +212,17 @@ fn any_of(alloc: Global, terms: Vec<PhraseWords>) -> Result<Query, Fault>
     Ok(single_or_any(queries))
 }
 
-// Adds the query of a term or a phrase.
-fn push_words(queries: &mut Vec<Query>, words: PhraseWords) -> Result<(), Fault>
-    ensures pushed { OnOk result (HasPushed queries.old.items queries.new.items words) }
+// Adds the query of a term, a phrase or a prefix.
+fn push_words(
+    queries: &mut Vec<Query>,
+    words: PhraseWords,
+    delimiter: Delimiter,
+) -> Result<(), Fault>
+    requires alone { delimiter ≡ Delimiter.Star → is_alone words ≡ true }
+    ensures pushed { OnOk result (HasPushed delimiter queries.old.items queries.new.items words) }
     ensures only { OnlyMemory result }
 {
-    Ok(queries.push(words_query(words))?)
+    Ok(queries.push(delimited_query(words, delimiter))?)
 }
 
 // The only query of a list, or the query that matches what one of them matches.
@@ -232,6 +238,33 @@ fn single_or_any(mut queries: Vec<Query>) -> Query
         Some(query) => query,
         None => Query::Empty,
     }
+}
+
+// The query of a term, a phrase or a prefix.
+fn delimited_query(words: PhraseWords, delimiter: Delimiter) -> Query
+    requires alone { delimiter ≡ Delimiter.Star → is_alone words ≡ true }
+    ensures matches { (ts : List IndexToken) (doc : ℕ) → matches result ts doc ≡ has_delimited delimiter ts doc words }
+    ensures fields { (n : ℕ) → has_fields n result ≡ phrase_within n words }
+    ensures positions { (entries : List SchemaEntry) → keeps_positions entries result ≡ phrase_kept entries words }
+{
+    match delimiter {
+        Delimiter::Star => prefix_query(words),
+        Delimiter::None => words_query(words),
+        Delimiter::DoubleQuotes => words_query(words),
+    }
+}
+
+// The query of a prefix.
+#[tactic(auto, using(crate::proofs::WordsQueryLemmas::alone_within, crate::proofs::WordsQueryLemmas::alone_kept))]
+fn prefix_query(words: PhraseWords) -> Query
+    requires alone { is_alone words ≡ true }
+    ensures matches { (ts : List IndexToken) (doc : ℕ) → matches result ts doc ≡ list_any (is_token_under words.first doc) ts }
+    ensures fields { (n : ℕ) → has_fields n result ≡ phrase_within n words }
+    ensures positions { (entries : List SchemaEntry) → keeps_positions entries result ≡ phrase_kept entries words }
+{
+    let (first, others) = words.into_terms();
+    drop(others);
+    Query::prefix(first)
 }
 
 // The query of a term or a phrase.

@@ -36,6 +36,9 @@ pub enum QueryParserError {
     /// A phrase in a field that keeps no positions.
     #[error("the field keeps no positions, which a phrase needs")]
     FieldDoesNotHavePositionsIndexed(Field),
+    /// A prefix that is not one word, or in a field without texts.
+    #[error("a prefix must be the start of one word, in a field of texts")]
+    UnsupportedPrefix(Field),
     /// A path that contains byte 0.
     #[error("a path with byte 0 is not supported")]
     UnsupportedPath(Field),
@@ -61,6 +64,7 @@ impl QueryParserError {
             | QueryParserError::ExpectedBool(field)
             | QueryParserError::UnsupportedPhrase(field)
             | QueryParserError::FieldDoesNotHavePositionsIndexed(field)
+            | QueryParserError::UnsupportedPrefix(field)
             | QueryParserError::UnsupportedPath(field)
             | QueryParserError::UnsupportedType(field) => Some(field),
             QueryParserError::SyntaxError(..)

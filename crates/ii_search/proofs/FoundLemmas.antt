@@ -23,7 +23,7 @@ use Rattle.ii_query.specs.Phrase.{PhrasePartState, phrase_docs, stand_from}
 use Rattle.ii_query.proofs.AllLemmas.{all_has}
 use Rattle.ii_query.proofs.MatchLaws.{intersection_has, union_has, without_has}
 use Rattle.ii_query.proofs.PhraseLemmas.{phrase_has}
-use Rattle.ii_termdict.specs.Dictionary.{info_under}
+use Rattle.ii_termdict.specs.Dictionary.{entry_keys, info_under}
 use Rattle.ii_termstore.specs.declared.term_info.TermInfo.{TermInfo}
 use Rattle.ii_definitions.specs.Cut.{cut_entry}
 use Rattle.ii_definitions.specs.Files.{HoldsTerm}
@@ -31,13 +31,16 @@ use Rattle.ii_definitions.specs.Postings.{grouped, is_at, key_postings, kind_of,
 use Rattle.ii_definitions.specs.Tokens.{IndexToken}
 use Rattle.ii_definitions.proofs.GroupedLaws.{none_occurs}
 use Rattle.ii_reader.specs.InvertedIndexReader.{InvertedIndexReaderState, IsRefusal}
-use Rattle.ii_reader.specs.OpenIndex.{FieldReaderHolds, IndexHolds, OpenIndexState}
+use Rattle.ii_reader.specs.OpenIndex.{FieldReaderHolds, IndexHolds, OpenIndexState, all_or_first}
 use Rattle.ii_reader.proofs.ReaderLemmas.{list_held}
 use Rattle.ii_query_parser.specs.declared.query.PhraseTerm.{PhraseTerm}
 use Rattle.ii_query_parser.specs.declared.query.Query.{Query}
-use Rattle.ii_search.specs.Found.{AreMatches, combined, combined_lists, docs_kept, docs_under, found_in, lists_found, phrase_of, phrase_parts_of, tree_found, with_list, with_part}
+use Rattle.ii_query_parser.specs.declared.term_range.TermRange.{TermRange}
+use Rattle.ii_query_parser.specs.Ranges.{in_range}
+use Rattle.ii_search.proofs.RangeMatches.{key_there, range_has}
+use Rattle.ii_search.specs.Found.{AreMatches, combined, combined_lists, docs_kept, docs_under, found_in, lists_found, phrase_of, phrase_parts_of, range_lists, tree_found, with_list, with_part}
 use Rattle.ii_query_parser.specs.Queries as queries
-use Rattle.ii_query_parser.specs.Queries.{QueryTree, QueryTrees, all_match, any_matches, are_of_texts, follow, has_fields, has_phrase, has_positions_in, has_tree, hold_for_all, holds_for_all, is_text_key, is_token_of, is_within, keeps_positions, matches, phrase_has_positions, phrase_is_within, tree_matches, tree_of}
+use Rattle.ii_query_parser.specs.Queries.{QueryTree, QueryTrees, all_match, any_matches, are_of_texts, follow, has_fields, has_phrase, has_positions_in, has_tree, hold_for_all, holds_for_all, is_text_key, is_token_in, is_token_of, is_within, keeps_positions, matches, phrase_has_positions, phrase_is_within, tree_matches, tree_of}
 
 -- a token in front of entries
 with_has : (t : IndexToken) (es : List Entry) (doc : ℕ) → has_doc (with_token t es) doc ≡ (nat_eq t.doc doc || has_doc es doc)
@@ -97,6 +100,35 @@ gives_under : (entries : List SchemaEntry) (field : ℕ) (key : List ℕ) (ts : 
     → Gives (docs_under Basic key reader) (λ (doc : ℕ). list_any (λ (t : IndexToken). (t.doc == doc) && is_at field key t) ts)
 gives_under entries field key ts None h = absurd h
 gives_under entries field key ts (Some r) h = gives_kept r field key ts (info_under key r.terms) (h.holds.exact key)
+
+-- Lists are found, which have together exactly the documents for which this holds.
+record GivesAny (found : Result (List (List Entry)) Part) (holds : ℕ → Bool) : Type 0 where
+  lists : List (List Entry)
+  is : found ≡ Ok lists
+  any : (doc : ℕ) → has_doc (union_of lists) doc ≡ holds doc
+
+gives_keys : (entries : List SchemaEntry) (field : ℕ) (keys : List (List ℕ)) (ts : List IndexToken) (reader : Option InvertedIndexReaderState)
+    → IsSomeAnd reader (λ r. FieldReaderHolds entries field r ts)
+    → GivesAny (all_or_first (map (λ (key : List ℕ). docs_under Basic key reader) keys)) (λ (doc : ℕ). list_any (λ (key : List ℕ). list_any (λ (t : IndexToken). (t.doc == doc) && is_at field key t) ts) keys)
+gives_keys entries field [] ts reader h = record { lists = []; is = refl; any = λ doc. refl }
+gives_keys entries field (key ∷ keys) ts reader h =
+    let f = gives_under entries field key ts reader h in
+    let g = gives_keys entries field keys ts reader h in
+    rw (f.is, g.is) (record { lists = f.es ∷ g.lists; is = refl; any = λ doc. union_has f.es g.lists doc ∙ rw (f.exact doc, g.any doc) refl })
+
+-- the documents of the terms in a range
+gives_range : (entries : List SchemaEntry) (range : TermRange) (ts : List IndexToken) (reader : Option InvertedIndexReaderState)
+    → IsSomeAnd reader (λ r. FieldReaderHolds entries range.prefix.field r ts)
+    → Gives (combined_lists union_of (range_lists range reader)) (λ (doc : ℕ). list_any (is_token_in range doc) ts)
+gives_range entries range ts None h = absurd h
+gives_range entries range ts (Some r) h =
+    let field = range.prefix.field in
+    let g = gives_keys entries field (filter (in_range range) (entry_keys r.terms)) ts (Some r) h in
+    rw (g.is) (record {
+      es = union_of g.lists;
+      is = refl;
+      exact = λ doc. g.any doc ∙ range_has range (entry_keys r.terms) ts doc (λ key there. key_there _ field key r.terms ts (h.holds.exact key) there);
+    })
 
 gives_without : (a b : Result (List Entry) Part) (p q : ℕ → Bool) → Gives a p → Gives b q → Gives (combined without a b) (λ (doc : ℕ). p doc && not (q doc))
 gives_without a b p q f g = rw (f.is, g.is) (record { es = without f.es g.es; is = refl; exact = λ doc. without_has f.es g.es doc ∙ rw (f.exact doc, g.exact doc) refl })
@@ -266,6 +298,8 @@ mutual
       let k = and_parts (has_positions_in entries first) _ keeps in
       gives_phrase ts first others _ _ (positions_under entries first ts (slice_get index.readers first.field) k.0 (holds.readers first.field (ltb-true first.field (length entries) h.0)))
       (gives_parts entries n index ts others holds h.1 k.1)
+  gives_tree entries n index ts (queries.one_range range) holds fields keeps =
+      gives_range entries range ts (slice_get index.readers range.prefix.field) (holds.readers range.prefix.field (ltb-true range.prefix.field (length entries) fields))
   gives_tree entries n index ts (queries.each_of qs) holds fields keeps = gives_each ts qs _ (gives_lists entries n index ts qs holds fields keeps)
   gives_tree entries n index ts (queries.any_of qs) holds fields keeps = gives_any ts qs _ (gives_lists entries n index ts qs holds fields keeps)
   gives_tree entries n index ts (queries.without first other) holds fields keeps =

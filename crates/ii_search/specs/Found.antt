@@ -1,5 +1,5 @@
 -- The documents of a query in an index.
-use Rattle.std.specs.Prelude.{◌≡◌, ℕ, List, [], ◌∷◌, Option, None, Some, Result, Ok, Err, length, min, slice_get}
+use Rattle.std.specs.Prelude.{◌≡◌, ℕ, List, [], ◌∷◌, Option, None, Some, Result, Ok, Err, filter, length, map, min, slice_get}
 use Rattle.ii_io.specs.declared.faults.Fault.{Fault}
 use Rattle.ii_io.specs.declared.faults.Fault.TheVariants.{OutOfMemory}
 use Rattle.ii_io.specs.declared.faults.Part.{Part}
@@ -12,13 +12,15 @@ use Rattle.ii_base.specs.Entries.{Entry}
 use Rattle.ii_docset.specs.Intersection.{has_doc}
 use Rattle.ii_query.specs.Combined.{QueryCursorState, all_from, intersection_of, union_of, without}
 use Rattle.ii_query.specs.Phrase.{PhrasePartState, phrase_docs}
-use Rattle.ii_termdict.specs.Dictionary.{info_under}
+use Rattle.ii_termdict.specs.Dictionary.{entry_keys, info_under}
 use Rattle.ii_termstore.specs.declared.term_info.TermInfo.{TermInfo}
 use Rattle.ii_definitions.specs.Tokens.{IndexToken}
 use Rattle.ii_reader.specs.InvertedIndexReader.{InvertedIndexReaderState, term_of_file}
-use Rattle.ii_reader.specs.OpenIndex.{OpenIndexState}
+use Rattle.ii_reader.specs.OpenIndex.{OpenIndexState, all_or_first}
 use Rattle.ii_query_parser.specs.declared.query.PhraseTerm.{PhraseTerm}
 use Rattle.ii_query_parser.specs.declared.query.Query.{Query}
+use Rattle.ii_query_parser.specs.declared.term_range.TermRange.{TermRange}
+use Rattle.ii_query_parser.specs.Ranges.{in_range}
 use Rattle.ii_query_parser.specs.Queries as queries
 use Rattle.ii_query_parser.specs.Queries.{QueryTree, QueryTrees, matches, tree_of}
 
@@ -35,6 +37,15 @@ docs_under requested key (Some reader) = docs_kept requested reader (info_under 
 -- the documents of a term, as far as they are requested
 abbrev pub docs_of_term : IndexRecordOption → OpenIndexState → TermState → Result (List Entry) Part
 docs_of_term requested index term = docs_under requested term.value (slice_get index.readers term.field)
+
+-- the keys of a field in a range
+abbrev pub keys_in : TermRange → Option InvertedIndexReaderState → List (List ℕ)
+keys_in range None = []
+keys_in range (Some reader) = filter (in_range range) (entry_keys reader.terms)
+
+-- the documents of each term in a range, or the first corrupt part
+abbrev pub range_lists : TermRange → Option InvertedIndexReaderState → Result (List (List Entry)) Part
+range_lists range reader = all_or_first (map (λ (key : List ℕ). docs_under Basic key reader) (keys_in range reader))
 
 -- one more term of a phrase, or the first corrupt part
 abbrev pub with_part : ℕ → Result (List Entry) Part → Result (List PhrasePartState) Part → Result (List PhrasePartState) Part
@@ -77,6 +88,7 @@ abbrev mutual
   tree_found index (queries.all_below n) = Ok (all_from 0 (min n TERMINATED))
   tree_found index (queries.one_term term) = docs_of_term Basic index term
   tree_found index (queries.one_phrase first others) = phrase_of (docs_of_term WithFreqsAndPositions index first) (phrase_parts_of index others)
+  tree_found index (queries.one_range range) = combined_lists union_of (range_lists range (slice_get index.readers range.prefix.field))
   tree_found index (queries.each_of qs) = combined_lists intersection_of (lists_found index qs)
   tree_found index (queries.any_of qs) = combined_lists union_of (lists_found index qs)
   tree_found index (queries.without first other) = combined without (tree_found index first) (tree_found index other)

@@ -1,3 +1,4 @@
 pub mod Decodes
 pub mod Found
+pub mod Ranges
 pub mod TopByCount

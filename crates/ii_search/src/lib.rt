@@ -2,9 +2,10 @@
 #![tactic(auto)]
 
 pub mod most_frequent;
+mod ranges;
 pub mod searching;
 
 pub use ii_query::{QueryCursor, TermOrPhrase};
-pub use ii_query_parser::{PhraseTerm, Query};
+pub use ii_query_parser::{KeyBound, PhraseTerm, Query, TermRange};
 pub use most_frequent::top_by_count;
 pub use searching::{count, search};

@@ -1,4 +1,4 @@
-ghost use Rattle.std.specs.Prelude.{◌≡◌, ◌<◌, ℕ, List, Ok, IfErr, IfOk, length, nat_lt, true};
+ghost use Rattle.std.specs.Prelude.{◌≡◌, ◌<◌, ℕ, List, Ok, IfErr, IfOk, length, nat_lt, slice_get, true};
 ghost use Rattle.std.specs.List.{AllByRecursion, list_all};
 ghost use Rattle.ii_base.specs.declared.schema.index_record_option.IndexRecordOption.TheVariants.{Basic, WithFreqsAndPositions};
 ghost use Rattle.ii_base.specs.Schema.{SchemaEntry};
@@ -12,19 +12,21 @@ ghost use Rattle.ii_io.specs.Faults.{OnlyMemory};
 ghost use Rattle.ii_query.specs.Combined.{intersection_of, union_of, without};
 ghost use Rattle.ii_query.specs.QueryCursor.{cursors_under, rests};
 ghost use Rattle.ii_search.specs.Decodes.{DecodesFew, EachDecodesFew};
-ghost use Rattle.ii_search.specs.Found.{GivesCount, GivesMatches, combined, combined_lists, docs_of_term, found_in, lists_found, phrase_of, phrase_parts_of};
+ghost use Rattle.ii_search.specs.Found.{GivesCount, GivesMatches, combined, combined_lists, docs_of_term, found_in, lists_found, phrase_of, phrase_parts_of, range_lists};
 ghost use Rattle.ii_query_parser.specs.Queries.{has_fields, keeps_positions, trees_of};
 
+use crate::ranges::docs_in_range;
 use ii_base::{Fault, IndexRecordOption, Term};
 use ii_docset::DocSet;
 use ii_query::{PhraseMatch, PhrasePart, QueryCursor, TermOrPhrase};
-use ii_query_parser::{PhraseTerm, Query};
+use ii_query_parser::{PhraseTerm, Query, TermRange};
 use ii_reader::{OpenIndex, SegmentPostings};
 use std::alloc::Global;
 
 /// Returns a cursor over the documents that match a query, in ascending order. Each term's field must be a
 /// field of the index (see `Query::has_fields`). Phrases over fields without positions match nothing (see
-/// `Query::keeps_positions`). The stack that a search needs depends on how deep the query is nested, not on how
+/// `Query::keeps_positions`). The documents of a range of terms are collected when the search is opened, in a set
+/// of one bit for each document of the index. The stack that a search needs depends on how deep the query is nested, not on how
 /// many clauses it has.
 ///
 /// # Errors
@@ -72,7 +74,7 @@ pub fn count(alloc: Global, index: &OpenIndex, query: &Query) -> Result<u32, Fau
 
 // Returns a cursor over the documents of a query. It recurses once for each level of nesting.
 #[cycle(find)]
-#[tactic(auto, using(ii_query_parser::proofs::QueryLemmas::term_fields, ii_query_parser::proofs::QueryLemmas::phrase_fields, ii_query_parser::proofs::QueryLemmas::and_not_fields))]
+#[tactic(auto, using(ii_query_parser::proofs::QueryLemmas::term_fields, ii_query_parser::proofs::QueryLemmas::phrase_fields, ii_query_parser::proofs::QueryLemmas::range_fields, ii_query_parser::proofs::QueryLemmas::and_not_fields))]
 fn find(
     alloc: Global,
     index: &OpenIndex,
@@ -88,6 +90,7 @@ fn find(
         Query::All(num_docs) => Ok(QueryCursor::all(*num_docs)),
         Query::Term(term) => find_term(index, term),
         Query::Phrase(first, others) => find_phrase(alloc, index, first, others),
+        Query::Range(range) => find_range(alloc, index, range),
         Query::And(queries) => find_all(alloc, index, queries),
         Query::Or(queries) => find_any(alloc, index, queries),
         Query::AndNot(first, other) => match find_boxed(alloc, index, first) {
@@ -258,6 +261,24 @@ fn find_phrase(
             drop(first);
             Err(fault)
         }
+    }
+}
+
+// Returns a cursor over the documents of the terms in a range, which are collected in a set.
+#[inline(never)]
+fn find_range(
+    alloc: Global,
+    index: &OpenIndex,
+    range: &TermRange,
+) -> Result<QueryCursor<TermOrPhrase<SegmentPostings>>, Fault>
+    requires field { range.now.prefix.field < length index.now.readers }
+    ensures listed { IfOk result (λ cursor. combined_lists union_of (range_lists range.now (slice_get index.now.readers range.now.prefix.field)) ≡ Ok cursor.rest) }
+    ensures lazy { IfOk result (λ cursor. AllByRecursion EachDecodesFew cursor.cursors) }
+    ensures refused { IfErr result (IsRefusal (combined_lists union_of (range_lists range.now (slice_get index.now.readers range.now.prefix.field)))) }
+{
+    match docs_in_range(alloc, index.reader(range.prefix.field()), range) {
+        Ok(docs) => Ok(QueryCursor::set(docs)),
+        Err(fault) => Err(fault),
     }
 }
 

@@ -14,7 +14,9 @@ use Rattle.ii_alive.proofs.RankLemmas.{rank_below}
 use Rattle.ii_definitions.specs.Postings.{is_at, tokens_at}
 use Rattle.ii_definitions.specs.Tokens.{IndexToken}
 use Rattle.ii_query_parser.specs.declared.query.PhraseTerm.{PhraseTerm}
-use Rattle.ii_query_parser.specs.Queries.{QueryTree, QueryTrees, all_below, all_match, any_matches, any_of, are_of_texts, each_of, follow, has_phrase, has_tree, is_text_key, is_token_of, no_tree, nothing, one_phrase, one_term, stands_at, tree, tree_matches, tree_of, without}
+use Rattle.ii_query_parser.specs.declared.term_range.TermRange.{TermRange}
+use Rattle.ii_query_parser.specs.Ranges.{in_range}
+use Rattle.ii_query_parser.specs.Queries.{QueryTree, QueryTrees, all_below, all_match, any_matches, any_of, are_of_texts, each_of, follow, has_phrase, has_tree, is_text_key, is_token_in, is_token_of, no_tree, nothing, one_phrase, one_range, one_term, stands_at, tree, tree_matches, tree_of, without}
 use Rattle.ii_segments.specs.Segments.{AreSegmentTokens, Segment, at_rank, index_tokens, is_key_of_text_in, is_living, living_tokens, num_docs_of, tokens_from}
 use Rattle.ii_segments.proofs.CountLaws.{all_weaker, living_within, test_by_rank, tokens_after}
 use Rattle.ii_segments.proofs.MergedLaws.{IsTyped, index_typed}
@@ -129,6 +131,9 @@ module _ (entries : List SchemaEntry) (before after : List Segment) (s : Segment
     term_local : (term : TermState) → list_any (is_token_of term number) all ≡ list_any (is_token_of term doc) s.tokens
     term_local term = any_local (λ b t. b && is_at term.field term.value t) (λ t. refl) (λ b t d. refl) before after s doc lives
 
+    range_local : (range : TermRange) → list_any (is_token_in range number) all ≡ list_any (is_token_in range doc) s.tokens
+    range_local range = any_local (λ b t. b && (t.field == range.prefix.field) && in_range range t.key) (λ t. refl) (λ b t d. refl) before after s doc lives
+
     position_local : (term : TermState) (position : ℕ) → stands_at all number term position ≡ stands_at s.tokens doc term position
     position_local term position =
         let test : Bool → IndexToken → Bool = λ b t. b && is_at term.field term.value t && (t.position == position) in
@@ -169,6 +174,7 @@ module _ (entries : List SchemaEntry) (before after : List Segment) (s : Segment
       tree_local n (all_below m) docs own covers = bound_local n m docs own covers
       tree_local n (one_term term) docs own covers = term_local term
       tree_local n (one_phrase first others) docs own covers = phrase_local first others
+      tree_local n (one_range range) docs own covers = range_local range
       tree_local n (each_of qs) docs own covers = ap (λ (b : Bool). has_tree qs && b) (all_local n qs docs own covers)
       tree_local n (any_of qs) docs own covers = some_local n qs docs own covers
       tree_local n (without first other) docs own covers =

@@ -5,7 +5,7 @@ use Rattle.ii_base.specs.declared.doc_id.TheConstants.{TERMINATED}
 use Rattle.ii_base.specs.Schema.{SchemaEntry}
 use Rattle.ii_alive.specs.Alive.{num_living, rank}
 use Rattle.ii_query_parser.specs.declared.query.Query.{Query}
-use Rattle.ii_query_parser.specs.Queries.{QueryTree, QueryTrees, all_below, any_of, each_of, matches, no_tree, nothing, one_phrase, one_term, tree, tree_of, without}
+use Rattle.ii_query_parser.specs.Queries.{QueryTree, QueryTrees, all_below, any_of, each_of, matches, no_tree, nothing, one_phrase, one_range, one_term, tree, tree_of, without}
 use Rattle.ii_segments.specs.Segments.{AreSegmentTokens, Segment, index_tokens, is_living, living_docs, num_docs_of}
 
 -- Whether each part of a query that matches all documents below a number matches the first n.
@@ -15,6 +15,7 @@ abbrev mutual
   tree_covers n (all_below m) = nat_le n (min m TERMINATED)
   tree_covers n (one_term term) = true
   tree_covers n (one_phrase first others) = true
+  tree_covers n (one_range range) = true
   tree_covers n (each_of qs) = trees_cover n qs
   tree_covers n (any_of qs) = trees_cover n qs
   tree_covers n (without first other) = tree_covers n first && tree_covers n other

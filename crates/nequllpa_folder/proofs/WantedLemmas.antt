@@ -3,9 +3,10 @@ use Rattle.std.proofs.Common.{◌≡◌, ◌∙◌, ℕ, List, [], ◌∷◌, �
 use Rattle.ii_base.specs.Terms.{TermState}
 use Rattle.ii_query_parser.specs.declared.query.PhraseTerm.{PhraseTerm}
 use Rattle.ii_query_parser.specs.declared.query.Query.{Query}
-use Rattle.ii_query_parser.specs.declared.query.Query.TheVariants.{Empty, All, Term, Phrase, And, Or, AndNot}
+use Rattle.ii_query_parser.specs.declared.term_range.TermRange.{TermRange}
+use Rattle.ii_query_parser.specs.declared.query.Query.TheVariants.{Empty, All, Term, Phrase, Range, And, Or, AndNot}
 use Rattle.ii_query_parser.specs.Queries.{trees_of}
-use Rattle.ii_query_parser.proofs.QueryLemmas.{all_tree, and_not_tree, and_tree, nothing_tree, or_tree, phrase_tree, term_tree}
+use Rattle.ii_query_parser.proofs.QueryLemmas.{all_tree, and_not_tree, and_tree, nothing_tree, or_tree, phrase_tree, range_tree, term_tree}
 use Rattle.nequllpa_folder.specs.Finding.{tree_terms, trees_terms, wanted_terms}
 
 all_wanted : (queries : List Query) → trees_terms (trees_of queries) ≡ flat_map wanted_terms queries
@@ -23,6 +24,9 @@ wanted_of_term term = ap tree_terms (term_tree term)
 
 pub wanted_of_phrase : (first : TermState) (others : Vec PhraseTerm Global) → wanted_terms (Phrase first others) ≡ first ∷ map (λ (o : PhraseTerm). o.term) others.items
 wanted_of_phrase first others = ap tree_terms (phrase_tree first others)
+
+pub wanted_of_range : (range : TermRange) → wanted_terms (Range range) ≡ []
+wanted_of_range range = ap tree_terms (range_tree range)
 
 pub wanted_of_and : (queries : Vec Query Global) → wanted_terms (And queries) ≡ flat_map wanted_terms queries.items
 wanted_of_and queries = ap tree_terms (and_tree queries) ∙ all_wanted queries.items

@@ -9,20 +9,21 @@ use Rattle.ii_base.specs.declared.schema.index_record_option.IndexRecordOption.T
 use Rattle.ii_reader.specs.OpenIndex.{OpenIndexState, all_or_first}
 use Rattle.ii_query_parser.specs.declared.query.PhraseTerm.{PhraseTerm}
 use Rattle.ii_query_parser.specs.declared.query.Query.{Query}
-use Rattle.ii_query_parser.specs.Queries.{QueryTree, QueryTrees, all_below, any_of, each_of, no_tree, nothing, one_phrase, one_term, tree, tree_of, without}
+use Rattle.ii_query_parser.specs.Queries.{QueryTree, QueryTrees, all_below, any_of, each_of, no_tree, nothing, one_phrase, one_range, one_term, tree, tree_of, without}
 use Rattle.ii_segments.specs.Segments.{is_living}
 use Rattle.ii_search.specs.Found.{docs_of_term, found_in}
 use Rattle.nequllpa_folder.specs.Positions.{positions_in_doc}
 use Rattle.nequllpa_folder.specs.declared.finding.FoundPlaces.{FoundPlaces}
 use Rattle.nequllpa_folder.specs.declared.finding.TermPositions.{TermPositions}
 
--- The terms that a query wants, in its order, without those that it excludes.
+-- The terms that a query wants, in its order, without those that it excludes and those of ranges.
 abbrev mutual
   pub tree_terms : QueryTree → List TermState
   tree_terms nothing = []
   tree_terms (all_below n) = []
   tree_terms (one_term term) = term ∷ []
   tree_terms (one_phrase first others) = first ∷ map (λ (o : PhraseTerm). o.term) others
+  tree_terms (one_range range) = []
   tree_terms (each_of qs) = trees_terms qs
   tree_terms (any_of qs) = trees_terms qs
   tree_terms (without first other) = tree_terms first

@@ -131,6 +131,7 @@ fn push_living(docs: &mut Vec<DocId>, alive: &AliveBits, doc: DocId) -> Result<(
 }
 
 /// Returns the terms that a query wants, in its order: those of its words and phrases, except excluded ones.
+/// A range of terms wants none.
 /// Fails only with `OutOfMemory`.
 pub fn wanted_terms<'q>(alloc: Global, query: &'q Query) -> Result<Vec<&'q Term>, Fault>
     ensures wanted { IfOk result (λ terms. map (λ t. t.now) terms.items ≡ wanted_terms query.now) }
@@ -143,7 +144,7 @@ pub fn wanted_terms<'q>(alloc: Global, query: &'q Query) -> Result<Vec<&'q Term>
 
 // Appends the terms that a query wants.
 #[cycle(push_terms)]
-#[tactic(auto, using(crate::proofs::WantedLemmas::wanted_of_nothing, crate::proofs::WantedLemmas::wanted_of_all, crate::proofs::WantedLemmas::wanted_of_term, crate::proofs::WantedLemmas::wanted_of_phrase, crate::proofs::WantedLemmas::wanted_of_and, crate::proofs::WantedLemmas::wanted_of_or, crate::proofs::WantedLemmas::wanted_of_and_not))]
+#[tactic(auto, using(crate::proofs::WantedLemmas::wanted_of_nothing, crate::proofs::WantedLemmas::wanted_of_all, crate::proofs::WantedLemmas::wanted_of_term, crate::proofs::WantedLemmas::wanted_of_phrase, crate::proofs::WantedLemmas::wanted_of_range, crate::proofs::WantedLemmas::wanted_of_and, crate::proofs::WantedLemmas::wanted_of_or, crate::proofs::WantedLemmas::wanted_of_and_not))]
 fn push_terms<'q>(query: &'q Query, terms: &mut Vec<&'q Term>) -> Result<(), Fault>
     ensures wanted { OnOk result (map (λ t. t.now) terms.new.items ≡ map (λ t. t.now) terms.old.items ++ wanted_terms query.now) }
     ensures only { OnlyMemory result }
@@ -156,6 +157,7 @@ fn push_terms<'q>(query: &'q Query, terms: &mut Vec<&'q Term>) -> Result<(), Fau
             terms.push(first)?;
             push_others(others, terms)
         }
+        Query::Range(_) => Ok(()),
         Query::And(queries) => push_all_terms(queries, terms),
         Query::Or(queries) => push_all_terms(queries, terms),
         Query::AndNot(first, _) => push_terms(first, terms),

@@ -14,12 +14,13 @@ fn read(alloc: Global, text: &str) -> Result<String, Fault> {
     }
 }
 
-static TREES: [(&str, &str); 13] = [
+static TREES: [(&str, &str); 14] = [
     ("a NOT b", "a AND -b"),
     ("new\\ york", "new\\ york"),
+    ("se* AND (a title:*)", "se* AND (a OR title:*)"),
     (
-        "se*",
-        "at byte 2: prefixes and wildcards (se*, s?a) are not supported; put the word in quotes to search for it as it is",
+        "s*a",
+        "at byte 1: wildcards (s*a, s?a) are not supported, but for a * that ends a word; put the word in quotes to search for it as it is",
     ),
     (
         "",

@@ -7,8 +7,8 @@ use ii_base::{AsciiTokenizer, Fault, Field, Term};
 use ii_docset::{DocId, DocSet, TERMINATED};
 use ii_reader::{OpenIndex, SegmentPostings};
 use nequllpa::{
-    AllDocs, PhraseTerm, Query, QueryCursor, TermOrPhrase, count, index_in_ram, search,
-    top_by_count,
+    AllDocs, KeyBound, PhraseTerm, Query, QueryCursor, TermOrPhrase, TermRange, count,
+    index_in_ram, search, top_by_count,
 };
 use std::alloc::Global;
 use std::test::Fail;
@@ -179,6 +179,52 @@ static QUERIES: [(Asked, Put, &str); 28] = [
 fn queries_give_documents(rt: HostRuntime) -> Result<(), Fail> {
     for (first, others, wanted) in &QUERIES {
         let query = query_of(rt.alloc(), first, others)?;
+        let found = found(rt.alloc(), &query)?;
+        assert_eq!(rt; found.as_str(), *wanted);
+    }
+    Ok(())
+}
+
+// A bound of words, and whether the word belongs to the range.
+type Edge = Option<(&'static str, bool)>;
+
+fn bound(alloc: Global, edge: Edge) -> Result<KeyBound, Fault> {
+    match edge {
+        None => Ok(KeyBound::Unbounded),
+        Some((word, true)) => Ok(KeyBound::Included(Vec::from_slice(alloc, word.as_bytes())?)),
+        Some((word, false)) => Ok(KeyBound::Excluded(Vec::from_slice(alloc, word.as_bytes())?)),
+    }
+}
+
+fn range(alloc: Global, prefix: &'static str, lower: Edge, upper: Edge) -> Result<Query, Fault> {
+    let prefix = term(alloc, &(0, prefix))?;
+    let lower = bound(alloc, lower)?;
+    let upper = bound(alloc, upper)?;
+    Ok(Query::range(TermRange {
+        prefix,
+        lower,
+        upper,
+    }))
+}
+
+static RANGES: [(&str, Edge, Edge, &str); 9] = [
+    ("", None, None, "0,1,2,4,4 in all"),
+    ("b", None, None, "0,2,4,3 in all"),
+    ("x", None, None, "0 in all"),
+    ("", Some(("b", true)), None, "0,1,2,4,4 in all"),
+    ("", Some(("b", false)), None, "0,1,2 in all"),
+    ("", None, Some(("b", false)), "0,1,4,3 in all"),
+    ("", Some(("b", true)), Some(("b", true)), "0,2,4,3 in all"),
+    // upside down
+    ("", Some(("c", true)), Some(("a", true)), "0 in all"),
+    // a prefix and a bound
+    ("c", Some(("b", true)), None, "0,1,2 in all"),
+];
+
+#[test]
+fn ranges_give_documents(rt: HostRuntime) -> Result<(), Fail> {
+    for (prefix, lower, upper, wanted) in &RANGES {
+        let query = range(rt.alloc(), *prefix, *lower, *upper)?;
         let found = found(rt.alloc(), &query)?;
         assert_eq!(rt; found.as_str(), *wanted);
     }

@@ -1,4 +1,4 @@
-use Rattle.std.proofs.Common.{◌≡◌, rules}
+use Rattle.std.proofs.Common.{rules}
 use Rattle.std.specs.List.{AllByRecursion}
 use Rattle.ii_search.specs.Decodes.{EachDecodesFew}
 use Rattle.ii_search.proofs.DecodesLemmas.{few_beside}
