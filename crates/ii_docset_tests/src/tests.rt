@@ -4,6 +4,7 @@ ghost use Rattle.ii_docset.specs.Cursor.{IsSound, IsTarget};
 
 mod combined;
 mod list_postings;
+mod reads;
 
 use ii_base::{AliveBitSet, Fault};
 use ii_docset::{

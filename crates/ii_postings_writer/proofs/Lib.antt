@@ -28,3 +28,4 @@ pub mod TextLaws
 pub mod TokenFaults
 pub mod TokenTerms
 mod WriterLists
+pub mod SizeLemmas

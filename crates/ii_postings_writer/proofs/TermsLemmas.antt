@@ -9,6 +9,7 @@ use Rattle.ii_base.specs.declared.schema.index_record_option.IndexRecordOption.{
 use Rattle.ii_fieldnorm.specs.Readers.{Norms}
 use Rattle.ii_termdict.specs.ReadBack.{AreAscending}
 use Rattle.ii_definitions.specs.Fields.{option_of}
+use Rattle.ii_definitions.proofs.ListLaws.{all_after}
 use Rattle.ii_recorder.specs.Endings.{CountsOnce}
 use Rattle.ii_recorder.specs.IndexBodies.{AllGrow, IndexBodiesState, OneIsFull, failed_calls}
 use Rattle.ii_recorder.specs.IndexSerializer.{EndsWriting, IndexSerializerState, IsInField, IsWriting}
@@ -76,10 +77,6 @@ starts terms s unclosed between = record {
   ends = none_ends s unclosed;
   grow = grow_by_none s.bodies s.bodies refl;
 }
-
-all_after : {X : Type 0} (P : X → Type 0) (xs ys : List X) → AllByRecursion P (xs ++ ys) → AllByRecursion P ys
-all_after P [] ys all = all
-all_after P (x ∷ xs) ys all = all_after P xs ys all.1
 
 -- terms with room for more, without it for some of them
 room_after : (mode : IndexRecordOption) (tokens : ℕ) (initial : IndexBodiesState) (ts us : List WrittenTerm) → OneIsFull initial (open_bodies mode tokens ts) ⊎ PassEnds mode ts

@@ -1,10 +1,11 @@
 // Cursors that combine two cursors.
 ghost use Rattle.std.specs.Prelude.{◌≡◌, ◌<◌, ◌≤◌, ◌+◌, ◌∷◌, [], ◌&&◌, ◌||◌, ℕ, length, map, min, nat_eq, not, take, IfErr, IfOk};
-ghost use Rattle.std.specs.List.{list_any};
+ghost use Rattle.std.specs.List.{AllZip, list_any};
 ghost use Rattle.ii_base.specs.Entries.{Entry};
 ghost use Rattle.ii_docset.specs.Cursor.{IsSound};
 ghost use Rattle.ii_docset.specs.Intersection.{has_doc};
-ghost use Rattle.ii_query.specs.Phrase.{has_position};
+ghost use Rattle.ii_promises.specs.Decodes.{ReadsEachOnce};
+ghost use Rattle.ii_query.specs.Phrase.{cursors_in, has_position};
 ghost use Rattle.ii_reader.specs.SegmentPostings.{SegmentPostingsState};
 
 use nequllpa::{
@@ -64,6 +65,21 @@ pub fn neighbours_are_found(
     let mut others = Vec::new(alloc);
     others.push(PhrasePart::new(1, second))?;
     Ok(has(&mut PhraseMatch::new(first, others), doc))
+}
+
+/// While the first document of a phrase of two terms is searched, each position of a term is read at most once.
+/// For m positions in n documents this decodes at most 2 * (m / 64 + n) + m / 128 blocks.
+pub fn phrases_read_each_position_once(
+    alloc: Global,
+    first: SegmentPostings,
+    second: SegmentPostings,
+) -> Result<PhraseMatch<SegmentPostings>, Fault>
+    ensures reads { IfOk result (λ found. AllZip ReadsEachOnce (first ∷ second ∷ []) (cursors_in found.terms)) }
+    ensures memory { IfErr result (λ fault. fault ≡ Fault.OutOfMemory) }
+{
+    let mut others = Vec::new(alloc);
+    others.push(PhrasePart::new(1, second))?;
+    Ok(PhraseMatch::new(first, others))
 }
 
 /// The hint of any cursor, and its cost, are at least the number of its remaining documents.

@@ -13,3 +13,4 @@ pub mod WorkedRows
 mod VintRowLemmas
 mod GatheredLemmas
 mod StateLemmas
+pub mod SizeLemmas

@@ -12,10 +12,11 @@ pub struct Place {
     pub positions: &'static [u32],
 }
 
-// A cursor over a list of places.
+// A cursor over a list of places, which counts the calls that read positions.
 #[derive(Drop)]
 pub struct ListPostings {
     left: &'static [Place],
+    reads: usize,
 }
 
 impl Model for ListPostings {
@@ -75,6 +76,7 @@ impl Postings for ListPostings {
         let Some((first, _)) = self.left.split_first() else {
             return 0;
         };
+        self.reads = self.reads.saturating_add(1);
         copy_positions(first.positions, from, output)
     }
 }
@@ -85,6 +87,11 @@ impl ListPostings {
         requires { let entry : Place → Entry = λ p. record { doc = p.doc; term_freq = length p.positions.now; positions = p.positions.now } in IsSound (map entry left.now) }
         ensures { let entry : Place → Entry = λ p. record { doc = p.doc; term_freq = length p.positions.now; positions = p.positions.now } in result ≡ map entry left.entry.now }
     {
-        ListPostings { left }
+        ListPostings { left, reads: 0 }
+    }
+
+    // Returns how many calls read positions.
+    pub fn reads(&self) -> usize {
+        self.reads
     }
 }
