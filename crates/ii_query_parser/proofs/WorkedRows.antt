@@ -8,7 +8,6 @@ use Rattle.ii_definitions.specs.Tokens.{Call, IndexToken, text, tokens_of}
 use Rattle.ii_query_parser.specs.declared.query.PhraseTerm.{PhraseTerm}
 use Rattle.ii_query_parser.specs.declared.term_range.KeyBound.{KeyBound}
 use Rattle.ii_query_parser.specs.declared.term_range.KeyBound.TheVariants.{Excluded, Included, Unbounded}
-use Rattle.ii_query_parser.specs.declared.term_range.TermRange.{TermRange}
 use Rattle.ii_query_parser.specs.Queries.{has_phrase, is_token_in}
 use Rattle.ii_query_parser.specs.QueryTexts.{PhraseState, words_phrase}
 
