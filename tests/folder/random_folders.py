@@ -301,7 +301,7 @@ class Reader:
         return set(field.lists.get(word.encode(), {}))
 
     def searches(self, chosen):
-        """Compares searches for words, pairs of words and numbers with a filter of the documents."""
+        """Compares searches for words, pairs of words, prefixes and numbers with a filter of the documents."""
         text_fields = [field for field in self.fields if field.kind == 'text' and field.setting.get('indexed') is not False]
         everywhere = lambda word: set().union(*(self.docs_of(field, word) for field in text_fields))
         plain = [word for word in WORDS if texts.words_of(word) == [word]]
@@ -311,6 +311,7 @@ class Reader:
                 a, b = everywhere(one), everywhere(two)
                 for query, found in ((one, a), (f'{one} {two}', a | b), (f'{one} AND {two}', a & b), (f'{one} NOT {two}', a - b), (f'({one} OR {two}) AND -{two}', a - b)):
                     self.finds(query, found)
+        self.prefixes(chosen, plain, text_fields)
         for field in self.fields:
             name = field.setting['name']
             if not field.lists or not name.isalnum() or name == 'AND':
@@ -320,6 +321,20 @@ class Reader:
                 self.finds(f'{name}:"{field.texts[key]}"', set(field.lists[key]))
             elif field.kind == 'text' and field.records() == 'position':
                 self.phrase(chosen, field, name)
+
+    def prefixes(self, chosen, plain, text_fields):
+        """Compares searches for words that begin with some characters."""
+        for _ in range(4):
+            word = chosen.choice(plain)
+            start, other = word[:chosen.randint(1, len(word))], chosen.choice(plain)
+            begun = lambda field: set().union(*(docs for key, docs in field.lists.items() if key.startswith(start.encode())))
+            if text_fields:
+                found, others = set().union(*map(begun, text_fields)), set().union(*(self.docs_of(field, other) for field in text_fields))
+                for query, wanted in ((f'{start}*', found), (f'{start}* AND {other}', found & others), (f'{other} NOT {start}*', others - found), (f'({start}* {other})', found | others)):
+                    self.finds(query, wanted)
+            for field in text_fields:
+                if field.setting['name'].isalnum() and field.setting['name'] != 'AND':
+                    self.finds(f"{field.setting['name']}:{start}*", begun(field))
 
     def phrase(self, chosen, field, name):
         """Compares the search for a phrase of two words in a field."""

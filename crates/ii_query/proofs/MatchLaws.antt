@@ -35,7 +35,7 @@ common_has es fs doc = picked_has (has_doc fs) es doc
 pub without_has : (es fs : List Entry) (doc : ℕ) → has_doc (without es fs) doc ≡ (has_doc es doc && not (has_doc fs doc))
 without_has es fs doc = picked_has (λ (d : ℕ). not (has_doc fs d)) es doc
 
-or_swap : (a b c : Bool) → (a || (b || c)) ≡ (b || (a || c))
+pub or_swap : (a b c : Bool) → (a || (b || c)) ≡ (b || (a || c))
 or_swap true true c = refl
 or_swap true false c = refl
 or_swap false b c = refl

@@ -1,6 +1,6 @@
 -- Sets of documents, a bit for each document.
-use Rattle.std.proofs.Common.{◌≡◌, ◌∙◌, ℕ, zero, suc, ◌+◌, ◌-◌, ◌*◌, ◌/◌, ◌%◌, ◌^◌, ◌<◌, ◌≤◌, Bool, true, false, ◌||◌, List, [], ◌∷◌, ◌++◌, drop, get_or, length, nat_eq, set, inl, inr, refl, sym, ap, arith}
-use Rattle.std.proofs.Math.Bool.{and-false}
+use Rattle.std.proofs.Common.{◌≡◌, ◌∙◌, ℕ, zero, suc, ◌+◌, ◌-◌, ◌*◌, ◌/◌, ◌%◌, ◌^◌, ◌<◌, ◌≤◌, Bool, true, false, ◌||◌, List, [], ◌∷◌, drop, get_or, length, nat_eq, set, inl, inr, refl, sym, ap, arith}
+use Rattle.std.proofs.Math.Bool.{and-false, or_assoc}
 use Rattle.std.proofs.Math.ListN.{get_or-eq_default}
 use Rattle.std.proofs.lemmas.Bool.{cases_lt, eq-eqb, le-leb, lt-ltb, ne_eqb}
 use Rattle.std.proofs.lemmas.Bool.Decides.{eqb_tells}
@@ -16,23 +16,13 @@ use Rattle.ii_base.specs.Entries.{Entry, docs_of, document}
 use Rattle.ii_docset.specs.Cursor.{doc_at, from_doc, IsAscending, IsSound}
 use Rattle.ii_docset.specs.Intersection.{has_doc}
 use Rattle.ii_docset.proofs.CursorLemmas.{doc_below, nothing_left}
-use Rattle.ii_query.specs.BitSet.{IsFirstFrom, StandsIn, bits_end, docs_in, is_in}
+use Rattle.ii_query.specs.BitSet.{IsFirstFrom, StandsIn, bits_end, docs_of_set, is_in}
 use Rattle.ii_query.specs.Combined.{all_from, picked}
 use Rattle.ii_query.proofs.AllLemmas.{all_goes_to, all_has, all_none, all_sound, all_stays}
 use Rattle.ii_query.proofs.CommonLemmas.{docs_again, picked_again, same_docs}
 use Rattle.ii_query.proofs.HintLemmas.{all_long, picked_short}
-use Rattle.ii_query.proofs.MatchLaws.{picked_has}
+use Rattle.ii_query.proofs.MatchLaws.{or_swap, picked_has}
 use Rattle.ii_query.proofs.PickedLemmas.{picked_from, picked_sound}
-
-zero_more : (words : List ℕ) (i : ℕ) → get_or (words ++ 0 ∷ []) i 0 ≡ get_or words i 0
-zero_more [] zero = refl
-zero_more [] (suc i) = refl
-zero_more (w ∷ ws) zero = refl
-zero_more (w ∷ ws) (suc i) = zero_more ws i
-
--- a word without documents is appended
-pub pushed_in : (words : List ℕ) (d : ℕ) → is_in (words ++ 0 ∷ []) d ≡ is_in words d
-pushed_in words d = ap (λ (w : ℕ). nat_eq (bit_at w (d % 64)) 1) (zero_more words (d / 64))
 
 -- one more bit of a word
 bit_set : (w k i : ℕ) → k < 64 → nat_eq (bit_at (bit_or w (1 * 2 ^ k % 2 ^ 64)) i) 1 ≡ (nat_eq k i || nat_eq (bit_at w i) 1)
@@ -81,19 +71,10 @@ pub record IsAdding (first now : List ℕ) (all rest : List Entry) (doc : ℕ) :
   pub here : doc ≡ doc_at rest
   pub sound : IsSound rest
 
-pub adding_first : (words : List ℕ) (all : List Entry) (doc : ℕ) → doc ≡ doc_at all → IsSound all → IsAdding words words all all doc
-adding_first words all doc here sound = record { same = λ d. refl; here = here; sound = sound }
-
-or_turn : (a b c : Bool) → (a || (b || c)) ≡ ((b || a) || c)
-or_turn true true c = refl
-or_turn true false c = refl
-or_turn false true c = refl
-or_turn false false c = refl
-
 pub adding_next : (first now more : List ℕ) (all rest left : List Entry) (doc next : ℕ) → IsAdding first now all rest doc → doc < TERMINATED → ((d : ℕ) → is_in more d ≡ (nat_eq doc d || is_in now d)) → left ≡ drop 1 rest → next ≡ doc_at left → IsSound left → IsAdding first more all left next
 adding_next first now more all [] left doc next a low added is here sound = let at = a.here in absurd (omega (arith, at, low))
 adding_next first now more all (e ∷ es) left doc next a low added is here sound = record {
-  same = λ d. rw (is, added d, a.here) (or_turn (has_doc es d) (nat_eq e.doc d) (is_in now d) ∙ a.same d);
+  same = λ d. rw (is, added d, a.here) (or_swap (has_doc es d) (nat_eq e.doc d) (is_in now d) ∙ sym (or_assoc (nat_eq e.doc d) (has_doc es d) (is_in now d)) ∙ a.same d);
   here = here;
   sound = sound;
 }
@@ -240,8 +221,8 @@ set_short words next end =
     omega (arith, few, long)
 
 -- a set's list has its documents
-docs_in_has : (words : List ℕ) (d : ℕ) → d < TERMINATED → has_doc (docs_in words) d ≡ is_in words d
-docs_in_has words d low = picked_has (is_in words) (all_from 0 (bits_end words - 0)) d ∙ elim (cases_lt d (bits_end words)) [
+set_has : (words : List ℕ) (d : ℕ) → d < TERMINATED → has_doc (docs_of_set words) d ≡ is_in words d
+set_has words d low = picked_has (is_in words) (all_from 0 (bits_end words - 0)) d ∙ elim (cases_lt d (bits_end words)) [
   | inl inside ↦
       let here : has_doc (all_from 0 (bits_end words - 0)) d ≡ true = all_has 0 (bits_end words - 0) d ∙ rw (le-leb 0 d (omega arith), lt-ltb d (0 + (bits_end words - 0)) (omega (arith, inside))) refl in
       rw here refl
@@ -260,15 +241,15 @@ none_above (e ∷ es) d ascend above =
     rw (ne_eqb e.doc d (λ same. omega (arith, low, most, above, same))) (none_above es d ascend.1 above)
 
 -- a set with exactly the documents of a list
-pub collected : (words docs : List ℕ) (es : List Entry) → es ≡ map document docs → IsAscending es → ((d : ℕ) → is_in words d ≡ has_doc es d) → docs_in words ≡ es
+pub collected : (words docs : List ℕ) (es : List Entry) → es ≡ map document docs → IsAscending es → ((d : ℕ) → is_in words d ≡ has_doc es d) → docs_of_set words ≡ es
 collected words docs es is ascend same =
     let sound = picked_sound (is_in words) (all_from 0 (bits_end words - 0)) (all_sound 0 (bits_end words) (omega arith)) in
-    let alike : (d : ℕ) → has_doc (docs_in words) d ≡ has_doc es d = λ d. elim (cases_lt d TERMINATED) [
-      | inl low ↦ docs_in_has words d low ∙ same d
-      | inr above ↦ none_above (docs_in words) d sound.ascending above ∙ sym (none_above es d ascend above)
+    let alike : (d : ℕ) → has_doc (docs_of_set words) d ≡ has_doc es d = λ d. elim (cases_lt d TERMINATED) [
+      | inl low ↦ set_has words d low ∙ same d
+      | inr above ↦ none_above (docs_of_set words) d sound.ascending above ∙ sym (none_above es d ascend above)
     ] in
     sym (picked_again (is_in words) (all_from 0 (bits_end words - 0)))
-    ∙ ap (λ (ds : List ℕ). map document ds) (same_docs (docs_in words) es sound.ascending ascend alike ∙ ap docs_of is ∙ docs_again docs)
+    ∙ ap (λ (ds : List ℕ). map document ds) (same_docs (docs_of_set words) es sound.ascending ascend alike ∙ ap docs_of is ∙ docs_again docs)
     ∙ sym is
 
 -- an empty set has no document

@@ -1,6 +1,7 @@
--- Computed examples of hints, and of what a phrase may still read.
+-- Computed examples of hints, of what a phrase may still read, and of sets of documents.
 use Rattle.std.proofs.Common.{◌≡◌, ℕ, ◌^◌, ◌-◌, true, false, List, [], ◌∷◌, replicate, refl, arith}
-use Rattle.ii_base.specs.Entries.{Entry}
+use Rattle.ii_base.specs.Entries.{Entry, docs_of}
+use Rattle.ii_query.specs.BitSet.{docs_of_set}
 use Rattle.ii_query.specs.Combined.{QueryCursorState}
 use Rattle.ii_query.specs.Phrase.{most_reads, positions_left, reads_left}
 use Rattle.ii_query.specs.QueryCursor.{LeadsWith, sum_of_hints}
@@ -55,3 +56,10 @@ left_after_two = refl
 
 pub reads_after_two : reads_left 100 true two_documents ≡ 1
 reads_after_two = refl
+
+-- bits 0 and 2 of a word, and bit 1 of another one
+pub set_of_three : docs_of (docs_of_set (5 ∷ 2 ∷ [])) ≡ 0 ∷ 2 ∷ 65 ∷ []
+set_of_three = refl
+
+pub set_of_none : docs_of (docs_of_set (0 ∷ [])) ≡ []
+set_of_none = refl

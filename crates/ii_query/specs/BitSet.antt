@@ -18,8 +18,8 @@ abbrev pub docs_between : List ℕ → ℕ → ℕ → List Entry
 docs_between words next end = picked (is_in words) (all_from next (end - next))
 
 -- all documents of a set
-abbrev pub docs_in : List ℕ → List Entry
-docs_in words = docs_between words 0 (bits_end words)
+abbrev pub docs_of_set : List ℕ → List Entry
+docs_of_set words = docs_between words 0 (bits_end words)
 
 -- The first document from one on that passes a test, or none below an end.
 pub record IsFirstFrom (holds : ℕ → Bool) (from end found : ℕ) : Type 0 where

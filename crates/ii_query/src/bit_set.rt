@@ -2,7 +2,7 @@ ghost use Rattle.std.specs.Prelude.{◌≡◌, ◌≤◌, ◌<◌, ◌+◌, ◌*
 ghost use Rattle.ii_io.specs.Faults.{OnlyMemory};
 ghost use Rattle.ii_base.specs.declared.doc_id.TheConstants.{TERMINATED};
 ghost use Rattle.ii_docset.specs.Intersection.{has_doc};
-ghost use Rattle.ii_query.specs.BitSet.{IsFirstFrom, StandsIn, bits_end, docs_between, docs_in, is_in};
+ghost use Rattle.ii_query.specs.BitSet.{IsFirstFrom, StandsIn, bits_end, docs_between, docs_of_set, is_in};
 
 use ii_base::Fault;
 use ii_docset::{DocId, DocSet, TERMINATED};
@@ -136,7 +136,7 @@ pub struct BitSetDocSet {
 impl BitSetDocSet {
     /// Returns a cursor over the documents of a set.
     pub fn new(docs: BitSet) -> BitSetDocSet
-        ensures rest { docs_between result.docs result.next result.end ≡ docs_in docs }
+        ensures rest { docs_between result.docs result.next result.end ≡ docs_of_set docs }
         ensures end { result.end ≡ bits_end docs }
     {
         let end = docs.num_bits();

@@ -2,7 +2,7 @@ ghost use Rattle.std.specs.Prelude.{◌≡◌, ◌≤◌, ◌<◌, ◌+◌, ◌+
 ghost use Rattle.std.specs.List.{AllByRecursion, AllZip};
 ghost use Rattle.ii_io.specs.Faults.{OnlyMemory};
 ghost use Rattle.ii_docset.specs.Cursor.{doc_at, from_doc, IsSound};
-ghost use Rattle.ii_query.specs.BitSet.{bits_end, docs_in};
+ghost use Rattle.ii_query.specs.BitSet.{bits_end, docs_of_set};
 ghost use Rattle.ii_query.specs.Combined.{IsAtFirst, QueryCursorState, SeekAnswer, StandsAt, all_from, either, intersection_of, union_of, without};
 ghost use Rattle.ii_query.specs.QueryCursor.{HasLeastHint, KeptFrom, LeadsWith, WentTo, cursors_of, cursors_under, depth_of, depth_over, rest_of, rests, sum_of_hints};
 
@@ -106,7 +106,7 @@ impl<T: DocSet> QueryCursor<T> {
 
     /// Returns a cursor over the documents of a set. Its hint is at most the number of bits of the set.
     pub fn set(docs: BitSet) -> QueryCursor<T>
-        ensures rest { result.rest ≡ docs_in docs }
+        ensures rest { result.rest ≡ docs_of_set docs }
         ensures hint { result.hint ≤ bits_end docs }
         ensures cursors { result.cursors ≡ [] }
     {

@@ -28,10 +28,9 @@ use Rattle.ii_query_parser.specs.declared.query_parser_error.QueryParserError.{Q
 use Rattle.ii_query_parser.specs.declared.query_parser_error.QueryParserError.TheVariants as errors
 use Rattle.ii_definitions.specs.Tokens.{IndexToken}
 use Rattle.ii_query_grammar.specs.Trees.{Literal, leaf}
-use Rattle.ii_query_grammar.specs.declared.user_input_ast.Delimiter.{Delimiter}
 use Rattle.ii_query_parser.specs.declared.query.Query.{Query}
 use Rattle.ii_query_parser.specs.Queries.{has_fields, has_positions_in, keeps_positions, matches}
-use Rattle.ii_query_parser.specs.QueryTexts.{Adds, AddsIn, AddsMaybe, AddsOrKeeps, AddsText, IsPhraseIn, IsRefusedAs, IsWhyRefused, Means, AnalyzedFields, FieldTexts, PhraseState, Terms, TextFields, are_in, default_terms, delimited_terms, has_one, has_term, has_texts, in_field, is_alone, joined_terms, left_out, may_be_prefix, no_prefix, one_term, path_key, path_value, phrase_kept, phrase_within, prefix_terms, refused, some_default, some_left, stand_after, terms_after, terms_in_field, terms_of, text_terms, typed_terms, value_term, words_phrase}
+use Rattle.ii_query_parser.specs.QueryTexts.{Adds, AddsIn, AddsMaybe, AddsOrKeeps, AddsText, IsPhraseIn, IsRefusedAs, IsWhyRefused, Means, AnalyzedFields, FieldTexts, PhraseState, Terms, TextFields, are_in, default_terms, has_one, has_term, in_field, is_alone, joined_terms, left_out, no_prefix, one_term, path_key, path_value, phrase_kept, phrase_within, refused, some_default, some_left, stand_after, terms_after, terms_in_field, terms_of, text_terms, typed_terms, value_term, words_phrase}
 
 -- Terms of the fields so far were added, and those of the fields that are left come after them.
 pub record IsGathering (q : FieldTexts) (phrase all fields : List ℕ) (old now : List PhraseState) : Type 0 where
@@ -303,42 +302,7 @@ leaf_means q l query terms (ts, is, new_is, within) means fields positions =
       positions = positions q.texts.entries ∙ ap (list_all (phrase_kept q.texts.entries)) new_is ∙ all.1;
     }
 
--- terms that are added to none, and taken as their delimiter says
-pub delimited_adds : (terms : Terms) (entries : List SchemaEntry) (delimiter : Delimiter) (old new : List PhraseState) → old ≡ [] → Adds terms entries old new (Ok tt) → delimited_terms entries (Ok new) delimiter ≡ Ok new
-    → Adds (delimited_terms entries terms delimiter) entries old new (Ok tt)
-delimited_adds terms entries delimiter old new none (ts, is, new_is, within) taken =
-    let same : ts ≡ new = sym (new_is ∙ ap (λ (ps : List PhraseState). ps ++ ts) none) in
-    (ts, ap (λ (r : Terms). delimited_terms entries r delimiter) (is ∙ ap (λ (ps : List PhraseState). Ok ps) same) ∙ taken ∙ ap (λ (ps : List PhraseState). Ok ps) (sym same), new_is, within)
-
-pub delimited_refused : (terms : Terms) (entries : List SchemaEntry) (delimiter : Delimiter) (old new : List PhraseState) (error : QueryParserError) → old ≡ [] → Adds terms entries old new (Ok tt) → delimited_terms entries (Ok new) delimiter ≡ Err error
-    → Adds (delimited_terms entries terms delimiter) entries old new (Err error)
-delimited_refused terms entries delimiter old new error none (ts, is, new_is, within) refusal =
-    let same : ts ≡ new = sym (new_is ∙ ap (λ (ps : List PhraseState). ps ++ ts) none) in
-    inr (ap refused (ap (λ (r : Terms). delimited_terms entries r delimiter) (is ∙ ap (λ (ps : List PhraseState). Ok ps) same) ∙ refusal))
-
-pub text_refused : (terms : Terms) (entries : List SchemaEntry) (delimiter : Delimiter) (old new : List PhraseState) (error : QueryParserError) → Adds terms entries old new (Err error) → Adds (delimited_terms entries terms delimiter) entries old new (Err error)
-text_refused terms entries delimiter old new error (inl memory) = inl memory
-text_refused (Err e) entries delimiter old new error (inr is) = inr is
-text_refused (Ok ts) entries delimiter old new error (inr is) = absurd (cc)
-
 -- Each of the terms before a place may be a prefix.
 pub record ArePrefixes (entries : List SchemaEntry) (terms : List PhraseState) (i : ℕ) : Type 0 where
   pub left : no_prefix entries terms ≡ no_prefix entries (drop i terms)
   pub alone : list_all is_alone terms ≡ list_all is_alone (drop i terms)
-
-prefix_at : (terms : List PhraseState) (i : ℕ) (p d : PhraseState) → i < length terms → p ≡ get_or terms i d → drop i terms ≡ p ∷ drop (i + 1) terms
-prefix_at terms i p d inside is = drop-cons terms i d inside ∙ rw (is, add-one i) refl
-
-pub prefixes_next : (entries : List SchemaEntry) (terms : List PhraseState) (i : ℕ) (p d : PhraseState) → i < length terms → p ≡ get_or terms i d → may_be_prefix entries p ≡ true → ArePrefixes entries terms i → ArePrefixes entries terms (i + 1)
-prefixes_next entries terms i p d inside is may a =
-    let at = prefix_at terms i p d inside is in
-    let parts = and_parts (is_alone p) (has_texts (slice_get entries p.first.field)) may in
-    record {
-      left = a.left ∙ ap (no_prefix entries) at ∙ rw may refl;
-      alone = a.alone ∙ ap (list_all is_alone) at ∙ rw (parts.0) refl;
-    }
-
-pub prefixes_end : (entries : List SchemaEntry) (terms : List PhraseState) (i : ℕ) (p d : PhraseState) → i < length terms → p ≡ get_or terms i d → may_be_prefix entries p ≡ false → ArePrefixes entries terms i → prefix_terms terms (no_prefix entries terms) ≡ Err (errors.UnsupportedPrefix p.first.field)
-prefixes_end entries terms i p d inside is may a =
-    let at = prefix_at terms i p d inside is in
-    ap (prefix_terms terms) (a.left ∙ ap (no_prefix entries) at) ∙ rw may refl

@@ -10,7 +10,6 @@ use Rattle.ii_base.specs.Schema.{SchemaEntry}
 use Rattle.ii_definitions.specs.Tokens.{IndexToken}
 use Rattle.ii_query_grammar.specs.Trees.{Asts, all_of, and_asts, any_of, ast_of, asts_from, no_asts}
 use Rattle.ii_query_grammar.specs.declared.user_input_ast.Delimiter.{Delimiter}
-use Rattle.ii_query_grammar.specs.declared.user_input_ast.Delimiter.TheVariants as delimiters
 use Rattle.ii_query_grammar.specs.declared.user_input_ast.UserInputAst.{UserInputAst}
 use Rattle.ii_query_parser.specs.declared.query.PhraseTerm.{PhraseTerm}
 use Rattle.ii_query_parser.specs.declared.query.Query.{Query}
@@ -58,10 +57,6 @@ collects_more delimiter old new words left here all is pushed i = record {
   within = λ n. and_on (list_all (has_fields n) old) (phrase_within n words) (list_all (phrase_within n) left) (list_all (phrase_within n) all) _ (pushed.within n) (ap (λ (ps : List PhraseState). list_all (has_fields n) old && list_all (phrase_within n) ps) (sym is) ∙ i.within n);
   kept = λ entries. and_on (list_all (keeps_positions entries) old) (phrase_kept entries words) (list_all (phrase_kept entries) left) (list_all (phrase_kept entries) all) _ (pushed.kept entries) (ap (λ (ps : List PhraseState). list_all (keeps_positions entries) old && list_all (phrase_kept entries) ps) (sym is) ∙ i.kept entries);
 }
-
--- the next one of terms that are left
-pub next_alone : (delimiter : Delimiter) (queries : List Query) (words : PhraseState) (left here all : List PhraseState) → here ≡ words ∷ left → IsCollecting delimiter queries here all → delimiter ≡ delimiters.Star → is_alone words ≡ true
-next_alone delimiter queries words left here all is i star = (and_parts (is_alone words) (list_all is_alone left) (ap (list_all is_alone) (sym is) ∙ i.alone star)).0
 
 none_others : (words : PhraseState) → is_alone words ≡ true → words.others ≡ []
 none_others words alone = none words.others (eqb-true (length words.others) 0 alone)

@@ -1,10 +1,14 @@
--- Phrases in texts of words, each computed.
+-- Phrases and ranges in texts of words, each computed.
+use Rattle.std.proofs.Common.{Global, Vec}
 use Rattle.std.specs.Prelude.{◌≡◌, ℕ, [], ◌∷◌, List, Option, None, Some, codes, filter, refl}
+use Rattle.std.specs.List.{list_any}
 use Rattle.ii_base.specs.AsciiWords.{ascii_words}
 use Rattle.ii_base.specs.Terms.{TermState}
 use Rattle.ii_definitions.specs.Tokens.{Call, IndexToken, text, tokens_of}
 use Rattle.ii_query_parser.specs.declared.query.PhraseTerm.{PhraseTerm}
-use Rattle.ii_query_parser.specs.Queries.{has_phrase}
+use Rattle.ii_query_parser.specs.declared.term_range.KeyBound.{KeyBound}
+use Rattle.ii_query_parser.specs.declared.term_range.KeyBound.TheVariants.{Excluded, Included, Unbounded}
+use Rattle.ii_query_parser.specs.Queries.{has_phrase, is_token_in}
 use Rattle.ii_query_parser.specs.QueryTexts.{PhraseState, words_phrase}
 
 -- a text in a field of a document
@@ -64,3 +68,39 @@ of_one_word = refl
 
 pub of_no_word : phrase_in (codes "-") ≡ None
 of_no_word = refl
+
+-- words that start alike
+abbrev seas : List IndexToken
+seas = tokens_of ascii_words (said 0 0 (codes "sea") ∷ said 1 0 (codes "search") ∷ said 2 0 (codes "set") ∷ said 3 0 (codes "sf") ∷ said 4 1 (codes "sea") ∷ [])
+
+abbrev docs_between : List ℕ → KeyBound → KeyBound → List ℕ
+docs_between start lower upper = filter (λ (doc : ℕ). list_any (is_token_in (record { prefix = word 0 start; lower = lower; upper = upper }) doc) seas) (0 ∷ 1 ∷ 2 ∷ 3 ∷ 4 ∷ [])
+
+pub prefix_of_three : docs_between (codes "se") Unbounded Unbounded ≡ 0 ∷ 1 ∷ 2 ∷ []
+prefix_of_three = refl
+
+pub prefix_of_two : docs_between (codes "sea") Unbounded Unbounded ≡ 0 ∷ 1 ∷ []
+prefix_of_two = refl
+
+pub prefix_of_all : docs_between [] Unbounded Unbounded ≡ 0 ∷ 1 ∷ 2 ∷ 3 ∷ []
+prefix_of_all = refl
+
+pub prefix_of_none : docs_between (codes "seas") Unbounded Unbounded ≡ []
+prefix_of_none = refl
+
+-- bounds at `set`
+pub from_included : (set : Vec ℕ Global) → set.items ≡ codes "set" → docs_between [] (Included set) Unbounded ≡ 2 ∷ 3 ∷ []
+from_included set is = rw is refl
+
+pub from_excluded : (set : Vec ℕ Global) → set.items ≡ codes "set" → docs_between [] (Excluded set) Unbounded ≡ 3 ∷ []
+from_excluded set is = rw is refl
+
+pub to_included : (set : Vec ℕ Global) → set.items ≡ codes "set" → docs_between [] Unbounded (Included set) ≡ 0 ∷ 1 ∷ 2 ∷ []
+to_included set is = rw is refl
+
+pub to_excluded : (set : Vec ℕ Global) → set.items ≡ codes "set" → docs_between [] Unbounded (Excluded set) ≡ 0 ∷ 1 ∷ []
+to_excluded set is = rw is refl
+
+-- upside down
+pub between_none : (set sea : Vec ℕ Global) → set.items ≡ codes "set" → sea.items ≡ codes "sea" → docs_between [] (Included set) (Included sea) ≡ []
+between_none set sea is also = rw (is, also) refl

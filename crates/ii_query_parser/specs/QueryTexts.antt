@@ -217,13 +217,13 @@ are_texts types.Bytes = false
 are_texts types.IpAddr = false
 
 -- whether a field has texts
-abbrev pub has_texts : Option SchemaEntry → Bool
-has_texts None = false
-has_texts (Some e) = are_texts e.value_type
+abbrev pub holds_texts : Option SchemaEntry → Bool
+holds_texts None = false
+holds_texts (Some e) = are_texts e.value_type
 
 -- whether a term may be a prefix: no other follows it, and its field has texts
 abbrev pub may_be_prefix : List SchemaEntry → PhraseState → Bool
-may_be_prefix entries p = is_alone p && has_texts (slice_get entries p.first.field)
+may_be_prefix entries p = is_alone p && holds_texts (slice_get entries p.first.field)
 
 -- the first term or phrase that may be no prefix
 abbrev pub no_prefix : List SchemaEntry → List PhraseState → Option PhraseState

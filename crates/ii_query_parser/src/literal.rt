@@ -5,7 +5,7 @@ ghost use Rattle.ii_base.specs.Values.{text_key};
 ghost use Rattle.ii_base.specs.declared.schema.value_type.ValueType.TheVariants as types;
 ghost use Rattle.ii_query_grammar.specs.Trees.{literal_of};
 ghost use Rattle.ii_query_parser.specs.declared.query_parser_error.QueryParserError.TheVariants as errors;
-ghost use Rattle.ii_query_parser.specs.QueryTexts.{Adds, AddsIn, AddsOrKeeps, AddsMaybe, AddsText, AreAlone, CutsAtDot, delimited_terms, field_named, has_json_values, has_texts, is_alone, left_out, literal_terms, may_be_prefix, named_terms, no_prefix, prefix_terms, some_default, terms_in_field, terms_of, typed_terms, words_phrase};
+ghost use Rattle.ii_query_parser.specs.QueryTexts.{Adds, AddsIn, AddsOrKeeps, AddsMaybe, AddsText, AreAlone, CutsAtDot, delimited_terms, field_named, has_json_values, holds_texts, is_alone, left_out, literal_terms, may_be_prefix, named_terms, no_prefix, prefix_terms, some_default, terms_in_field, terms_of, typed_terms, words_phrase};
 ghost use Rattle.std.specs.List.{list_all};
 
 use crate::phrase_words::{PhraseWords, words_phrase};
@@ -74,12 +74,12 @@ fn may_be_prefix(schema: &Schema, words: &PhraseWords) -> bool
     if !words.is_alone() {
         return false;
     }
-    has_texts(schema, words.field())
+    holds_texts(schema, words.field())
 }
 
 // Whether a field of the schema has texts.
-fn has_texts(schema: &Schema, field: Field) -> bool
-    ensures { result ≡ has_texts (slice_get schema.now field) }
+fn holds_texts(schema: &Schema, field: Field) -> bool
+    ensures { result ≡ holds_texts (slice_get schema.now field) }
 {
     if field.field_id() as usize >= schema.num_fields() {
         return false;

@@ -12,9 +12,9 @@ use Rattle.ii_docset.specs.Cursor.{IsSound}
 use Rattle.ii_docset.specs.Intersection.{has_doc}
 use Rattle.ii_docset.proofs.CursorLemmas.{documents_sound}
 use Rattle.ii_definitions.proofs.ListLaws.{all_both}
-use Rattle.ii_query.specs.BitSet.{docs_in, is_in}
+use Rattle.ii_query.specs.BitSet.{docs_of_set, is_in}
 use Rattle.ii_query.specs.Combined.{put_all, union_of}
-use Rattle.ii_query.proofs.MatchLaws.{union_has}
+use Rattle.ii_query.proofs.MatchLaws.{or_swap, union_has}
 use Rattle.ii_query.proofs.SetLemmas.{collected, none_in}
 use Rattle.ii_query.proofs.UnionLemmas.{either_sound}
 use Rattle.ii_query_parser.specs.declared.term_range.TermRange.{TermRange}
@@ -71,11 +71,6 @@ module _ (range : TermRange) (reader : InvertedIndexReaderState) where
       let inside = slice_get_within (entry_keys reader.terms) ord key is in
       drop-cons (entry_keys reader.terms) ord [] inside ∙ rw (get_or_from_slice_get (entry_keys reader.terms) ord key [] is, add-one ord) refl
 
-  or_swap : (a b c : Bool) → (a || (b || c)) ≡ (b || (a || c))
-  or_swap true true c = refl
-  or_swap true false c = refl
-  or_swap false b c = refl
-
   -- one list more
   union_more : (lists : List (List Entry)) (es : List Entry) (d : ℕ) → has_doc (union_of (lists ++ es ∷ [])) d ≡ (has_doc es d || has_doc (union_of lists) d)
   union_more [] es d = union_has es [] d
@@ -121,7 +116,7 @@ module _ (range : TermRange) (reader : InvertedIndexReaderState) where
   union_docs [] = refl
   union_docs (es ∷ lists) = refl
 
-  pub collecting_all : (ord : ℕ) (words : List ℕ) → length reader.terms ≤ ord → IsCollecting ord words → combined_lists union_of (range_lists range (Some reader)) ≡ Ok (docs_in words)
+  pub collecting_all : (ord : ℕ) (words : List ℕ) → length reader.terms ≤ ord → IsCollecting ord words → combined_lists union_of (range_lists range (Some reader)) ≡ Ok (docs_of_set words)
   collecting_all ord words end c =
       let none : left ord ≡ [] = drop_end ord (entry_keys reader.terms) (omega (arith, end, keys_many reader.terms)) in
       let all : range_lists range (Some reader) ≡ Ok c.lists = c.listed ∙ rw none (ap (λ (ls : List (List Entry)). Ok ls) (append-nil c.lists)) in

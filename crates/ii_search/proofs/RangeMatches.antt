@@ -35,11 +35,6 @@ pub turned : {A B : Type 0} (p : A → B → Bool) (xs : List A) (ys : List B) �
 turned p [] ys = sym (none_of_all ys)
 turned p (x ∷ xs) ys = ap (λ (b : Bool). list_any (p x) ys || b) (turned p xs ys) ∙ sym (any_of_either (p x) (λ (y : _). list_any (λ (z : _). p z y) xs) ys)
 
-first_fails : (a b : Bool) → ((a && (b && false)) || false) ≡ false
-first_fails true true = refl
-first_fails true false = refl
-first_fails false b = refl
-
 -- the keys that pass a test have a key if it passes and all keys have it
 kept_has : (a b : Bool) (key : List ℕ) (test : List ℕ → Bool) (keys : List (List ℕ))
     → list_any (λ (k : List ℕ). a && (b && bytes_eq key k)) (filter test keys) ≡ ((a && b) && (test key && has_key keys key))

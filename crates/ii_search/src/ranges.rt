@@ -1,6 +1,6 @@
 ghost use Rattle.std.specs.Prelude.{◌≡◌, ◌<◌, ℕ, List, Ok, Some, IfErr, IfOk, OnOk, true};
 ghost use Rattle.ii_base.specs.declared.schema.index_record_option.IndexRecordOption.TheVariants.{Basic};
-ghost use Rattle.ii_query.specs.BitSet.{docs_in};
+ghost use Rattle.ii_query.specs.BitSet.{docs_of_set};
 ghost use Rattle.ii_query.specs.Combined.{union_of};
 ghost use Rattle.ii_query_parser.specs.Ranges.{in_range};
 ghost use Rattle.ii_reader.specs.InvertedIndexReader.{IsRefusal};
@@ -20,7 +20,7 @@ pub(crate) fn docs_in_range(
     reader: &InvertedIndexReader,
     range: &TermRange,
 ) -> Result<BitSet, Fault>
-    ensures listed { IfOk result (λ docs. combined_lists union_of (range_lists range.now (Some reader.now)) ≡ Ok (docs_in docs)) }
+    ensures listed { IfOk result (λ docs. combined_lists union_of (range_lists range.now (Some reader.now)) ≡ Ok (docs_of_set docs)) }
     ensures refused { IfErr result (IsRefusal (combined_lists union_of (range_lists range.now (Some reader.now)))) }
 {
     let terms = reader.terms();
