@@ -1,0 +1,3 @@
+pub mod Combinations
+pub mod Scores
+pub mod TopDocs
