@@ -1,10 +1,9 @@
 -- Laws of combined scores.
-use Rattle.std.proofs.Common.{◌≡◌, ◌≢◌, ℕ, zero, suc, ◌+◌, ◌-◌, ◌^◌, ◌<◌, ◌≤◌, ◌⊎◌, inl, inr, List, [], ◌∷◌, Option, None, Some, get_or, length, min, refl, sym, ap, ◌∙◌, arith}
+use Rattle.std.proofs.Common.{◌≡◌, ◌≢◌, ℕ, ◌+◌, ◌<◌, ◌≤◌, ◌⊎◌, inl, inr, List, Option, None, Some, get_or, length, refl, sym, ap, ◌∙◌, arith}
 use Rattle.std.proofs.lemmas.Bool.{cases_eq}
 use Rattle.std.proofs.lemmas.List.{get_or-set_same, get_or-set_other, length-set}
 use Rattle.std.specs.Prelude.{set}
 use Rattle.ii_ranking.specs.declared.combination.Combination.{Combination}
-use Rattle.ii_ranking.specs.declared.combination.Combination.TheVariants.{Either, Both, Unless}
 use Rattle.ii_ranking.specs.Combinations.{AreCombined, combined, either}
 
 -- The scores of the first documents were combined with others.

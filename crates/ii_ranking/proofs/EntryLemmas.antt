@@ -1,11 +1,13 @@
 -- Laws of scores that are added entry by entry.
-use Rattle.std.proofs.Common.{◌≡◌, ◌≢◌, ℕ, zero, suc, ◌+◌, ◌-◌, ◌<◌, ◌≤◌, ◌⊎◌, inl, inr, Bool, true, false, List, [], ◌∷◌, Option, None, Some, drop, get_or, length, nat_lt, set, refl, sym, ap, ◌∙◌, arith}
+use Rattle.std.proofs.Common.{◌≡◌, ◌≢◌, ℕ, ◌<◌, ◌⊎◌, inl, inr, Bool, true, false, List, [], ◌∷◌, Option, None, Some, drop, get_or, if◌then◌else◌, length, nat_eq, nat_lt, refl, sym, ap, ◌∙◌, arith}
 use Rattle.std.specs.Option.{option_map}
 use Rattle.std.proofs.lemmas.Bool.{cases_eq, eq-eqb, lt-ltb, ne_eqb}
 use Rattle.std.proofs.lemmas.List.{get_or-set_same, get_or-set_other, length-set}
 use Rattle.ii_base.specs.declared.doc_id.TheConstants.{TERMINATED}
 use Rattle.ii_base.specs.Entries.{Entry}
+use Rattle.ii_bm25.specs.declared.bm25.TheConstants.{SCORE_ONE}
 use Rattle.ii_docset.specs.Cursor.{IsAscending, doc_at, term_freq_at}
+use Rattle.ii_docset.specs.Intersection.{has_doc}
 use Rattle.ii_ranking.specs.Combinations.{Adds, added_at, either}
 use Rattle.ii_ranking.specs.Scores.{entry_at}
 use Rattle.ii_ranking.proofs.CombinationLemmas.{either_none}
@@ -89,3 +91,17 @@ adds_all score_of none all old new a = record {
   many = a.many;
   each = λ doc inside. sym (either_none (get_or new doc None)) ∙ ap (either (get_or new doc None)) (sym (none doc)) ∙ a.each doc inside;
 }
+
+-- 1.0 for the first document
+pub one_here : (doc : ℕ) (es : List Entry) → doc ≡ doc_at es → doc < TERMINATED → Some SCORE_ONE ≡ option_map (λ (e : Entry). SCORE_ONE) (entry_at es doc)
+one_here doc [] here low = absurd (omega (arith, here, low))
+one_here doc (e ∷ es) here low = sym (ap (λ (d : ℕ). option_map (λ (f : Entry). SCORE_ONE) (entry_at (e ∷ es) d)) here ∙ ap (option_map (λ (f : Entry). SCORE_ONE)) (entry_here e es))
+
+-- 1.0 for each document that a list has
+pub ones : (es : List Entry) (doc : ℕ) → option_map (λ (e : Entry). SCORE_ONE) (entry_at es doc) ≡ (if has_doc es doc then Some SCORE_ONE else None)
+ones [] doc = refl
+ones (e ∷ es) doc = by (nat_eq e.doc doc) refl (ones es doc)
+  where
+    by : (t : Bool) → nat_eq e.doc doc ≡ t → option_map (λ (f : Entry). SCORE_ONE) (entry_at es doc) ≡ (if has_doc es doc then Some SCORE_ONE else None) → option_map (λ (f : Entry). SCORE_ONE) (entry_at (e ∷ es) doc) ≡ (if has_doc (e ∷ es) doc then Some SCORE_ONE else None)
+    by true test later = rw test refl
+    by false test later = rw test later

@@ -5,4 +5,5 @@ pub mod PhraseScoreLemmas
 pub mod PositionLemmas
 pub mod QueryScoreLemmas
 pub mod ScoreLemmas
+pub mod SegmentLemmas
 pub mod TopLemmas

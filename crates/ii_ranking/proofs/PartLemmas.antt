@@ -1,10 +1,8 @@
 -- Laws of the terms of a phrase that are moved to a document one after the other.
-use Rattle.std.proofs.Common.{◌≡◌, ◌∙◌, ℕ, zero, suc, ◌+◌, ◌<◌, ◌≤◌, Bool, true, false, ◌&&◌, List, [], ◌∷◌, ◌++◌, drop, get_or, length, map, set, take, refl, sym, ap, arith, append_assoc}
+use Rattle.std.proofs.Common.{◌≡◌, ◌∙◌, ℕ, suc, ◌+◌, ◌<◌, ◌≤◌, Bool, true, false, ◌&&◌, List, [], ◌∷◌, ◌++◌, drop, get_or, length, map, set, take, refl, sym, ap, arith, append_assoc}
 use Rattle.std.specs.List.{filter}
 use Rattle.std.proofs.Math.Seq.{drop-cons}
 use Rattle.std.proofs.lemmas.List.{append-nil, drop-set-lt, drop_all, take_all, take_more_set}
-use Rattle.ii_base.specs.Entries.{Entry}
-use Rattle.ii_docset.specs.Cursor.{from_doc}
 use Rattle.ii_query.specs.Phrase.{PhrasePartState, has_position, stand_from}
 use Rattle.ii_query.proofs.PhraseLemmas.{has_from}
 use Rattle.ii_ranking.specs.Scores.{AreFrom, from_part}
@@ -62,9 +60,10 @@ filter_all (x ∷ xs) = ap (λ (ys : List ℕ). x ∷ ys) (filter_all xs)
 
 pub keeps_all : (doc : ℕ) (all row : List PhrasePartState) (k : ℕ) (positions starts : List ℕ) → length row ≤ k → IsKeeping doc all row k positions starts → (starts ≡ filter (stand_from all doc) positions) × AreFrom doc all row
 keeps_all doc all row k positions starts over i =
-    let none = drop_all k row over in
-    (sym (filter_all starts) ∙ ap (λ (ps : List PhrasePartState). filter (stand_from ps doc) starts) (sym none) ∙ i.kept,
-    sym (take_all k row over) ∙ sym (append-nil (take k row)) ∙ ap (λ (ps : List PhrasePartState). take k row ++ map (from_part doc) ps) (sym none) ∙ i.moved)
+    let none = drop_all k row over in (
+      sym (filter_all starts) ∙ ap (λ (ps : List PhrasePartState). filter (stand_from ps doc) starts) (sym none) ∙ i.kept,
+      sym (take_all k row over) ∙ sym (append-nil (take k row)) ∙ ap (λ (ps : List PhrasePartState). take k row ++ map (from_part doc) ps) (sym none) ∙ i.moved,
+    )
 
 -- a phrase over terms that are at their first documents from one on
 pub stand_alike : (target doc start : ℕ) (old new : List PhrasePartState) → AreFrom target old new → target ≤ doc → stand_from new doc start ≡ stand_from old doc start

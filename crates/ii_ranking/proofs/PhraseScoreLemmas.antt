@@ -1,12 +1,12 @@
 -- Laws of the scores of phrases.
-use Rattle.std.proofs.Common.{◌≡◌, ◌∙◌, ℕ, ◌+◌, ◌<◌, ◌≤◌, List, [], ◌∷◌, Option, None, Some, drop, filter, length, refl, sym, ap, arith}
+use Rattle.std.proofs.Common.{◌≡◌, ◌∙◌, ℕ, ◌<◌, ◌≤◌, List, [], ◌∷◌, Option, drop, filter, length, refl, sym, ap, arith}
 use Rattle.std.proofs.lemmas.List.Elements.{filter_agree}
 use Rattle.std.specs.Option.{option_map, unwrap_or}
 use Rattle.ii_base.specs.declared.doc_id.TheConstants.{TERMINATED}
 use Rattle.ii_base.specs.Entries.{Entry}
 use Rattle.ii_docset.specs.Cursor.{IsAscending, doc_at, positions_at}
 use Rattle.ii_query.specs.Phrase.{PhrasePartState, stand_from}
-use Rattle.ii_ranking.specs.Scores.{AreFrom, entry_at, from_part, if_occurs, num_starts}
+use Rattle.ii_ranking.specs.Scores.{AreFrom, entry_at, if_occurs, num_starts}
 use Rattle.ii_ranking.proofs.EntryLemmas.{entry_here}
 use Rattle.ii_ranking.proofs.PartLemmas.{stand_alike}
 
@@ -31,7 +31,7 @@ starts_here score_of doc count [] old now here low m is = absurd (omega (arith, 
 starts_here score_of doc count (e ∷ es) old now here low m is =
     ap (λ (d : ℕ). starts_score score_of old (entry_at (e ∷ es) d)) here ∙ ap (starts_score score_of old) (entry_here e es)
     ∙ ap (if_occurs score_of) (ap (λ (d : ℕ). length (filter (stand_from old d) e.positions)) (sym here)
-        ∙ ap length (filter_agree (stand_from old doc) (stand_from now doc) (λ start. sym (m.alike doc start (omega arith))) e.positions) ∙ sym is)
+    ∙ ap length (filter_agree (stand_from old doc) (stand_from now doc) (λ start. sym (m.alike doc start (omega arith))) e.positions) ∙ sym is)
 
 -- the next document is greater
 pub next_up : (es later : List Entry) → IsAscending es → later ≡ drop 1 es → doc_at es < TERMINATED → doc_at es ≤ doc_at later

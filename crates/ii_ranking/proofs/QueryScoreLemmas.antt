@@ -1,5 +1,5 @@
 -- Laws of the scores of queries that are made of others.
-use Rattle.std.proofs.Common.{◌≡◌, ◌∙◌, ℕ, ◌+◌, ◌-◌, ◌^◌, ◌<◌, ◌≤◌, ◌⊎◌, inl, inr, Bool, true, false, true≢false, List, [], ◌∷◌, Option, None, Some, Result, Ok, Err, OnOk, Box, Global, Vec, drop, get_or, if◌then◌else◌, length, map, min, replicate, refl, sym, ap, arith, rules}
+use Rattle.std.proofs.Common.{◌≡◌, ◌∙◌, ℕ, ◌+◌, ◌<◌, ◌≤◌, inl, inr, Bool, true, false, true≢false, List, [], ◌∷◌, Option, None, Some, Result, Ok, Err, OnOk, Box, Global, Vec, get_or, if◌then◌else◌, length, map, replicate, refl, sym, ap, arith}
 use Rattle.std.specs.List.{fold, list_all, range_with_len}
 use Rattle.std.proofs.lemmas.Bool.{and_parts}
 use Rattle.std.proofs.lemmas.List.{get_or-replicate, get_or_default, length-replicate, same_lists}
@@ -15,7 +15,7 @@ use Rattle.ii_base.specs.Terms.{TermState}
 use Rattle.ii_query_parser.specs.Queries.{QueryTree, has_fields, tree_of, trees_of}
 use Rattle.ii_reader.specs.OpenIndex.{OpenIndexState}
 use Rattle.ii_ranking.specs.declared.combination.Combination.{Combination}
-use Rattle.ii_ranking.specs.declared.combination.Combination.TheVariants.{Either, Both, Unless}
+use Rattle.ii_ranking.specs.declared.combination.Combination.TheVariants.{Either, Both}
 use Rattle.ii_ranking.specs.Combinations.{Adds, AreCombined, add, any_of, both, combined, each_of, either, unless}
 use Rattle.ii_ranking.specs.Scores.{IsScoreFault, Scored, first_of, phrase_score, query_damage, query_score, tree_score, tree_scores, trees_damage}
 
@@ -144,9 +144,9 @@ added_to_none size f old new is a =
     let many : length old ≡ size = ap length is ∙ length-replicate size None in
     let long : length new ≡ size = a.many ∙ many in
     same_lists new (map f (range_with_len 0 size)) (long ∙ sym (length-map-range_with_len f 0 size)) (λ k d inside.
-        get_or_default new k d None inside ∙ a.each k (omega (arith, many, long, inside))
-        ∙ ap (λ (score : Option ℕ). either score (f k)) (ap (λ (row : List (Option ℕ)). get_or row k None) is ∙ get_or-replicate size k None None (omega (arith, long, inside)))
-        ∙ sym (get_or-map-range_with_len f 0 size k k d (omega (arith, long, inside)) (omega arith)))
+    get_or_default new k d None inside ∙ a.each k (omega (arith, many, long, inside))
+    ∙ ap (λ (score : Option ℕ). either score (f k)) (ap (λ (row : List (Option ℕ)). get_or row k None) is ∙ get_or-replicate size k None None (omega (arith, long, inside)))
+    ∙ sym (get_or-map-range_with_len f 0 size k k d (omega (arith, long, inside)) (omega arith)))
 
 -- what follows from success
 pub on_ok_then : {A : Type 0} {P Q : Type 0} (r : Result A Fault) → OnOk r P → (P → Q) → OnOk r Q

@@ -1,12 +1,12 @@
 -- Laws of the best documents.
-use Rattle.std.proofs.Common.{◌≡◌, ℕ, zero, suc, ◌+◌, ◌-◌, ◌*◌, ◌^◌, ◌<◌, ◌≤◌, ◌⊎◌, inl, inr, Bool, true, false, List, [], ◌∷◌, ◌++◌, Option, None, Some, drop, get_or, length, map, min, nat_lt, take, refl, sym, ap, ◌∙◌, arith}
+use Rattle.std.proofs.Common.{◌≡◌, ℕ, zero, suc, ◌+◌, ◌-◌, ◌^◌, ◌<◌, ◌≤◌, inl, inr, Bool, true, false, List, [], ◌∷◌, ◌++◌, Option, None, drop, get_or, length, map, min, nat_lt, take, refl, sym, ap, ◌∙◌, arith}
 use Rattle.std.proofs.lemmas.Bool.{ltb-true, ltb-false}
 use Rattle.std.specs.List.{flat_map, range_with_len}
 use Rattle.std.proofs.lemmas.Grind.{flat_map-append}
 use Rattle.std.proofs.lemmas.List.FromFn.{get_or-map-range_with_len, length-map-range_with_len}
 use Rattle.ii_definitions.proofs.ListLaws.{range_append}
-use Rattle.std.proofs.lemmas.List.{append-nil, drop-take, drop_all, length-take, take_all}
-use Rattle.ii_ranking.specs.TopDocs.{Precedes, rank_key, scored_docs, with_score}
+use Rattle.std.proofs.lemmas.List.{append-nil, drop-take, drop_all, take_all}
+use Rattle.ii_ranking.specs.TopDocs.{Precedes, rank_key, scored_by_number, scored_docs, with_score}
 
 -- the order of keys is that of documents with their scores
 pub ranks : (a b : ℕ × ℕ) → a.0 < 2 ^ 64 → b.0 < 2 ^ 64 → a.1 < 2 ^ 32 → b.1 < 2 ^ 32 → rank_key a ≤ rank_key b → Precedes a b
@@ -45,22 +45,24 @@ best_are offset limit end passed ranked few end_is passed_is =
     passes offset passed (take end ranked) passed_is ∙ ap (drop offset) (takes (2 ^ 64 - 1) (offset + limit) end ranked (omega arith) end_is) ∙ drop-take offset limit ranked
 
 -- one document more
-pub scored_more : (n : ℕ) (score_of : ℕ → Option ℕ) → scored_docs (n + 1) score_of ≡ scored_docs n score_of ++ with_score (score_of n) n
-scored_more n score_of =
+pub scored_more : (number : ℕ → ℕ) (n : ℕ) (score_of : ℕ → Option ℕ) → scored_by_number number (n + 1) score_of ≡ scored_by_number number n score_of ++ with_score (score_of n) (number n)
+scored_more number n score_of =
     let here : 0 + n ≡ n = omega arith in
-    ap (flat_map (λ (doc : ℕ). with_score (score_of doc) doc)) (range_append 0 n 1 ∙ ap (λ (k : ℕ). range_with_len 0 n ++ k ∷ []) here)
-    ∙ flat_map-append (λ (doc : ℕ). with_score (score_of doc) doc) (range_with_len 0 n) (n ∷ []) ∙ ap (λ (row : List (ℕ × ℕ)). scored_docs n score_of ++ row) (append-nil (with_score (score_of n) n))
+    ap (flat_map (λ (doc : ℕ). with_score (score_of doc) (number doc))) (range_append 0 n 1 ∙ ap (λ (k : ℕ). range_with_len 0 n ++ k ∷ []) here)
+    ∙ flat_map-append (λ (doc : ℕ). with_score (score_of doc) (number doc)) (range_with_len 0 n) (n ∷ [])
+    ∙ ap (λ (row : List (ℕ × ℕ)). scored_by_number number n score_of ++ row) (append-nil (with_score (score_of n) (number n)))
 
 -- the same scores
-pub scored_alike : (n : ℕ) (f g : ℕ → Option ℕ) → ((doc : ℕ) → doc < n → f doc ≡ g doc) → scored_docs n f ≡ scored_docs n g
-scored_alike zero f g same = refl
-scored_alike (suc n) f g same =
+pub scored_alike : (number : ℕ → ℕ) (n : ℕ) (f g : ℕ → Option ℕ) → ((doc : ℕ) → doc < n → f doc ≡ g doc) → scored_by_number number n f ≡ scored_by_number number n g
+scored_alike number zero f g same = refl
+scored_alike number (suc n) f g same =
     let more : suc n ≡ n + 1 = omega arith in
-    ap (λ (k : ℕ). scored_docs k f) more ∙ scored_more n f ∙ (λ j. scored_alike n f g (λ doc below. same doc (omega (arith, below))) j ++ with_score (same n (omega arith) j) n) ∙ sym (scored_more n g) ∙ ap (λ (k : ℕ). scored_docs k g) (sym more)
+    ap (λ (k : ℕ). scored_by_number number k f) more ∙ scored_more number n f ∙ (λ j. scored_alike number n f g (λ doc below. same doc (omega (arith, below))) j ++ with_score (same n (omega arith) j) (number n))
+    ∙ sym (scored_more number n g) ∙ ap (λ (k : ℕ). scored_by_number number k g) (sym more)
 
 -- those of a list of scores
 pub scored_rows : (n : ℕ) (f : ℕ → Option ℕ) (scores : List (Option ℕ)) → scores ≡ map f (range_with_len 0 n) → scored_docs (length scores) (λ (doc : ℕ). get_or scores doc None) ≡ scored_docs n f
 scored_rows n f scores is =
     let many : length scores ≡ n = ap length is ∙ length-map-range_with_len f 0 n in
     ap (λ (k : ℕ). scored_docs k (λ (doc : ℕ). get_or scores doc None)) many
-    ∙ scored_alike n (λ (doc : ℕ). get_or scores doc None) f (λ doc below. ap (λ (row : List (Option ℕ)). get_or row doc None) is ∙ get_or-map-range_with_len f 0 n doc doc None below (omega arith))
+    ∙ scored_alike (λ (doc : ℕ). doc) n (λ (doc : ℕ). get_or scores doc None) f (λ doc below. ap (λ (row : List (Option ℕ)). get_or row doc None) is ∙ get_or-map-range_with_len f 0 n doc doc None below (omega arith))

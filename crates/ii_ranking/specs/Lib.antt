@@ -1,3 +1,4 @@
 pub mod Combinations
 pub mod Scores
+pub mod Segments
 pub mod TopDocs

@@ -1,6 +1,6 @@
 -- What a document scores by a query: BM25 for terms and phrases, the sum of what matches else.
-use Rattle.std.specs.Prelude.{◌≡◌, ◌⊎◌, ℕ, ◌+◌, ◌^◌, ◌==◌, Bool, List, [], ◌∷◌, Option, None, Some, Result, Ok, Err, if◌then◌else◌, filter, length, map, min, nat_le, nat_lt, slice_index_or, unwrap_or}
-use Rattle.std.specs.List.{find}
+use Rattle.std.specs.Prelude.{◌≡◌, ◌⊎◌, ℕ, ◌^◌, ◌==◌, Bool, List, [], ◌∷◌, Option, None, Some, Result, Ok, Err, if◌then◌else◌, filter, length, map, min, nat_le, nat_lt, slice_index_or, unwrap_or}
+use Rattle.std.specs.List.{find, list_any}
 use Rattle.std.specs.Option.{option_map}
 use Rattle.ii_io.specs.declared.faults.Fault.{Fault}
 use Rattle.ii_io.specs.declared.faults.Fault.TheVariants.{Damaged, OutOfMemory}
@@ -14,6 +14,7 @@ use Rattle.ii_base.specs.declared.doc_id.TheConstants.{TERMINATED}
 use Rattle.ii_base.specs.declared.schema.index_record_option.IndexRecordOption.{IndexRecordOption}
 use Rattle.ii_base.specs.declared.schema.index_record_option.IndexRecordOption.TheVariants.{WithFreqs, WithFreqsAndPositions}
 use Rattle.ii_docset.specs.Cursor.{from_doc}
+use Rattle.ii_docset.specs.Intersection.{has_doc}
 use Rattle.ii_fieldnorm.specs.Norms.{id_of_norm}
 use Rattle.ii_bm25.specs.Bm25.{bm25_score, bm25_weight}
 use Rattle.ii_bm25.specs.Statistics.{Statistics, idfs_of}
@@ -25,16 +26,18 @@ use Rattle.ii_definitions.specs.Postings.{doc_count, key_postings}
 use Rattle.ii_definitions.specs.Tokens.{IndexToken}
 use Rattle.ii_query_parser.specs.declared.query.PhraseTerm.{PhraseTerm}
 use Rattle.ii_query_parser.specs.declared.query.Query.{Query}
+use Rattle.ii_query_parser.specs.declared.term_range.TermRange.{TermRange}
 use Rattle.ii_query_parser.specs.Queries as queries
-use Rattle.ii_query_parser.specs.Queries.{QueryTree, QueryTrees, tree_of}
+use Rattle.ii_query_parser.specs.Queries.{QueryTree, QueryTrees, is_token_in, tree_of}
 use Rattle.ii_reader.specs.OpenIndex.{OpenIndexState}
-use Rattle.ii_search.specs.Found.{docs_of_term}
+use Rattle.ii_search.specs.Found.{docs_of_term, tree_found}
 use Rattle.ii_ranking.specs.Combinations.{any_of, each_of, unless}
 
--- What scores are made of: the numbers of an index, the entries of each term, and the norm id of each document in a field.
+-- What scores are made of: the numbers of an index, the entries of each term, whether a document has a term in a range, and the norm id of each document in a field.
 pub record Scored : Type 0 where
   pub statistics : Statistics
   pub entries : IndexRecordOption → TermState → List Entry
+  pub has_in : TermRange → ℕ → Bool
   pub norm_id : ℕ → ℕ → ℕ
 
 -- the entry of a document
@@ -77,6 +80,7 @@ abbrev mutual
   tree_score s (queries.all_below n) doc = if nat_lt doc (min n TERMINATED) then Some SCORE_ONE else None
   tree_score s (queries.one_term term) doc = term_score s term doc
   tree_score s (queries.one_phrase first others) doc = phrase_score s first others doc
+  tree_score s (queries.one_range range) doc = if s.has_in range doc then Some SCORE_ONE else None
   tree_score s (queries.each_of qs) doc = each_of (tree_scores s qs doc)
   tree_score s (queries.any_of qs) doc = any_of (tree_scores s qs doc)
   tree_score s (queries.without first other) doc = unless (tree_score s first doc) (tree_score s other doc)
@@ -104,6 +108,7 @@ abbrev pub scored_in : OpenIndexState → Statistics → Scored
 scored_in index statistics = record {
   statistics = statistics;
   entries = λ requested term. opened_or_none (docs_of_term requested index term);
+  has_in = λ range doc. has_doc (opened_or_none (tree_found index (queries.one_range range))) doc;
   norm_id = λ field doc. norm_id_in (body_of field index.fieldnorms) doc;
 }
 
@@ -112,6 +117,7 @@ abbrev pub scored_by_tokens : List SchemaEntry → List IndexToken → Statistic
 scored_by_tokens entries ts statistics = record {
   statistics = statistics;
   entries = λ requested term. key_postings (option_of entries term.field) term.field term.value requested ts;
+  has_in = λ range doc. list_any (is_token_in range doc) ts;
   norm_id = λ field doc. if has_norms entries field then id_of_norm (doc_count doc field ts) else 1;
 }
 
@@ -151,6 +157,7 @@ abbrev mutual
   tree_damage index (queries.all_below n) = None
   tree_damage index (queries.one_term term) = term_damage index term
   tree_damage index (queries.one_phrase first others) = phrase_damage index first others
+  tree_damage index (queries.one_range range) = damage_of (tree_found index (queries.one_range range))
   tree_damage index (queries.each_of qs) = trees_damage index qs
   tree_damage index (queries.any_of qs) = trees_damage index qs
   tree_damage index (queries.without first other) = first_of (tree_damage index first) (tree_damage index other)

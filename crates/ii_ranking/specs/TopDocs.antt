@@ -9,9 +9,13 @@ abbrev pub with_score : Option ℕ → ℕ → List (ℕ × ℕ)
 with_score None doc = []
 with_score (Some score) doc = (score, doc) ∷ []
 
+-- the first documents that have a score, each by its number with the score
+abbrev pub scored_by_number : (ℕ → ℕ) → ℕ → (ℕ → Option ℕ) → List (ℕ × ℕ)
+scored_by_number number num_docs score_of = flat_map (λ (doc : ℕ). with_score (score_of doc) (number doc)) (range_with_len 0 num_docs)
+
 -- the documents below a number that have a score, each with it, in ascending order
 abbrev pub scored_docs : ℕ → (ℕ → Option ℕ) → List (ℕ × ℕ)
-scored_docs num_docs score_of = flat_map (λ (doc : ℕ). with_score (score_of doc) doc) (range_with_len 0 num_docs)
+scored_docs = scored_by_number (λ (doc : ℕ). doc)
 
 -- A document comes before another one, or is it: its score is greater, or the same, and it is the smaller document.
 abbrev pub Precedes : ℕ × ℕ → ℕ × ℕ → Type 0

@@ -4,12 +4,15 @@
 
 pub mod combination;
 pub mod phrase_scores;
+pub mod range_scores;
 pub mod ranking;
 pub mod scores;
+pub mod segments;
 pub mod term_scores;
 pub mod top_docs;
 
 pub use ii_bm25::{Bm25StatisticsProvider, SCORE_ONE, Score};
 pub use ranking::search;
 pub use scores::score_docs;
+pub use segments::{RankedSegment, search_segments};
 pub use top_docs::TopDocs;

@@ -173,11 +173,7 @@ fn phrase_cursors(
 {
     let mut parts = Vec::new(alloc);
     for other in others {
-        let cursor = postings_of(
-            index,
-            &other.term,
-            IndexRecordOption::WithFreqsAndPositions,
-        );
+        let cursor = postings_of(index, &other.term, IndexRecordOption::WithFreqsAndPositions);
         match cursor {
             Ok(postings) => parts.push(PhraseCursor {
                 distance: other.distance,

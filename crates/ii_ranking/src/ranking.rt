@@ -53,7 +53,7 @@ fn with_scores(alloc: Global, scores: &Vec<Option<Score>>) -> Result<Vec<(Score,
 }
 
 // Appends a document with its score, if it has one.
-fn push_scored(
+pub(crate) fn push_scored(
     scored: &mut Vec<(Score, DocId)>,
     score: Option<Score>,
     doc: DocId,

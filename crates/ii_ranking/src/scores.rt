@@ -7,6 +7,7 @@ ghost use Rattle.ii_ranking.specs.Scores.{IsScoreFault, query_damage, query_scor
 
 use crate::combination::{Combination, add_all, combine, no_scores};
 use crate::phrase_scores::add_phrase;
+use crate::range_scores::add_found;
 use crate::term_scores::add_term;
 use ii_base::{DocId, Fault};
 use ii_bm25::{Bm25StatisticsProvider, Score};
@@ -88,6 +89,7 @@ fn add_scores<S: Bm25StatisticsProvider>(
         Query::Phrase(first, others) => {
             add_phrase(alloc, index, statistics, first, others, scores)
         }
+        Query::Range(_) => add_found(alloc, index, query, scores),
         Query::And(queries) => add_each(alloc, index, statistics, queries, scores),
         Query::Or(queries) => add_any(alloc, index, statistics, queries, scores),
         Query::AndNot(first, other) => {
@@ -196,7 +198,14 @@ fn add_unless<S: Bm25StatisticsProvider>(
     ensures fault { IfErr result (IsScoreFault (query_damage index.now other.now)) }
 {
     let mut rest = part;
-    match add_part(alloc, index, statistics, other, Combination::Unless, &mut rest) {
+    match add_part(
+        alloc,
+        index,
+        statistics,
+        other,
+        Combination::Unless,
+        &mut rest,
+    ) {
         Ok(()) => {
             combine(Combination::Either, scores, &rest);
             Ok(())

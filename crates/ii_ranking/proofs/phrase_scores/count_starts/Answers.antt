@@ -1,6 +1,6 @@
-use Rattle.std.proofs.Common.{◌≡◌, ◌∙◌, ◌+◌, ◌≤◌, ◌<◌, ℕ, List, ap, arith, get_or, length, rules, sym}
+use Rattle.std.proofs.Common.{◌≡◌, ◌∙◌, ◌+◌, ℕ, ap, arith, get_or, length, rules}
 use Rattle.std.specs.List.{filter}
-use Rattle.ii_docset.specs.Cursor.{from_doc, positions_at}
+use Rattle.ii_docset.specs.Cursor.{positions_at}
 use Rattle.ii_query.specs.Phrase.{PhrasePartState, has_position}
 use Rattle.ii_ranking.specs.Scores.{from_part}
 use Rattle.ii_ranking.proofs.PartLemmas.{filter_short, keeps_all, keeps_one}
@@ -12,7 +12,7 @@ loop-place-preserved c =
     let old = c.index_mut.result.now in
     let at : old ≡ get_or l.parts.items l.place old = search rules in
     let more : c.keep_starts.new.self ≡ from_part c.args.doc (get_or l.parts.items l.place old) =
-        (λ j. record { distance = c.in_ok-keep_starts.ensures.distance j; rest = c.in_ok-keep_starts.ensures.rest j }) ∙ ap (from_part c.args.doc) at
+    (λ j. record { distance = c.in_ok-keep_starts.ensures.distance j; rest = c.in_ok-keep_starts.ensures.rest j }) ∙ ap (from_part c.args.doc) at
     in
     let kept = c.in_ok-keep_starts.ensures.kept ∙ ap (λ (p : PhrasePartState). filter (λ (start : ℕ). has_position p.rest c.args.doc (start + p.distance)) l.starts.items) at in
     record {

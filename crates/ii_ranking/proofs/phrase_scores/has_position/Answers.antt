@@ -1,4 +1,4 @@
-use Rattle.std.proofs.Common.{◌∙◌, ◌+◌, ◌^◌, ℕ, ap, rules}
+use Rattle.std.proofs.Common.{◌∙◌, ◌+◌, ◌^◌, ap, rules}
 use Rattle.std.proofs.lemmas.List.Sorted.{searched}
 use Rattle.ii_query.specs.Phrase.{is_among}
 use Rattle.ii_ranking.proofs.PositionLemmas.{found_among, none_among}

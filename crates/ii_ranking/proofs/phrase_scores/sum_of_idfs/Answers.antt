@@ -1,4 +1,4 @@
-use Rattle.std.proofs.Common.{◌≡◌, ◌∙◌, ◌<◌, ◌+◌, ◌-◌, ◌^◌, ◌∷◌, ℕ, ap, arith, get_or, length, map, min, refl, sym}
+use Rattle.std.proofs.Common.{◌≡◌, ◌∙◌, ◌+◌, ◌-◌, ◌^◌, ◌∷◌, ℕ, ap, arith, get_or, map, min, refl, sym}
 use Rattle.std.proofs.lemmas.List.{get_or-map, length-map}
 use Rattle.ii_query_parser.specs.declared.query.PhraseTerm.{PhraseTerm}
 use Rattle.ii_bm25.specs.Bm25.{idf}

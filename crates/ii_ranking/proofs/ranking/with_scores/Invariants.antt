@@ -1,4 +1,4 @@
-use Rattle.std.proofs.Common.{ℕ, ◌≡◌, None, get_or, length}
+use Rattle.std.proofs.Common.{ℕ, ◌≡◌, None, get_or}
 use Rattle.std.specs.List.{All}
 use Rattle.ii_ranking.specs.TopDocs.{Fits, scored_docs}
 use Rattle.ii_ranking.proofs.ranking.with_scores.Given as goal

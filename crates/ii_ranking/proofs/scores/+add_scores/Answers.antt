@@ -1,7 +1,6 @@
 use Rattle.std.proofs.Common.{◌≡◌, ◌∙◌, ◌<◌, ◌+◌, ℕ, List, Option, None, OnOk, ap, arith, drop, get_or, length, rules, subst}
 use Rattle.std.proofs.lemmas.List.{drop_all}
 use Rattle.std.proofs.lemmas.List.FromFn.{get_or-map-range_with_len, length-map-range_with_len}
-use Rattle.ii_query_parser.specs.declared.query.Query.{Query}
 use Rattle.ii_search.proofs.QueryLemmas.{and_deep, and_has_fields, or_deep, or_has_fields, query_at}
 use Rattle.ii_ranking.specs.Combinations.{Adds, unless}
 use Rattle.ii_ranking.specs.declared.combination.Combination.TheVariants.{Either}
@@ -35,7 +34,7 @@ add_part-returns-clause-added g t c =
     let f = query_score (scored_in c.args.index.now (g.S.Bm25StatisticsProvider.statistics c.args.statistics.now)) c.args.query.now in
     let old = c.args.scores.now.items in
     combined_alike c.args.by (λ (doc : ℕ). get_or c.in_ok-part.part.items doc None) f old c.combine.new.scores.items
-        (λ doc inside. ap (λ (row : List (Option ℕ)). get_or row doc None) c.in_ok-part.ensures.scored ∙ get_or-map-range_with_len f 0 c.len.result doc doc None (search (rules, inside)) (omega arith)) c.combine.ensures
+    (λ doc inside. ap (λ (row : List (Option ℕ)). get_or row doc None) c.in_ok-part.ensures.scored ∙ get_or-map-range_with_len f 0 c.len.result doc doc None (search (rules, inside)) (omega arith)) c.combine.ensures
 
 pub add_scores-add_each-requires : goal.add_scores-add_each-requires
 add_scores-add_each-requires g t c κs within =
@@ -63,7 +62,7 @@ pub add_scores-returns-in-Phrase-clause-added : goal.add_scores-returns-in-Phras
 add_scores-returns-in-Phrase-clause-added g t c =
     let s = scored_in c.args.index.now (g.S.Bm25StatisticsProvider.statistics c.args.statistics.now) in
     subst (λ (f : ℕ → Option ℕ). OnOk c.add_phrase.result (Adds f c.args.scores.now.items c.add_phrase.new.scores.items))
-        (phrase_query s c.args.query.now c.in-Phrase.first c.in-Phrase.others c.deref.result.now c.in-Phrase.is c.deref.ensures.value) c.add_phrase.ensures.added
+    (phrase_query s c.args.query.now c.in-Phrase.first c.in-Phrase.others c.deref.result.now c.in-Phrase.is c.deref.ensures.value) c.add_phrase.ensures.added
 
 pub add_scores-returns-in_ok-part-in-AndNot-clause-added : goal.add_scores-returns-in_ok-part-in-AndNot-clause-added
 add_scores-returns-in_ok-part-in-AndNot-clause-added g t c =
@@ -75,8 +74,8 @@ add_scores-returns-in_ok-part-in-AndNot-clause-added g t c =
     let old = c.args.scores.now.items in
     let new = c.add_unless.new.scores.items in
     on_ok_then c.add_unless.result c.add_unless.ensures.added (combined_alike Either (λ (doc : ℕ). unless (get_or part doc None) (query_score s other doc)) (query_score s query) old new (λ doc inside.
-        ap (λ (score : Option ℕ). unless score (query_score s other doc)) (ap (λ (row : List (Option ℕ)). get_or row doc None) c.in_ok-part-in-AndNot.ensures.scored ∙ get_or-map-range_with_len (query_score s one) 0 c.len.result doc doc None (search (rules, inside)) (omega arith))
-        ∙ and_not_query s query one other c.in-AndNot.first c.in-AndNot.other c.in-AndNot.is c.deref-in-AndNot.ensures c.deref-in-AndNot-2.ensures doc))
+    ap (λ (score : Option ℕ). unless score (query_score s other doc)) (ap (λ (row : List (Option ℕ)). get_or row doc None) c.in_ok-part-in-AndNot.ensures.scored ∙ get_or-map-range_with_len (query_score s one) 0 c.len.result doc doc None (search (rules, inside)) (omega arith))
+    ∙ and_not_query s query one other c.in-AndNot.first c.in-AndNot.other c.in-AndNot.is c.deref-in-AndNot.ensures c.deref-in-AndNot-2.ensures doc))
 
 pub scores_of-returns-in-Ok-clause-scored : goal.scores_of-returns-in-Ok-clause-scored
 scores_of-returns-in-Ok-clause-scored g t c =

@@ -1,6 +1,6 @@
-use Rattle.std.proofs.Common.{◌≡◌, ◌∙◌, ◌∷◌, [], ◌+◌, ◌-◌, ◌^◌, ℕ, ap, arith, min, refl, sym}
+use Rattle.std.proofs.Common.{◌≡◌, ◌∙◌, ◌∷◌, [], ℕ, ap, arith, refl}
 use Rattle.ii_bm25.specs.Bm25.{idf}
-use Rattle.ii_bm25.specs.Statistics.{idf_of, idfs_of}
+use Rattle.ii_bm25.specs.Statistics.{idf_of}
 use Rattle.ii_bm25.proofs.SumLemmas.{summed_all, summed_more, summed_none}
 use Rattle.ii_ranking.proofs.term_scores.weight_of.Goals as goal
 

@@ -1,4 +1,4 @@
-use Rattle.std.proofs.Common.{◌<◌, arith, get_or, rules}
+use Rattle.std.proofs.Common.{arith, get_or, rules}
 use Rattle.std.proofs.lemmas.List.Elements.{All-get_or}
 use Rattle.std.proofs.lemmas.List.Sorted.{All-permutation, IsNonDecreasingBy-from_sort_by_key}
 use Rattle.ii_ranking.specs.TopDocs.{Fits, rank_key}

@@ -1,4 +1,4 @@
-use Rattle.std.proofs.Common.{◌≡◌, ◌<◌, ◌^◌, ◌∙◌, ℕ, List, ap, min, drop, take, get_or, length, rules, sym}
+use Rattle.std.proofs.Common.{◌≡◌, ◌<◌, ◌^◌, ◌∙◌, ℕ, List, ap, min, length, rules}
 use Rattle.ii_ranking.proofs.TopLemmas.{best_are}
 use Rattle.ii_ranking.proofs.top_docs.TopDocs.best.Goals as goal
 
