@@ -8,4 +8,4 @@ pub mod searching;
 pub use ii_query::{QueryCursor, TermOrPhrase};
 pub use ii_query_parser::{KeyBound, PhraseTerm, Query, TermRange};
 pub use most_frequent::top_by_count;
-pub use searching::{count, search};
+pub use searching::{count, postings_of, search};

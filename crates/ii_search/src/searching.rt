@@ -308,9 +308,14 @@ fn phrase_parts(
     Ok(parts)
 }
 
-// Returns a cursor over the postings of a term, as far as they are requested; over no documents if the field
-// doesn't have the term.
-fn postings_of(
+/// Returns a cursor over the postings of a term, as far as they are requested; over no documents if the field
+/// doesn't have the term. The term's field must be a field of the index.
+///
+/// # Errors
+///
+/// `Damaged` with the first corrupt part of the term's list; `OutOfMemory` if the files' buffer can't be shared once
+/// more.
+pub fn postings_of(
     index: &OpenIndex,
     term: &Term,
     option: IndexRecordOption,

@@ -1,0 +1,4 @@
+pub mod Combinations
+pub mod Scores
+pub mod Segments
+pub mod TopDocs

@@ -1,0 +1,18 @@
+//! The best documents of a query: each document that matches has a score, and those with the greatest scores come
+//! first. A score is that of BM25 for a term or a phrase, and the sum of the scores of the parts else.
+#![tactic(auto)]
+
+pub mod combination;
+pub mod phrase_scores;
+pub mod range_scores;
+pub mod ranking;
+pub mod scores;
+pub mod segments;
+pub mod term_scores;
+pub mod top_docs;
+
+pub use ii_bm25::{Bm25StatisticsProvider, SCORE_ONE, Score};
+pub use ranking::search;
+pub use scores::score_docs;
+pub use segments::{RankedSegment, search_segments};
+pub use top_docs::TopDocs;

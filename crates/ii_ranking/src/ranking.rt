@@ -1,0 +1,70 @@
+//! The best documents of a query.
+ghost use Rattle.std.specs.Prelude.{◌≡◌, ◌<◌, ◌^◌, ◌++◌, IfErr, IfOk, None, OnOk, get_or, length, true};
+ghost use Rattle.std.specs.List.{All};
+ghost use Rattle.ii_io.specs.Faults.{OnlyMemory};
+ghost use Rattle.ii_query_parser.specs.Queries.{has_fields};
+ghost use Rattle.ii_ranking.specs.Scores.{IsScoreFault, query_damage, query_score, scored_in};
+ghost use Rattle.ii_ranking.specs.TopDocs.{AreBest, Fits, scored_docs, with_score};
+
+use crate::scores::score_docs;
+use crate::top_docs::TopDocs;
+use ii_base::{DocId, Fault};
+use ii_bm25::{Bm25StatisticsProvider, Score};
+use ii_query_parser::Query;
+use ii_reader::OpenIndex;
+use std::alloc::Global;
+
+/// Returns the best of the documents below a number that match a query, each with its score: the greatest score
+/// first, and of equal ones the smaller document. See `score_docs` for scores, requirements and errors.
+pub fn search<S: Bm25StatisticsProvider>(
+    alloc: Global,
+    index: &OpenIndex,
+    num_docs: DocId,
+    statistics: &S,
+    query: &Query,
+    docs: &TopDocs,
+) -> Result<Vec<(Score, DocId)>, Fault>
+    requires fields { has_fields (length index.now.readers) query.now ≡ true }
+    ensures best { IfOk result (λ best. AreBest docs.now (scored_docs num_docs (query_score (scored_in index.now (S.statistics statistics.now)) query.now)) best.items) }
+    ensures sound { OnOk result (query_damage index.now query.now ≡ None) }
+    ensures fault { IfErr result (IsScoreFault (query_damage index.now query.now)) }
+{
+    let scores = score_docs(alloc, index, num_docs, statistics, query)?;
+    let scored = with_scores(alloc, &scores);
+    drop(scores);
+    match scored {
+        Ok(scored) => docs.best(scored),
+        Err(fault) => Err(fault),
+    }
+}
+
+// Returns the documents that have a score, each with it.
+fn with_scores(alloc: Global, scores: &Vec<Option<Score>>) -> Result<Vec<(Score, DocId)>, Fault>
+    requires { length scores.now.items < 2 ^ 32 }
+    ensures scored { IfOk result (λ scored. scored.items ≡ scored_docs (length scores.now.items) (λ doc. get_or scores.now.items doc None)) }
+    ensures fits { IfOk result (λ scored. All Fits scored.items) }
+    ensures only { OnlyMemory result }
+{
+    let mut scored = Vec::new(alloc);
+    for place in 0..scores.len() {
+        push_scored(&mut scored, scores[place], place as DocId)?;
+    }
+    Ok(scored)
+}
+
+// Appends a document with its score, if it has one.
+pub(crate) fn push_scored(
+    scored: &mut Vec<(Score, DocId)>,
+    score: Option<Score>,
+    doc: DocId,
+) -> Result<(), Fault>
+    ensures pushed { OnOk result (scored.new.items ≡ scored.old.items ++ with_score score doc) }
+    ensures fits { All Fits scored.old.items → OnOk result (All Fits scored.new.items) }
+    ensures only { OnlyMemory result }
+{
+    match score {
+        Some(score) => scored.push((score, doc))?,
+        None => (),
+    }
+    Ok(())
+}

@@ -1,0 +1,123 @@
+//! The best documents of several segments.
+ghost use Rattle.std.specs.Prelude.{◌≡◌, ◌+◌, ◌<◌, ◌≤◌, ◌^◌, ◌++◌, ℕ, IfErr, IfOk, None, OnOk, get_or, if◌then◌else◌, length, map, true};
+ghost use Rattle.std.specs.List.{All};
+ghost use Rattle.ii_io.specs.Faults.{OnlyMemory};
+ghost use Rattle.ii_alive.specs.Alive.{num_living};
+ghost use Rattle.ii_segments.specs.Segments.{is_living};
+ghost use Rattle.ii_segment_search.specs.Searcher.{HaveFields, total_living};
+ghost use Rattle.ii_query_parser.specs.Queries.{has_fields};
+ghost use Rattle.ii_ranking.specs.Scores.{IsScoreFault, query_damage, query_score, scored_in};
+ghost use Rattle.ii_ranking.specs.Segments.{living_row, segment_of, segment_scored, segments_damage, segments_scored};
+ghost use Rattle.ii_ranking.specs.TopDocs.{AreBest, Fits};
+
+use crate::ranking::push_scored;
+use crate::scores::score_docs;
+use crate::top_docs::TopDocs;
+use ii_alive::AliveBits;
+use ii_base::{DocId, Fault};
+use ii_bm25::{Bm25StatisticsProvider, Score};
+use ii_query_parser::Query;
+use ii_reader::OpenIndex;
+use std::alloc::Global;
+
+/// An open segment whose documents are ranked: its index, and which of its documents are alive.
+#[derive(Clone, Copy)]
+pub struct RankedSegment<'a> {
+    pub index: &'a OpenIndex,
+    pub alive: &'a AliveBits,
+}
+
+/// Returns the best of the living documents of segments that match a query, each with its score: the greatest score
+/// first, and of equal ones the smaller document. The living documents of the first segment are numbered from 0,
+/// then those of the next one. There must be fewer than 2^32 of them. See `score_docs` for scores, requirements and
+/// errors, which come segment by segment.
+pub fn search_segments<S: Bm25StatisticsProvider>(
+    alloc: Global,
+    segments: &[RankedSegment<'_>],
+    statistics: &S,
+    query: &Query,
+    docs: &TopDocs,
+) -> Result<Vec<(Score, DocId)>, Fault>
+    requires fields { HaveFields query.now (map segment_of segments.now) }
+    requires few { total_living (map segment_of segments.now) < 2 ^ 32 }
+    ensures best { IfOk result (λ best. AreBest docs.now (segments_scored (S.statistics statistics.now) query.now 0 (map segment_of segments.now)) best.items) }
+    ensures sound { OnOk result (segments_damage query.now (map segment_of segments.now) ≡ None) }
+    ensures fault { IfErr result (IsScoreFault (segments_damage query.now (map segment_of segments.now))) }
+{
+    let mut scored = Vec::new(alloc);
+    let mut base = 0;
+    for place in 0..segments.len() {
+        let segment = segments[place];
+        match add_segment(
+            alloc,
+            segment.index,
+            segment.alive,
+            base,
+            statistics,
+            query,
+            &mut scored,
+        ) {
+            Ok(()) => (),
+            Err(fault) => return Err(fault),
+        }
+        base += segment.alive.num_living();
+    }
+    docs.best(scored)
+}
+
+// Appends the living documents of a segment that match a query, each with its score.
+fn add_segment<S: Bm25StatisticsProvider>(
+    alloc: Global,
+    index: &OpenIndex,
+    alive: &AliveBits,
+    base: DocId,
+    statistics: &S,
+    query: &Query,
+    scored: &mut Vec<(Score, DocId)>,
+) -> Result<(), Fault>
+    requires fields { has_fields (length index.now.readers) query.now ≡ true }
+    requires few { base + num_living alive.now < 2 ^ 32 }
+    ensures scored { OnOk result (scored.new.items ≡ scored.old.items ++ segment_scored base (record { index = index.now; alive = alive.now }) (query_score (scored_in index.now (S.statistics statistics.now)) query.now)) }
+    ensures fits { All Fits scored.old.items → OnOk result (All Fits scored.new.items) }
+    ensures sound { OnOk result (query_damage index.now query.now ≡ None) }
+    ensures fault { IfErr result (IsScoreFault (query_damage index.now query.now)) }
+{
+    let scores = score_docs(alloc, index, alive.num_docs(), statistics, query)?;
+    push_living(alive, base, &scores, scored)?;
+    Ok(())
+}
+
+// Appends the living documents that have a score, each with it.
+fn push_living(
+    alive: &AliveBits,
+    base: DocId,
+    scores: &Vec<Option<Score>>,
+    scored: &mut Vec<(Score, DocId)>,
+) -> Result<(), Fault>
+    requires many { length scores.now.items ≡ length alive.now }
+    requires few { base + num_living alive.now < 2 ^ 32 }
+    ensures scored { OnOk result (scored.new.items ≡ scored.old.items ++ living_row base alive.now (length alive.now) scores.now.items) }
+    ensures fits { All Fits scored.old.items → OnOk result (All Fits scored.new.items) }
+    ensures only { OnlyMemory result }
+{
+    for doc in 0..alive.num_docs() {
+        let number = base + alive.rank(doc);
+        push_scored(
+            scored,
+            score_if_living(alive, doc, scores[doc as usize]),
+            number,
+        )?;
+    }
+    Ok(())
+}
+
+// Returns what a document scores, if it is alive.
+fn score_if_living(alive: &AliveBits, doc: DocId, score: Option<Score>) -> Option<Score>
+    requires { doc < length alive.now }
+    ensures { result ≡ (if is_living alive.now doc then score else None) }
+{
+    if alive.is_alive(doc) {
+        return score;
+    }
+    None
+}

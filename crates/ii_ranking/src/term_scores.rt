@@ -1,0 +1,100 @@
+//! The scores of the documents that have a term.
+ghost use Rattle.std.specs.Prelude.{◌≡◌, ◌<◌, ◌∷◌, [], ℕ, List, Option, None, IfOk, IfErr, OnOk, length};
+ghost use Rattle.std.specs.Option.{option_map};
+ghost use Rattle.ii_io.specs.Faults.{OnlyMemory};
+ghost use Rattle.ii_io.specs.Composite.{body_of};
+ghost use Rattle.ii_base.specs.declared.schema.index_record_option.IndexRecordOption.TheVariants.{WithFreqs};
+ghost use Rattle.ii_bm25.specs.Bm25.{bm25_score, bm25_weight};
+ghost use Rattle.ii_bm25.specs.Statistics.{idfs_of};
+ghost use Rattle.ii_fieldnorm.specs.Readers.{norms_of_ids};
+ghost use Rattle.ii_reader.specs.InvertedIndexReader.{IsRefusal};
+ghost use Rattle.ii_search.specs.Found.{docs_of_term};
+ghost use Rattle.ii_ranking.specs.Combinations.{Adds};
+ghost use Rattle.ii_ranking.specs.Scores.{IsScoreFault, entry_at, norm_id_in, norms_damage, scored_in, term_damage, term_score};
+
+use crate::combination::add_at;
+use ii_base::{DocId, Fault, Field, IndexRecordOption, TERMINATED, Term};
+use ii_bm25::{Bm25StatisticsProvider, Bm25Weight, Score, idf};
+use ii_docset::{DocSet, Postings};
+use ii_fieldnorm::FieldNormReader;
+use ii_reader::{OpenIndex, SegmentPostings};
+use ii_search::postings_of;
+use std::alloc::Global;
+
+// Adds what documents score by a term.
+pub(crate) fn add_term<S: Bm25StatisticsProvider>(
+    alloc: Global,
+    index: &OpenIndex,
+    statistics: &S,
+    term: &Term,
+    scores: &mut Vec<Option<Score>>,
+) -> Result<(), Fault>
+    requires field { term.now.field < length index.now.readers }
+    ensures added { OnOk result (Adds (term_score (scored_in index.now (S.statistics statistics.now)) term.now) scores.old.items scores.new.items) }
+    ensures sound { OnOk result (term_damage index.now term.now ≡ None) }
+    ensures fault { IfErr result (IsScoreFault (term_damage index.now term.now)) }
+{
+    let mut cursor = postings_of(index, term, IndexRecordOption::WithFreqs)?;
+    let norms = norms_of(index, term.field())?;
+    let weight = weight_of(alloc, statistics, term)?;
+    add_entries(&mut cursor, &norms, &weight, scores);
+    Ok(())
+}
+
+// Returns the weight of a term.
+fn weight_of<S: Bm25StatisticsProvider>(
+    alloc: Global,
+    statistics: &S,
+    term: &Term,
+) -> Result<Bm25Weight, Fault>
+    ensures made { IfOk result (λ weight. weight ≡ bm25_weight (idfs_of (S.statistics statistics.now) (term.now ∷ [])) (S.statistics statistics.now).num_docs ((S.statistics statistics.now).num_tokens term.now.field)) }
+    ensures only { OnlyMemory result }
+{
+    let num_docs = statistics.total_num_docs();
+    let num_tokens = statistics.total_num_tokens(term.field());
+    let idf = idf(statistics.doc_freq(term), num_docs);
+    Bm25Weight::new(alloc, idf, num_docs, num_tokens)
+}
+
+// Returns the norms of a field, if it has some.
+pub(crate) fn norms_of(index: &OpenIndex, field: Field) -> Result<Option<FieldNormReader>, Fault>
+    ensures found { IfOk result (λ norms. norms ≡ option_map norms_of_ids (body_of field index.now.fieldnorms)) }
+    ensures sound { OnOk result (norms_damage (body_of field index.now.fieldnorms) ≡ None) }
+    ensures fault { IfErr result (IsScoreFault (norms_damage (body_of field index.now.fieldnorms))) }
+{
+    index.get_fieldnorms_reader(field)
+}
+
+// Returns the norm id of a document, that of the norm 1 if the field has none for it.
+pub(crate) fn norm_id(norms: &Option<FieldNormReader>, doc: DocId) -> u8
+    ensures { (ids : Option (List ℕ)) → norms.now ≡ option_map norms_of_ids ids → result ≡ norm_id_in ids doc }
+{
+    match norms {
+        Some(norms) => {
+            if doc < norms.num_docs() {
+                norms.fieldnorm_id(doc)
+            } else {
+                1
+            }
+        }
+        None => 1,
+    }
+}
+
+// Adds what the documents of a cursor score. The cursor is at its end afterwards.
+fn add_entries(
+    cursor: &mut SegmentPostings,
+    norms: &Option<FieldNormReader>,
+    weight: &Bm25Weight,
+    scores: &mut Vec<Option<Score>>,
+)
+    ensures { (ids : Option (List ℕ)) → norms.now ≡ option_map norms_of_ids ids
+        → Adds (λ doc. option_map (λ e. bm25_score weight.now (norm_id_in ids doc) e.term_freq) (entry_at cursor.old.rest doc)) scores.old.items scores.new.items }
+{
+    let mut doc = cursor.doc();
+    while doc < TERMINATED {
+        let score = weight.score(norm_id(norms, doc), cursor.term_freq());
+        add_at(scores, doc, Some(score));
+        doc = cursor.advance();
+    }
+}
