@@ -71,24 +71,32 @@ class Index:
         return {doc for doc, texts in self.texts.get(place, {}).items()
                 if any(text[i:i + len(phrase)] == phrase for text in texts for i in range(len(text)))}
 
+    def with_prefix(self, place, start):
+        """Returns the documents with a text at a place in which a word starts like this."""
+        return {doc for doc, texts in self.texts.get(place, {}).items() if any(word.startswith(start) for text in texts for word in text)}
+
     def with_number(self, place, number):
         """Returns the documents with a number at a place."""
         return {doc for doc, numbers in self.numbers.get(place, {}).items() if number in numbers}
 
 
 def literal(index, draw):
-    """Returns a word, a phrase or a number, and the documents that have it."""
+    """Returns a word, a phrase, a prefix or a number, and the documents that have it."""
     place = draw.choice(('', 'text', 'text', 'num') + PATHS)
     if place == 'num':
         number = draw.randrange(11)
         return f'num:{number}', index.with_number('num', number)
     chosen = draw.choices(WORDS, k=draw.choice((1, 1, 1, 2, 2, 3, 5)))
-    if len(chosen) == 1 and draw.random() < 0.8:
+    is_prefix = len(chosen) == 1 and draw.random() < 0.3
+    if is_prefix:
+        chosen = [chosen[0][:draw.randrange(1, len(chosen[0]) + 1)]]
+        written = chosen[0] + '*'
+    elif len(chosen) == 1 and draw.random() < 0.8:
         written = chosen[0]
     else:
         written = f'"{spelled(chosen, draw)}"'
     prefix = {'': '', 'text': 'text:'}.get(place, f'leaf.{place}:')
-    found = index.with_phrase(place or 'text', chosen)
+    found = index.with_prefix(place or 'text', chosen[0]) if is_prefix else index.with_phrase(place or 'text', chosen)
     if place in PATHS and len(chosen) == 1 and chosen[0].isdecimal():
         found = found | index.with_number(place, int(chosen[0]))
     return prefix + written, found

@@ -103,7 +103,7 @@ pub fn matches_are_counted(
 
 /// A prefix finds exactly the documents with a token of its field whose key starts with it, in ascending order.
 /// Where the index holds tokens, this fails only with `OutOfMemory`.
-#[tactic(auto, using(crate::proofs::SearchingLaws::matches_as, crate::proofs::SearchingLaws::memory_of_search, crate::proofs::SearchingLaws::found_ascend, crate::proofs::SearchingLaws::field_is_there))]
+#[tactic(auto, using(crate::proofs::SearchingLaws::found_ascend))]
 pub fn prefixes_find_what_starts_with_them(
     alloc: Global,
     index: &OpenIndex,
@@ -124,7 +124,7 @@ pub fn prefixes_find_what_starts_with_them(
 
 /// A range finds exactly the documents with a token of its field whose key it has, in ascending order. Where the
 /// index holds tokens, this fails only with `OutOfMemory`.
-#[tactic(auto, using(crate::proofs::SearchingLaws::matches_as, crate::proofs::SearchingLaws::memory_of_search, crate::proofs::SearchingLaws::found_ascend, crate::proofs::SearchingLaws::field_is_there))]
+#[tactic(auto, using(crate::proofs::SearchingLaws::found_ascend))]
 pub fn ranges_find_what_is_between(
     alloc: Global,
     index: &OpenIndex,
