@@ -1,5 +1,5 @@
 #!/usr/bin/env python3
-"""Stops `nequllpa index`, `add` and `delete` before each of their system calls, and runs two programs that write to one
+"""Stops `nequllpa index`, `add`, `delete` and `merge` before each of their system calls, and runs two programs that write to one
 folder. The folder must hold the old index or the new one, and a second writer must fail at once."""
 import json
 import os
@@ -149,6 +149,43 @@ def deletes_everywhere(folder):
     raise Failed('the program makes no end of calls')
 
 
+def merges_everywhere(folder, version=2):
+    """Stops `merge` before each of its calls, over two segments, the first of a version; of version 2 with a deleted
+    document. The answers are those that they were, before and after."""
+    asked = (['search', 'index', 'sea', '--positions'], ['terms', 'index', 'body'], ['fields', 'index'])
+    answers = lambda: [row.split(' terms')[0] for words in asked for row in folder.run(*words)[0].stdout.splitlines()]
+    for stop in range(1, 1000):
+        shutil.rmtree(folder.path('index'), ignore_errors=True)
+        folder.wants(folder.index('new.jsonl')[0], 0, '2 documents indexed')
+        if version == 1:
+            versions.to_first(folder.path('index'))
+        folder.wants(folder.run('add', 'index', 'old.jsonl')[0], 0, '1 documents added')
+        if version == 2:
+            folder.wants(folder.run('delete', 'index', 'body', 'bird')[0], 0, '1 documents deleted')
+        left = 2 if version == 2 else 3
+        wanted = answers()
+        done, calls = folder.run('merge', 'index', STOP_AT=stop)
+        if done.returncode not in (0, -signal.SIGKILL):
+            raise Failed(f'merge stopped at {stop}: status {done.returncode}, {done.stderr!r}')
+        folder.holds(left)
+        if answers() != wanted:
+            raise Failed(f'after a merge that was stopped at {stop}: {answers()}; wanted {wanted}')
+        again, _ = folder.run('merge', 'index')
+        folder.wants(again, 0, f'{left} documents')
+        folder.holds(left)
+        # an add removes the files of a stopped run
+        folder.wants(folder.run('add', 'index', 'old.jsonl')[0], 0, '1 documents added')
+        folder.holds(left + 1)
+        named = [name for name in os.listdir(folder.path('index')) if name.split('.')[-1] in ('term', 'alive', 'new')]
+        if sorted(name.split('.')[-1] for name in named) != ['term', 'term']:
+            raise Failed(f'after a merge that was stopped at {stop}: {sorted(os.listdir(folder.path("index")))}')
+        if done.returncode == 0:
+            folder.wants(done, 0, f'2 segments merged, {left} documents')
+            return calls
+        folder.stops += 1
+    raise Failed('the program makes no end of calls')
+
+
 def replaced(folder):
     """Indexes into a folder with several segments: nothing of them must remain."""
     folder.wants(folder.index('new.jsonl')[0], 0, '2 documents indexed')
@@ -264,6 +301,8 @@ def main():
             adds_everywhere(folder, ['old.jsonl', 'old.jsonl'])
             deletes_everywhere(folder)
             replaced(folder)
+            in_order(merges_everywhere(folder))
+            merges_everywhere(folder, 1)
         except Failed as why:
             print(f'tests/folder: {why}')
             return 1

@@ -462,7 +462,7 @@ fn save_at(
         Ok(target) => target,
         Err(status) => return Ok(Err(status)),
     };
-    let saved = put(rt, path, schema, segment);
+    let saved = put_index(rt, path, schema, segment);
     drop(target);
     let Err(fault) = saved else {
         return Ok(Ok(()));
@@ -484,8 +484,8 @@ fn tell_indexed(rt: &HostRuntime, num_docs: u32, bad_lines: u64) -> anyhow::Resu
     Ok(())
 }
 
-// Saves an index of one segment, and removes the files of the previous index.
-fn put(
+/// Saves an index of one segment, and removes the files of the previous index.
+pub fn put_index(
     rt: &HostRuntime,
     path: &str,
     schema: Vec<u8>,
