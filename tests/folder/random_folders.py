@@ -1,6 +1,6 @@
 #!/usr/bin/env python3
 """Runs `nequllpa` over random folders: random schemas and lines of every type, some with lists of several
-blocks. Segments are added, documents deleted, and all segments merged. `check` must find no damage, and `terms`,
+blocks. Segments are added, documents deleted and replaced, and all segments merged. `check` must find no damage, and `terms`,
 `postings`, `fields` and `search` must answer what a plain reading of the lines gives.
 
     random_folders.py              50 folders, as the gate runs it
@@ -297,6 +297,35 @@ class Reader:
             self.read([line for doc, line in enumerate(self.lines) if doc not in gone])
         self.is_sound()
 
+    def replaces(self, chosen):
+        """Adds lines whose documents replace those with the same value of a field. A line without exactly one such value
+        is left out; of lines with the same value the last one counts."""
+        fields = [field for field in self.fields if field.kind != 'json' and field.setting.get('indexed') is not False]
+        if not fields or not self.counted():
+            return
+        field = chosen.choice(fields)
+        name = field.setting['name']
+        more = [random_line(chosen, self.settings) for _ in range(chosen.randint(1, 12))]
+        keyed = []
+        for line in more:
+            one = Field(field.setting)
+            one.add(0, line.get(name))
+            keys = list(one.lists)
+            if one.tokens == 1 and (field.kind != 'text' or not isinstance(line[name], list) or len(line[name]) == 1):
+                keyed.append((keys[0], line))
+        last = {key: place for place, (key, _) in enumerate(keyed)}
+        added = [line for place, (key, line) in enumerate(keyed) if last[key] == place]
+        gone = set().union(*(field.lists.get(key, {}) for key in last)) if last else set()
+        text = ''.join(json.dumps(line, ensure_ascii=False) + '\n' for line in more).encode()
+        bad = f', {len(more) - len(keyed)} lines left out' if len(more) > len(keyed) else ''
+        if bad:
+            got, said, err = self.run('add', 'folder', f'--replace-by={name}', given=text)
+            if got != 1 or said or '-:' not in err:
+                raise Failed(f'add --replace-by {name}: status {got}, {said!r}, {err!r}')
+        self.wants(['add', 'folder', '--skip-bad', f'--replace-by={name}'], 0, f'{len(added)} documents added, {len(gone)} replaced{bad}\n', text)
+        self.read([line for doc, line in enumerate(self.lines) if doc not in gone] + added)
+        self.is_sound()
+
     def merges(self):
         """Merges all segments of the index. Each file is then that of the lines that are left, indexed anew; a file of
         counts is there if each segment has one. A second merge does nothing."""
@@ -376,6 +405,8 @@ def one_folder(program, room, chosen, is_large):
         reader.deletes(chosen)
         reader.looks(chosen)
         reader.searches(chosen)
+    reader.replaces(chosen)
+    reader.looks(chosen)
     reader.merges()
     reader.looks(chosen)
     reader.searches(chosen)

@@ -186,6 +186,32 @@ def merges_everywhere(folder, version=2):
     raise Failed('the program makes no end of calls')
 
 
+def replaces_everywhere(folder):
+    """Stops `add --replace-by` before each of its calls: a document is replaced by one with the same value, or not."""
+    for name, docs in (('first.jsonl', [('a', 'old'), ('b', 'old')]), ('second.jsonl', [('b', 'new'), ('c', 'new')])):
+        with open(folder.path(name), 'w', encoding='utf-8') as file:
+            file.write(''.join(json.dumps({'id': key, 'body': text}) + '\n' for key, text in docs))
+    with open(folder.path('keyed.toml'), 'w', encoding='utf-8') as file:
+        file.write('[[field]]\nname = "id"\ntype = "text"\ntokenizer = "raw"\n' + SCHEMA)
+    for stop in range(1, 1000):
+        shutil.rmtree(folder.path('index'), ignore_errors=True)
+        folder.wants(folder.run('index', 'index', '--schema', 'keyed.toml', 'first.jsonl')[0], 0, '2 documents indexed')
+        done, calls = folder.run('add', 'index', '--replace-by', 'id', 'second.jsonl', STOP_AT=stop)
+        if done.returncode not in (0, -signal.SIGKILL):
+            raise Failed(f'add --replace-by stopped at {stop}: status {done.returncode}, {done.stderr!r}')
+        folder.holds(2, 3)
+        told = folder.run('postings', 'index', 'body', 'new')[0].stdout + folder.run('postings', 'index', 'body', 'old')[0].stdout
+        if told != '1 1\n2 1\n0 1\n' and (told != '0 1\n1 1\n' or done.returncode == 0):
+            raise Failed(f'after an add --replace-by that was stopped at {stop}: {told!r}')
+        folder.wants(folder.run('add', 'index', '--replace-by', 'id', 'second.jsonl')[0], 0, '2 documents added, ')
+        folder.holds(3)
+        if done.returncode == 0:
+            folder.wants(done, 0, '2 documents added, 1 replaced')
+            return calls
+        folder.stops += 1
+    raise Failed('the program makes no end of calls')
+
+
 def replaced(folder):
     """Indexes into a folder with several segments: nothing of them must remain."""
     folder.wants(folder.index('new.jsonl')[0], 0, '2 documents indexed')
@@ -303,6 +329,7 @@ def main():
             replaced(folder)
             in_order(merges_everywhere(folder))
             merges_everywhere(folder, 1)
+            replaces_everywhere(folder)
         except Failed as why:
             print(f'tests/folder: {why}')
             return 1

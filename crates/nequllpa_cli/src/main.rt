@@ -6,9 +6,11 @@ mod checking;
 mod commands;
 mod deleting;
 mod indexing;
+mod keyed_lines;
 mod merging;
 mod orphans;
 mod query_texts;
+mod replacing;
 mod searching;
 mod usage;
 

@@ -79,6 +79,11 @@ static USAGES: [Usage; 11] = [
                 help: "Files of JSON lines, an object on each line; - is standard input, which is read if no file is given",
             },
             Word {
+                name: "replace-by",
+                given: Given::Value("FIELD"),
+                help: "Deletes the documents that have the value of this field of a new one; each line needs exactly one, and of lines with the same value the last one counts",
+            },
+            Word {
                 name: "skip-bad",
                 given: Given::Flag,
                 help: "Leaves out lines that are no documents, prints why for each, and counts them",
