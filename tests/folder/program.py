@@ -268,8 +268,48 @@ def grows(user, docs, chosen):
     user.wants(['add', 'grown', 'none.jsonl'], 2, '', 'no such file: none.jsonl')
     user.wants(['add', 'nowhere', 'more.jsonl'], 1, 'nowhere: no index here\n')
     user.wants(['upgrade', 'grown'], 0, 'the index was of version 2 already\n')
+    shutil.copytree(user.path('grown'), user.path('merged'))
     damages_segments(user)
     shutil.rmtree(user.path('grown'))
+    merges(user, docs, asked)
+
+
+def merges(user, docs, asked):
+    """Merges the segments of an index: each command answers as for one index of all documents, and the files are the
+    same. A file that is damaged, although `meta` knows its checksum, is refused, and nothing is changed."""
+    user.wants(['merge', 'merged'], 0, f'4 segments merged, {len(docs)} documents\n')
+    user.wants(['merge', 'merged'], 0, f'nothing to merge, {len(docs)} documents\n')
+    for words in asked:
+        one, two = (user.run(words[0], name, *words[1:]) for name in ('folder', 'merged'))
+        if (one.returncode, one.stdout, one.stderr) != (two.returncode, two.stdout, two.stderr):
+            raise Failed(f'{words} of a merged index: status {two.returncode}, {two.stdout[-300:]!r}, {two.stderr!r}; wanted {one.returncode}, {one.stdout[-300:]!r}')
+    for kind in SEGMENT_FILES:
+        # the four segments had the ids before
+        with open(os.path.join(user.path('folder'), f'{0:016x}.{kind}'), 'rb') as one, open(os.path.join(user.path('merged'), f'{4:016x}.{kind}'), 'rb') as two:
+            if one.read() != two.read():
+                raise Failed(f'the file of {SEGMENT_FILES[kind]} of a merged index')
+    user.wants(['check', 'merged'], 0)
+    user.wants(['merge', 'nowhere'], 1, 'nowhere: no index here\n')
+    shutil.rmtree(user.path('merged'))
+    started(user, 'bad')
+    adds(user, 'bad', {'id': '00', 'body': 'a b'}, {'id': '01', 'body': 'b'})
+    for kind, change, said in (('term', lambda text: text[:-1] + b'\xff', 'bad: segment 1: damaged: composite file\n'),
+                               ('count', lambda text: text[:-4] + b'\xff' * 4, 'bad: segment 1: damaged: composite file\n'),
+                               ('idx', lambda text: text.replace(b'\x81\x81', b'\x82\x80', 1), 'bad: damaged: ')):
+        path = os.path.join(user.path('bad'), f'{1:016x}.{kind}')
+        with open(path, 'rb') as file:
+            text = file.read()
+        with open(os.path.join(user.path('bad'), 'meta'), 'rb') as file:
+            meta = file.read()
+        versions.change(user.path('bad'), f'{1:016x}.{kind}', change(text))
+        before = sorted(os.listdir(user.path('bad')))
+        told = user.wants(['merge', 'bad'], 1, None, 'the command check prints what is damaged')
+        if not told.startswith(said) or sorted(os.listdir(user.path('bad'))) != before:
+            raise Failed(f'a merge of a damaged {kind}: {told!r}')
+        user.write('bad/meta', meta)
+        user.write(f'bad/{1:016x}.{kind}', text)
+        user.wants(['check', 'bad'], 0)
+    user.wants(['merge', 'bad'], 0, '2 segments merged, 2 documents\n')
 
 
 DELETED_SCHEMA = '[[field]]\nname = "id"\ntype = "bytes"\n[[field]]\nname = "body"\ntype = "text"\n[[field]]\nname = "flag"\ntype = "text"\nrecord = "basic"\nfieldnorms = false\n'

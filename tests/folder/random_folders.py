@@ -1,7 +1,7 @@
 #!/usr/bin/env python3
 """Runs `nequllpa` over random folders: random schemas and lines of every type, some with lists of several
-blocks. `check` must find no damage, and `terms`, `postings`, `fields` and `search` must answer what a plain
-reading of the lines gives.
+blocks. Segments are added, documents deleted and replaced, and all segments merged. `check` must find no damage, and `terms`,
+`postings`, `fields` and `search` must answer what a plain reading of the lines gives.
 
     random_folders.py              50 folders, as the gate runs it
     random_folders.py N SEED       N others"""
@@ -9,6 +9,7 @@ import ipaddress
 import json
 import os
 import random
+import re
 import shutil
 import subprocess
 import sys
@@ -296,6 +297,64 @@ class Reader:
             self.read([line for doc, line in enumerate(self.lines) if doc not in gone])
         self.is_sound()
 
+    def replaces(self, chosen):
+        """Adds lines whose documents replace those with the same value of a field. A line without exactly one such value
+        is left out; of lines with the same value the last one counts."""
+        fields = [field for field in self.fields if field.kind != 'json' and field.setting.get('indexed') is not False]
+        if not fields or not self.counted():
+            return
+        field = chosen.choice(fields)
+        name = field.setting['name']
+        more = [random_line(chosen, self.settings) for _ in range(chosen.randint(1, 12))]
+        keyed = []
+        for line in more:
+            one = Field(field.setting)
+            one.add(0, line.get(name))
+            keys = list(one.lists)
+            if one.tokens == 1 and (field.kind != 'text' or not isinstance(line[name], list) or len(line[name]) == 1):
+                keyed.append((keys[0], line))
+        last = {key: place for place, (key, _) in enumerate(keyed)}
+        added = [line for place, (key, line) in enumerate(keyed) if last[key] == place]
+        gone = set().union(*(field.lists.get(key, {}) for key in last)) if last else set()
+        text = ''.join(json.dumps(line, ensure_ascii=False) + '\n' for line in more).encode()
+        bad = f', {len(more) - len(keyed)} lines left out' if len(more) > len(keyed) else ''
+        if bad:
+            got, said, err = self.run('add', 'folder', f'--replace-by={name}', given=text)
+            if got != 1 or said or '-:' not in err:
+                raise Failed(f'add --replace-by {name}: status {got}, {said!r}, {err!r}')
+        self.wants(['add', 'folder', '--skip-bad', f'--replace-by={name}'], 0, f'{len(added)} documents added, {len(gone)} replaced{bad}\n', text)
+        self.read([line for doc, line in enumerate(self.lines) if doc not in gone] + added)
+        self.is_sound()
+
+    def merges(self):
+        """Merges all segments of the index. Each file is then that of the lines that are left, indexed anew; a file of
+        counts is there if each segment has one. A second merge does nothing."""
+        told = self.run('stats', 'folder')[1]
+        segments = int(re.search(r'(\d+) segments\n', told).group(1))
+        counted = self.counted()
+        nothing = f'nothing to merge, {len(self.lines)} documents\n'
+        does = segments > 1 or 'deleted documents' in told
+        self.wants(['merge', 'folder'], 0, f'{segments} segments merged, {len(self.lines)} documents\n' if does else nothing)
+        self.wants(['merge', 'folder'], 0, nothing)
+        self.is_sound()
+        if not does:
+            return
+        text = ''.join(json.dumps(line, ensure_ascii=False) + '\n' for line in self.lines).encode()
+        self.wants(['index', 'anew', '--schema', 'schema.toml'], 0, f'{len(self.lines)} documents indexed\n', text)
+        files = {name.split('.')[-1]: name for name in os.listdir(os.path.join(self.room, 'folder')) if name.count('.') == 1}
+        if sorted(files) != ['count', 'idx', 'norm', 'pos', 'term'][0 if counted else 1:]:
+            raise Failed(f'files of a merged index: {files}')
+        for kind, name in files.items():
+            with open(os.path.join(self.room, 'folder', name), 'rb') as one, open(os.path.join(self.room, 'anew', f'{0:016x}.{kind}'), 'rb') as two:
+                if one.read() != two.read():
+                    raise Failed(f'{name} of a merged index is not that of its lines')
+
+    def counted(self):
+        """Returns whether each segment has a file of counts."""
+        names = os.listdir(os.path.join(self.room, 'folder'))
+        many = lambda kind: sum(name.endswith('.' + kind) for name in names)
+        return many('count') > 0 and many('count') == many('term')
+
     def docs_of(self, field, word):
         """Returns the documents with a word in a text field."""
         return set(field.lists.get(word.encode(), {}))
@@ -361,6 +420,11 @@ def one_folder(program, room, chosen, is_large):
         reader.deletes(chosen)
         reader.looks(chosen)
         reader.searches(chosen)
+    reader.replaces(chosen)
+    reader.looks(chosen)
+    reader.merges()
+    reader.looks(chosen)
+    reader.searches(chosen)
     return reader.runs
 
 

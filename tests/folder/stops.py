@@ -1,5 +1,5 @@
 #!/usr/bin/env python3
-"""Stops `nequllpa index`, `add` and `delete` before each of their system calls, and runs two programs that write to one
+"""Stops `nequllpa index`, `add`, `delete` and `merge` before each of their system calls, and runs two programs that write to one
 folder. The folder must hold the old index or the new one, and a second writer must fail at once."""
 import json
 import os
@@ -149,6 +149,69 @@ def deletes_everywhere(folder):
     raise Failed('the program makes no end of calls')
 
 
+def merges_everywhere(folder, version=2):
+    """Stops `merge` before each of its calls, over two segments, the first of a version; of version 2 with a deleted
+    document. The answers are those that they were, before and after."""
+    asked = (['search', 'index', 'sea', '--positions'], ['terms', 'index', 'body'], ['fields', 'index'])
+    answers = lambda: [row.split(' terms')[0] for words in asked for row in folder.run(*words)[0].stdout.splitlines()]
+    for stop in range(1, 1000):
+        shutil.rmtree(folder.path('index'), ignore_errors=True)
+        folder.wants(folder.index('new.jsonl')[0], 0, '2 documents indexed')
+        if version == 1:
+            versions.to_first(folder.path('index'))
+        folder.wants(folder.run('add', 'index', 'old.jsonl')[0], 0, '1 documents added')
+        if version == 2:
+            folder.wants(folder.run('delete', 'index', 'body', 'bird')[0], 0, '1 documents deleted')
+        left = 2 if version == 2 else 3
+        wanted = answers()
+        done, calls = folder.run('merge', 'index', STOP_AT=stop)
+        if done.returncode not in (0, -signal.SIGKILL):
+            raise Failed(f'merge stopped at {stop}: status {done.returncode}, {done.stderr!r}')
+        folder.holds(left)
+        if answers() != wanted:
+            raise Failed(f'after a merge that was stopped at {stop}: {answers()}; wanted {wanted}')
+        again, _ = folder.run('merge', 'index')
+        folder.wants(again, 0, f'{left} documents')
+        folder.holds(left)
+        # an add removes the files of a stopped run
+        folder.wants(folder.run('add', 'index', 'old.jsonl')[0], 0, '1 documents added')
+        folder.holds(left + 1)
+        named = [name for name in os.listdir(folder.path('index')) if name.split('.')[-1] in ('term', 'alive', 'new')]
+        if sorted(name.split('.')[-1] for name in named) != ['term', 'term']:
+            raise Failed(f'after a merge that was stopped at {stop}: {sorted(os.listdir(folder.path("index")))}')
+        if done.returncode == 0:
+            folder.wants(done, 0, f'2 segments merged, {left} documents')
+            return calls
+        folder.stops += 1
+    raise Failed('the program makes no end of calls')
+
+
+def replaces_everywhere(folder):
+    """Stops `add --replace-by` before each of its calls: a document is replaced by one with the same value, or not."""
+    for name, docs in (('first.jsonl', [('a', 'old'), ('b', 'old')]), ('second.jsonl', [('b', 'new'), ('c', 'new')])):
+        with open(folder.path(name), 'w', encoding='utf-8') as file:
+            file.write(''.join(json.dumps({'id': key, 'body': text}) + '\n' for key, text in docs))
+    with open(folder.path('keyed.toml'), 'w', encoding='utf-8') as file:
+        file.write('[[field]]\nname = "id"\ntype = "text"\ntokenizer = "raw"\n' + SCHEMA)
+    for stop in range(1, 1000):
+        shutil.rmtree(folder.path('index'), ignore_errors=True)
+        folder.wants(folder.run('index', 'index', '--schema', 'keyed.toml', 'first.jsonl')[0], 0, '2 documents indexed')
+        done, calls = folder.run('add', 'index', '--replace-by', 'id', 'second.jsonl', STOP_AT=stop)
+        if done.returncode not in (0, -signal.SIGKILL):
+            raise Failed(f'add --replace-by stopped at {stop}: status {done.returncode}, {done.stderr!r}')
+        folder.holds(2, 3)
+        told = folder.run('postings', 'index', 'body', 'new')[0].stdout + folder.run('postings', 'index', 'body', 'old')[0].stdout
+        if told != '1 1\n2 1\n0 1\n' and (told != '0 1\n1 1\n' or done.returncode == 0):
+            raise Failed(f'after an add --replace-by that was stopped at {stop}: {told!r}')
+        folder.wants(folder.run('add', 'index', '--replace-by', 'id', 'second.jsonl')[0], 0, '2 documents added, ')
+        folder.holds(3)
+        if done.returncode == 0:
+            folder.wants(done, 0, '2 documents added, 1 replaced')
+            return calls
+        folder.stops += 1
+    raise Failed('the program makes no end of calls')
+
+
 def replaced(folder):
     """Indexes into a folder with several segments: nothing of them must remain."""
     folder.wants(folder.index('new.jsonl')[0], 0, '2 documents indexed')
@@ -264,6 +327,9 @@ def main():
             adds_everywhere(folder, ['old.jsonl', 'old.jsonl'])
             deletes_everywhere(folder)
             replaced(folder)
+            in_order(merges_everywhere(folder))
+            merges_everywhere(folder, 1)
+            replaces_everywhere(folder)
         except Failed as why:
             print(f'tests/folder: {why}')
             return 1

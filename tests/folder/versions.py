@@ -1,4 +1,5 @@
-"""Indexes of version 1, which earlier programs wrote: made of an index of version 2 that has one segment."""
+"""Indexes of version 1, which earlier programs wrote: made of an index of version 2 that has one segment. And files of
+segments that `meta` knows, although no program wrote them."""
 import hashlib
 import os
 import struct
@@ -47,4 +48,19 @@ def to_first(folder):
     for name, text in files:
         put(folder, f'{name}.0', text)
         meta += struct.pack('<Q', len(text)) + hashlib.sha256(text).digest()
+    put(folder, 'meta', meta + hashlib.sha256(meta).digest())
+
+
+def change(folder, name, text):
+    """Gives a file of a segment other bytes, and tells `meta` their length and checksum."""
+    path = os.path.join(folder, name)
+    with open(path, 'rb') as file:
+        old = file.read()
+    with open(os.path.join(folder, 'meta'), 'rb') as file:
+        meta = file.read()[:-32]
+    entry = lambda bytes: struct.pack('<Q', len(bytes)) + hashlib.sha256(bytes).digest()
+    if meta.count(entry(old)) != 1:
+        raise ValueError(f'meta lists {name} {meta.count(entry(old))} times')
+    meta = meta.replace(entry(old), entry(text))
+    put(folder, name, text)
     put(folder, 'meta', meta + hashlib.sha256(meta).digest())

@@ -212,20 +212,6 @@ module _ (entries : List SchemaEntry) (initial : IndexBodiesState) (n : ℕ) (ts
   field_merged old new zero h counted none wrote = skipped new (subst (λ (b : IndexBodiesState). HasMergedFields entries initial b n ts) (sym (none refl)) h) (sym counted)
   field_merged old new (suc total) h counted none wrote = added old new h (wrote counted (omega arith)) (omega (arith, counted))
 
--- failures of calls one after the other
-pub counted_then : (a b c : IndexBodiesState) (r : Result (Unit {0}) Fault) → CountsFailures {A = Unit {0}} a b (Ok tt) → CountsFailures b c r → is_err r ≡ false → CountsFailures {A = Unit {0}} a c (Ok tt)
-counted_then a b c (Ok tt) h k went = record {
-  once = record {
-    ok = k.once.ok ∙ h.once.ok;
-    write = ((λ is. absurd (cc)), (λ more. absurd (omega (arith, more, h.once.ok, k.once.ok))));
-    by_one = λ is. absurd (cc);
-  };
-  terms_kept = omega (arith, h.terms_kept, k.terms_kept);
-  postings_kept = omega (arith, h.postings_kept, k.postings_kept);
-  positions_kept = omega (arith, h.positions_kept, k.positions_kept);
-}
-counted_then a b c (Err e) h k went = absurd (true≢false went)
-
 -- ---- the files of all fields
 find_is : (field : ℕ) (body : MergedPart → Body) (bytes : MergedPart → List ℕ) → ((p : MergedPart) → (body p).field ≡ p.field) → ((p : MergedPart) → (body p).bytes ≡ bytes p) → (ps : List MergedPart)
     → body_of field (map body ps) ≡ option_map bytes (find (λ (p : MergedPart). p.field == field) ps)

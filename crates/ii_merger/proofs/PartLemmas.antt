@@ -46,14 +46,6 @@ ends_none s unclosed = record {
   grow = grow_none s.bodies;
 }
 
-pub ends_refused : (s : IndexSerializerState) (e : Fault) → e ≡ OutOfMemory → EndsFields s s (Err e)
-ends_refused s e memory = record {
-  entries = refl;
-  unclosed = tt;
-  failures = record { once = record { ok = tt; write = ((λ is. absurd (cc)), (λ more. absurd (omega (arith, more)))); by_one = λ is. absurd (cc) }; terms_kept = omega arith; postings_kept = omega arith; positions_kept = omega arith };
-  grow = grow_none s.bodies;
-}
-
 -- a call after one that succeeded
 pub ends_then : (a b c : IndexSerializerState) (r : Result (Unit {0}) Fault) → EndsFields a b (Ok tt) → EndsFields b c r → EndsFields a c r
 ends_then a b c r h k = record {

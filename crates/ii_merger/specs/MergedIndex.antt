@@ -81,13 +81,15 @@ pub record MergedPart : Type 0 where
   pub field : ℕ
   pub bodies : FieldBodies
 
--- the body of a field in each of the three files
+-- the body of a field in the file of terms
 abbrev pub terms_body_of : MergedPart → Body
 terms_body_of p = record { field = p.field; bytes = p.bodies.terms }
 
+-- the body of a field in the file of postings
 abbrev pub postings_body_of : MergedPart → Body
 postings_body_of p = record { field = p.field; bytes = p.bodies.postings }
 
+-- the body of a field in the file of positions
 abbrev pub positions_body_of : MergedPart → Body
 positions_body_of p = record { field = p.field; bytes = p.bodies.positions }
 

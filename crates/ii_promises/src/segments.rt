@@ -6,12 +6,13 @@ ghost use Rattle.ii_directory.specs.declared.name.Name.TheVariants.{Meta};
 ghost use Rattle.ii_store.specs.IndexMeta.{meta_view};
 ghost use Rattle.ii_store.specs.Segments.{index_with, list_in, segments_of};
 ghost use Rattle.ii_segment_store.specs.Changes.{changed_index};
+ghost use Rattle.ii_segment_store.specs.Commits.{index_of_segment};
 ghost use Rattle.ii_segment_store.specs.Contents.{contents_view, files_contents, index_contents, with_segment};
 
 use ii_base::DocId;
 use ii_segment_store::{
     CommitFault, SegmentFiles, StoredSegments, append_segment, commit_changes, load_segments,
-    upgrade,
+    replace_index, upgrade,
 };
 use ii_store::collect::collect;
 use ii_store::commit_check::may_commit;
@@ -43,6 +44,22 @@ pub fn segments_are_added_at_once<D: Directory>(
         → (index_contents files ≡ index_contents (D.seen directory.old)) ⊎ (index_contents files ≡ with_segment (files_contents segment.now) (index_contents (D.seen directory.old))) }
 {
     append_segment(alloc, directory, segment)
+}
+
+/// After an index was replaced, the directory's index has exactly the given schema and segment. Wherever replacing
+/// it is stopped, it is this one, or the one that the directory had.
+pub fn indexes_are_replaced_at_once<D: Directory>(
+    alloc: Global,
+    directory: &mut D,
+    schema: Vec<u8>,
+    segment: &SegmentFiles,
+) -> Result<(), CommitFault>
+    requires { D.is_known directory.old }
+    ensures replaced { OnOk result (index_contents (D.seen directory.new) ≡ Ok (index_of_segment schema.items (files_contents segment.now))) }
+    ensures stopped { (files : Files) → D.left_since directory.new (D.moment directory.old) files
+        → (index_contents files ≡ index_contents (D.seen directory.old)) ⊎ (index_contents files ≡ Ok (index_of_segment schema.items (files_contents segment.now))) }
+{
+    replace_index(alloc, directory, schema, segment)
 }
 
 /// Documents are deleted, and a segment is added, all at once, wherever this is stopped.

@@ -1,7 +1,11 @@
 //! The commands `add` and `upgrade`.
 use crate::commands::{PROGRAM, REFUSED, refuse, refuse_path, tell_no_index};
-use crate::indexing::{Intake, Target, begun, take_inputs, target_of, tell_long_words};
+use crate::indexing::{Intake, begun, take_inputs, target_of, tell_long_words};
+use crate::keyed_lines::KeyedLines;
+use crate::replacing::replace_keys;
 use clap::ArgMatches;
+use ii_base::{Schema, ValueType};
+use ii_query_parser::field_named;
 use ii_schema_text::TextSchema;
 use ii_segment_store::{
     CommitFault, SegmentFiles, append_segment, load_latest, remove_slots, upgrade,
@@ -10,6 +14,7 @@ use ii_store::collect::collect;
 use ii_store::segments::load_meta;
 use ii_store::{Folder, IndexFault, StoreFault};
 use nequllpa_folder::text_schema_of;
+use nequllpa_indexing::Documents;
 use std::process::ExitCode;
 
 /// Indexes JSON lines as a new segment of an index.
@@ -33,11 +38,42 @@ fn added(rt: &HostRuntime, path: &str, given: &ArgMatches<'_>) -> anyhow::Result
         Ok(schema) => schema,
         Err(status) => return Ok(ExitCode::from(status)),
     };
-    let mut intake = begun(rt, given, schema)?;
+    let (schema, tokenizers) = schema.into_parts();
+    let keyed = match keyed_by(rt, given, &schema)? {
+        Ok(keyed) => keyed,
+        Err(status) => return Ok(ExitCode::from(status)),
+    };
+    let replaces = keyed.is_some();
+    let documents = Documents::new(rt.alloc(), schema);
+    let mut intake = begun(rt, given, documents, tokenizers, keyed)?;
     if let Err(status) = take_inputs(rt, given, &mut intake)? {
         return Ok(ExitCode::from(status));
     }
-    add_segment(rt, path, intake)
+    add_segment(rt, path, intake, replaces)
+}
+
+// Returns what keeps lines whose documents replace others, if the option is given. Returns the status if documents
+// have no keys in its field.
+fn keyed_by(
+    rt: &HostRuntime,
+    given: &ArgMatches<'_>,
+    schema: &Schema,
+) -> anyhow::Result<Result<Option<KeyedLines>, u8>> {
+    let Some(name) = given.get_str("replace-by") else {
+        return Ok(Ok(None));
+    };
+    let Some(field) = field_named(schema, name) else {
+        eprintln!(rt; "{PROGRAM}: no field {name}; the command fields lists them")?;
+        return Ok(Err(REFUSED));
+    };
+    let entry = schema.get_field_entry(field);
+    if !entry.is_indexed() || entry.value_type() == ValueType::Json {
+        eprintln!(rt;
+            "{PROGRAM}: {name} has no keys: a field of keys is indexed, and has no JSON values"
+        )?;
+        return Ok(Err(REFUSED));
+    }
+    Ok(Ok(Some(KeyedLines::new(rt.alloc(), field))))
 }
 
 // Reads the schema of an index, or returns the status if there is none.
@@ -69,8 +105,16 @@ fn schema_bytes(rt: &HostRuntime, path: &str) -> Result<Vec<u8>, StoreFault> {
 }
 
 // Indexes the documents that were read, and adds them to the index.
-fn add_segment(rt: &HostRuntime, path: &str, intake: Intake) -> anyhow::Result<ExitCode> {
-    let (documents, tokenizers, bad_lines) = intake.into_documents();
+fn add_segment(
+    rt: &HostRuntime,
+    path: &str,
+    intake: Intake,
+    replaces: bool,
+) -> anyhow::Result<ExitCode> {
+    let (documents, tokenizers, bad_lines, keys) = match intake.into_documents(rt.alloc()) {
+        Ok(parts) => parts,
+        Err(fault) => return Ok(ExitCode::from(refuse(rt, fault)?)),
+    };
     match documents.num_long_words(rt.alloc(), &tokenizers) {
         Ok(count) => tell_long_words(rt, count)?,
         Err(fault) => return Ok(ExitCode::from(refuse(rt, fault)?)),
@@ -79,16 +123,30 @@ fn add_segment(rt: &HostRuntime, path: &str, intake: Intake) -> anyhow::Result<E
         Ok(segment) => segment,
         Err(fault) => return Ok(ExitCode::from(refuse(rt, fault)?)),
     };
+    if replaces {
+        return replace_keys(rt, path, segment, keys, bad_lines);
+    }
     let num_docs = segment.num_docs;
     if let Err(fault) = put(rt, path, segment) {
         return Ok(ExitCode::from(refuse_commit(rt, path, fault)?));
     }
-    if bad_lines > 0 {
-        println!(rt; "{num_docs} documents added, {bad_lines} lines left out")?;
-    } else {
-        println!(rt; "{num_docs} documents added")?;
-    }
+    tell_left_out(rt, num_docs, "", bad_lines)?;
     Ok(ExitCode::SUCCESS)
+}
+
+/// Prints how many documents were added, what else was done, and how many lines were left out.
+pub fn tell_left_out(
+    rt: &HostRuntime,
+    num_docs: u32,
+    also: &str,
+    bad_lines: u64,
+) -> anyhow::Result<()> {
+    if bad_lines > 0 {
+        println!(rt; "{num_docs} documents added{also}, {bad_lines} lines left out")?;
+    } else {
+        println!(rt; "{num_docs} documents added{also}")?;
+    }
+    Ok(())
 }
 
 // Adds a segment that has documents, and removes the files that no list has.

@@ -203,8 +203,8 @@ impl Total {
     }
 }
 
-// Loads the index of a folder, or returns the status if there is none.
-fn loaded_at(rt: &HostRuntime, path: &str) -> anyhow::Result<Result<StoredSegments, u8>> {
+/// Loads the index of a folder, or returns the status if there is none.
+pub fn loaded_at(rt: &HostRuntime, path: &str) -> anyhow::Result<Result<StoredSegments, u8>> {
     match load_latest(rt.alloc(), &Folder::new(rt, path)) {
         Ok(stored) => Ok(Ok(stored)),
         Err(StoreFault::Index(fault)) => Ok(Err(tell_no_index(rt, path, fault)?)),

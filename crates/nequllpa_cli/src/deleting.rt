@@ -2,6 +2,7 @@
 use crate::adding::refuse_commit;
 use crate::commands::{REFUSED, field_given, opened_at, status_of, term_given};
 use crate::indexing::target_of;
+use crate::replacing::total;
 use clap::ArgMatches;
 use ii_base::{DocId, Term};
 use ii_segment_store::{CommitFault, commit_changes, remove_slots, upgrade};
@@ -75,15 +76,6 @@ fn delete_term(
     drop(docs);
     println!(rt; "{count} documents deleted")?;
     Ok(ExitCode::SUCCESS)
-}
-
-// Returns how many documents there are.
-fn total(docs: &[Vec<DocId>]) -> u64 {
-    let mut count = 0u64;
-    for some in docs {
-        count = count.saturating_add(some.len() as u64);
-    }
-    count
 }
 
 // Deletes documents of an index, and removes the files that no list has.

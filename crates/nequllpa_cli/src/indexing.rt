@@ -1,8 +1,9 @@
 //! The command `index`.
 use crate::commands::{NO, PROGRAM, REFUSED, refuse, refuse_file, refuse_path};
+use crate::keyed_lines::{KeyedLines, LineRefusal};
 use crate::orphans::refuse_orphan;
 use clap::ArgMatches;
-use ii_base::{Field, ValueType};
+use ii_base::{Field, Term, ValueType};
 use ii_documents::{LineFault, ValueFault};
 use ii_schema_text::{SchemaFault, TextSchema, field_name_at, new_schema_text, read_text_schema};
 use ii_segment_store::{CommitFault, SegmentFiles, remove_slots, replace_index};
@@ -11,6 +12,7 @@ use ii_store::{Folder, FolderLock};
 use ii_tokenizers::FieldTokenizers;
 use nequllpa_indexing::{Documents, InputFault, MAX_TOKEN_LEN, add_line};
 use serde_json::Error as JsonError;
+use std::alloc::Global;
 use std::fs;
 use std::io::{BufRead, BufReader, Input};
 use std::process::ExitCode;
@@ -36,6 +38,8 @@ const BYTE_ORDER_MARK: &[u8] = &[0xef, 0xbb, 0xbf];
 pub struct Intake {
     documents: Documents,
     tokenizers: FieldTokenizers,
+    // the lines, if their documents replace others
+    keyed: Option<KeyedLines>,
     skips_bad: bool,
     bad_lines: u64,
     bytes: u64,
@@ -68,7 +72,9 @@ pub fn answer_index(
         Ok(target) => target,
         Err(status) => return Ok(ExitCode::from(status)),
     };
-    let mut intake = begun(rt, given, schema)?;
+    let (schema, tokenizers) = schema.into_parts();
+    let documents = Documents::new(rt.alloc(), schema);
+    let mut intake = begun(rt, given, documents, tokenizers, None)?;
     if let Err(status) = take_inputs(rt, given, &mut intake)? {
         return Ok(ExitCode::from(status));
     }
@@ -130,20 +136,23 @@ impl<'a> Target<'a> {
     }
 }
 
-/// Prints how much memory indexing takes, and returns the initial state.
+/// Prints how much memory indexing takes, and returns the initial state: lines are added to `documents`, or kept
+/// if their documents replace those with the same key in a field.
 pub fn begun(
     rt: &HostRuntime,
     given: &ArgMatches<'_>,
-    schema: TextSchema,
+    documents: Documents,
+    tokenizers: FieldTokenizers,
+    keyed: Option<KeyedLines>,
 ) -> anyhow::Result<Intake> {
     let begun = Instant::now(rt)?;
     eprintln!(rt;
         "{PROGRAM}: this takes up to about {MEMORY_MULTIPLE} bytes of memory for each byte of input"
     )?;
-    let (schema, tokenizers) = schema.into_parts();
     Ok(Intake {
-        documents: Documents::new(rt.alloc(), schema),
+        documents,
         tokenizers,
+        keyed,
         skips_bad: given.get_flag("skip-bad"),
         bad_lines: 0,
         bytes: 0,
@@ -253,18 +262,41 @@ fn take_lines<R: BufRead>(
 }
 
 impl Intake {
-    /// Returns the documents, the tokenizers of their fields, and the number of lines that were left out.
-    pub fn into_documents(self) -> (Documents, FieldTokenizers, u64) {
+    /// Returns the documents, the tokenizers of their fields, the number of lines that were left out, and the
+    /// keys of the documents, if they replace others.
+    pub fn into_documents(
+        self,
+        alloc: Global,
+    ) -> Result<(Documents, FieldTokenizers, u64, Vec<Term>), InputFault> {
         let Intake {
             documents,
             tokenizers,
+            keyed,
             skips_bad: _,
             bad_lines,
             bytes: _,
             reported: _,
             begun: _,
         } = self;
-        (documents, tokenizers, bad_lines)
+        let mut documents = documents;
+        match keyed {
+            Some(keyed) => match keyed.add_to(alloc, &mut documents) {
+                Ok(keys) => Ok((documents, tokenizers, bad_lines, keys)),
+                Err(fault) => Err(fault),
+            },
+            None => Ok((documents, tokenizers, bad_lines, Vec::new(alloc))),
+        }
+    }
+
+    // Adds the document of a line, or keeps the line.
+    fn put_line(&mut self, alloc: Global, line: &[u8]) -> Result<(), LineRefusal> {
+        if let Some(keyed) = &mut self.keyed {
+            return keyed.take(alloc, self.documents.schema(), &self.tokenizers, line);
+        }
+        match add_line(alloc, &mut self.documents, line) {
+            Ok(_) => Ok(()),
+            Err(fault) => Err(LineRefusal::Input(fault)),
+        }
     }
 
     // Adds a line.
@@ -280,8 +312,8 @@ impl Intake {
             self.reported = self.bytes;
             self.report(rt)?;
         }
-        match add_line(rt.alloc(), &mut self.documents, line) {
-            Ok(_) => Ok(Ok(())),
+        match self.put_line(rt.alloc(), line) {
+            Ok(()) => Ok(Ok(())),
             Err(fault) => {
                 if fault.is_memory() {
                     return Ok(Err(refuse_path(rt, name, fault)?));
@@ -298,13 +330,13 @@ impl Intake {
         name: &str,
         number: u64,
         line: &[u8],
-        fault: &InputFault,
+        fault: &LineRefusal,
     ) -> anyhow::Result<Result<(), u8>> {
         match fault {
-            InputFault::Line(LineFault::NotJson(error)) => {
+            LineRefusal::Input(InputFault::Line(LineFault::NotJson(error))) => {
                 tell_not_json(rt, name, number, line, error)?
             }
-            InputFault::Line(LineFault::WrongValue(field, reason)) => {
+            LineRefusal::Input(InputFault::Line(LineFault::WrongValue(field, reason))) => {
                 self.tell_value(rt, name, number, *field, *reason)?
             }
             _ => eprintln!(rt; "{name}:{number}: {fault}")?,
@@ -355,7 +387,11 @@ impl Intake {
     // Prints the progress.
     fn report(&self, rt: &HostRuntime) -> anyhow::Result<()> {
         let millis = self.begun.elapsed(rt)?.as_millis().max(1);
-        let num_docs = self.documents.num_docs();
+        let kept = match &self.keyed {
+            Some(keyed) => keyed.len() as u64,
+            None => 0,
+        };
+        let num_docs = u64::from(self.documents.num_docs()).saturating_add(kept);
         let rate = self.bytes as u128 / millis;
         eprintln!(rt;
             "{PROGRAM}: {num_docs} documents, {} MB, {}.{} MB/s",
@@ -431,7 +467,10 @@ fn save_index(
     intake: Intake,
     schema: Vec<u8>,
 ) -> anyhow::Result<ExitCode> {
-    let (documents, tokenizers, bad_lines) = intake.into_documents();
+    let (documents, tokenizers, bad_lines, _) = match intake.into_documents(rt.alloc()) {
+        Ok(parts) => parts,
+        Err(fault) => return Ok(ExitCode::from(refuse(rt, fault)?)),
+    };
     match documents.num_long_words(rt.alloc(), &tokenizers) {
         Ok(count) => tell_long_words(rt, count)?,
         Err(fault) => return Ok(ExitCode::from(refuse(rt, fault)?)),
@@ -462,7 +501,7 @@ fn save_at(
         Ok(target) => target,
         Err(status) => return Ok(Err(status)),
     };
-    let saved = put(rt, path, schema, segment);
+    let saved = put_index(rt, path, schema, segment);
     drop(target);
     let Err(fault) = saved else {
         return Ok(Ok(()));
@@ -484,8 +523,8 @@ fn tell_indexed(rt: &HostRuntime, num_docs: u32, bad_lines: u64) -> anyhow::Resu
     Ok(())
 }
 
-// Saves an index of one segment, and removes the files of the previous index.
-fn put(
+/// Saves an index of one segment, and removes the files of the previous index.
+pub fn put_index(
     rt: &HostRuntime,
     path: &str,
     schema: Vec<u8>,

@@ -6,8 +6,11 @@ mod checking;
 mod commands;
 mod deleting;
 mod indexing;
+mod keyed_lines;
+mod merging;
 mod orphans;
 mod query_texts;
+mod replacing;
 mod searching;
 mod usage;
 
@@ -19,6 +22,7 @@ use commands::{
 };
 use deleting::answer_delete;
 use indexing::answer_index;
+use merging::answer_merge;
 use searching::answer_search;
 use std::io;
 use std::process::ExitCode;
@@ -75,6 +79,7 @@ fn answer_command(rt: &HostRuntime, matches: &ArgMatches<'_>) -> anyhow::Result<
         "index" => answer_index(rt, path, given),
         "add" => answer_add(rt, path, given),
         "delete" => answer_delete(rt, path, given),
+        "merge" => answer_merge(rt, path),
         "upgrade" => answer_upgrade(rt, path),
         "search" => answer_search(rt, path, given),
         "terms" => answer_terms(rt, path, given),

@@ -42,7 +42,7 @@ static FOLDER: Word = Word {
     help: "The folder of the index",
 };
 
-static USAGES: [Usage; 10] = [
+static USAGES: [Usage; 11] = [
     Usage {
         name: "index",
         about: "Indexes JSON lines: the index replaces the one that the folder had. Takes 3 to 5 bytes of memory for each byte of input, up to 16 for numbers that all differ",
@@ -79,6 +79,11 @@ static USAGES: [Usage; 10] = [
                 help: "Files of JSON lines, an object on each line; - is standard input, which is read if no file is given",
             },
             Word {
+                name: "replace-by",
+                given: Given::Value("FIELD"),
+                help: "Deletes the documents that have the value of this field of a new one; each line needs exactly one, and of lines with the same value the last one counts",
+            },
+            Word {
                 name: "skip-bad",
                 given: Given::Flag,
                 help: "Leaves out lines that are no documents, prints why for each, and counts them",
@@ -100,6 +105,11 @@ static USAGES: [Usage; 10] = [
                 help: "The term, as the command terms prints it",
             },
         ],
+    },
+    Usage {
+        name: "merge",
+        about: "Makes all segments of an index one, of the documents that were not deleted. No answer changes. Takes as much memory as the index has bytes, and as much again for the new one",
+        words: &[],
     },
     Usage {
         name: "upgrade",

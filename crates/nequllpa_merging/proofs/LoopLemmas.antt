@@ -1,5 +1,5 @@
 -- What loops over open segments know.
-use Rattle.std.proofs.Common.{◌≡◌, ℕ, zero, suc, ◌+◌, ◌<◌, List, [], ◌∷◌, ◌++◌, append_assoc, append-nil, drop, get_or, length, map, take, Option, None, Some, Ok, Err, inl, inr, refl, sym, ap, subst, ◌∙◌, arith}
+use Rattle.std.proofs.Common.{◌≡◌, ℕ, zero, suc, ◌+◌, ◌<◌, List, [], ◌∷◌, ◌++◌, append_assoc, drop, get_or, length, map, take, Option, None, Some, Ok, Err, inl, inr, refl, sym, ap, subst, ◌∙◌, arith}
 use Rattle.std.specs.Prelude.{slice_get, slice_index}
 use Rattle.std.specs.List.{AllByRecursion, AllZip}
 use Rattle.std.specs.Option.{option_map}
@@ -16,7 +16,7 @@ use Rattle.ii_merger.specs.MergedIndex.{MergeSourceState, opened_segment}
 use Rattle.ii_merger.specs.declared.merge_source.MergeSource.{MergeSource}
 use Rattle.ii_segment_store.specs.Contents.{SegmentContents, segment_contents}
 use Rattle.ii_segment_store.specs.declared.stored_segments.StoredSegment.{StoredSegment}
-use Rattle.nequllpa_merging.specs.OpenedSegments.{IsFirstDamaged, OpenedSegmentState, Opens, OpensFrom, opened_from, opened_view}
+use Rattle.nequllpa_merging.specs.OpenedSegments.{IsFirstDamaged, OpenedSegmentState, IsOpenable, OpensFrom, opened_from, opened_view}
 use Rattle.nequllpa_merging.specs.MergedSegments.{IsOpeningFault, counts_source_if, counts_sources, merge_source, total_of, with_first}
 use Rattle.nequllpa_merging.specs.declared.faults.MergeFault.{MergeFault}
 use Rattle.nequllpa_merging.specs.declared.faults.MergeFault.TheVariants as faults
@@ -95,9 +95,6 @@ zip_more R [] (b ∷ ys) x y zip holds = absurd zip
 zip_more R (a ∷ xs) [] x y zip holds = absurd zip
 zip_more R (a ∷ xs) (b ∷ ys) x y zip holds = (zip.0, zip_more R xs ys x y zip.1 holds)
 
-pub opening_begins : (entries : List SchemaEntry) (all rest : List StoredSegment) (made : List OpenedSegment) → rest ≡ all → made ≡ [] → IsOpening entries all [] rest made
-opening_begins entries all rest made same none = record { whole = same; zip = subst (λ (os : List OpenedSegment). AllZip (OpensFrom entries) [] (map opened_view os)) (sym none) tt }
-
 pub opening_goes_on : (entries : List SchemaEntry) (all taken before rest : List StoredSegment) (made new : List OpenedSegment) (x : StoredSegment) (y : OpenedSegment) → before ≡ x ∷ rest → new ≡ made ++ y ∷ []
     → opened_from entries (segment_contents x) ≡ Ok (opened_view y) → IsOpening entries all taken before made → IsOpening entries all (taken ++ x ∷ []) rest new
 opening_goes_on entries all taken before rest made new x y step pushed opens so_far = record {
@@ -108,18 +105,13 @@ opening_goes_on entries all taken before rest made new x y step pushed opens so_
       (zip_more (OpensFrom entries) (map segment_contents taken) (map opened_view made) (segment_contents x) (opened_view y) so_far.zip opens)));
 }
 
-pub opening_ends : (entries : List SchemaEntry) (all taken rest : List StoredSegment) (made : List OpenedSegment) → rest ≡ [] → IsOpening entries all taken rest made → AllZip (OpensFrom entries) (map segment_contents all) (map opened_view made)
-opening_ends entries all taken rest made none so_far =
-    let e : taken ≡ all = sym (append-nil taken) ∙ ap (λ (r : List StoredSegment). taken ++ r) (sym none) ∙ so_far.whole in
-    subst (λ (xs : List StoredSegment). AllZip (OpensFrom entries) (map segment_contents xs) (map opened_view made)) e so_far.zip
-
 -- the first segment that doesn't open
 found_after : {A : Type 0} (xs : List A) (x : A) (rest : List A) (k : ℕ) → k ≡ length xs → slice_get (xs ++ x ∷ rest) k ≡ Some x
 found_after [] x rest k is = ap (slice_get (x ∷ rest)) is
 found_after (y ∷ xs) x rest zero is = absurd (omega (arith, is))
 found_after (y ∷ xs) x rest (suc k) is = found_after xs x rest k (omega (arith, is))
 
-opens_before : (entries : List SchemaEntry) (xs more : List SegmentContents) (os : List OpenedSegmentState) → AllZip (OpensFrom entries) xs os → AllByRecursion (Opens entries) (take (length os) (xs ++ more))
+opens_before : (entries : List SchemaEntry) (xs more : List SegmentContents) (os : List OpenedSegmentState) → AllZip (OpensFrom entries) xs os → AllByRecursion (IsOpenable entries) (take (length os) (xs ++ more))
 opens_before entries [] more [] zip = tt
 opens_before entries [] more (o ∷ os) zip = absurd zip
 opens_before entries (x ∷ xs) more [] zip = absurd zip
@@ -142,8 +134,8 @@ first_damaged entries all taken before rest made x place part step at damaged so
       found = ap (λ (cs : List SegmentContents). slice_get cs place) split
           ∙ found_after (map segment_contents taken) (segment_contents x) (map segment_contents rest) place (many ∙ same_many (OpensFrom entries) (map segment_contents taken) (map opened_view made) so_far.zip);
       damaged = damaged;
-      before = subst (λ (cs : List SegmentContents). AllByRecursion (Opens entries) (take place cs)) (sym split)
-          (subst (λ (k : ℕ). AllByRecursion (Opens entries) (take k (map segment_contents taken ++ segment_contents x ∷ map segment_contents rest))) (sym many)
+      before = subst (λ (cs : List SegmentContents). AllByRecursion (IsOpenable entries) (take place cs)) (sym split)
+          (subst (λ (k : ℕ). AllByRecursion (IsOpenable entries) (take k (map segment_contents taken ++ segment_contents x ∷ map segment_contents rest))) (sym many)
           (opens_before entries (map segment_contents taken) (segment_contents x ∷ map segment_contents rest) (map opened_view made) so_far.zip));
     }
 

@@ -57,12 +57,12 @@ abbrev pub OpensFrom : List SchemaEntry → SegmentContents → OpenedSegmentSta
 OpensFrom entries c o = opened_from entries c ≡ Ok o
 
 -- A segment opens.
-abbrev pub Opens : List SchemaEntry → SegmentContents → Type 0
-Opens entries c = (o : OpenedSegmentState) × OpensFrom entries c o
+abbrev pub IsOpenable : List SchemaEntry → SegmentContents → Type 0
+IsOpenable entries c = (o : OpenedSegmentState) × OpensFrom entries c o
 
 -- The segment at a place doesn't open because of a part, and those before it open.
 pub record IsFirstDamaged (entries : List SchemaEntry) (cs : List SegmentContents) (place : ℕ) (part : Part) : Type 0 where
   pub segment : SegmentContents
   pub found : slice_get cs place ≡ Some segment
   pub damaged : opened_from entries segment ≡ Err part
-  pub before : AllByRecursion (Opens entries) (take place cs)
+  pub before : AllByRecursion (IsOpenable entries) (take place cs)

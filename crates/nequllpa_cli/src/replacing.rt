@@ -1,0 +1,102 @@
+//! Documents that replace others: those that have the same key.
+use crate::adding::{refuse_commit, tell_left_out};
+use crate::commands::{opened_at, status_of};
+use ii_base::{DocId, Fault, Term};
+use ii_segment_store::{CommitFault, SegmentFiles, commit_changes, remove_slots, upgrade};
+use ii_store::Folder;
+use ii_store::collect::collect;
+use nequllpa_folder::{AnswerFault, OpenedIndex, docs_to_delete};
+use std::alloc::Global;
+use std::process::ExitCode;
+
+/// Deletes the documents of an index that have one of these keys, and adds a segment, all at once. Prints how many
+/// documents were added and deleted.
+pub fn replace_keys(
+    rt: &HostRuntime,
+    path: &str,
+    segment: SegmentFiles,
+    keys: Vec<Term>,
+    bad_lines: u64,
+) -> anyhow::Result<ExitCode> {
+    let opened = match opened_at(rt, path)? {
+        Ok(opened) => opened,
+        Err(status) => return Ok(ExitCode::from(status)),
+    };
+    let replaced = match docs_with_keys(rt.alloc(), &opened, keys.as_slice()) {
+        Ok(replaced) => replaced,
+        Err(fault) => return Ok(ExitCode::from(status_of(rt, path, AnswerFault::Index(fault))?)),
+    };
+    drop(opened);
+    let count = total(&replaced);
+    let committed = commit(rt, path, replaced.as_slice(), &segment);
+    drop(replaced);
+    if let Err(fault) = committed {
+        return Ok(ExitCode::from(refuse_commit(rt, path, fault)?));
+    }
+    let also = format!(in rt.alloc(); ", {count} replaced")?;
+    tell_left_out(rt, segment.num_docs, also.as_str(), bad_lines)?;
+    Ok(ExitCode::SUCCESS)
+}
+
+// Returns the living documents that have one of these keys, segment by segment, in ascending order, each once.
+fn docs_with_keys(
+    alloc: Global,
+    opened: &OpenedIndex,
+    keys: &[Term],
+) -> Result<Vec<Vec<DocId>>, Fault> {
+    let mut all = docs_of_none(alloc, opened)?;
+    for key in keys {
+        let docs = docs_to_delete(alloc, opened, key)?;
+        append_each(&mut all, docs.as_slice())?;
+    }
+    for some in &mut all {
+        some.sort()?;
+        some.dedup();
+    }
+    Ok(all)
+}
+
+// Appends the documents of each segment to those that it has already.
+fn append_each(all: &mut Vec<Vec<DocId>>, docs: &[Vec<DocId>]) -> Result<(), Fault> {
+    for (place, some) in docs.iter().enumerate() {
+        if let Some(list) = all.get_mut(place) {
+            list.extend_from_slice(some.as_slice())?;
+        }
+    }
+    Ok(())
+}
+
+// Returns an empty list for each segment.
+fn docs_of_none(alloc: Global, opened: &OpenedIndex) -> Result<Vec<Vec<DocId>>, Fault> {
+    let mut all = Vec::new(alloc);
+    for _segment in opened.segments() {
+        all.push(Vec::new(alloc))?;
+    }
+    Ok(all)
+}
+
+/// Returns how many documents there are.
+pub fn total(docs: &[Vec<DocId>]) -> u64 {
+    let mut count = 0u64;
+    for some in docs {
+        count = count.saturating_add(some.len() as u64);
+    }
+    count
+}
+
+// Deletes documents of an index and adds a segment that has documents, and removes the files that no list has.
+fn commit(
+    rt: &HostRuntime,
+    path: &str,
+    docs: &[Vec<DocId>],
+    segment: &SegmentFiles,
+) -> Result<(), CommitFault> {
+    let mut folder = Folder::new(rt, path);
+    upgrade(rt.alloc(), &mut folder)?;
+    if segment.num_docs > 0 {
+        commit_changes(rt.alloc(), &mut folder, docs, Some(segment))?;
+    }
+    collect(rt.alloc(), &mut folder)?;
+    remove_slots(rt.alloc(), &mut folder)?;
+    Ok(())
+}
