@@ -6,4 +6,5 @@ pub mod PositionLemmas
 pub mod QueryScoreLemmas
 pub mod ScoreLemmas
 pub mod SegmentLemmas
+pub mod StatisticsLemmas
 pub mod TopLemmas

@@ -8,6 +8,7 @@ pub mod range_scores;
 pub mod ranking;
 pub mod scores;
 pub mod segments;
+pub mod statistics;
 pub mod term_scores;
 pub mod top_docs;
 
@@ -15,4 +16,5 @@ pub use ii_bm25::{Bm25StatisticsProvider, SCORE_ONE, Score};
 pub use ranking::search;
 pub use scores::score_docs;
 pub use segments::{RankedSegment, search_segments};
+pub use statistics::GatheredStatistics;
 pub use top_docs::TopDocs;
