@@ -10,6 +10,7 @@ pub mod MergingLaws
 mod OpenedLaws
 mod OpeningLaws
 mod PhraseLaws
+pub mod RankingLaws
 mod ReadsLaws
 pub mod DecodesLaws
 pub mod SearchingLaws

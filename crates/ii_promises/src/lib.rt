@@ -16,6 +16,7 @@ pub mod merging;
 pub mod opening;
 pub mod positions;
 pub mod queries;
+pub mod ranking;
 pub mod searching;
 pub mod segments;
 pub mod texts;
