@@ -38,6 +38,10 @@ PLACES = {
     'ii_term_text/src/terms.rt': {'bytes_term', 'is_memory'},  # the kit's `hex` couldn't grow
     'nequllpa_folder/src/faults.rt': {'is_memory', 'from'},
     'nequllpa_indexing/src/faults.rt': {'is_memory'},
+    'nequllpa_merging/src/faults.rt': {'from'},
+    'nequllpa_cli/src/keyed_lines.rt': {
+        'add_to',  # a copy of a key, or a list of keys, was refused
+        'no_memory'},  # the same of a line and its key
     # The program prints `error 1` for any refused allocation, so a fault of a call that fails only with
     # `OutOfMemory` becomes the kit's error.
     'iiq/src/commands.rt': {'text_query', 'num_query'},
