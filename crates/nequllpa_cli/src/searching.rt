@@ -5,7 +5,8 @@ use clap::ArgMatches;
 use ii_base::{Field, ValueType};
 use ii_query_parser::Query;
 use nequllpa_folder::{
-    CountFormat, Listing, OpenedIndex, id_field_of_all, write_count, write_listing,
+    BestListing, CountFormat, Listing, OpenedIndex, id_field_of_all, write_best, write_count,
+    write_listing,
 };
 use std::io::{self, BufWriter, Write};
 use std::process::ExitCode;
@@ -42,6 +43,10 @@ fn search(
         return Ok(ExitCode::from(REFUSED));
     }
     let as_json = given.get_flag("json");
+    if given.get_str("top").is_some() && has_other_choice(given) {
+        let status = refuse(rt, "--top stands without --limit, --count and --positions")?;
+        return Ok(ExitCode::from(status));
+    }
     if given.get_flag("count") {
         let format = if as_json {
             CountFormat::Json
@@ -54,6 +59,9 @@ fn search(
         Ok(ids) => ids,
         Err(status) => return Ok(ExitCode::from(status)),
     };
+    if given.get_str("top").is_some() {
+        return search_best(rt, path, opened, &query, given, ids);
+    }
     let how = Listing {
         limit,
         as_json,
@@ -61,6 +69,46 @@ fn search(
         ids,
     };
     print_found(rt, path, opened, &query, how)
+}
+
+// Returns whether an option is given that --top doesn't go with.
+fn has_other_choice(given: &ArgMatches<'_>) -> bool {
+    given.get_str("limit").is_some() || given.get_flag("count") || given.get_flag("positions")
+}
+
+// Prints the best of the matching documents, as many as are given.
+fn search_best(
+    rt: &HostRuntime,
+    path: &str,
+    opened: &OpenedIndex,
+    query: &Query,
+    given: &ArgMatches<'_>,
+    ids: Option<Field>,
+) -> anyhow::Result<ExitCode> {
+    let limit = match number_given(rt, given, "top")? {
+        Ok(limit) => limit.unwrap_or(u32::MAX),
+        Err(status) => return Ok(ExitCode::from(status)),
+    };
+    let how = BestListing {
+        limit,
+        as_json: given.get_flag("json"),
+        ids,
+    };
+    print_best(rt, path, opened, query, how)
+}
+
+// Prints the best of the matching documents.
+fn print_best(
+    rt: &HostRuntime,
+    path: &str,
+    opened: &OpenedIndex,
+    query: &Query,
+    how: BestListing,
+) -> anyhow::Result<ExitCode> {
+    let mut out = BufWriter::new(rt.alloc(), io::writer(rt))?;
+    let written = write_best(rt.alloc(), &mut out, opened, query, how);
+    out.flush()?;
+    ended(rt, path, written)
 }
 
 // Prints the number of matching documents.

@@ -136,6 +136,11 @@ static USAGES: [Usage; 11] = [
                 help: "Prints at most N documents; the status is that of all documents that match",
             },
             Word {
+                name: "top",
+                given: Given::Value("N"),
+                help: "Prints the N best documents, the best first, each with its score (BM25)",
+            },
+            Word {
                 name: "count",
                 given: Given::Flag,
                 help: "Prints only the number of documents",

@@ -1,5 +1,5 @@
 -- Documents found by a search, and the positions of terms in them.
-use Rattle.std.proofs.Common.{◌≡◌, ◌≢◌, ◌∙◌, ◌==◌, ◌<◌, ◌≤◌, ◌+◌, ◌-◌, ℕ, zero, suc, Bool, true, false, cond, List, [], ◌∷◌, ◌++◌, add-one, append-nil, append_assoc, get_or, map, take, drop, length, nat_le, Option, None, Some, refl, sym, ap, arith, length-append}
+use Rattle.std.proofs.Common.{◌≡◌, ◌≢◌, ◌∙◌, ◌==◌, ◌<◌, ◌≤◌, ◌+◌, ℕ, zero, suc, Bool, true, false, cond, List, [], ◌∷◌, ◌++◌, add-one, append-nil, append_assoc, get_or, map, take, drop, length, nat_le, Option, None, Some, refl, sym, ap, arith, length-append}
 use Rattle.std.specs.List.{find}
 use Rattle.std.specs.Option.{option_map}
 use Rattle.std.specs.Prelude.{Vec, filter}

@@ -3,3 +3,4 @@ mod IdsLemmas
 mod QueryLemmas
 mod WantedLemmas
 mod OpenLemmas
+mod RankingLemmas

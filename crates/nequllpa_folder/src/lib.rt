@@ -12,6 +12,7 @@ pub mod listing;
 pub mod merged_terms;
 pub mod opened;
 pub mod opened_index;
+pub mod ranking;
 pub mod stats;
 
 pub use checking::{Checked, check, counts_damage};
@@ -27,4 +28,5 @@ pub use listing::{Listing, write_listing};
 pub use merged_terms::{MergedTerm, MergedTerms};
 pub use opened::{Opened, schema_of, text_schema_of};
 pub use opened_index::{Bases, OpenedIndex, reader_of};
+pub use ranking::{BestListing, write_best};
 pub use stats::write_stats;

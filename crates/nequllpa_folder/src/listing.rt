@@ -345,7 +345,11 @@ fn write_term_words<W: Write>(
 }
 
 // Writes an id as a member of a JSON object.
-fn write_id<W: Write>(alloc: Global, out: &mut W, id: Option<&str>) -> Result<(), AnswerFault> {
+pub(crate) fn write_id<W: Write>(
+    alloc: Global,
+    out: &mut W,
+    id: Option<&str>,
+) -> Result<(), AnswerFault> {
     let Some(id) = id else {
         write!(out, ",\"id\":null")?;
         return Ok(());

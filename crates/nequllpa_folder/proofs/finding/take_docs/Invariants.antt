@@ -1,4 +1,4 @@
-use Rattle.std.proofs.Common.{◌-◌, ℕ}
+use Rattle.std.proofs.Common.{◌-◌}
 use Rattle.ii_base.specs.declared.doc_id.TheConstants.{TERMINATED}
 use Rattle.nequllpa_folder.proofs.FindingLemmas.{IsTaking}
 use Rattle.nequllpa_folder.proofs.finding.take_docs.Given as goal

@@ -1,0 +1,322 @@
+//! Writes the best documents that a search finds.
+ghost use Rattle.std.specs.Prelude.{◌≡◌, ◌+◌, ◌<◌, ◌^◌, IfOk, IfSome, length, map, true};
+ghost use Rattle.ii_segment_search.specs.Searcher.{HaveFields, total_living};
+ghost use Rattle.ii_ranking.specs.Segments.{segment_of};
+
+use crate::deleting::docs_with_term;
+use crate::faults::AnswerFault;
+use crate::finding::wanted_terms;
+use crate::ids::ids_of;
+use crate::inspecting::count_all;
+use crate::listing::write_id;
+use crate::opened::Opened;
+use crate::opened_index::OpenedIndex;
+use ii_base::{Fault, Field, Term};
+use ii_docset::DocId;
+use ii_ranking::{GatheredStatistics, RankedSegment, Score, TopDocs, search_segments};
+use ii_search::Query;
+use std::alloc::Global;
+use std::io::Write;
+
+/// How the best documents are written, one per line.
+#[derive(Clone, Copy, Debug)]
+pub struct BestListing {
+    /// The maximum number of documents.
+    pub limit: u32,
+    /// Whether lines are JSON objects or words.
+    pub as_json: bool,
+    /// The field whose value is written instead of a document's number.
+    pub ids: Option<Field>,
+}
+
+/// Writes the best documents that match a query, one per line, the best first. Returns whether any document matches,
+/// even if the limit is 0.
+///
+/// A line of words has the document's number, or instead its id, `-` if it has none, and after a tab its score with
+/// four decimals. A JSON line is an object with `doc`; with `id` (a string or null) if ids are requested; with
+/// `score`, and `units`, which is the score in units of 2^-38.
+pub fn write_best<W: Write>(
+    alloc: Global,
+    out: &mut W,
+    opened: &OpenedIndex,
+    query: &Query,
+    how: BestListing,
+) -> Result<bool, AnswerFault> {
+    if how.limit == 0 {
+        return Ok(count_all(alloc, opened.segments(), query)? > 0);
+    }
+    let best = match best_docs(alloc, opened, query, how.limit) {
+        Ok(best) => best,
+        Err(fault) => return Err(AnswerFault::Index(fault)),
+    };
+    let any = !best.is_empty();
+    let ids = match how.ids {
+        Some(field) => ids_of_best(alloc, opened, field, &best),
+        None => Ok(Vec::new(alloc)),
+    };
+    let ids = match ids {
+        Ok(ids) => ids,
+        Err(fault) => {
+            drop(best);
+            return Err(fault);
+        }
+    };
+    let written = write_rows(alloc, out, &how, &best, &ids);
+    drop(ids);
+    drop(best);
+    match written {
+        Ok(()) => Ok(any),
+        Err(fault) => Err(fault),
+    }
+}
+
+// Returns the best documents that match a query, at most so many, each with its score.
+fn best_docs(
+    alloc: Global,
+    opened: &OpenedIndex,
+    query: &Query,
+    limit: u32,
+) -> Result<Vec<(Score, DocId)>, Fault> {
+    let statistics = statistics_of(alloc, opened, query)?;
+    let best = match sources_of(alloc, opened, query) {
+        Ok(Some(sources)) => {
+            let docs = TopDocs::with_limit(limit as usize);
+            let best = search_segments(alloc, &sources, &statistics, query, &docs);
+            drop(sources);
+            best
+        }
+        Ok(None) => Ok(Vec::new(alloc)),
+        Err(fault) => Err(fault),
+    };
+    drop(statistics);
+    best
+}
+
+// Returns the segments, or `None` if one of them lacks a field of the query, or they have too many documents.
+fn sources_of<'a>(
+    alloc: Global,
+    opened: &'a OpenedIndex,
+    query: &Query,
+) -> Result<Option<Vec<RankedSegment<'a>>>, Fault>
+    ensures fields { IfOk result (λ found. IfSome found (λ sources. HaveFields query.entry.now (map segment_of sources.items))) }
+    ensures few { IfOk result (λ found. IfSome found (λ sources. total_living (map segment_of sources.items) < 2 ^ 32)) }
+{
+    let mut sources = Vec::new(alloc);
+    let mut total: u32 = 0;
+    for segment in opened.segments() {
+        if !query.has_fields(segment.schema()) {
+            return Ok(None);
+        }
+        let Some(more) = total.checked_add(segment.num_living()) else {
+            return Ok(None);
+        };
+        sources.push(source_of(segment))?;
+        total = more;
+    }
+    Ok(Some(sources))
+}
+
+// Returns a segment to rank.
+fn source_of(segment: &Opened) -> RankedSegment<'_>
+    ensures index { result.index.now ≡ segment.entry.now.index }
+    ensures alive { result.alive.now ≡ segment.entry.now.alive }
+{
+    RankedSegment {
+        index: segment.index(),
+        alive: segment.alive(),
+    }
+}
+
+// Returns the numbers of the living documents that the scores of a query need.
+fn statistics_of(
+    alloc: Global,
+    opened: &OpenedIndex,
+    query: &Query,
+) -> Result<GatheredStatistics, Fault> {
+    let terms = wanted_terms(alloc, query)?;
+    let mut num_docs: u64 = 0;
+    for segment in opened.segments() {
+        num_docs = num_docs.saturating_add(u64::from(segment.num_living()));
+    }
+    let num_tokens = num_tokens_of(alloc, opened, &terms)?;
+    let mut statistics = GatheredStatistics::new(alloc, num_docs, num_tokens);
+    for term in &terms {
+        let doc_freq = living_doc_freq(alloc, opened, term)?;
+        statistics.add_term(alloc, term, doc_freq)?;
+    }
+    Ok(statistics)
+}
+
+// Returns for each field how many tokens the living documents have in it; 0 for a field of none of the terms.
+fn num_tokens_of(alloc: Global, opened: &OpenedIndex, terms: &[&Term]) -> Result<Vec<u64>, Fault> {
+    let mut num_tokens = Vec::new(alloc);
+    for id in 0..opened.schema().num_fields() {
+        let field = Field::from_field_id(id as u32);
+        let mut total: u64 = 0;
+        if is_field_of_one(field, terms) {
+            total = tokens_in(opened, field)?;
+        }
+        num_tokens.push(total)?;
+    }
+    Ok(num_tokens)
+}
+
+// Returns whether a field is that of one of some terms.
+fn is_field_of_one(field: Field, terms: &[&Term]) -> bool {
+    for term in terms {
+        if term.field() == field {
+            return true;
+        }
+    }
+    false
+}
+
+// Returns how many tokens the living documents of all segments have in a field.
+fn tokens_in(opened: &OpenedIndex, field: Field) -> Result<u64, Fault> {
+    let mut total: u64 = 0;
+    for segment in opened.segments() {
+        if (field.field_id() as usize) < segment.schema().num_fields() {
+            total = total.saturating_add(segment.num_tokens(field)?);
+        }
+    }
+    Ok(total)
+}
+
+// Returns how many living documents have a term.
+fn living_doc_freq(alloc: Global, opened: &OpenedIndex, term: &Term) -> Result<u64, Fault> {
+    let mut total: u64 = 0;
+    for segment in opened.segments() {
+        total = total.saturating_add(doc_freq_in(alloc, segment, term)?);
+    }
+    Ok(total)
+}
+
+// Returns how many living documents of a segment have a term.
+fn doc_freq_in(alloc: Global, segment: &Opened, term: &Term) -> Result<u64, Fault> {
+    let field = term.field();
+    if field.field_id() as usize >= segment.schema().num_fields() {
+        return Ok(0);
+    }
+    if !segment.has_deletes() {
+        return Ok(u64::from(segment.reader(field).doc_freq(term)));
+    }
+    let docs = docs_with_term(alloc, segment.index(), segment.alive(), term)?;
+    Ok(docs.len() as u64)
+}
+
+// Returns the id of each of the best documents, an empty text if it has none.
+fn ids_of_best(
+    alloc: Global,
+    opened: &OpenedIndex,
+    field: Field,
+    best: &[(Score, DocId)],
+) -> Result<Vec<String>, AnswerFault> {
+    let mut texts = Vec::new(alloc);
+    for _ in best {
+        texts.push(String::new(alloc))?;
+    }
+    let mut base: u32 = 0;
+    for segment in opened.segments() {
+        put_ids(alloc, segment, field, base, best, &mut texts)?;
+        base = base.saturating_add(segment.num_living());
+    }
+    Ok(texts)
+}
+
+// Sets the ids of the best documents that are in a segment, given the number of its first living document.
+fn put_ids(
+    alloc: Global,
+    segment: &Opened,
+    field: Field,
+    base: u32,
+    best: &[(Score, DocId)],
+    texts: &mut Vec<String>,
+) -> Result<(), AnswerFault> {
+    if field.field_id() as usize >= segment.schema().num_fields() {
+        return Ok(());
+    }
+    let mut docs = Vec::new(alloc);
+    for pair in best {
+        if let Some(doc) = doc_of_number(segment, base, pair.1) {
+            docs.push(doc)?;
+        }
+    }
+    docs.sort_unstable();
+    let ids = ids_of(alloc, segment, field, &docs)?;
+    for (place, pair) in best.iter().enumerate() {
+        let Some(doc) = doc_of_number(segment, base, pair.1) else {
+            continue;
+        };
+        let Ok(found) = docs.binary_search(&doc) else {
+            continue;
+        };
+        if let (Some(id), Some(text)) = (ids.at(found), texts.get_mut(place)) {
+            text.push_str(id)?;
+        }
+    }
+    Ok(())
+}
+
+// Returns the document of a segment that has a number in the index, if it is one of the segment's.
+fn doc_of_number(segment: &Opened, base: u32, number: DocId) -> Option<DocId> {
+    let rank = number.checked_sub(base)?;
+    if rank >= segment.alive().num_living() {
+        return None;
+    }
+    Some(segment.alive().select(rank))
+}
+
+// Writes a line for each of the best documents.
+fn write_rows<W: Write>(
+    alloc: Global,
+    out: &mut W,
+    how: &BestListing,
+    best: &[(Score, DocId)],
+    ids: &[String],
+) -> Result<(), AnswerFault> {
+    for (place, pair) in best.iter().enumerate() {
+        write_row(alloc, out, how, pair.0, pair.1, id_at(ids, place))?;
+    }
+    Ok(())
+}
+
+// Returns the id of the document at an index, if it has one.
+fn id_at(ids: &[String], place: usize) -> Option<&str> {
+    match ids.get(place) {
+        Some(text) => {
+            if text.is_empty() {
+                return None;
+            }
+            Some(text.as_str())
+        }
+        None => None,
+    }
+}
+
+// Writes a document with its score.
+fn write_row<W: Write>(
+    alloc: Global,
+    out: &mut W,
+    how: &BestListing,
+    score: Score,
+    doc: DocId,
+    id: Option<&str>,
+) -> Result<(), AnswerFault> {
+    let parts = (u128::from(score) * 10_000 + (1 << 37)) >> 38;
+    let (whole, part) = (parts / 10_000, parts % 10_000);
+    if how.as_json {
+        write!(out, "{{\"doc\":{doc}")?;
+        if how.ids.is_some() {
+            write_id(alloc, out, id)?;
+        }
+        writeln!(out, ",\"score\":{whole}.{part:04},\"units\":{score}}}")?;
+        return Ok(());
+    }
+    if how.ids.is_some() {
+        write!(out, "{}", id.unwrap_or("-"))?;
+    } else {
+        write!(out, "{doc}")?;
+    }
+    writeln!(out, "\t{whole}.{part:04}")?;
+    Ok(())
+}
