@@ -8,19 +8,11 @@ use Rattle.ii_base.specs.Words.{Word}
 use Rattle.ii_definitions.specs.IndexCalls.{MayAllBeIndexed, MayBeIndexed, call_of, doc_of}
 use Rattle.ii_definitions.specs.Tokens.{Call, Piece, begin_after, call_pieces, kept_words, piece_tokens, piece_tokens_from, tokens_after, word_token}
 use Rattle.ii_definitions.specs.declared.index_call.IndexCall.{IndexCall}
-use Rattle.ii_definitions.proofs.ListLaws.{all_both}
+use Rattle.ii_definitions.proofs.ListLaws.{all_after, all_before, all_both}
 use Rattle.ii_damage.specs.Fits.{AllFit, Fits}
 use Rattle.ii_damage.proofs.CallsFit.{calls_fit}
 use Rattle.ii_definitions.proofs.PieceLaws.{tokens_after-append}
 use Rattle.nequllpa_indexing.specs.FieldTokens.{pieces_by, tokens_by}
-
-first_all : {A : Type 0} (P : A → Type 0) (xs ys : List A) → AllByRecursion P (xs ++ ys) → AllByRecursion P xs
-first_all P [] ys all = tt
-first_all P (x ∷ xs) ys all = (all.0, first_all P xs ys all.1)
-
-last_all : {A : Type 0} (P : A → Type 0) (xs ys : List A) → AllByRecursion P (xs ++ ys) → AllByRecursion P ys
-last_all P [] ys all = all
-last_all P (x ∷ xs) ys all = last_all P xs ys all.1
 
 module _ (entries : List SchemaEntry) (num_docs : ℕ) where
   -- a token fits at any position
@@ -38,8 +30,8 @@ module _ (entries : List SchemaEntry) (num_docs : ℕ) where
   pieces_fit earlier others (p ∷ ps) fit =
       let rest = tokens_after (earlier ++ p ∷ []) ps in
       all_both (Fits entries num_docs) (piece_tokens others p) (tokens_after (others ++ p ∷ []) ps)
-      (piece_fits p (begin_after earlier p) (begin_after others p) p.is_text (first_all (Fits entries num_docs) (piece_tokens earlier p) rest fit))
-      (pieces_fit (earlier ++ p ∷ []) (others ++ p ∷ []) ps (last_all (Fits entries num_docs) (piece_tokens earlier p) rest fit))
+      (piece_fits p (begin_after earlier p) (begin_after others p) p.is_text (all_before (Fits entries num_docs) (piece_tokens earlier p) rest fit))
+      (pieces_fit (earlier ++ p ∷ []) (others ++ p ∷ []) ps (all_after (Fits entries num_docs) (piece_tokens earlier p) rest fit))
 
   -- the tokens of one call fit
   call_fits : (analyze : List ℕ → List Word) (c : IndexCall) → MayBeIndexed entries num_docs c → AllFit entries num_docs (tokens_after [] (call_pieces analyze (call_of entries c)))

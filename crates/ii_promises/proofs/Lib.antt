@@ -10,9 +10,14 @@ pub mod MergingLaws
 mod OpenedLaws
 mod OpeningLaws
 mod PhraseLaws
+mod FewLaws
+mod TextFaults
+mod OrderlyLaws
+mod PlainLaws
 pub mod RankingLaws
 mod ReadsLaws
 pub mod DecodesLaws
 pub mod SearchingLaws
 pub mod TextLaws
 mod TopLaws
+mod WorkedRows

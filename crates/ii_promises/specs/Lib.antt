@@ -1,3 +1,5 @@
 pub mod Decodes
 pub mod DeepValues
+pub mod OrderlyCalls
+pub mod PlainCalls
 pub mod Texts

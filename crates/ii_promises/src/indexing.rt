@@ -1,21 +1,25 @@
 // What is indexed, written and opened.
 ghost use Rattle.std.specs.Prelude.{◌≡◌, ◌<◌, ◌≤◌, ◌⊎◌, ℕ, [], false, length, map, None, Err, IfErr, IfOk, IfSome, IsTrue, MatchOption};
+ghost use Rattle.std.specs.List.{AllByRecursion, sum_by};
+ghost use Rattle.ii_base.specs.AsciiWords.{ascii_words};
 ghost use Rattle.ii_fieldnorm.specs.Norms.{id_of_norm};
 ghost use Rattle.ii_definitions.specs.Fields.{option_of};
 ghost use Rattle.ii_definitions.specs.Norms.{has_norms};
 ghost use Rattle.ii_definitions.specs.Postings.{doc_count, field_count, key_postings, occurs};
-ghost use Rattle.ii_definitions.specs.Tokens.{tokens_of};
+ghost use Rattle.ii_definitions.specs.Tokens.{Call, tokens_of};
 ghost use Rattle.ii_definitions.specs.IndexCalls.{MayAllBeIndexed, call_of};
 ghost use Rattle.ii_indexing.specs.IndexFiles.{HaveNoRoom};
+ghost use Rattle.ii_promises.specs.OrderlyCalls.{IsOrderly, num_positions_of};
 ghost use Rattle.ii_indexing.specs.Refusals.{calls_fault};
 ghost use Rattle.ii_postings_writer.specs.TermLimits.{AreWithin};
 ghost use Rattle.ii_postings_writer.specs.TokenFiles.{token_terms};
 ghost use Rattle.ii_indexing.specs.RamFiles.{IsRamFault, empty_file};
+ghost use Rattle.ii_promises.specs.PlainCalls.{IsTextOrNumber, call_size};
 ghost use Rattle.ii_reader.specs.OpenIndex.{IndexHolds};
 
 use nequllpa::{
-    DocId, Fault, Field, IndexCall, IndexRecordOption, OpenIndex, Schema, SegmentPostings, Term,
-    TextAnalyzer, index_in_ram,
+    AsciiTokenizer, DocId, Fault, Field, IndexCall, IndexRecordOption, OpenIndex, Schema,
+    SegmentPostings, Term, TextAnalyzer, index_in_ram,
 };
 use std::alloc::Global;
 
@@ -165,6 +169,48 @@ pub fn terms_within_limits_are_indexed<A: TextAnalyzer>(
 {
     let _fields = schema.num_fields();
     index_in_ram(alloc, schema, num_docs, calls, analyzer)
+}
+
+/// Calls of values, and of texts whose tokens are in order, exceed no limit, if there are at most 100,000
+/// fields and a million tokens and positions. They fail only with `OutOfMemory`, and else the index holds
+/// exactly their tokens.
+pub fn orderly_calls_are_indexed<A: TextAnalyzer>(
+    alloc: Global,
+    schema: Schema,
+    num_docs: DocId,
+    calls: Vec<IndexCall>,
+    analyzer: &A,
+) -> Result<OpenIndex, Fault>
+    requires docs { num_docs ≤ 2147483647 }
+    requires calls { MayAllBeIndexed schema num_docs calls.items }
+    requires fields { length schema ≤ 100000 }
+    requires orderly { AllByRecursion (λ (c : Call). IsOrderly (A.words analyzer.now) c.content) (map (call_of schema) calls.items) }
+    requires positions { num_positions_of (A.words analyzer.now) (map (call_of schema) calls.items) ≤ 1000000 }
+    requires tokens { length (tokens_of (A.words analyzer.now) (map (call_of schema) calls.items)) ≤ 1000000 }
+    ensures holds { IfOk result (λ index. IndexHolds schema num_docs index (tokens_of (A.words analyzer.now) (map (call_of schema) calls.items))) }
+    ensures memory { IfErr result (λ fault. fault ≡ Fault.OutOfMemory) }
+{
+    index_in_ram(alloc, schema, num_docs, calls, analyzer)
+}
+
+/// Texts that `AsciiTokenizer` cuts, and numbers, exceed no limit, if there are at most 100,000 fields, and
+/// the bytes of the texts and the number of calls sum to at most a million. They fail only with
+/// `OutOfMemory`, and else the index holds exactly their tokens.
+pub fn texts_and_numbers_are_indexed(
+    alloc: Global,
+    schema: Schema,
+    num_docs: DocId,
+    calls: Vec<IndexCall>,
+) -> Result<OpenIndex, Fault>
+    requires docs { num_docs ≤ 2147483647 }
+    requires calls { MayAllBeIndexed schema num_docs calls.items }
+    requires fields { length schema ≤ 100000 }
+    requires plain { AllByRecursion IsTextOrNumber calls.items }
+    requires size { sum_by call_size calls.items ≤ 1000000 }
+    ensures holds { IfOk result (λ index. IndexHolds schema num_docs index (tokens_of ascii_words (map (call_of schema) calls.items))) }
+    ensures memory { IfErr result (λ fault. fault ≡ Fault.OutOfMemory) }
+{
+    orderly_calls_are_indexed(alloc, schema, num_docs, calls, &AsciiTokenizer)
 }
 
 /// The fault of the first refused call is returned, unless an allocation failed before.
