@@ -19,6 +19,8 @@ PRINTS = {
     r"""printf '{"body": "the old sea"}\n{"body": "the sea, the old sea"}\n' > lines.jsonl""": '',
     './nequllpa index sea --schema schema.toml lines.jsonl': '2 documents indexed\n',
     """./nequllpa search sea '"the sea" NOT bird'""": '1\n',
+    # BM25 of `old`: 2.2 * ln(1.2) * 1 / (1 + 1.2 * (0.25 + 0.75 * 3 / 4)) = 0.2031; the prefix counts 1.
+    "./nequllpa search sea 'old se*' --top 1": '0\t1.2031\n',
     './nequllpa check sea': '0 damages\n',
     r"""printf '{"body": "a bird"}\n' | ./nequllpa add sea""": '1 documents added\n',
     'rt new crates/mine start_io': None,
