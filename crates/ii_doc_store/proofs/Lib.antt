@@ -1,0 +1,7 @@
+mod CutLaws
+mod DamageLaws
+mod IndexLaws
+mod RecordLaws
+mod RoundTripLaws
+mod StoredLaws
+mod WorkedRows

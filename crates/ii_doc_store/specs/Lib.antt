@@ -1,0 +1,4 @@
+pub mod RoundTrip
+pub mod StoreFormat
+pub mod StoreReader
+pub mod StoreWriter

@@ -1,0 +1,8 @@
+//! Tests `ii_doc_store` through its public calls, and proves that a client can rely on them.
+#![tactic(auto)]
+
+pub mod client;
+#[cfg(test)]
+mod tests;
+
+pub use client::{document_comes_back, write_documents};
