@@ -80,8 +80,48 @@ class Index:
         return {doc for doc, numbers in self.numbers.get(place, {}).items() if number in numbers}
 
 
+    def with_word_of(self, place, holds):
+        """Returns the documents with a text at a place that has a word of which this holds."""
+        return {doc for doc, texts in self.texts.get(place, {}).items() if any(holds(word.encode()) for text in texts for word in text)}
+
+    def with_number_of(self, place, holds):
+        """Returns the documents with a number at a place of which this holds."""
+        return {doc for doc, numbers in self.numbers.get(place, {}).items() if any(map(holds, numbers))}
+
+
+def between(index, draw):
+    """Returns a range of words or of numbers, and the documents that have one of them."""
+    place = draw.choice(('text', 'num') + PATHS)
+    are_numbers = place == 'num' or place in PATHS and draw.random() < 0.5
+    low, high = (str(draw.randrange(11)) if are_numbers else draw.choice(WORDS) for _ in range(2))
+    form = draw.choice(('*', '>', '>=', '<', '<=', '[]', '[}', '{]', '{}', '[*', '*}'))
+    least = None if form in ('*', '<', '<=', '*}') else low
+    most = None if form in ('*', '>', '>=', '[*') else high
+    given = [bound for bound in (least, most) if bound is not None]
+    # at a path, bounds that are all numbers are between numbers
+    read = int if place == 'num' or place in PATHS and all(map(str.isdecimal, given)) else str.encode
+
+    def holds(value):
+        if least is not None and (value < read(least) or value == read(least) and form in ('>', '{]', '{}')):
+            return False
+        return most is None or value < read(most) or value == read(most) and form in ('<=', '[]', '{]')
+
+    low, high = (bound if draw.random() < 0.8 else f'"{bound}"' for bound in (low, high))
+    written = {
+        '*': '*', '[*': f'[{low} TO *]', '*}': f'[* TO {high}}}', '>': f'>{low}', '>=': f'>={low}', '<': f'<{high}', '<=': f'<={high}',
+    }.get(form) or f'{form[0]}{low} TO {high}{form[1]}'
+    found = set()
+    if read is int or not given:
+        found |= index.with_number_of(place, holds)
+    if read is not int or not given:
+        found |= index.with_word_of(place, holds)
+    return f'{place if place in ("text", "num") else "leaf." + place}:{written}', found
+
+
 def literal(index, draw):
-    """Returns a word, a phrase, a prefix or a number, and the documents that have it."""
+    """Returns a word, a phrase, a prefix, a range or a number, and the documents that have it."""
+    if draw.random() < 0.2:
+        return between(index, draw)
     place = draw.choice(('', 'text', 'text', 'num') + PATHS)
     if place == 'num':
         number = draw.randrange(11)
@@ -123,7 +163,7 @@ def query(index, draw, depth):
 def part(index, draw, depth):
     """Returns a literal, or a query in parentheses."""
     text, docs = query(index, draw, depth - 1)
-    return (text, docs) if re.fullmatch(r'[^ ]+|[^" ]*"[^"]*"', text) and '(' not in text else (f'({text})', docs)
+    return (text, docs) if re.fullmatch(r'[^ ]+|[^" ]*"[^"]*"|[^" ]*[\[{][^\]}]*[\]}]', text) and '(' not in text else (f'({text})', docs)
 
 
 def all_of(index, draw, depth):

@@ -9,7 +9,7 @@ use Rattle.std.proofs.lemmas.List.Sums.{prefix_len-le-length, prefix_len_passes}
 use Rattle.std.proofs.lemmas.Str.{IsCharBoundary-after_ascii, IsCharBoundary-before_ascii, IsCharBoundary-end, IsCharBoundary-start}
 use Rattle.ii_query_grammar.specs.declared.cut.Stop.{Stop}
 use Rattle.ii_query_grammar.specs.declared.cut.Stop.TheVariants as stops
-use Rattle.ii_query_grammar.specs.Lexemes.{begins, ends_word, is_space, is_special, place_of, stops_at, unescaped}
+use Rattle.ii_query_grammar.specs.Lexemes.{begins, ends_bound, ends_word, is_space, is_special, place_of, stops_at, unescaped}
 use Rattle.ii_query_grammar.specs.Spelling.{escaped}
 
 or_by : (a c : Bool) (P : Type 0) → (a ≡ true → P) → (c ≡ true → P) → (a || c) ≡ true → P
@@ -34,6 +34,9 @@ end_low b =
     more_low b 123 _ (lit< tt) (more_low b 91 _ (lit< tt) (more_low b 94 _ (lit< tt) (more_low b 126 _ (lit< tt) (more_low b 63 _ (lit< tt)
     (more_low b 42 _ (lit< tt) (more_low b 58 _ (lit< tt) (more_low b 41 _ (lit< tt) (more_low b 40 _ (lit< tt) (more_low b 34 _ (lit< tt) (space_low b))))))))))
 
+bound_low : (b : ℕ) → ends_bound b ≡ true → b < 128
+bound_low b = more_low b 125 _ (lit< tt) (more_low b 93 _ (lit< tt) (end_low b))
+
 special_low : (b : ℕ) → is_special b ≡ true → b < 128
 special_low b =
     more_low b 125 _ (lit< tt) (more_low b 93 _ (lit< tt) (more_low b 62 _ (lit< tt) (more_low b 60 _ (lit< tt) (more_low b 47 _ (lit< tt)
@@ -43,6 +46,7 @@ special_low b =
 stop_low : (stop : Stop) (b : ℕ) (after : Bool) → stops_at stop b after ≡ true → b < 128
 stop_low stops.WordEnd b after h = end_low b (and_parts (ends_word b) (not after) h).0
 stop_low stops.PhraseEnd b after h = low b 34 (lit< tt) (and_parts (b == 34) (not after) h).0
+stop_low stops.BoundEnd b after h = bound_low b (and_parts (ends_bound b) (not after) h).0
 stop_low stops.Escaped b after h = special_low b (and_parts (is_special b) after h).0
 stop_low stops.WordEscape b after h = special_low b (and_parts (is_special b) (ends_word b || after) h).0
 stop_low stops.PhraseEscape b after h = special_low b (and_parts (is_special b) (b == 34 || after) h).0

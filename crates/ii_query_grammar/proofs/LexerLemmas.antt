@@ -1,10 +1,16 @@
 -- A text is read lexeme by lexeme.
-use Rattle.std.proofs.Common.{◌≡◌, ◌∙◌, ℕ, zero, suc, ◌-◌, ◌<◌, ◌≤◌, Bool, true, false, cond, List, [], ◌∷◌, Option, None, Some, drop, take, length, refl, sym, ap, arith}
+use Rattle.std.proofs.Common.{◌≡◌, ◌∙◌, ℕ, zero, suc, ◌-◌, ◌<◌, ◌≤◌, Bool, true, false, cond, List, [], ◌∷◌, Option, None, Some, Result, Ok, Err, drop, take, length, refl, sym, ap, arith}
 use Rattle.std.proofs.lemmas.List.{length-drop}
 use Rattle.std.specs.List.{take_while}
+use Rattle.std.specs.Prelude.{⊤, bytes_eq, codes}
+use Rattle.ii_query_grammar.specs.declared.cut.Stop.{Stop}
 use Rattle.ii_query_grammar.specs.declared.cut.Stop.TheVariants as stops
+use Rattle.ii_query_grammar.specs.declared.lexeme.Edge.{Edge}
+use Rattle.ii_query_grammar.specs.declared.lexeme.Edge.TheVariants as edges
 use Rattle.ii_query_grammar.specs.declared.parse_error.Feature.{Feature}
-use Rattle.ii_query_grammar.specs.Lexemes.{Front, Token, after_spaces, before_stop, begins, feature_after, feature_in_front, from_stop, front, front_at, has_star, is_empty, is_prefix, is_space, lexemes, one_more, phrase_front, place_of, tokens, unless_feature, value_front, word_front}
+use Rattle.ii_query_grammar.specs.declared.parse_error.ParseError.{ParseError}
+use Rattle.ii_query_grammar.specs.Lexemes.{Front, Limit, RangeFront, Token, after_spaces, after_to, before_stop, begins, bound_with, ended_range, feature_after, feature_in_front, from_stop, front, front_at, greater, has_star, is_empty, is_prefix, is_space, less as less_range, lexemes, limit_at, one_more, phrase_front, place_of, range_above, range_after_to, range_at, range_below, range_between, range_from, range_to, text_limit, tokens, unless_feature, unless_range, value_front, word_front}
+use Rattle.ii_query_grammar.specs.Trees.{Bound}
 
 -- The text after the first lexeme has fewer than n bytes.
 abbrev Leaves : ℕ → Front → Type 0
@@ -28,14 +34,118 @@ phrase_leaves size at n field text less =
     (λ is. end_leaves 1 n (from_stop stops.PhraseEnd text) (end_leaves (place_of stops.PhraseEnd false text) n text less))
     (λ is. omega (arith, less))
 
+-- The text after what was read has fewer than n bytes.
+abbrev LeavesAfter : {A : Type 0} → (A → List ℕ) → ℕ → Result A ParseError → Type 0
+LeavesAfter rest n (Err e) = ⊤
+LeavesAfter rest n (Ok x) = length (rest x) < n
+
+abbrev LimitLeaves : ℕ → Result Limit ParseError → Type 0
+LimitLeaves = LeavesAfter (λ (l : Limit). l.rest)
+
+abbrev RangeLeaves : ℕ → Result RangeFront ParseError → Type 0
+RangeLeaves = LeavesAfter (λ (f : RangeFront). f.rest)
+
+abbrev RestLeaves : ℕ → Result (List ℕ) ParseError → Type 0
+RestLeaves = LeavesAfter (λ (l : List ℕ). l)
+
+either_leaves : {A : Type 0} (rest : A → List ℕ) (b : Bool) (n : ℕ) (f g : Result A ParseError) → (b ≡ true → LeavesAfter rest n f) → (b ≡ false → LeavesAfter rest n g) → LeavesAfter rest n (cond b f g)
+either_leaves rest true n f g first other = first refl
+either_leaves rest false n f g first other = other refl
+
+limit_either : (b : Bool) (n : ℕ) (f g : Result Limit ParseError) → (b ≡ true → LimitLeaves n f) → (b ≡ false → LimitLeaves n g) → LimitLeaves n (cond b f g)
+limit_either = either_leaves (λ (l : Limit). l.rest)
+
+range_either : (b : Bool) (n : ℕ) (f g : Result RangeFront ParseError) → (b ≡ true → RangeLeaves n f) → (b ≡ false → RangeLeaves n g) → RangeLeaves n (cond b f g)
+range_either = either_leaves (λ (f : RangeFront). f.rest)
+
+rest_either : (b : Bool) (n : ℕ) (f g : Result (List ℕ) ParseError) → (b ≡ true → RestLeaves n f) → (b ≡ false → RestLeaves n g) → RestLeaves n (cond b f g)
+rest_either = either_leaves (λ (l : List ℕ). l)
+
+spaces_end_leaves : (n : ℕ) (text : List ℕ) → length text < n → length (after_spaces text) < n
+spaces_end_leaves n text few = end_leaves (length (take_while is_space text)) n text few
+
+-- bounds
+text_limit_leaves : (stop : Stop) (size n : ℕ) (text : List ℕ) → length text < n → LimitLeaves n (text_limit stop size text)
+text_limit_leaves stop size n text few =
+    let inner = drop 1 text in
+    let some = end_leaves 1 n text few in
+    let last = end_leaves (place_of stops.PhraseEnd false inner) n inner some in
+    limit_either (begins 34 text) n _ _
+    (λ is. limit_either (begins 34 (from_stop stops.PhraseEnd inner)) n _ _ (λ is. end_leaves 1 n (from_stop stops.PhraseEnd inner) last) (λ is. tt))
+    (λ is. limit_either (is_empty (before_stop stop text)) n _ _ (λ is. tt) (λ is. end_leaves (place_of stop false text) n text few))
+
+limit_leaves : (size n : ℕ) (text : List ℕ) → length text < n → LimitLeaves n (limit_at size text)
+limit_leaves size n text few = limit_either (begins 42 text) n _ _ (λ is. end_leaves 1 n text few) (λ is. text_limit_leaves stops.BoundEnd size n text few)
+
+-- ranges
+ended_leaves : (size n : ℕ) (name : List ℕ) (lower : Bound) (upper : Option (List ℕ)) (text : List ℕ) → length text < n → RangeLeaves n (ended_range size name lower upper text)
+ended_leaves size n name lower upper text few =
+    range_either (begins 93 text) n _ _ (λ is. end_leaves 1 n text few)
+    (λ is. range_either (begins 125 text) n _ _ (λ is. end_leaves 1 n text few) (λ is. tt))
+
+to_leaves : (size n : ℕ) (name : List ℕ) (lower : Bound) (upper : Result Limit ParseError) → LimitLeaves n upper → RangeLeaves n (range_to size name lower upper)
+to_leaves size n name lower (Err e) few = tt
+to_leaves size n name lower (Ok upper) few = ended_leaves size n name lower upper.text (after_spaces upper.rest) (spaces_end_leaves n upper.rest few)
+
+after_to_leaves : (size n : ℕ) (name : List ℕ) (lower : Bound) (text : Result (List ℕ) ParseError) → RestLeaves n text → RangeLeaves n (range_after_to size name lower text)
+after_to_leaves size n name lower (Err e) few = tt
+after_to_leaves size n name lower (Ok text) few =
+    to_leaves size n name lower (limit_at size (after_spaces text)) (limit_leaves size n (after_spaces text) (spaces_end_leaves n text few))
+
+from_leaves : (size n : ℕ) (name : List ℕ) (edge : Edge) (lower : Result Limit ParseError) → LimitLeaves n lower → RangeLeaves n (range_from size name edge lower)
+from_leaves size n name edge (Err e) few = tt
+from_leaves size n name edge (Ok lower) few =
+    let text = after_spaces lower.rest in
+    let later = spaces_end_leaves n lower.rest few in
+    after_to_leaves size n name (bound_with edge lower.text) (after_to size text)
+    (rest_either (bytes_eq (before_stop stops.BoundEnd text) (codes "TO")) n _ _ (λ is. end_leaves (place_of stops.BoundEnd false text) n text later) (λ is. tt))
+
+between_leaves : (size n : ℕ) (name : List ℕ) (edge : Edge) (text : List ℕ) → length text < n → RangeLeaves n (range_between size name edge text)
+between_leaves size n name edge text few = from_leaves size n name edge (limit_at size (after_spaces text)) (limit_leaves size n (after_spaces text) (spaces_end_leaves n text few))
+
+above_leaves : (n : ℕ) (name : List ℕ) (edge : Edge) (lower : Result Limit ParseError) → LimitLeaves n lower → RangeLeaves n (range_above name edge lower)
+above_leaves n name edge (Err e) few = tt
+above_leaves n name edge (Ok lower) few = few
+
+below_leaves : (n : ℕ) (name : List ℕ) (edge : Edge) (upper : Result Limit ParseError) → LimitLeaves n upper → RangeLeaves n (range_below name edge upper)
+below_leaves n name edge (Err e) few = tt
+below_leaves n name edge (Ok upper) few = few
+
+greater_leaves : (size n : ℕ) (name text : List ℕ) → length text < n → RangeLeaves n (greater size name text)
+greater_leaves size n name text few =
+    range_either (begins 61 text) n _ _
+    (λ is. above_leaves n name edges.Inclusive _ (text_limit_leaves stops.WordEnd size n (drop 1 text) (end_leaves 1 n text few)))
+    (λ is. above_leaves n name edges.Exclusive _ (text_limit_leaves stops.WordEnd size n text few))
+
+less_leaves : (size n : ℕ) (name text : List ℕ) → length text < n → RangeLeaves n (less_range size name text)
+less_leaves size n name text few =
+    range_either (begins 61 text) n _ _
+    (λ is. below_leaves n name edges.Inclusive _ (text_limit_leaves stops.WordEnd size n (drop 1 text) (end_leaves 1 n text few)))
+    (λ is. below_leaves n name edges.Exclusive _ (text_limit_leaves stops.WordEnd size n text few))
+
+-- a range, or what there is instead
+by_case : (b : Bool) (o : Option (Result RangeFront ParseError)) (f : Result RangeFront ParseError) (at n : ℕ) (g : Front) → (b ≡ true → RangeLeaves n f) → 0 < n → Leaves n (unless_range o at g) → Leaves n (unless_range (cond b (Some f) o) at g)
+by_case true o (Ok f) at n g first some other = first refl
+by_case true o (Err e) at n g first some other = some
+by_case false o f at n g first some other = other
+
+unless_range_leaves : (size at n : ℕ) (name text : List ℕ) (g : Front) → length text < n → Leaves n g → Leaves n (unless_range (range_at size name text) at g)
+unless_range_leaves size at n name text g few other =
+    let some : 0 < n = omega (arith, few) in
+    let later = end_leaves 1 n text few in
+    by_case (begins 91 text) _ _ at n g (λ is. between_leaves size n name edges.Inclusive (drop 1 text) later) some
+    (by_case (begins 123 text) _ _ at n g (λ is. between_leaves size n name edges.Exclusive (drop 1 text) later) some
+    (by_case (begins 62 text) _ _ at n g (λ is. greater_leaves size n name (drop 1 text) later) some
+    (by_case (begins 60 text) _ _ at n g (λ is. less_leaves size n name (drop 1 text) later) some other)))
+
 value_leaves : (size at n : ℕ) (name text : List ℕ) → length text < n → Leaves n (value_front size at name text)
 value_leaves size at n name text less =
     let some : 0 < n = omega (arith, less) in
     either (begins 34 text) n _ _ (λ is. phrase_leaves size at n (Some name) (drop 1 text) (end_leaves 1 n text less))
-    (λ is. unless (feature_in_front text) _ n _ some
+    (λ is. unless_range_leaves size at n name text _ less (unless (feature_in_front text) _ n _ some
     (either (has_star (from_stop stops.WordEnd text)) n _ _ (λ star. end_leaves 1 n (from_stop stops.WordEnd text) (end_leaves (place_of stops.WordEnd false text) n text less))
     (λ none. unless (feature_after (from_stop stops.WordEnd text)) _ n _ some
-    (either (is_empty (before_stop stops.WordEnd text)) n _ _ (λ is. some) (λ is. end_leaves (place_of stops.WordEnd false text) n text less)))))
+    (either (is_empty (before_stop stops.WordEnd text)) n _ _ (λ is. some) (λ is. end_leaves (place_of stops.WordEnd false text) n text less))))))
 
 -- a word that isn't empty takes a byte
 taken : (k : ℕ) (text : List ℕ) → is_empty (take k text) ≡ false → length (drop k text) < length text

@@ -1,5 +1,5 @@
 -- The text of a tree is parsed as that tree.
-use Rattle.std.proofs.Common.{◌≡◌, ◌∙◌, ℕ, zero, suc, ◌-◌, ◌≤◌, Bool, true, false, ◌&&◌, ◌||◌, ◌==◌, not, List, [], ◌∷◌, ◌++◌, append_assoc, append-nil, cond, drop, take, length, Option, None, Some, option_map, Ok, refl, sym, ap, subst, arith}
+use Rattle.std.proofs.Common.{◌≡◌, ◌∙◌, ℕ, zero, suc, ◌-◌, ◌≤◌, Bool, true, false, ◌&&◌, ◌||◌, ◌==◌, not, List, [], ◌∷◌, ◌++◌, append_assoc, append-nil, cond, drop, take, length, Option, None, Some, option_map, Result, Ok, refl, sym, ap, subst, arith}
 use Rattle.std.proofs.Math.Bool.{and-false, or-true}
 use Rattle.std.specs.Prelude.{bytes_eq, codes, slice_index}
 use Rattle.std.specs.List.{take_while}
@@ -9,14 +9,16 @@ use Rattle.std.proofs.lemmas.List.Sums.{take_while-cons}
 use Rattle.std.proofs.lemmas.Slice.Eq.{bytes_eq-Decides}
 use Rattle.ii_query_grammar.specs.declared.cut.Stop.{Stop}
 use Rattle.ii_query_grammar.specs.declared.cut.Stop.TheVariants as stops
+use Rattle.ii_query_grammar.specs.declared.lexeme.Edge.TheVariants as edges
 use Rattle.ii_query_grammar.specs.declared.parse_error.Feature.{Feature}
+use Rattle.ii_query_grammar.specs.declared.parse_error.ParseError.{ParseError}
 use Rattle.ii_query_grammar.specs.declared.user_input_ast.Delimiter.{Delimiter}
 use Rattle.ii_query_grammar.specs.declared.user_input_ast.Delimiter.TheVariants as delimiters
-use Rattle.ii_query_grammar.specs.Grammar.{Kind, Spells, all, alone, and, and_not, chain, in_parentheses, next_to, nothing, one, or, part, query, token, wanted, wants}
-use Rattle.ii_query_grammar.specs.Lexemes.{Front, Lexeme, Token, after_spaces, and_word, before_stop, begins, closing, ended_phrase, ends_word, feature_after, feature_in_front, first_feature_of, from_stop, front_at, front_with, has_star, is_empty, is_escape, is_prefix, is_prefix_end, is_space, is_special, lexemes, literal, literal_with, minus, one_more, opening, or_word, phrase_front, place_of, stops_at, unescaped, unless_feature, value_front, value_or_prefix, value_word, word_front, word_lexeme, word_or_name, word_or_prefix}
+use Rattle.ii_query_grammar.specs.Grammar.{Kind, Spells, all, alone, and, and_not, between_bounds, chain, in_parentheses, next_to, nothing, one, or, part, query, token, wanted, wants}
+use Rattle.ii_query_grammar.specs.Lexemes.{Front, Lexeme, Limit, RangeFront, Token, after_spaces, after_to, and_word, before_stop, begins, closing, ended_phrase, ends_word, feature_after, feature_in_front, first_feature_of, from_stop, front_at, front_with, has_star, is_empty, is_escape, is_prefix, is_prefix_end, is_space, is_special, lexemes, limit_at, literal, literal_with, minus, one_more, opening, or_word, phrase_front, place_of, quoted_limit, range, range_after_to, range_at, range_from, range_front, range_to, range_with, stops_at, text_limit, unescaped, unless_feature, unless_range, value_front, value_or_prefix, word_front, word_lexeme, word_or_name, word_or_prefix}
 use Rattle.ii_query_grammar.specs.Parsed.{ChainState, chain_tree, parsed}
-use Rattle.ii_query_grammar.specs.Spelling.{are_several, delimited, escaped, field_text, has_spelling, have_spelling, is_literal, is_no_operator, is_value, is_writable, is_writable_word, literal_text, may_be_alone, nesting, part_nesting, part_text, parts_nesting, parts_text, spelled, word_text}
-use Rattle.ii_query_grammar.specs.Trees.{Ast, Asts, Literal, all_of, and_asts, any_of, asts_from, leaf, no_asts, without}
+use Rattle.ii_query_grammar.specs.Spelling.{are_several, delimited, escaped, field_text, has_spelling, have_spelling, is_bound, is_literal, is_no_operator, is_range, is_value, is_writable, is_writable_word, literal_text, lower_text, may_be_alone, nesting, part_nesting, part_text, parts_nesting, parts_text, quoted, range_text, spelled, upper_text, word_text}
+use Rattle.ii_query_grammar.specs.Trees.{Ast, Asts, Bound, Literal, Range, all_of, and_asts, any_of, asts_from, exclusive, inclusive, leaf, no_asts, ranged, unbounded, without}
 use Rattle.ii_query_grammar.proofs.CompleteLemmas.{reads_query}
 use Rattle.ii_query_grammar.proofs.CutLemmas.{escaped_case, place_case}
 use Rattle.ii_query_grammar.proofs.LexerLemmas.{lexemes_step}
@@ -299,26 +301,100 @@ word_literal word h =
 begins_not : (b c : ℕ) (bs : List ℕ) → is_special b ≡ false → is_special c ≡ true → begins c (b ∷ bs) ≡ false
 begins_not b c bs is kind = differs is_special b c is kind
 
+-- Where a phrase ends, after its first quote.
+record IsPhrase (phrase rest : List ℕ) : Type 0 where
+  before : before_stop stops.PhraseEnd (escaped stops.PhraseEscape false phrase ++ 34 ∷ rest) ≡ escaped stops.PhraseEscape false phrase
+  after : from_stop stops.PhraseEnd (escaped stops.PhraseEscape false phrase ++ 34 ∷ rest) ≡ 34 ∷ rest
+
+is_phrase : (phrase rest : List ℕ) → is_writable phrase ≡ true → IsPhrase phrase rest
+is_phrase phrase rest may =
+    let text = escaped stops.PhraseEscape false phrase in
+    let place = ends_there stops.PhraseEnd stops.PhraseEscape phrases false false phrase (34 ∷ rest) (writable phrase may) refl in
+    record {
+      before = ap (λ (n : ℕ). take n (text ++ 34 ∷ rest)) place ∙ take_at text (34 ∷ rest) _ refl;
+      after = ap (λ (n : ℕ). drop n (text ++ 34 ∷ rest)) place ∙ drop_at text (34 ∷ rest) _ refl;
+    }
+
 -- a phrase after its first quote
 quoted_front : (size at : ℕ) (field : Option (List ℕ)) (phrase rest : List ℕ) → is_writable phrase ≡ true
     → phrase_front size at field (escaped stops.PhraseEscape false phrase ++ 34 ∷ rest) ≡ front_with at (literal (record { field_name = option_map unescaped field; phrase = phrase; delimiter = delimiters.DoubleQuotes })) rest
 quoted_front size at field phrase rest may =
     let text = escaped stops.PhraseEscape false phrase in
-    let place = ends_there stops.PhraseEnd stops.PhraseEscape phrases false false phrase (34 ∷ rest) (writable phrase may) refl in
-    let before : before_stop stops.PhraseEnd (text ++ 34 ∷ rest) ≡ text = ap (λ (n : ℕ). take n (text ++ 34 ∷ rest)) place ∙ take_at text (34 ∷ rest) _ refl in
-    let after : from_stop stops.PhraseEnd (text ++ 34 ∷ rest) ≡ 34 ∷ rest = ap (λ (n : ℕ). drop n (text ++ 34 ∷ rest)) place ∙ drop_at text (34 ∷ rest) _ refl in
-    ap (λ (p : List ℕ). ended_phrase size at field p (from_stop stops.PhraseEnd (text ++ 34 ∷ rest))) before
-    ∙ ap (ended_phrase size at field text) after
+    let cut = is_phrase phrase rest may in
+    ap (λ (p : List ℕ). ended_phrase size at field p (from_stop stops.PhraseEnd (text ++ 34 ∷ rest))) cut.before
+    ∙ ap (ended_phrase size at field text) cut.after
     ∙ ap (λ (p : List ℕ). front_with at (literal (record { field_name = option_map unescaped field; phrase = p; delimiter = delimiters.DoubleQuotes })) rest) (phrase_unescapes phrase)
+
+-- a bound that was read, and the text after it
+abbrev limit : List ℕ → List ℕ → Result Limit ParseError
+limit text rest = Ok (record { text = Some text; rest = rest })
+
+-- a bound between quotes
+quoted_limit_is : (stop : Stop) (size : ℕ) (phrase rest : List ℕ) → is_writable phrase ≡ true → text_limit stop size (quoted phrase ++ rest) ≡ limit phrase rest
+quoted_limit_is stop size phrase rest may =
+    let text = escaped stops.PhraseEscape false phrase in
+    let cut = is_phrase phrase rest may in
+    ap (λ (l : List ℕ). quoted_limit size (before_stop stops.PhraseEnd l) (from_stop stops.PhraseEnd l)) (append_assoc text (34 ∷ []) rest)
+    ∙ ap (λ (p : List ℕ). quoted_limit size p (from_stop stops.PhraseEnd (text ++ 34 ∷ rest))) cut.before
+    ∙ ap (quoted_limit size text) cut.after
+    ∙ ap (λ (p : List ℕ). limit p rest) (phrase_unescapes phrase)
+
+-- the lower bound of a range
+lower_is : (size : ℕ) (name : List ℕ) (lower : Bound) (after : List ℕ) → is_bound lower ≡ true → range_at size name (lower_text lower ++ after) ≡ Some (range_after_to size name lower (after_to size (after_spaces after)))
+lower_is size name unbounded after may = refl
+lower_is size name (inclusive text) after may = ap (λ (r : Result Limit ParseError). Some (range_from size name edges.Inclusive r)) (quoted_limit_is stops.BoundEnd size text after may)
+lower_is size name (exclusive text) after may = ap (λ (r : Result Limit ParseError). Some (range_from size name edges.Exclusive r)) (quoted_limit_is stops.BoundEnd size text after may)
+
+-- its upper bound
+upper_is : (size : ℕ) (name : List ℕ) (lower upper : Bound) (rest : List ℕ) → is_bound upper ≡ true → range_to size name lower (limit_at size (after_spaces (32 ∷ (upper_text upper ++ rest)))) ≡ Ok (range_with name lower upper rest)
+upper_is size name lower unbounded rest may = refl
+upper_is size name lower (inclusive text) rest may =
+    ap (λ (l : List ℕ). range_to size name lower (limit_at size (after_spaces (32 ∷ l)))) (append_assoc (quoted text) (93 ∷ []) rest)
+    ∙ ap (range_to size name lower) (quoted_limit_is stops.BoundEnd size text (93 ∷ rest) may)
+upper_is size name lower (exclusive text) rest may =
+    ap (λ (l : List ℕ). range_to size name lower (limit_at size (after_spaces (32 ∷ l)))) (append_assoc (quoted text) (125 ∷ []) rest)
+    ∙ ap (range_to size name lower) (quoted_limit_is stops.BoundEnd size text (125 ∷ rest) may)
+
+-- two texts with one between them, and a text after them
+between : (a s b rest : List ℕ) → (a ++ s ++ b) ++ rest ≡ a ++ (s ++ (b ++ rest))
+between a s b rest = ap (λ (l : List ℕ). l ++ rest) (append_assoc a s b) ∙ append_assoc a (s ++ b) rest ∙ ap (λ (l : List ℕ). a ++ l) (append_assoc s b rest)
+
+-- a range after a name and a colon
+range_is : (size : ℕ) (name : List ℕ) (lower upper : Bound) (rest : List ℕ) → is_bound lower ≡ true → is_bound upper ≡ true
+    → range_at size name (lower_text lower ++ (codes " TO " ++ (upper_text upper ++ rest))) ≡ Some (Ok (range_with name lower upper rest))
+range_is size name lower upper rest first last =
+    lower_is size name lower (codes " TO " ++ (upper_text upper ++ rest)) first
+    ∙ ap (λ (r : Result RangeFront ParseError). Some r) (upper_is size name lower upper rest last)
+
+-- it is no phrase
+no_quote : (lower : Bound) (after : List ℕ) → begins 34 (lower_text lower ++ after) ≡ false
+no_quote unbounded after = refl
+no_quote (inclusive text) after = refl
+no_quote (exclusive text) after = refl
 
 two_fail : (p q : Bool) (a b c : Front) → p ≡ false → q ≡ false → cond p a (cond q b c) ≡ c
 two_fail p q a b c h i = rw (h, i) refl
+
+no_case : {A : Type 0} (p q r s : Bool) (a b c d : A) → p ≡ false → q ≡ false → r ≡ false → s ≡ false → cond p (Some a) (cond q (Some b) (cond r (Some c) (cond s (Some d) None))) ≡ None
+no_case p q r s a b c d h i j k = rw (h, i, j, k) refl
+
+-- a byte that isn't special begins no range
+no_range : (size : ℕ) (name : List ℕ) (b : ℕ) (bs : List ℕ) → is_special b ≡ false → range_at size name (b ∷ bs) ≡ None
+no_range size name b bs is =
+    no_case (b == 91) (b == 123) (b == 62) (b == 60) _ _ _ _ (differs is_special b 91 is refl) (differs is_special b 123 is refl) (differs is_special b 62 is refl) (differs is_special b 60 is refl)
+
+unless_no_range : (o : Option (Result RangeFront ParseError)) (at : ℕ) (f : Front) → o ≡ None → unless_range o at f ≡ f
+unless_no_range o at f is = rw is refl
+
+found_range : (o : Option (Result RangeFront ParseError)) (at : ℕ) (f : Front) (read : Result RangeFront ParseError) → o ≡ Some read → unless_range o at f ≡ range_front at read
+found_range o at f read is = rw is refl
 
 -- a word after a name
 plain_value : (size at : ℕ) (name text word rest : List ℕ) (b : ℕ) (bs : List ℕ) → text ≡ b ∷ bs → is_special b ≡ false → IsCut text word rest
     → value_front size at name text ≡ value_or_prefix size at name word rest
 plain_value size at name text word rest b bs is plain cut =
     one_fails (begins 34 text) _ _ (ap (begins 34) is ∙ begins_not b 34 bs plain refl)
+    ∙ unless_no_range (range_at size name text) at _ (ap (range_at size name) is ∙ no_range size name b bs plain)
     ∙ unless_none (feature_in_front text) _ _ (ap feature_in_front is ∙ first_none b plain)
     ∙ ap (λ (w : List ℕ). value_or_prefix size at name w (from_stop stops.WordEnd text)) cut.before
     ∙ ap (value_or_prefix size at name word) cut.after
@@ -341,15 +417,17 @@ star_ends (b ∷ bs) end = by (b == 32) refl end
     by true is h = rw (eqb-true b 32 is) refl
     by false is h = rw (eqb-true b 41 h) refl
 
--- a prefix after a name, which may be empty
-prefix_value : (size at : ℕ) (name phrase rest : List ℕ) → is_writable phrase ≡ true → ends rest ≡ true
+lexeme_fails : (p : Bool) (a b : Lexeme) → p ≡ false → cond p a b ≡ b
+lexeme_fails p a b h = rw h refl
+
+-- a prefix after a name
+prefix_value : (size at : ℕ) (name phrase rest : List ℕ) → is_writable phrase ≡ true → is_empty phrase ≡ false → ends rest ≡ true
     → value_front size at name (word_text phrase ++ 42 ∷ rest) ≡ front_with at (literal_with (Some name) (word_text phrase) delimiters.Star) rest
-prefix_value size at name [] rest may end = one_holds (has_star (42 ∷ rest)) _ _ (star_ends rest end)
-prefix_value size at name (b ∷ bs) rest may end =
-    let phrase = b ∷ bs in
-    let p = is_plain phrase refl in
+prefix_value size at name phrase rest may some end =
+    let p = is_plain phrase some in
     plain_value size at name (word_text phrase ++ 42 ∷ rest) (word_text phrase) (42 ∷ rest) p.first (p.others ++ 42 ∷ rest) (after_plain (word_text phrase) (42 ∷ rest) p) p.plain (is_cut phrase (42 ∷ rest) may refl)
     ∙ one_holds (has_star (42 ∷ rest)) _ _ (star_ends rest end)
+    ∙ ap (λ (l : Lexeme). front_with at l rest) (lexeme_fails (is_empty (word_text phrase)) _ _ (some_in_word phrase some))
 
 -- a word or a phrase after a name
 named_value : (size at : ℕ) (name : List ℕ) (delimiter : Delimiter) (phrase rest : List ℕ) → is_value delimiter phrase ≡ true → MayFollow rest → ends rest ≡ true
@@ -364,7 +442,8 @@ named_value size at name delimiters.None phrase rest h follows end =
 named_value size at name delimiters.DoubleQuotes phrase rest h follows end =
     ap (phrase_front size at (Some name)) (append_assoc (escaped stops.PhraseEscape false phrase) (34 ∷ []) rest) ∙ quoted_front size at (Some name) phrase rest h
 named_value size at name delimiters.Star phrase rest h follows end =
-    ap (value_front size at name) (append_assoc (word_text phrase) (42 ∷ []) rest) ∙ prefix_value size at name phrase rest h end
+    let parts = and_parts (not (is_empty phrase)) (is_writable phrase) h in
+    ap (value_front size at name) (append_assoc (word_text phrase) (42 ∷ []) rest) ∙ prefix_value size at name phrase rest parts.1 (not-true (is_empty phrase) parts.0) end
     ∙ ap (λ (w : List ℕ). front_with at (literal (record { field_name = Some (unescaped name); phrase = w; delimiter = delimiters.Star })) rest) (word_unescapes phrase)
 
 follows_by : (b c : ℕ) (bs : List ℕ) → b ≡ c → MayFollow (c ∷ bs) → MayFollow (b ∷ bs)
@@ -388,10 +467,10 @@ no_spaces b bs is =
     ap (λ (l : List ℕ). drop (length l) (b ∷ bs)) none
 
 -- Lexemes of a text: this one, and those of the text after it.
-record Begins (size : ℕ) (text : List ℕ) (l : Literal) (rest : List ℕ) : Type 0 where
+record Begins (size : ℕ) (text : List ℕ) (x : Lexeme) (rest : List ℕ) : Type 0 where
   no_space_first : after_spaces text ≡ text
   some : is_empty text ≡ false
-  front_is : (at : ℕ) → front_at size at text ≡ front_with at (literal l) rest
+  front_is : (at : ℕ) → front_at size at text ≡ front_with at x rest
 
 plain_text : (text rest : List ℕ) → is_empty text ≡ false → (after_spaces (word_text text ++ rest) ≡ word_text text ++ rest) × (is_empty (word_text text ++ rest) ≡ false)
 plain_text text rest some =
@@ -400,7 +479,7 @@ plain_text text rest some =
     (ap after_spaces is ∙ no_spaces p.first (p.others ++ rest) (no_space p.first p.plain) ∙ sym is, ap is_empty is)
 
 begins_alone : (size : ℕ) (delimiter : Delimiter) (phrase rest : List ℕ) → may_be_alone delimiter phrase ≡ true → ends rest ≡ true
-    → Begins size (delimited delimiter phrase ++ rest) (record { field_name = None; phrase = phrase; delimiter = delimiter }) rest
+    → Begins size (delimited delimiter phrase ++ rest) (literal (record { field_name = None; phrase = phrase; delimiter = delimiter })) rest
 begins_alone size delimiters.None phrase rest h end =
     let parts = and_parts (is_writable_word phrase) (is_no_operator phrase) h in
     let some = not-true (is_empty phrase) (and_parts (not (is_empty phrase)) (is_writable phrase) parts.0).0 in
@@ -437,7 +516,7 @@ begins_alone size delimiters.DoubleQuotes phrase rest h end = record {
 }
 
 begins_named : (size : ℕ) (name : List ℕ) (delimiter : Delimiter) (phrase rest : List ℕ) → is_writable_word name ≡ true → is_value delimiter phrase ≡ true → ends rest ≡ true
-    → Begins size (word_text name ++ 58 ∷ (delimited delimiter phrase ++ rest)) (record { field_name = Some name; phrase = phrase; delimiter = delimiter }) rest
+    → Begins size (word_text name ++ 58 ∷ (delimited delimiter phrase ++ rest)) (literal (record { field_name = Some name; phrase = phrase; delimiter = delimiter })) rest
 begins_named size name delimiter phrase rest h value end =
     let some = not-true (is_empty name) (and_parts (not (is_empty name)) (is_writable name) h).0 in
     let after = delimited delimiter phrase ++ rest in
@@ -453,20 +532,47 @@ begins_named size name delimiter phrase rest h value end =
     }
 
 begins_by_field : (size : ℕ) (field : Option (List ℕ)) (delimiter : Delimiter) (phrase rest : List ℕ) → is_literal field delimiter phrase ≡ true → ends rest ≡ true
-    → Begins size ((field_text field ++ delimited delimiter phrase) ++ rest) (record { field_name = field; phrase = phrase; delimiter = delimiter }) rest
+    → Begins size ((field_text field ++ delimited delimiter phrase) ++ rest) (literal (record { field_name = field; phrase = phrase; delimiter = delimiter })) rest
 begins_by_field size None delimiter phrase rest h end = begins_alone size delimiter phrase rest h end
 begins_by_field size (Some name) delimiter phrase rest h end =
     let parts = and_parts (is_writable_word name) (is_value delimiter phrase) h in
-    subst (λ (text : List ℕ). Begins size text (record { field_name = Some name; phrase = phrase; delimiter = delimiter }) rest)
+    subst (λ (text : List ℕ). Begins size text (literal (record { field_name = Some name; phrase = phrase; delimiter = delimiter })) rest)
     (sym (ap (λ (text : List ℕ). text ++ rest) (append_assoc (word_text name) (58 ∷ []) (delimited delimiter phrase)) ∙ append_assoc (word_text name) (58 ∷ delimited delimiter phrase) rest))
     (begins_named size name delimiter phrase rest parts.0 parts.1 end)
 
-begins_literal : (size : ℕ) (l : Literal) (rest : List ℕ) → is_literal l.field_name l.delimiter l.phrase ≡ true → ends rest ≡ true → Begins size (literal_text l ++ rest) l rest
+begins_literal : (size : ℕ) (l : Literal) (rest : List ℕ) → is_literal l.field_name l.delimiter l.phrase ≡ true → ends rest ≡ true → Begins size (literal_text l ++ rest) (literal l) rest
 begins_literal size l rest h end = begins_by_field size l.field_name l.delimiter l.phrase rest h end
 
+-- a range in front
+begins_between : (size : ℕ) (name : List ℕ) (lower upper : Bound) (rest : List ℕ) → is_writable_word name ≡ true → is_bound lower ≡ true → is_bound upper ≡ true
+    → Begins size (word_text name ++ 58 ∷ (lower_text lower ++ (codes " TO " ++ (upper_text upper ++ rest)))) (range (record { field_name = name; lower = lower; upper = upper })) rest
+begins_between size name lower upper rest h first last =
+    let some = not-true (is_empty name) (and_parts (not (is_empty name)) (is_writable name) h).0 in
+    let after = lower_text lower ++ (codes " TO " ++ (upper_text upper ++ rest)) in
+    let text = plain_text name (58 ∷ after) some in
+    record {
+      no_space_first = text.0;
+      some = text.1;
+      front_is = λ at.
+          front_of_word size at name (58 ∷ after) h (record { stop = refl; feature = refl; star = refl })
+          ∙ one_fails (is_empty (word_text name)) _ _ (some_in_word name some)
+          ∙ one_fails (begins 34 after) _ _ (no_quote lower (codes " TO " ++ (upper_text upper ++ rest)))
+          ∙ found_range (range_at size (word_text name) after) at _ _ (range_is size (word_text name) lower upper rest first last)
+          ∙ ap (λ (n : List ℕ). front_with at (range (record { field_name = n; lower = lower; upper = upper })) rest) (word_unescapes name);
+    }
+
+begins_range : (size : ℕ) (r : Range) (rest : List ℕ) → is_range r ≡ true → Begins size (range_text r ++ rest) (range r) rest
+begins_range size r rest h =
+    let parts = and_parts (is_writable_word r.field_name && is_bound r.lower) (is_bound r.upper) h in
+    let bounds = and_parts (is_writable_word r.field_name) (is_bound r.lower) parts.0 in
+    let body = lower_text r.lower ++ codes " TO " ++ upper_text r.upper in
+    subst (λ (text : List ℕ). Begins size text (range r) rest)
+    (sym (append_assoc (word_text r.field_name) (58 ∷ body) rest ∙ ap (λ (l : List ℕ). word_text r.field_name ++ 58 ∷ l) (between (lower_text r.lower) (codes " TO ") (upper_text r.upper) rest)))
+    (begins_between size r.field_name r.lower r.upper rest bounds.0 bounds.1 parts.1)
+
 -- the first lexeme of a text
-lexemes_begin : (size : ℕ) (text : List ℕ) (l : Literal) (rest : List ℕ) → Begins size text l rest → lexemes size text ≡ token (size - length text) (literal l) ∷ lexemes size rest
-lexemes_begin size text l rest is =
+lexemes_begin : (size : ℕ) (text : List ℕ) (x : Lexeme) (rest : List ℕ) → Begins size text x rest → lexemes size text ≡ token (size - length text) x ∷ lexemes size rest
+lexemes_begin size text x rest is =
     lexemes_step size text ∙ ap (one_more (lexemes size) size) is.no_space_first
     ∙ rw (is.some, is.front_is (size - length text)) refl
 
@@ -505,7 +611,14 @@ lexed_leaf : (more : ℕ) (l : Literal) → is_literal l.field_name l.delimiter 
 lexed_leaf more l h = λ size rest end. record {
   ts = token (size - length (literal_text l ++ rest)) (literal l) ∷ [];
   spells = alone (size - length (literal_text l ++ rest)) l;
-  is = lexemes_begin size (literal_text l ++ rest) l rest (begins_literal size l rest h end);
+  is = lexemes_begin size (literal_text l ++ rest) (literal l) rest (begins_literal size l rest h end);
+}
+
+lexed_range : (more : ℕ) (r : Range) → is_range r ≡ true → Lexed more (part (ranged r)) (range_text r)
+lexed_range more r h = λ size rest end. record {
+  ts = token (size - length (range_text r ++ rest)) (range r) ∷ [];
+  spells = between_bounds (size - length (range_text r ++ rest)) r;
+  is = lexemes_begin size (range_text r ++ rest) (range r) rest (begins_range size r rest h);
 }
 
 lexed_parentheses : (more : ℕ) (t : Ast) (text : List ℕ) → Lexed more (query t) text → Lexed (suc more) (part t) (40 ∷ text ++ 41 ∷ [])
@@ -522,10 +635,6 @@ lexed_parentheses more t text inner = λ size rest end.
           ∙ ap (λ (l : List Token). inside.ts ++ l) (lexemes_closing size rest)
           ∙ sym (append_assoc inside.ts (token last closing ∷ []) (lexemes size rest)));
     }
-
--- two texts with one between them, and a text after them
-between : (a s b rest : List ℕ) → (a ++ s ++ b) ++ rest ≡ a ++ (s ++ (b ++ rest))
-between a s b rest = ap (λ (l : List ℕ). l ++ rest) (append_assoc a s b) ∙ append_assoc a (s ++ b) rest ∙ ap (λ (l : List ℕ). a ++ l) (append_assoc s b rest)
 
 -- a chain alone is a query
 chain_query : (more : ℕ) (c : ChainState) (ts : List Token) → Spells more (chain c) ts → Spells more (query (chain_tree c)) ts
@@ -564,10 +673,6 @@ ends_before : (s : List ℕ) (ts : Asts) (rest : List ℕ) → ends rest ≡ tru
 ends_before s no_asts rest end = end
 ends_before s (and_asts t ts) rest end = refl
 
--- a part after a separator, and those after it
-after_part : (s a b rest : List ℕ) → (s ++ a ++ b) ++ rest ≡ s ++ (a ++ (b ++ rest))
-after_part s a b rest = between s a b rest
-
 -- Lexemes that continue others are this together with them.
 record Continues (more : ℕ) (k : Kind) (ks : List Token) (size : ℕ) (text rest : List ℕ) : Type 0 where
   ts : List Token
@@ -593,7 +698,7 @@ and_tail more (and_asts t ts) (lexed, each) ws ks spells = λ size rest end.
       ts = token at and_word ∷ (here.ts ++ later.ts);
       spells = subst (λ (l : List Token). Spells more (chain (and_chain (ws ++ t ∷ list_of ts))) l) (append_assoc ks (token at and_word ∷ here.ts) later.ts)
           (subst (λ (l : List Ast). Spells more (chain (and_chain l)) ((ks ++ token at and_word ∷ here.ts) ++ later.ts)) (append_assoc ws (t ∷ []) (list_of ts)) later.spells);
-      is = ap (lexemes size) (after_part (codes " AND ") (part_text t) tail rest)
+      is = ap (lexemes size) (between (codes " AND ") (part_text t) tail rest)
           ∙ lexemes_and size (part_text t ++ (tail ++ rest))
           ∙ ap (λ (l : List Token). token at and_word ∷ l) (lexemes_space size (part_text t ++ (tail ++ rest)) ∙ here.is ∙ ap (λ (l : List Token). here.ts ++ l) later.is ∙ sym (append_assoc here.ts later.ts (lexemes size rest)));
     }
@@ -614,7 +719,7 @@ or_tail more (and_asts t ts) (lexed, each) ws ks spells = λ size rest end.
       ts = token at or_word ∷ (here.ts ++ later.ts);
       spells = subst (λ (l : List Token). Spells more (wants (ws ++ t ∷ list_of ts) []) l) (append_assoc ks (token at or_word ∷ here.ts) later.ts)
           (subst (λ (l : List Ast). Spells more (wants l []) ((ks ++ token at or_word ∷ here.ts) ++ later.ts)) (append_assoc ws (t ∷ []) (list_of ts)) later.spells);
-      is = ap (lexemes size) (after_part (codes " OR ") (part_text t) tail rest)
+      is = ap (lexemes size) (between (codes " OR ") (part_text t) tail rest)
           ∙ lexemes_or size (part_text t ++ (tail ++ rest))
           ∙ ap (λ (l : List Token). token at or_word ∷ l) (lexemes_space size (part_text t ++ (tail ++ rest)) ∙ here.is ∙ ap (λ (l : List Token). here.ts ++ l) later.is ∙ sym (append_assoc here.ts later.ts (lexemes size rest)));
     }
@@ -658,6 +763,7 @@ in_room (suc m) n t text few lexed = lexed_parentheses m t text (lexed m (omega 
 -- a tree as a part
 as_part : (more : ℕ) (t : Ast) → has_spelling t ≡ true → part_nesting t ≤ more → ((m : ℕ) → nesting t ≤ m → Lexed m (query t) (spelled t)) → Lexed more (part t) (part_text t)
 as_part more (leaf l) h few lexed = lexed_leaf more l h
+as_part more (ranged r) h few lexed = lexed_range more r h
 as_part more (all_of ts) h few lexed = in_room more (nesting (all_of ts)) (all_of ts) (spelled (all_of ts)) few lexed
 as_part more (any_of ts) h few lexed = in_room more (nesting (any_of ts)) (any_of ts) (spelled (any_of ts)) few lexed
 as_part more (without s t) h few lexed = in_room more (nesting (without s t)) (without s t) (spelled (without s t)) few lexed
@@ -665,6 +771,7 @@ as_part more (without s t) h few lexed = in_room more (nesting (without s t)) (w
 mutual
   lexed_query : (t : Ast) → has_spelling t ≡ true → (more : ℕ) → nesting t ≤ more → Lexed more (query t) (spelled t)
   lexed_query (leaf l) h = λ more few size rest end. let got = lexed_leaf more l h size rest end in record { ts = got.ts; spells = chain_query more _ _ (one got.spells); is = got.is }
+  lexed_query (ranged r) h = λ more few size rest end. let got = lexed_range more r h size rest end in record { ts = got.ts; spells = chain_query more _ _ (one got.spells); is = got.is }
   lexed_query (all_of ts) h = λ more few. let parts = and_parts (are_several ts) (have_spelling ts) h in lexed_all more ts parts.0 (lexed_parts ts parts.1 more few)
   lexed_query (any_of ts) h = λ more few. let parts = and_parts (are_several ts) (have_spelling ts) h in lexed_any more ts parts.0 (lexed_parts ts parts.1 more few)
   lexed_query (without s t) h = λ more few.

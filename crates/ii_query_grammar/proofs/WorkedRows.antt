@@ -2,7 +2,7 @@
 use Rattle.std.proofs.Common.{◌≡◌, ℕ, List, [], ◌∷◌, None, Some, Result, Ok, Err, refl}
 use Rattle.std.specs.Prelude.{codes}
 use Rattle.ii_query_grammar.specs.declared.parse_error.Expected.{Expected}
-use Rattle.ii_query_grammar.specs.declared.parse_error.Expected.TheVariants.{Closing, End, Excluded, Included, LessNesting, Operand, Query, Quote, Value}
+use Rattle.ii_query_grammar.specs.declared.parse_error.Expected.TheVariants.{Bound as ABound, Closing, End, Excluded, Included, LessNesting, Operand, Query, Quote, RangeEnd, To, Value}
 use Rattle.ii_query_grammar.specs.declared.parse_error.Feature.{Feature}
 use Rattle.ii_query_grammar.specs.declared.parse_error.Feature.TheVariants.{Boosts, Comparisons, Fuzzy, Ranges, RegularExpressions, RequiredClauses, Wildcards}
 use Rattle.ii_query_grammar.specs.declared.parse_error.ParseError.{ParseError}
@@ -11,7 +11,7 @@ use Rattle.ii_query_grammar.specs.declared.user_input_ast.Delimiter.TheVariants 
 use Rattle.ii_query_grammar.specs.Lexemes.{tokens}
 use Rattle.ii_query_grammar.specs.Parsed.{parsed}
 use Rattle.ii_query_grammar.specs.Spelling.{spelled}
-use Rattle.ii_query_grammar.specs.Trees.{Ast, all_of, any_of, asts_from, leaf, without}
+use Rattle.ii_query_grammar.specs.Trees.{Ast, Bound, all_of, any_of, asts_from, exclusive, inclusive, leaf, ranged, unbounded, without}
 
 abbrev word : List ℕ → Ast
 word text = leaf (record { field_name = None; phrase = text; delimiter = delimiters.None })
@@ -27,6 +27,9 @@ prefix text = leaf (record { field_name = None; phrase = text; delimiter = delim
 
 abbrev prefix_in : List ℕ → List ℕ → Ast
 prefix_in name text = leaf (record { field_name = Some name; phrase = text; delimiter = delimiters.Star })
+
+abbrev range : List ℕ → Bound → Bound → Ast
+range name lower upper = ranged (record { field_name = name; lower = lower; upper = upper })
 
 abbrev all : List Ast → Ast
 all ts = all_of (asts_from ts)
@@ -121,8 +124,8 @@ abbrev odd_prefix_row : parsed 9 (codes "AND* a\\*b*") ≡ tree (any (prefix (co
 unfolding tokens
 odd_prefix_row = refl
 
--- all terms of a field
-abbrev any_term_row : parsed 9 (codes "x:*") ≡ tree (prefix_in (codes "x") [])
+-- all values of a field
+abbrev any_term_row : parsed 9 (codes "x:*") ≡ tree (range (codes "x") unbounded unbounded)
 unfolding tokens
 any_term_row = refl
 
@@ -162,17 +165,65 @@ abbrev boost_row : parsed 9 (codes "(a b)^2") ≡ unsupported Boosts 5
 unfolding tokens
 boost_row = refl
 
-abbrev range_row : parsed 9 (codes "num:[1 TO 5]") ≡ unsupported Ranges 4
+abbrev range_row : parsed 9 (codes "num:[1 TO 5]") ≡ tree (range (codes "num") (inclusive (codes "1")) (inclusive (codes "5")))
 unfolding tokens
 range_row = refl
+
+abbrev excluded_bounds_row : parsed 9 (codes "(num:{ -5 TO \"b ]\" } a)") ≡ tree (any (range (codes "num") (exclusive (codes "-5")) (exclusive (codes "b ]")) ∷ a ∷ []))
+unfolding tokens
+excluded_bounds_row = refl
+
+abbrev unbounded_row : parsed 9 (codes "n:[* TO TO} AND n:{a\\]*") ≡ syntax_error To 22
+unfolding tokens
+unbounded_row = refl
+
+abbrev half_row : parsed 9 (codes "n:[* TO TO} AND n:{a\\] TO *}") ≡ tree (all (range (codes "n") unbounded (exclusive (codes "TO")) ∷ range (codes "n") (exclusive (codes "a]")) unbounded ∷ []))
+unfolding tokens
+half_row = refl
+
+abbrev no_field_row : parsed 9 (codes "a [1 TO 5]") ≡ unsupported Ranges 2
+unfolding tokens
+no_field_row = refl
+
+abbrev one_bound_row : parsed 9 (codes "year:[1 2]") ≡ syntax_error To 8
+unfolding tokens
+one_bound_row = refl
+
+abbrev no_bound_row : parsed 9 (codes "year:[1 TO ]") ≡ syntax_error ABound 11
+unfolding tokens
+no_bound_row = refl
+
+abbrev open_quote_row : parsed 9 (codes "year:[\"1 TO 2]") ≡ syntax_error Quote 14
+unfolding tokens
+open_quote_row = refl
+
+abbrev no_end_row : parsed 9 (codes "year:[1 TO 2") ≡ syntax_error RangeEnd 12
+unfolding tokens
+no_end_row = refl
+
+abbrev round_end_row : parsed 9 (codes "(year:[1 TO 2)") ≡ syntax_error RangeEnd 13
+unfolding tokens
+round_end_row = refl
 
 abbrev open_range_row : parsed 9 (codes "{1 TO 5}") ≡ unsupported Ranges 0
 unfolding tokens
 open_range_row = refl
 
-abbrev comparison_row : parsed 9 (codes "num:>=5") ≡ unsupported Comparisons 4
+abbrev comparison_row : parsed 9 (codes "num:>=5") ≡ tree (range (codes "num") (inclusive (codes "5")) unbounded)
 unfolding tokens
 comparison_row = refl
+
+abbrev comparisons_row : parsed 9 (codes "(num:>\"5 6\" num:<a] num:<=\"\")") ≡ tree (any (range (codes "num") (exclusive (codes "5 6")) unbounded ∷ range (codes "num") unbounded (exclusive (codes "a]")) ∷ range (codes "num") unbounded (inclusive []) ∷ []))
+unfolding tokens
+comparisons_row = refl
+
+abbrev compared_row : parsed 9 (codes "num:> 5") ≡ syntax_error ABound 5
+unfolding tokens
+compared_row = refl
+
+abbrev alone_comparison_row : parsed 9 (codes "<=5") ≡ unsupported Comparisons 0
+unfolding tokens
+alone_comparison_row = refl
 
 abbrev regular_row : parsed 9 (codes "/se.a/") ≡ unsupported RegularExpressions 0
 unfolding tokens
@@ -231,5 +282,8 @@ spelled_chain_row = refl
 abbrev spelled_escapes_row : spelled (any (phrase (codes "new \"york\" a\\*") ∷ in_field (codes "na:me") (codes "-a-b*\\.c") ∷ [])) ≡ codes "\"new \\\"york\\\" a\\\\*\" OR na\\:me:\\-a-b\\*\\.c"
 spelled_escapes_row = refl
 
-abbrev spelled_prefix_row : spelled (all (prefix (codes "a*b") ∷ prefix_in (codes "t") [] ∷ [])) ≡ codes "a\\*b* AND t:*"
+abbrev spelled_prefix_row : spelled (all (prefix (codes "a*b") ∷ prefix_in (codes "t") (codes "b") ∷ [])) ≡ codes "a\\*b* AND t:b*"
 spelled_prefix_row = refl
+
+abbrev spelled_range_row : spelled (any (range (codes "t") (inclusive (codes "a \"b\"")) unbounded ∷ range (codes "u") unbounded (exclusive (codes "c")) ∷ [])) ≡ codes "t:[\"a \\\"b\\\"\" TO *] OR u:[* TO \"c\"}"
+spelled_range_row = refl

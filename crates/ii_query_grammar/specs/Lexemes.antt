@@ -1,10 +1,15 @@
--- The words, phrases, signs and parentheses of a text.
-use Rattle.std.specs.Prelude.{◌≡◌, ℕ, zero, suc, ◌-◌, Bool, true, false, ◌&&◌, ◌||◌, ◌==◌, not, List, [], ◌∷◌, Option, None, Some, option_map, bytes_eq, codes, drop, take, if◌then◌else◌, length, take_while}
+-- The words, phrases, ranges, signs and parentheses of a text.
+use Rattle.std.specs.Prelude.{◌≡◌, ℕ, zero, suc, ◌-◌, Bool, true, false, ◌&&◌, ◌||◌, ◌==◌, not, List, [], ◌∷◌, Option, None, Some, Result, Ok, Err, option_map, bytes_eq, codes, drop, take, if◌then◌else◌, length, take_while}
 use Rattle.ii_query_grammar.specs.declared.cut.Stop.{Stop}
 use Rattle.ii_query_grammar.specs.declared.cut.Stop.TheVariants as stops
+use Rattle.ii_query_grammar.specs.declared.lexeme.BoundView.{BoundView}
+use Rattle.ii_query_grammar.specs.declared.lexeme.BoundView.TheVariants as seen_bounds
+use Rattle.ii_query_grammar.specs.declared.lexeme.Edge.{Edge}
+use Rattle.ii_query_grammar.specs.declared.lexeme.Edge.TheVariants as edges
 use Rattle.ii_query_grammar.specs.declared.lexeme.Lexeme.{Lexeme as SeenLexeme}
 use Rattle.ii_query_grammar.specs.declared.lexeme.Lexeme.TheVariants as seen
 use Rattle.ii_query_grammar.specs.declared.lexeme.LiteralView.{LiteralView}
+use Rattle.ii_query_grammar.specs.declared.lexeme.RangeView.{RangeView}
 use Rattle.ii_query_grammar.specs.declared.lexeme.Token.{Token as SeenToken}
 use Rattle.ii_query_grammar.specs.declared.parse_error.Feature.{Feature}
 use Rattle.ii_query_grammar.specs.declared.parse_error.Feature.TheVariants as features
@@ -13,13 +18,14 @@ use Rattle.ii_query_grammar.specs.declared.parse_error.ParseError.TheVariants.{S
 use Rattle.ii_query_grammar.specs.declared.parse_error.Expected.TheVariants as expected
 use Rattle.ii_query_grammar.specs.declared.user_input_ast.Delimiter.{Delimiter}
 use Rattle.ii_query_grammar.specs.declared.user_input_ast.Delimiter.TheVariants as delimiters
-use Rattle.ii_query_grammar.specs.Trees.{Literal}
+use Rattle.ii_query_grammar.specs.Trees.{Bound, Literal, Range, exclusive, inclusive, unbounded}
 use Rattle.std.specs.Borrow.{Bor}
 use Rattle.std.specs.Option.{option_copied}
 
 -- A lexeme; a broken one holds its error.
 pub data Lexeme : Type 0 where
   literal : Literal → Lexeme
+  range : Range → Lexeme
   opening : Lexeme
   closing : Lexeme
   minus : Lexeme
@@ -49,11 +55,16 @@ ends_word b = is_space b || b == 34 || b == 40 || b == 41 || b == 58 || b == 42 
 abbrev pub is_special : ℕ → Bool
 is_special b = ends_word b || b == 45 || b == 43 || b == 47 || b == 60 || b == 62 || b == 93 || b == 125
 
--- whether a byte is a stop, given whether a backslash comes before it: the end of a word or a phrase, a byte
+-- whether a byte ends a word that is a bound of a range: also `]` and `}` do
+abbrev pub ends_bound : ℕ → Bool
+ends_bound b = ends_word b || b == 93 || b == 125
+
+-- whether a byte is a stop, given whether a backslash comes before it: the end of a word, a phrase or a bound, a byte
 -- that a backslash makes literal, or one that must be escaped in a word or a phrase
 abbrev pub stops_at : Stop → ℕ → Bool → Bool
 stops_at stops.WordEnd b escaped = ends_word b && not escaped
 stops_at stops.PhraseEnd b escaped = b == 34 && not escaped
+stops_at stops.BoundEnd b escaped = ends_bound b && not escaped
 stops_at stops.Escaped b escaped = is_special b && escaped
 stops_at stops.WordEscape b escaped = is_special b && (ends_word b || escaped)
 stops_at stops.PhraseEscape b escaped = is_special b && (b == 34 || escaped)
@@ -165,18 +176,143 @@ value_word size at name word rest =
     if is_empty word then broken_front (size - length rest) (Syntax expected.Value (size - length rest))
     else front_with at (literal_with (Some name) word delimiters.None) rest
 
+-- The text of a bound, or none for `*`, and the text after it.
+pub record Limit : Type 0 where
+  pub text : Option (List ℕ)
+  pub rest : List ℕ
+
+-- a text between quotes that is a bound, from the text at its end: a quote, or nothing
+abbrev pub quoted_limit : ℕ → List ℕ → List ℕ → Result Limit ParseError
+quoted_limit size text rest =
+    if begins 34 rest then Ok (record { text = Some (unescaped text); rest = drop 1 rest })
+    else Err (Syntax expected.Quote size)
+
+-- a word that is a bound, and the text after it
+abbrev pub word_limit : ℕ → List ℕ → List ℕ → Result Limit ParseError
+word_limit size word rest =
+    if is_empty word then Err (Syntax expected.Bound (size - length rest))
+    else Ok (record { text = Some (unescaped word); rest = rest })
+
+-- the text between quotes or the word at the start of a text, where a word ends at this stop
+abbrev pub text_limit : Stop → ℕ → List ℕ → Result Limit ParseError
+text_limit stop size text =
+    if begins 34 text then quoted_limit size (before_stop stops.PhraseEnd (drop 1 text)) (from_stop stops.PhraseEnd (drop 1 text))
+    else word_limit size (before_stop stop text) (from_stop stop text)
+
+-- the bound at the start of a text: a text between quotes, a word, or `*` for none
+abbrev pub limit_at : ℕ → List ℕ → Result Limit ParseError
+limit_at size text =
+    if begins 42 text then Ok (record { text = None; rest = drop 1 text })
+    else text_limit stops.BoundEnd size text
+
+-- the text after the word `TO` at the start
+abbrev pub after_to : ℕ → List ℕ → Result (List ℕ) ParseError
+after_to size text =
+    if bytes_eq (before_stop stops.BoundEnd text) (codes "TO") then Ok (from_stop stops.BoundEnd text)
+    else Err (Syntax expected.To (size - length text))
+
+-- a bound, by its side of a bracket
+abbrev pub bound_with : Edge → Option (List ℕ) → Bound
+bound_with edges.Inclusive None = unbounded
+bound_with edges.Inclusive (Some text) = inclusive text
+bound_with edges.Exclusive None = unbounded
+bound_with edges.Exclusive (Some text) = exclusive text
+
+-- A range, and the text after it.
+pub record RangeFront : Type 0 where
+  pub range : Range
+  pub rest : List ℕ
+
+-- a range of a field with its bounds, and the text after it
+abbrev pub range_with : List ℕ → Bound → Bound → List ℕ → RangeFront
+range_with name lower upper rest = record { range = record { field_name = unescaped name; lower = lower; upper = upper }; rest = rest }
+
+-- a range from the text at its end: `]`, or `}` if the upper bound does not belong to it
+abbrev pub ended_range : ℕ → List ℕ → Bound → Option (List ℕ) → List ℕ → Result RangeFront ParseError
+ended_range size name lower upper text =
+    if begins 93 text then Ok (range_with name lower (bound_with edges.Inclusive upper) (drop 1 text))
+    else if begins 125 text then Ok (range_with name lower (bound_with edges.Exclusive upper) (drop 1 text))
+    else Err (Syntax expected.RangeEnd (size - length text))
+
+-- a range from its lower bound and its upper one, which is read
+abbrev pub range_to : ℕ → List ℕ → Bound → Result Limit ParseError → Result RangeFront ParseError
+range_to size name lower (Err e) = Err e
+range_to size name lower (Ok upper) = ended_range size name lower upper.text (after_spaces upper.rest)
+
+-- a range from its lower bound and the text after the word `TO`
+abbrev pub range_after_to : ℕ → List ℕ → Bound → Result (List ℕ) ParseError → Result RangeFront ParseError
+range_after_to size name lower (Err e) = Err e
+range_after_to size name lower (Ok text) = range_to size name lower (limit_at size (after_spaces text))
+
+-- a range from its lower bound, which is read
+abbrev pub range_from : ℕ → List ℕ → Edge → Result Limit ParseError → Result RangeFront ParseError
+range_from size name edge (Err e) = Err e
+range_from size name edge (Ok lower) = range_after_to size name (bound_with edge lower.text) (after_to size (after_spaces lower.rest))
+
+-- a range from the text after its first bracket
+abbrev pub range_between : ℕ → List ℕ → Edge → List ℕ → Result RangeFront ParseError
+range_between size name edge text = range_from size name edge (limit_at size (after_spaces text))
+
+-- a range that has only a lower bound
+abbrev pub range_above : List ℕ → Edge → Result Limit ParseError → Result RangeFront ParseError
+range_above name edge (Err e) = Err e
+range_above name edge (Ok lower) = Ok (range_with name (bound_with edge lower.text) unbounded lower.rest)
+
+-- a range that has only an upper bound
+abbrev pub range_below : List ℕ → Edge → Result Limit ParseError → Result RangeFront ParseError
+range_below name edge (Err e) = Err e
+range_below name edge (Ok upper) = Ok (range_with name unbounded (bound_with edge upper.text) upper.rest)
+
+-- the range of a comparison with `>` or `>=`, from the text after the `>`
+abbrev pub greater : ℕ → List ℕ → List ℕ → Result RangeFront ParseError
+greater size name text =
+    if begins 61 text then range_above name edges.Inclusive (text_limit stops.WordEnd size (drop 1 text))
+    else range_above name edges.Exclusive (text_limit stops.WordEnd size text)
+
+-- the range of a comparison with `<` or `<=`, from the text after the `<`
+abbrev pub less : ℕ → List ℕ → List ℕ → Result RangeFront ParseError
+less size name text =
+    if begins 61 text then range_below name edges.Inclusive (text_limit stops.WordEnd size (drop 1 text))
+    else range_below name edges.Exclusive (text_limit stops.WordEnd size text)
+
+-- the range or the comparison at the start of a text, if there is one
+abbrev pub range_at : ℕ → List ℕ → List ℕ → Option (Result RangeFront ParseError)
+range_at size name text =
+    if begins 91 text then Some (range_between size name edges.Inclusive (drop 1 text))
+    else if begins 123 text then Some (range_between size name edges.Exclusive (drop 1 text))
+    else if begins 62 text then Some (greater size name (drop 1 text))
+    else if begins 60 text then Some (less size name (drop 1 text))
+    else None
+
+-- the lexeme of a range and the text after it, or the error
+abbrev pub range_front : ℕ → Result RangeFront ParseError → Front
+range_front at (Ok f) = front_with at (range f.range) f.rest
+range_front at (Err e) = broken_front at e
+
+-- the first lexeme, unless there is a range
+abbrev pub unless_range : Option (Result RangeFront ParseError) → ℕ → Front → Front
+unless_range None at front = front
+unless_range (Some read) at front = range_front at read
+
+-- a prefix after a field name, or the range without bounds if the prefix is empty
+abbrev pub star_lexeme : List ℕ → List ℕ → Lexeme
+star_lexeme name word =
+    if is_empty word then range (record { field_name = unescaped name; lower = unbounded; upper = unbounded })
+    else literal_with (Some name) word delimiters.Star
+
 -- a word or a prefix after a field name, from the word and the text after it
 abbrev pub value_or_prefix : ℕ → ℕ → List ℕ → List ℕ → List ℕ → Front
 value_or_prefix size at name word rest =
-    if has_star rest then front_with at (literal_with (Some name) word delimiters.Star) (drop 1 rest)
+    if has_star rest then front_with at (star_lexeme name word) (drop 1 rest)
     else unless_feature (feature_after rest) (size - length rest) (value_word size at name word rest)
 
--- a phrase, a word or a prefix after a field name and its colon
+-- a phrase, a range, a word or a prefix after a field name and its colon
 abbrev pub value_front : ℕ → ℕ → List ℕ → List ℕ → Front
 value_front size at name text =
     if begins 34 text then phrase_front size at (Some name) (drop 1 text)
-    else unless_feature (feature_in_front text) (size - length text)
-    (value_or_prefix size at name (before_stop stops.WordEnd text) (from_stop stops.WordEnd text))
+    else unless_range (range_at size name text) at
+    (unless_feature (feature_in_front text) (size - length text)
+    (value_or_prefix size at name (before_stop stops.WordEnd text) (from_stop stops.WordEnd text)))
 
 -- the kind of a word: an operator, or a word to search for
 abbrev pub word_lexeme : List ℕ → Lexeme
@@ -240,9 +376,44 @@ lexemes size text = tokens (length text) size text
 abbrev pub literal_seen : LiteralView → Literal
 literal_seen l = record { field_name = option_map unescaped (option_copied l.field_name); phrase = unescaped l.phrase.now; delimiter = l.delimiter }
 
+-- the model of a bound
+abbrev pub bound_seen : BoundView → Bound
+bound_seen seen_bounds.Unbounded = unbounded
+bound_seen (seen_bounds.Inclusive text) = inclusive (unescaped text.now)
+bound_seen (seen_bounds.Exclusive text) = exclusive (unescaped text.now)
+
+-- the model of a range
+abbrev pub range_seen : RangeView → Range
+range_seen r = record { field_name = unescaped r.field_name.now; lower = bound_seen r.lower; upper = bound_seen r.upper }
+
+-- the model of the text of a bound and the text after it
+abbrev pub limit_seen : Option (Bor (List ℕ)) → Bor (List ℕ) → Limit
+limit_seen text rest = record { text = option_map unescaped (option_copied text); rest = rest.now }
+
+-- The text of a bound was read, or the error is this.
+abbrev pub IsLimit : Result Limit ParseError → Result (Option (Bor (List ℕ)) × Bor (List ℕ)) ParseError → Type 0
+IsLimit limit (Ok parts) = limit ≡ Ok (limit_seen parts.0 parts.1)
+IsLimit limit (Err e) = limit ≡ Err e
+
+-- A text follows, or the error is this.
+abbrev pub IsRest : Result (List ℕ) ParseError → Result (Bor (List ℕ)) ParseError → Type 0
+IsRest text (Ok rest) = text ≡ Ok rest.now
+IsRest text (Err e) = text ≡ Err e
+
+-- A range was read, or the error is this.
+abbrev pub IsRange : Result RangeFront ParseError → Result (RangeView × Bor (List ℕ)) ParseError → Type 0
+IsRange found (Ok parts) = found ≡ Ok (record { range = range_seen parts.0; rest = parts.1.now })
+IsRange found (Err e) = found ≡ Err e
+
+-- There is a range or a comparison, and it was read, or the error is this.
+abbrev pub IsRangeAt : Option (Result RangeFront ParseError) → Result (RangeView × Bor (List ℕ)) ParseError → Type 0
+IsRangeAt None read = ⊥
+IsRangeAt (Some found) read = IsRange found read
+
 -- the model of a lexeme
 abbrev pub lexeme_seen : SeenLexeme → Lexeme
 lexeme_seen (seen.Literal l) = literal (literal_seen l)
+lexeme_seen (seen.Range r) = range (range_seen r)
 lexeme_seen seen.Opening = opening
 lexeme_seen seen.Closing = closing
 lexeme_seen seen.Minus = minus

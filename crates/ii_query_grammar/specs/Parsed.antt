@@ -10,8 +10,8 @@ use Rattle.ii_query_grammar.specs.declared.parse_error.Expected.TheVariants.{Clo
 use Rattle.ii_query_grammar.specs.declared.parse_error.ParseError.{ParseError}
 use Rattle.ii_query_grammar.specs.declared.parse_error.ParseError.TheVariants.{OutOfMemory, Syntax, Unsupported}
 use Rattle.ii_query_grammar.specs.declared.user_input_ast.UserInputAst.{UserInputAst}
-use Rattle.ii_query_grammar.specs.Lexemes.{Lexeme, Token, and_word, broken, closing, lexemes, literal, minus, opening, or_word}
-use Rattle.ii_query_grammar.specs.Trees.{Ast, all_of, any_of, ast_of, asts_from, leaf, without}
+use Rattle.ii_query_grammar.specs.Lexemes.{Lexeme, Token, and_word, broken, closing, lexemes, literal, minus, opening, or_word, range}
+use Rattle.ii_query_grammar.specs.Trees.{Ast, all_of, any_of, ast_of, asts_from, leaf, ranged, without}
 
 -- parts joined by AND: those that must match, and those that must not
 pub record ChainState : Type 0 where
@@ -168,6 +168,7 @@ read_closing others (group ∷ opened) at (Ok t) = others opened (put group t)
 -- reads one lexeme, then the others
 abbrev pub read_one : ℕ → Reading → List GroupState → GroupState → ℕ → Lexeme → Result Ast ParseError
 read_one limit others opened group at (literal l) = others opened (put group (leaf l))
+read_one limit others opened group at (range r) = others opened (put group (ranged r))
 read_one limit others opened group at opening = read_opening limit others opened group at
 read_one limit others opened group at closing = read_closing others opened at (whole_of group)
 read_one limit others opened group at minus = read_sign others opened at (put_minus group)

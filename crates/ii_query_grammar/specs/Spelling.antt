@@ -5,7 +5,7 @@ use Rattle.ii_query_grammar.specs.declared.cut.Stop.TheVariants as stops
 use Rattle.ii_query_grammar.specs.declared.user_input_ast.Delimiter.{Delimiter}
 use Rattle.ii_query_grammar.specs.declared.user_input_ast.Delimiter.TheVariants as delimiters
 use Rattle.ii_query_grammar.specs.Lexemes.{is_empty, stops_at}
-use Rattle.ii_query_grammar.specs.Trees.{Ast, Asts, Literal, all_of, and_asts, any_of, leaf, no_asts, without}
+use Rattle.ii_query_grammar.specs.Trees.{Ast, Asts, Bound, Literal, Range, all_of, and_asts, any_of, exclusive, inclusive, leaf, no_asts, ranged, unbounded, without}
 
 -- a text with each byte escaped that must be, given whether a backslash comes before the text
 abbrev pub escaped : Stop → Bool → List ℕ → List ℕ
@@ -39,9 +39,26 @@ field_text (Some name) = word_text name ++ 58 ∷ []
 abbrev pub literal_text : Literal → List ℕ
 literal_text l = field_text l.field_name ++ phrase_text l
 
--- a text as a part: a word or a phrase as it is, any other tree in parentheses
+-- a lower bound after its bracket
+abbrev pub lower_text : Bound → List ℕ
+lower_text unbounded = codes "[*"
+lower_text (inclusive text) = 91 ∷ quoted text
+lower_text (exclusive text) = 123 ∷ quoted text
+
+-- an upper bound before its bracket
+abbrev pub upper_text : Bound → List ℕ
+upper_text unbounded = codes "*]"
+upper_text (inclusive text) = quoted text ++ 93 ∷ []
+upper_text (exclusive text) = quoted text ++ 125 ∷ []
+
+-- the text of a range
+abbrev pub range_text : Range → List ℕ
+range_text r = word_text r.field_name ++ 58 ∷ (lower_text r.lower ++ codes " TO " ++ upper_text r.upper)
+
+-- a text as a part: a word, a phrase or a range as it is, any other tree in parentheses
 abbrev pub text_as_part : Ast → List ℕ → List ℕ
 text_as_part (leaf l) text = text
+text_as_part (ranged r) text = text
 text_as_part (all_of ts) text = 40 ∷ text ++ 41 ∷ []
 text_as_part (any_of ts) text = 40 ∷ text ++ 41 ∷ []
 text_as_part (without first other) text = 40 ∷ text ++ 41 ∷ []
@@ -50,6 +67,7 @@ text_as_part (without first other) text = 40 ∷ text ++ 41 ∷ []
 abbrev mutual
   pub spelled : Ast → List ℕ
   spelled (leaf l) = literal_text l
+  spelled (ranged r) = range_text r
   spelled (all_of ts) = parts_text [] (codes " AND ") ts
   spelled (any_of ts) = parts_text [] (codes " OR ") ts
   spelled (without first other) = text_as_part first (spelled first) ++ codes " AND -" ++ text_as_part other (spelled other)
@@ -78,7 +96,7 @@ is_no_operator text = not (bytes_eq text (codes "AND")) && not (bytes_eq text (c
 abbrev pub is_value : Delimiter → List ℕ → Bool
 is_value delimiters.None phrase = is_writable_word phrase
 is_value delimiters.DoubleQuotes phrase = is_writable phrase
-is_value delimiters.Star phrase = is_writable phrase
+is_value delimiters.Star phrase = is_writable_word phrase
 
 -- whether a phrase can be written alone
 abbrev pub may_be_alone : Delimiter → List ℕ → Bool
@@ -91,16 +109,27 @@ abbrev pub is_literal : Option (List ℕ) → Delimiter → List ℕ → Bool
 is_literal None delimiter phrase = may_be_alone delimiter phrase
 is_literal (Some name) delimiter phrase = is_writable_word name && is_value delimiter phrase
 
+-- whether a bound can be written
+abbrev pub is_bound : Bound → Bool
+is_bound unbounded = true
+is_bound (inclusive text) = is_writable text
+is_bound (exclusive text) = is_writable text
+
+-- whether a range can be written
+abbrev pub is_range : Range → Bool
+is_range r = is_writable_word r.field_name && is_bound r.lower && is_bound r.upper
+
 -- whether there are two trees or more
 abbrev pub are_several : Asts → Bool
 are_several no_asts = false
 are_several (and_asts t no_asts) = false
 are_several (and_asts t (and_asts u ts)) = true
 
--- whether each word and phrase of a tree can be written, and each list of parts has two or more
+-- whether each word, phrase and range of a tree can be written, and each list of parts has two or more
 abbrev mutual
   pub has_spelling : Ast → Bool
   has_spelling (leaf l) = is_literal l.field_name l.delimiter l.phrase
+  has_spelling (ranged r) = is_range r
   has_spelling (all_of ts) = are_several ts && have_spelling ts
   has_spelling (any_of ts) = are_several ts && have_spelling ts
   has_spelling (without first other) = has_spelling first && has_spelling other
@@ -112,6 +141,7 @@ abbrev mutual
 -- the number of open parentheses when a tree is a part
 abbrev pub nesting_as_part : Ast → ℕ → ℕ
 nesting_as_part (leaf l) n = 0
+nesting_as_part (ranged r) n = 0
 nesting_as_part (all_of ts) n = suc n
 nesting_as_part (any_of ts) n = suc n
 nesting_as_part (without first other) n = suc n
@@ -120,6 +150,7 @@ nesting_as_part (without first other) n = suc n
 abbrev mutual
   pub nesting : Ast → ℕ
   nesting (leaf l) = 0
+  nesting (ranged r) = 0
   nesting (all_of ts) = parts_nesting ts
   nesting (any_of ts) = parts_nesting ts
   nesting (without first other) = max (nesting_as_part first (nesting first)) (nesting_as_part other (nesting other))

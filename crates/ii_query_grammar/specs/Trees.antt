@@ -3,7 +3,10 @@ use Rattle.std.specs.Prelude.{ℕ, List, [], ◌∷◌, Option, option_map, stri
 use Rattle.ii_query_grammar.specs.declared.user_input_ast.Delimiter.{Delimiter}
 use Rattle.ii_query_grammar.specs.declared.user_input_ast.UserInputAst.{UserInputAst, fold-UserInputAst}
 use Rattle.ii_query_grammar.specs.declared.user_input_ast.UserInputAst.TheOpen.{UserInputAst-F}
+use Rattle.ii_query_grammar.specs.declared.user_input_ast.UserInputBound.{UserInputBound}
+use Rattle.ii_query_grammar.specs.declared.user_input_ast.UserInputBound.TheVariants as bounds
 use Rattle.ii_query_grammar.specs.declared.user_input_ast.UserInputLiteral.{UserInputLiteral}
+use Rattle.ii_query_grammar.specs.declared.user_input_ast.UserInputRange.{UserInputRange}
 
 -- a word or a phrase: the name of its field, if it has one, its text, and its delimiter
 pub record Literal : Type 0 where
@@ -11,11 +14,24 @@ pub record Literal : Type 0 where
   pub phrase : List ℕ
   pub delimiter : Delimiter
 
--- A tree: a word or a phrase; what all parts match; what at least one matches; what the first part matches
+-- A bound of a range: none; a text that belongs to the range; a text that doesn't.
+pub data Bound : Type 0 where
+  unbounded : Bound
+  inclusive : List ℕ → Bound
+  exclusive : List ℕ → Bound
+
+-- a range: the name of its field, and its bounds
+pub record Range : Type 0 where
+  pub field_name : List ℕ
+  pub lower : Bound
+  pub upper : Bound
+
+-- A tree: a word or a phrase; a range; what all parts match; what at least one matches; what the first part matches
 -- and the other doesn't.
 mutual
   pub data Ast : Type 0 where
     leaf : Literal → Ast
+    ranged : Range → Ast
     all_of : Asts → Ast
     any_of : Asts → Ast
     without : Ast → Ast → Ast
@@ -33,9 +49,20 @@ asts_from (t ∷ ts) = and_asts t (asts_from ts)
 abbrev pub literal_of : UserInputLiteral → Literal
 literal_of l = record { field_name = option_map (λ name. string_bytes name) l.field_name; phrase = string_bytes l.phrase; delimiter = l.delimiter }
 
+-- the model of a bound
+abbrev pub bound_of : UserInputBound → Bound
+bound_of bounds.Unbounded = unbounded
+bound_of (bounds.Inclusive text) = inclusive (string_bytes text)
+bound_of (bounds.Exclusive text) = exclusive (string_bytes text)
+
+-- the model of a range
+abbrev pub range_of : UserInputRange → Range
+range_of r = record { field_name = string_bytes r.field_name; lower = bound_of r.lower; upper = bound_of r.upper }
+
 -- one level of a tree, given the models of its parts
 abbrev pub ast_step : UserInputAst-F Ast → Ast
 ast_step (UserInputAst-F.Leaf l) = leaf (literal_of l)
+ast_step (UserInputAst-F.Range r) = ranged (range_of r)
 ast_step (UserInputAst-F.And v) = all_of (asts_from v.items)
 ast_step (UserInputAst-F.Or v) = any_of (asts_from v.items)
 ast_step (UserInputAst-F.AndNot first other) = without first.value other.value

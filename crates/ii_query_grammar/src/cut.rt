@@ -1,5 +1,5 @@
 ghost use Rattle.std.specs.Prelude.{◌≡◌, ◌<◌, ◌≤◌, ℕ, drop, take, false, true, length, take_while, IfSome, MatchOption};
-ghost use Rattle.ii_query_grammar.specs.Lexemes.{Strips, after_spaces, before_stop, begins, ends_prefix, ends_word, from_stop, has_star, is_empty, is_prefix_end, is_space, is_special, place_of, stops_at};
+ghost use Rattle.ii_query_grammar.specs.Lexemes.{Strips, after_spaces, before_stop, begins, ends_bound, ends_prefix, ends_word, from_stop, has_star, is_empty, is_prefix_end, is_space, is_special, place_of, stops_at};
 
 /// The byte to search for.
 #[derive(Clone, Copy)]
@@ -8,6 +8,8 @@ pub(crate) enum Stop {
     WordEnd,
     /// The quote that ends a phrase.
     PhraseEnd,
+    /// A byte that ends a word that is a bound.
+    BoundEnd,
     /// A byte that the backslash before it makes literal.
     Escaped,
     /// A byte that must be escaped in a word.
@@ -24,6 +26,7 @@ impl Stop {
         match self {
             Stop::WordEnd => ends_word(byte) && !escaped,
             Stop::PhraseEnd => byte == b'"' && !escaped,
+            Stop::BoundEnd => ends_bound(byte) && !escaped,
             Stop::Escaped => is_special(byte) && escaped,
             Stop::WordEscape => is_special(byte) && (ends_word(byte) || escaped),
             Stop::PhraseEscape => is_special(byte) && (byte == b'"' || escaped),
@@ -138,6 +141,12 @@ fn ends_word(byte: u8) -> bool
             byte,
             b'"' | b'(' | b')' | b':' | b'*' | b'?' | b'~' | b'^' | b'[' | b'{'
         )
+}
+
+fn ends_bound(byte: u8) -> bool
+    ensures { result ≡ ends_bound byte }
+{
+    ends_word(byte) || matches!(byte, b']' | b'}')
 }
 
 fn is_special(byte: u8) -> bool

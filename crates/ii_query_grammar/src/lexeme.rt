@@ -9,10 +9,34 @@ pub(crate) struct LiteralView<'a> {
     pub(crate) delimiter: Delimiter,
 }
 
+// Whether a bound belongs to a range.
+#[derive(Clone, Copy)]
+pub(crate) enum Edge {
+    Inclusive,
+    Exclusive,
+}
+
+// A bound of a range as written in the text, with its escapes.
+#[derive(Clone, Copy)]
+pub(crate) enum BoundView<'a> {
+    Unbounded,
+    Inclusive(&'a str),
+    Exclusive(&'a str),
+}
+
+// A range as written in the text, with its escapes.
+#[derive(Clone, Copy)]
+pub(crate) struct RangeView<'a> {
+    pub(crate) field_name: &'a str,
+    pub(crate) lower: BoundView<'a>,
+    pub(crate) upper: BoundView<'a>,
+}
+
 // A lexeme of a text; a broken one holds its error.
 #[derive(Clone, Copy)]
 pub(crate) enum Lexeme<'a> {
     Literal(LiteralView<'a>),
+    Range(RangeView<'a>),
     Opening,
     Closing,
     Minus,

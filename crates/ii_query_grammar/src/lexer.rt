@@ -1,15 +1,17 @@
-ghost use Rattle.std.specs.Prelude.{◌≡◌, ◌∷◌, ◌<◌, ◌≤◌, [], length, drop, false, true, IfSome, MatchOption};
+ghost use Rattle.std.specs.Prelude.{◌≡◌, ◌∷◌, ◌<◌, ◌≤◌, [], ℕ, Result, length, drop, false, true, IfOk, IfSome, MatchOption};
 ghost use Rattle.std.specs.Option.{option_copied};
+ghost use Rattle.ii_query_grammar.specs.declared.parse_error.ParseError.{ParseError};
 ghost use Rattle.ii_query_grammar.specs.declared.parse_error.ParseError.TheVariants.{Syntax, Unsupported};
-ghost use Rattle.ii_query_grammar.specs.Lexemes.{IsFront, broken, feature_after, feature_in_front, feature_of, first_feature_of, front, front_at, lexeme_seen, lexemes, literal_with, has_star, is_prefix, phrase_front, token_seen, unless_feature, value_front, value_or_prefix, value_word, word_front, word_lexeme, word_or_name, word_or_prefix, is_empty};
+ghost use Rattle.ii_query_grammar.specs.Lexemes.{IsFront, IsRange, RangeFront, broken, feature_after, feature_in_front, feature_of, first_feature_of, front, front_at, lexeme_seen, lexemes, literal_with, has_star, is_prefix, phrase_front, range_front, star_lexeme, token_seen, unless_feature, unless_range, value_front, value_or_prefix, value_word, word_front, word_lexeme, word_or_name, word_or_prefix, is_empty};
 
 use crate::cut::{Stop, after_spaces, cut_at, is_nothing, strip, strip_star};
-use crate::lexeme::{Lexeme, LiteralView, Token};
+use crate::lexeme::{BoundView, Lexeme, LiteralView, RangeView, Token};
 use crate::parse_error::{Expected, Feature, ParseError};
+use crate::ranges::range_at;
 use crate::user_input_ast::Delimiter;
 use std::marker::Model;
 
-/// Splits a text into words, phrases, signs and parentheses. It holds the length of the complete text, and
+/// Splits a text into words, phrases, ranges, signs and parentheses. It holds the length of the complete text, and
 /// the remaining text.
 #[derive(Drop)]
 pub(crate) struct Lexer<'a> {
@@ -133,7 +135,7 @@ fn word_or_name<'a>(size: usize, at: usize, word: &'a str, rest: &'a str) -> (To
     (sign(at, word_lexeme(word)), rest)
 }
 
-// Reads a phrase, a word or a prefix after a field name and its colon.
+// Reads a phrase, a range, a word or a prefix after a field name and its colon.
 fn value<'a>(size: usize, at: usize, name: &'a str, text: &'a str) -> (Token<'a>, &'a str)
     requires { length text.now ≤ size }
     ensures front { IsFront (value_front size at name.now text.now) (token_seen result.0) result.1.now }
@@ -141,6 +143,9 @@ fn value<'a>(size: usize, at: usize, name: &'a str, text: &'a str) -> (Token<'a>
 {
     if let Some(rest) = strip(text, b'"') {
         return phrase(size, at, Some(name), rest);
+    }
+    if let Some(range) = range_at(size, name, text) {
+        return range_token(at, range);
     }
     if let Some(feature) = feature_in_front(text.as_bytes()) {
         return (unsupported(size - text.len(), feature), "");
@@ -162,12 +167,44 @@ fn value_or_prefix<'a>(
     ensures shorter { length result.1.now ≤ size }
 {
     if let Some(after) = strip_star(rest) {
-        return (literal(at, Some(name), word, Delimiter::Star), after);
+        return (sign(at, star_lexeme(name, word)), after);
     }
     if let Some(feature) = feature_after(rest.as_bytes()) {
         return (unsupported(size - rest.len(), feature), "");
     }
     value_word(size, at, name, word, rest)
+}
+
+// Returns the token of a range and the text after it, or that of its error.
+fn range_token<'a>(
+    at: usize,
+    read: Result<(RangeView<'a>, &'a str), ParseError>,
+) -> (Token<'a>, &'a str)
+    ensures front { (found : Result RangeFront ParseError) → IsRange found read.entry → IsFront (range_front at found) (token_seen result.0) result.1.now }
+    ensures shorter { (size : ℕ) → IfOk read.entry (λ parts. length parts.1.now ≤ size) → length result.1.now ≤ size }
+{
+    match read {
+        Ok((range, rest)) => (sign(at, Lexeme::Range(range)), rest),
+        Err(error) => (sign(at, Lexeme::Broken(error)), ""),
+    }
+}
+
+// Returns a prefix after a field name, or the range without bounds if the prefix is empty.
+fn star_lexeme<'a>(name: &'a str, word: &'a str) -> Lexeme<'a>
+    ensures { lexeme_seen result ≡ star_lexeme name.now word.now }
+{
+    if is_nothing(word) {
+        return Lexeme::Range(RangeView {
+            field_name: name,
+            lower: BoundView::Unbounded,
+            upper: BoundView::Unbounded,
+        });
+    }
+    Lexeme::Literal(LiteralView {
+        field_name: Some(name),
+        phrase: word,
+        delimiter: Delimiter::Star,
+    })
 }
 
 // Reads a word after a field name.

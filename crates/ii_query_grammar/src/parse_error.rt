@@ -13,8 +13,14 @@ pub enum Expected {
     Operand,
     /// The part to exclude, after a minus or `NOT`.
     Excluded,
-    /// A word or a phrase, after the name of a field and a colon.
+    /// A word, a phrase or a range, after the name of a field and a colon.
     Value,
+    /// A bound: a word, a text in quotes, or `*`.
+    Bound,
+    /// The word `TO` between the bounds of a range.
+    To,
+    /// The `]` or `}` that ends a range.
+    RangeEnd,
     /// The quote that ends a phrase.
     Quote,
     /// The parenthesis that closes an open one.
@@ -38,6 +44,9 @@ impl Expected {
                 "expected a word, a phrase or an opening parenthesis to exclude; put NOT or the minus in quotes to search for it"
             }
             Expected::Value => "expected a word or a phrase after the colon",
+            Expected::Bound => "expected a bound: a word, a text in quotes, or * within brackets",
+            Expected::To => "expected the word TO between two bounds, as in year:[1 TO 2]",
+            Expected::RangeEnd => "expected ] or } after the bounds of a range",
             Expected::Quote => "expected a closing quote",
             Expected::Closing => "expected a closing parenthesis",
             Expected::End => "expected the end of the query: this parenthesis closes none",
@@ -61,9 +70,9 @@ pub enum Feature {
     Fuzzy,
     /// `sea^2`.
     Boosts,
-    /// `[a TO b]`, `{a TO b}`.
+    /// `[a TO b]`, `{a TO b}`, where no name of a field and colon come before it.
     Ranges,
-    /// `>7`, `<=7`.
+    /// `>7`, `<=7`, where no name of a field and colon come before it.
     Comparisons,
     /// `/se.*/`.
     RegularExpressions,
@@ -85,10 +94,10 @@ impl Feature {
                 "boosts (sea^2) are not supported; put the word in quotes to search for it as it is"
             }
             Feature::Ranges => {
-                "ranges ([a TO b], {a TO b}) are not supported; put the word in quotes to search for it as it is"
+                "a range needs the name of a field before it, as in year:[1 TO 2]; put the word in quotes to search for it as it is"
             }
             Feature::Comparisons => {
-                "comparisons (>7, <=7) are not supported; put the word in quotes to search for it as it is"
+                "a comparison needs the name of a field before it, as in year:>7; put the word in quotes to search for it as it is"
             }
             Feature::RegularExpressions => {
                 "regular expressions (/se.*/) are not supported; put the word in quotes to search for it as it is"

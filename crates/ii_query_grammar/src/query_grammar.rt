@@ -1,15 +1,15 @@
 ghost use Rattle.std.specs.Prelude.{◌≡◌, ◌∷◌, IfOk, List, Option, string_bytes};
 ghost use Rattle.std.specs.Option.{option_copied, option_map};
-ghost use Rattle.ii_query_grammar.specs.Lexemes.{literal_seen, token_seen, unescaped};
+ghost use Rattle.ii_query_grammar.specs.Lexemes.{bound_seen, literal_seen, range_seen, token_seen, unescaped};
 ghost use Rattle.ii_query_grammar.specs.Parsed.{GoesOn, GroupState, IsReadAs, OnlyMemoryRefuses, empty, group_of, parsed, put, read_closing, read_end, read_one, read_opening, read_sign, stack_of, whole_of};
-ghost use Rattle.ii_query_grammar.specs.Trees.{ast_of, leaf};
+ghost use Rattle.ii_query_grammar.specs.Trees.{ast_of, bound_of, leaf, ranged};
 
 use crate::escapes::unescape;
 use crate::group::Group;
-use crate::lexeme::{Lexeme, LiteralView, Token};
+use crate::lexeme::{BoundView, Lexeme, LiteralView, RangeView, Token};
 use crate::lexer::Lexer;
 use crate::parse_error::{Expected, ParseError};
-use crate::user_input_ast::{UserInputAst, UserInputLiteral};
+use crate::user_input_ast::{UserInputAst, UserInputBound, UserInputLiteral, UserInputRange};
 use std::alloc::Global;
 
 /// The maximum number of open parentheses. Nothing else bounds a query: a chain or a row of any number of
@@ -24,16 +24,20 @@ const _: () = prove!(MAX_NESTING == 128);
 ///
 /// - A word is a run of characters without spaces, double quotes, parentheses and colons. A phrase is a text
 ///   between double quotes. A prefix is a word and a `*` after it, before a space, a closing parenthesis or the
-///   end. A field name, also a word, and a colon may come before each of them; then a prefix may be `*` alone.
-/// - A part is a word, a phrase, a prefix, or a query in parentheses. At most `MAX_NESTING` parentheses may be open.
+///   end. A field name, also a word, and a colon may come before each of them.
+/// - A range is a field name, a colon, a `[` or `{`, a bound, the word `TO`, a bound, and a `]` or `}`, with any
+///   spaces within the brackets. `[` and `]` say that the bound belongs to the range, `{` and `}` that it doesn't. A
+///   bound is a word, which `]` and `}` end too, a text in quotes, or `*` for none. `name:>a`, `name:>=a`, `name:<a`
+///   and `name:<=a`, with a word or a text in quotes, are ranges with one bound, and `name:*` is one with none.
+/// - A part is a word, a phrase, a prefix, a range, or a query in parentheses. At most `MAX_NESTING` parentheses may be open.
 /// - `a AND b` matches what both match, and `a AND -b` what the first matches and the other doesn't.
 /// - `a OR b` and `a b` match what at least one of the two matches; AND binds tighter.
 /// - `-b` next to other parts excludes `b` from all that they match. At least one part must not be excluded.
 /// - `NOT b` is `-b`; to search for the words `AND`, `OR` and `NOT`, write them in quotes.
 /// - In a word or a phrase, a backslash makes a space, `"`, `(`, `)`, `:`, `*`, `?`, `~`, `^`, `[`, `]`, `{`,
 ///   `}`, `-`, `+`, `/`, `<` or `>` after it literal, and is left out. Other backslashes belong to the text.
-/// - Any other `*`, and a `?`, `~`, `^`, `[` or `{` in a word, a `/`, `<` or `>` at its start, and a `+` at the start of a
-///   part are `Unsupported`.
+/// - Any other `*`, any other `[` or `{` in a word, and a `?`, `~` or `^` there, any other `<` or `>` at its start, a `/`
+///   there, and a `+` at the start of a part are `Unsupported`.
 ///
 /// # Errors
 ///
@@ -65,6 +69,7 @@ fn read_one(
     let at = token.at;
     match token.lexeme {
         Lexeme::Literal(literal) => put_leaf(alloc, group, literal),
+        Lexeme::Range(range) => put_range(alloc, group, range),
         Lexeme::Opening => open(alloc, opened, group, at),
         Lexeme::Closing => close(alloc, opened, group, at),
         Lexeme::Minus => after_sign(group.put_minus(alloc), at),
@@ -80,6 +85,15 @@ fn put_leaf(alloc: Global, group: Group, literal: LiteralView<'_>) -> Result<Gro
     ensures only { OnlyMemoryRefuses result }
 {
     let ast = leaf(alloc, literal)?;
+    group.put(alloc, ast)
+}
+
+// Adds a range to a group. Fails only with `OutOfMemory`.
+fn put_range(alloc: Global, group: Group, range: RangeView<'_>) -> Result<Group, ParseError>
+    ensures put { IfOk result (λ g. group_of g ≡ put (group_of group) (ranged (range_seen range.entry))) }
+    ensures only { OnlyMemoryRefuses result }
+{
+    let ast = ranged(alloc, range)?;
     group.put(alloc, ast)
 }
 
@@ -142,6 +156,33 @@ fn leaf(alloc: Global, literal: LiteralView<'_>) -> Result<UserInputAst, ParseEr
         phrase,
         delimiter: literal.delimiter,
     }))
+}
+
+// Returns a range as a tree. Fails only with `OutOfMemory`.
+fn ranged(alloc: Global, range: RangeView<'_>) -> Result<UserInputAst, ParseError>
+    ensures ok { IfOk result (λ ast. ast_of ast ≡ ranged (range_seen range.entry)) }
+    ensures only { OnlyMemoryRefuses result }
+{
+    let field_name = unescape(alloc, range.field_name)?;
+    let lower = bound_of(alloc, range.lower)?;
+    let upper = bound_of(alloc, range.upper)?;
+    Ok(UserInputAst::Range(UserInputRange {
+        field_name,
+        lower,
+        upper,
+    }))
+}
+
+// Copies a bound. Fails only with `OutOfMemory`.
+fn bound_of(alloc: Global, bound: BoundView<'_>) -> Result<UserInputBound, ParseError>
+    ensures ok { IfOk result (λ copy. bound_of copy ≡ bound_seen bound.entry) }
+    ensures only { OnlyMemoryRefuses result }
+{
+    match bound {
+        BoundView::Unbounded => Ok(UserInputBound::Unbounded),
+        BoundView::Inclusive(text) => Ok(UserInputBound::Inclusive(unescape(alloc, text)?)),
+        BoundView::Exclusive(text) => Ok(UserInputBound::Exclusive(unescape(alloc, text)?)),
+    }
 }
 
 // Copies the name of a field, if there is one. Fails only with `OutOfMemory`.

@@ -1,6 +1,6 @@
 ghost use Rattle.std.specs.Prelude.{◌≡◌, ◌++◌, [], IfOk, OnOk, false, map, string_bytes, true};
-ghost use Rattle.ii_query_grammar.specs.Spelling.{literal_text, part_text, parts_text, phrase_text, spelled};
-ghost use Rattle.ii_query_grammar.specs.Trees.{ast_of, asts_from, literal_of};
+ghost use Rattle.ii_query_grammar.specs.Spelling.{literal_text, lower_text, part_text, parts_text, phrase_text, quoted, range_text, spelled, upper_text};
+ghost use Rattle.ii_query_grammar.specs.Trees.{ast_of, asts_from, bound_of, literal_of, range_of};
 
 use crate::cut::Stop;
 use crate::escapes::push_escaped;
@@ -22,11 +22,32 @@ pub enum Delimiter {
 pub struct UserInputLiteral {
     /// The name of the field, written before a colon; `None` for the default fields.
     pub field_name: Option<String>,
-    /// The word, the text between quotes, or the prefix, without escapes. A prefix after a field's name may be
-    /// empty.
+    /// The word, the text between quotes, or the prefix, without escapes.
     pub phrase: String,
     /// Whether it is in quotes, or a prefix.
     pub delimiter: Delimiter,
+}
+
+/// A bound of a range.
+#[derive(Drop)]
+pub enum UserInputBound {
+    /// None.
+    Unbounded,
+    /// A text, without escapes, that belongs to the range.
+    Inclusive(String),
+    /// A text, without escapes, that does not belong to the range.
+    Exclusive(String),
+}
+
+/// A range of the values of a field.
+#[derive(Drop)]
+pub struct UserInputRange {
+    /// The name of the field, written before a colon.
+    pub field_name: String,
+    /// The least value.
+    pub lower: UserInputBound,
+    /// The greatest value.
+    pub upper: UserInputBound,
 }
 
 /// The syntax tree of a query.
@@ -34,6 +55,8 @@ pub struct UserInputLiteral {
 pub enum UserInputAst {
     /// A word, a phrase or a prefix.
     Leaf(UserInputLiteral),
+    /// A range of values.
+    Range(UserInputRange),
     /// Matches the documents that all parts match.
     And(Vec<UserInputAst>),
     /// Matches the documents that at least one part matches.
@@ -75,8 +98,67 @@ impl UserInputLiteral {
     }
 }
 
+// Appends a text in quotes.
+fn spell_quoted(phrase: &str, text: &mut String) -> Result<(), AllocError>
+    ensures { OnOk result (string_bytes text.new ≡ string_bytes text.old ++ quoted phrase.now) }
+{
+    text.push_str("\"")?;
+    push_escaped(Stop::PhraseEscape, false, phrase, text)?;
+    text.push_str("\"")
+}
+
+impl UserInputBound {
+    // Appends its text as a lower bound, after its bracket.
+    fn spell_lower(&self, text: &mut String) -> Result<(), AllocError>
+        ensures { OnOk result (string_bytes text.new ≡ string_bytes text.old ++ lower_text (bound_of self.now)) }
+    {
+        match self {
+            UserInputBound::Unbounded => text.push_str("[*"),
+            UserInputBound::Inclusive(bound) => {
+                text.push_str("[")?;
+                spell_quoted(bound.as_str(), text)
+            }
+            UserInputBound::Exclusive(bound) => {
+                text.push_str("{")?;
+                spell_quoted(bound.as_str(), text)
+            }
+        }
+    }
+
+    // Appends its text as an upper bound, before its bracket.
+    fn spell_upper(&self, text: &mut String) -> Result<(), AllocError>
+        ensures { OnOk result (string_bytes text.new ≡ string_bytes text.old ++ upper_text (bound_of self.now)) }
+    {
+        match self {
+            UserInputBound::Unbounded => text.push_str("*]"),
+            UserInputBound::Inclusive(bound) => {
+                spell_quoted(bound.as_str(), text)?;
+                text.push_str("]")
+            }
+            UserInputBound::Exclusive(bound) => {
+                spell_quoted(bound.as_str(), text)?;
+                text.push_str("}")
+            }
+        }
+    }
+}
+
+impl UserInputRange {
+    // Appends its text.
+    fn spell_into(&self, text: &mut String) -> Result<(), AllocError>
+        ensures { OnOk result (string_bytes text.new ≡ string_bytes text.old ++ range_text (range_of self.now)) }
+    {
+        push_escaped(Stop::WordEscape, true, self.field_name.as_str(), text)?;
+        text.push_str(":")?;
+        self.lower.spell_lower(text)?;
+        text.push_str(" TO ")?;
+        self.upper.spell_upper(text)
+    }
+}
+
 impl UserInputAst {
-    /// Returns the tree as text, with parentheses around each part that is not a word or a phrase.
+    /// Returns the tree as text, with the bounds of ranges in quotes, and with parentheses around each part that is
+    /// not a word, a phrase or a range.
     pub fn spell(&self, alloc: Global) -> Result<String, AllocError>
         ensures { IfOk result (λ text. string_bytes text ≡ spelled (ast_of self.now)) }
     {
@@ -92,6 +174,7 @@ impl UserInputAst {
     {
         match self {
             UserInputAst::Leaf(literal) => literal.spell_into(text),
+            UserInputAst::Range(range) => range.spell_into(text),
             UserInputAst::And(parts) => spell_parts(parts, " AND ", text),
             UserInputAst::Or(parts) => spell_parts(parts, " OR ", text),
             UserInputAst::AndNot(first, other) => {
@@ -109,6 +192,9 @@ impl UserInputAst {
     {
         if let UserInputAst::Leaf(literal) = self {
             return literal.spell_into(text);
+        }
+        if let UserInputAst::Range(range) = self {
+            return range.spell_into(text);
         }
         text.push_str("(")?;
         self.spell_into(text)?;

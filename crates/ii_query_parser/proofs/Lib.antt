@@ -1,6 +1,9 @@
 pub mod QueryLemmas
+pub mod RangeRows
+pub mod RangeTextLemmas
 pub mod TermLemmas
 pub mod TreeLemmas
+pub mod ValueOrder
 pub mod WordsLemmas
 pub mod WordsQueryLemmas
 pub mod WorkedRows

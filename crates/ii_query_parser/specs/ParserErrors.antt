@@ -24,6 +24,7 @@ field_of_error (errors.ExpectedBool field) = Some field
 field_of_error (errors.UnsupportedPhrase field) = Some field
 field_of_error (errors.FieldDoesNotHavePositionsIndexed field) = Some field
 field_of_error (errors.UnsupportedPrefix field) = Some field
+field_of_error (errors.UnsupportedBound field) = Some field
 field_of_error (errors.UnsupportedPath field) = Some field
 field_of_error (errors.UnsupportedType field) = Some field
 field_of_error (errors.Fault fault) = None

@@ -12,7 +12,7 @@ use Rattle.ii_query_parser.specs.declared.query.Query.{Query, fold-Query}
 use Rattle.ii_query_parser.specs.declared.query.Query.TheOpen.{Query-F}
 use Rattle.ii_query_parser.specs.declared.query.PhraseTerm.{PhraseTerm}
 use Rattle.ii_query_parser.specs.declared.term_range.TermRange.{TermRange}
-use Rattle.ii_query_parser.specs.Ranges.{in_range}
+use Rattle.ii_query_parser.specs.Ranges.{KeyRange, in_keys, keys_of}
 
 -- whether a token of a document has the field and the key of a term
 abbrev pub is_token_of : TermState → ℕ → IndexToken → Bool
@@ -40,8 +40,12 @@ abbrev pub has_phrase : List IndexToken → ℕ → TermState → List PhraseTer
 has_phrase ts doc first others = is_text_key first ts && list_any (λ (t : IndexToken). is_token_of first doc t && follow ts doc others t.position) ts
 
 -- whether a token of a document has the field of a range, and a key that the range has
+abbrev pub is_token_between : KeyRange → ℕ → IndexToken → Bool
+is_token_between range doc t = (t.doc == doc) && (t.field == range.prefix.field) && in_keys range t.key
+
+-- whether a token of a document is in a range of terms
 abbrev pub is_token_in : TermRange → ℕ → IndexToken → Bool
-is_token_in range doc t = (t.doc == doc) && (t.field == range.prefix.field) && in_range range t.key
+is_token_in range doc t = is_token_between (keys_of range) doc t
 
 -- What a query is made of: none; all documents below a number; a term; a phrase; a range of terms; what each of some queries matches, or any of them; what one matches and another one doesn't.
 mutual

@@ -1,5 +1,5 @@
 -- What the text of a query means, by the fields of a schema.
-use Rattle.std.specs.Prelude.{◌≡◌, ◌⊎◌, ℕ, Bool, true, false, ◌&&◌, ◌||◌, ◌==◌, ◌+◌, ◌-◌, not, List, [], ◌∷◌, ◌++◌, Option, None, Some, Result, Ok, Err, bytes_eq, drop, if◌then◌else◌, length, map, nat_eq, nat_le, nat_lt, option_map, position, slice_get, take, Vec}
+use Rattle.std.specs.Prelude.{◌≡◌, ◌⊎◌, ◌<◌, IfSome, is_some, ℕ, Bool, true, false, ◌&&◌, ◌||◌, ◌==◌, ◌+◌, ◌-◌, not, List, [], ◌∷◌, ◌++◌, Option, None, Some, Result, Ok, Err, bytes_eq, drop, if◌then◌else◌, length, map, nat_eq, nat_le, nat_lt, option_map, position, slice_get, take, Vec}
 use Rattle.std.specs.Borrow.{Bor}
 use Rattle.std.specs.List.{AllByRecursion, find, list_all, list_any, position_from, starts_with}
 use Rattle.std.specs.Option.{option_or, option_to_list}
@@ -9,6 +9,7 @@ use Rattle.ii_base.specs.Options.{has_positions}
 use Rattle.ii_base.specs.Paths.{has_zero, path_bytes, segments_of}
 use Rattle.ii_base.specs.Schema.{SchemaEntry}
 use Rattle.ii_base.specs.Terms.{TermState}
+use Rattle.ii_base.specs.ValueTypes.{code_of}
 use Rattle.ii_base.specs.Values.{flipped, number_of_bool, text_key, u64_bytes}
 use Rattle.ii_base.specs.Words.{Word}
 use Rattle.ii_base.specs.declared.schema.value_type.ValueType.{ValueType}
@@ -17,17 +18,23 @@ use Rattle.ii_json.specs.FastValues.{bool_in, fast_value_in, i64_in, u64_in}
 use Rattle.ii_definitions.specs.JsonKeys.{is_json}
 use Rattle.ii_definitions.specs.Tokens.{IndexToken}
 use Rattle.ii_query_grammar.specs.Parsed.{parsed}
-use Rattle.ii_query_grammar.specs.Trees.{Ast, Asts, Literal, all_of, and_asts, any_of, leaf, no_asts, without}
+use Rattle.ii_query_grammar.specs.Trees.{Ast, Asts, Bound, Literal, Range, all_of, and_asts, any_of, exclusive, inclusive, leaf, no_asts, ranged, unbounded, without}
 use Rattle.ii_query_grammar.specs.declared.parse_error.ParseError.{ParseError}
 use Rattle.ii_query_grammar.specs.declared.user_input_ast.Delimiter.{Delimiter}
 use Rattle.ii_query_grammar.specs.declared.user_input_ast.Delimiter.TheVariants as delimiters
 use Rattle.ii_query_grammar.specs.declared.query_grammar.TheConstants.{MAX_NESTING}
-use Rattle.ii_query_parser.specs.Queries.{has_fields, has_phrase, has_positions_in, is_token_of, keeps_positions, matches}
+use Rattle.ii_query_parser.specs.Queries.{has_fields, has_phrase, has_positions_in, is_token_between, is_token_of, keeps_positions, matches}
 use Rattle.ii_query_parser.specs.ParserErrors.{as_parser_error}
+use Rattle.ii_query_parser.specs.Ranges.{KeyRange, KeyRanges, key_bound, ranges_of}
 use Rattle.ii_query_parser.specs.declared.query.PhraseTerm.{PhraseTerm}
 use Rattle.ii_query_parser.specs.declared.query.Query.{Query}
 use Rattle.ii_query_parser.specs.declared.query_parser_error.QueryParserError.{QueryParserError}
 use Rattle.ii_query_parser.specs.declared.query_parser_error.QueryParserError.TheVariants as errors
+use Rattle.ii_query_parser.specs.declared.range_text.Integers.{Integers}
+use Rattle.ii_query_parser.specs.declared.range_text.Integers.TheVariants as integers
+use Rattle.ii_query_parser.specs.declared.range_text.TermRanges.{TermRanges}
+use Rattle.ii_query_parser.specs.declared.term_range.KeyBound.{KeyBound}
+use Rattle.ii_query_parser.specs.declared.term_range.TermRange.{TermRange}
 
 -- An analyzer and the fields of a schema, by which the words of a field are looked up.
 pub record TextFields : Type 0 where
@@ -175,6 +182,7 @@ needs_positions (errors.ExpectedInt field) = false
 needs_positions (errors.ExpectedBool field) = false
 needs_positions (errors.UnsupportedPhrase field) = false
 needs_positions (errors.UnsupportedPrefix field) = false
+needs_positions (errors.UnsupportedBound field) = false
 needs_positions (errors.UnsupportedPath field) = false
 needs_positions (errors.UnsupportedType field) = false
 needs_positions (errors.Fault fault) = false
@@ -245,6 +253,173 @@ delimited_terms entries (Ok terms) delimiters.Star = prefix_terms terms (no_pref
 abbrev pub terms_of : AnalyzedFields → Literal → Terms
 terms_of q l = delimited_terms q.texts.entries (literal_terms q.texts q.defaults l.field_name l.phrase) l.delimiter
 
+-- the key of a term that has to be alone
+abbrev pub alone_key : ℕ → PhraseState → Result (List ℕ) QueryParserError
+alone_key field p = if is_alone p then Ok p.first.value else Err (errors.UnsupportedBound field)
+
+-- the key of the only term of some
+abbrev pub only_key : ℕ → Terms → Result (List ℕ) QueryParserError
+only_key field (Err e) = Err e
+only_key field (Ok []) = Err (errors.UnsupportedBound field)
+only_key field (Ok (p ∷ [])) = alone_key field p
+only_key field (Ok (p ∷ o ∷ os)) = Err (errors.UnsupportedBound field)
+
+-- the key of the text of a bound in a field, by the type of its values: that of the text's only term; after a prefix in a field of JSON values
+abbrev pub text_bound_key : (List ℕ → List Word) → TermState → List ℕ → ValueType → Result (List ℕ) QueryParserError
+text_bound_key analyze prefix text type =
+    if is_json type then only_key prefix.field (text_terms prefix.field true None (words_phrase prefix (analyze text)))
+    else only_key prefix.field (typed_terms (record { analyze = analyze; entries = [] }) prefix.field true false [] text type)
+
+-- a bound of keys by the key of its text
+abbrev pub inclusive_bound : Result (List ℕ) QueryParserError → Result Bound QueryParserError
+inclusive_bound (Err e) = Err e
+inclusive_bound (Ok key) = Ok (inclusive key)
+
+abbrev pub exclusive_bound : Result (List ℕ) QueryParserError → Result Bound QueryParserError
+exclusive_bound (Err e) = Err e
+exclusive_bound (Ok key) = Ok (exclusive key)
+
+-- the bound of keys of a bound
+abbrev pub bound_keys : (List ℕ → List Word) → TermState → ValueType → Bound → Result Bound QueryParserError
+bound_keys analyze prefix type unbounded = Ok unbounded
+bound_keys analyze prefix type (inclusive text) = inclusive_bound (text_bound_key analyze prefix text type)
+bound_keys analyze prefix type (exclusive text) = exclusive_bound (text_bound_key analyze prefix text type)
+
+-- what the keys of a field start with: those of a path, if there is one
+abbrev pub keys_start : ℕ → Bool → Option (List ℕ) → Result TermState QueryParserError
+keys_start field expand_dots None = Ok (record { field = field; value = [] })
+keys_start field expand_dots (Some path) = if has_zero path then Err (errors.UnsupportedPath field) else Ok (record { field = field; value = path_key expand_dots path })
+
+-- a range of keys, or the first error of its bounds
+abbrev pub keys_between : TermState → Result Bound QueryParserError → Result Bound QueryParserError → Result KeyRanges QueryParserError
+keys_between prefix (Err e) upper = Err e
+keys_between prefix (Ok lower) (Err e) = Err e
+keys_between prefix (Ok lower) (Ok upper) = Ok (record { first = Some (record { prefix = prefix; lower = lower; upper = upper }); other = None })
+
+-- the keys of a range of values of a type, each after a prefix
+abbrev pub value_keys : (List ℕ → List Word) → TermState → ValueType → Range → Result KeyRanges QueryParserError
+value_keys analyze prefix type r = keys_between prefix (bound_keys analyze prefix type r.lower) (bound_keys analyze prefix type r.upper)
+
+-- the number that a text denotes, as it is in a key
+abbrev pub integer_in : Integers → List ℕ → Option ℕ
+integer_in integers.Signed text = option_map flipped (i64_in text)
+integer_in integers.Unsigned text = u64_in text
+
+-- the type of integers
+abbrev pub integer_type : Integers → ValueType
+integer_type integers.Signed = types.I64
+integer_type integers.Unsigned = types.U64
+
+-- what a lower bound is where its number is not of the type: no key is above all signed numbers, and each is above a negative one
+abbrev pub lower_beyond : Integers → Option Bound
+lower_beyond integers.Signed = None
+lower_beyond integers.Unsigned = Some unbounded
+
+-- what an upper bound is then
+abbrev pub upper_beyond : Integers → Option Bound
+upper_beyond integers.Signed = Some unbounded
+upper_beyond integers.Unsigned = None
+
+-- the bound of keys of a bound that is a number
+abbrev pub integer_bound : Integers → List ℕ → Option Bound → Bound → Option Bound
+integer_bound integers prefix beyond unbounded = Some unbounded
+integer_bound integers prefix beyond (inclusive text) = option_or (option_map (λ n. inclusive (prefix ++ u64_bytes n)) (integer_in integers text)) beyond
+integer_bound integers prefix beyond (exclusive text) = option_or (option_map (λ n. exclusive (prefix ++ u64_bytes n)) (integer_in integers text)) beyond
+
+-- a range of keys, if there are both bounds
+abbrev pub keys_if : TermState → Option Bound → Option Bound → Option KeyRange
+keys_if prefix None upper = None
+keys_if prefix (Some lower) None = None
+keys_if prefix (Some lower) (Some upper) = Some (record { prefix = prefix; lower = lower; upper = upper })
+
+-- the keys of a range of integers of a type, after what they start with
+abbrev pub integer_keys : TermState → Range → Integers → Option KeyRange
+integer_keys start r integers =
+    let prefix = start.value ++ code_of (integer_type integers) ∷ [] in
+    keys_if (record { field = start.field; value = prefix }) (integer_bound integers prefix (lower_beyond integers) r.lower) (integer_bound integers prefix (upper_beyond integers) r.upper)
+
+-- whether a text denotes an integer
+abbrev pub is_integer : List ℕ → Bool
+is_integer text = is_some (i64_in text) || is_some (u64_in text)
+
+-- whether a bound is a number, or there is none
+abbrev pub bounds_integers : Bound → Bool
+bounds_integers unbounded = true
+bounds_integers (inclusive text) = is_integer text
+bounds_integers (exclusive text) = is_integer text
+
+-- whether there is no bound
+abbrev pub is_unbounded : Bound → Bool
+is_unbounded unbounded = true
+is_unbounded (inclusive text) = false
+is_unbounded (exclusive text) = false
+
+-- the keys of a range at a path of JSON values: of integers, if each bound is one, otherwise of words
+abbrev pub json_keys : (List ℕ → List Word) → Range → Result TermState QueryParserError → Result KeyRanges QueryParserError
+json_keys analyze r (Err e) = Err e
+json_keys analyze r (Ok start) =
+    if bounds_integers r.lower && bounds_integers r.upper then Ok (record { first = integer_keys start r integers.Signed; other = integer_keys start r integers.Unsigned })
+    else value_keys analyze (record { field = start.field; value = start.value ++ text_key [] }) types.Json r
+
+-- the keys of a range of values, each after what it starts with
+abbrev pub plain_keys : (List ℕ → List Word) → ValueType → Range → Result TermState QueryParserError → Result KeyRanges QueryParserError
+plain_keys analyze type r (Err e) = Err e
+plain_keys analyze type r (Ok start) = value_keys analyze start type r
+
+-- the path of a name, which is empty if the name has none
+abbrev pub path_or_empty : Option (List ℕ) → List ℕ
+path_or_empty None = []
+path_or_empty (Some path) = path
+
+-- the keys of a range in a field that is indexed; bounds in a field of JSON values are at a path
+abbrev pub typed_keys : (List ℕ → List Word) → ℕ → Bool → Option (List ℕ) → Range → ValueType → Result KeyRanges QueryParserError
+typed_keys analyze field expand_dots path r type =
+    if is_json type && not (is_unbounded r.lower && is_unbounded r.upper) then json_keys analyze r (keys_start field expand_dots (Some (path_or_empty path)))
+    else plain_keys analyze type r (keys_start field expand_dots path)
+
+-- the keys of a range in an entry of the schema, if it is indexed, at a path if there is one
+abbrev pub entry_keys : (List ℕ → List Word) → ℕ → Option (List ℕ) → Range → Option SchemaEntry → Result KeyRanges QueryParserError
+entry_keys analyze field path r None = Err errors.FieldDoesNotExist
+entry_keys analyze field path r (Some e) = if e.is_indexed then typed_keys analyze field e.expands_dots path r e.value_type else Err (errors.FieldNotIndexed field)
+
+-- the keys of a range in a field of the schema
+abbrev pub keys_in_field : FieldTexts → ℕ → Option (List ℕ) → Range → Result KeyRanges QueryParserError
+keys_in_field q field path r = entry_keys (q.analyze field) field path r (slice_get q.entries field)
+
+-- the keys of a range at a path in a field of JSON values
+abbrev pub keys_at_path : FieldTexts → List ℕ → Range → Option ℕ → Result KeyRanges QueryParserError
+keys_at_path q path r None = Err errors.FieldDoesNotExist
+keys_at_path q path r (Some field) = if has_json_values (slice_get q.entries field) then keys_in_field q field (Some path) r else Err errors.FieldDoesNotExist
+
+-- the keys of a range after a name that is cut at its first dot, if it has one
+abbrev pub dotted_keys : FieldTexts → Range → Option ℕ → Result KeyRanges QueryParserError
+dotted_keys q r None = Err errors.FieldDoesNotExist
+dotted_keys q r (Some i) = keys_at_path q (drop (i + 1) r.field_name) r (field_named q.entries (take i r.field_name))
+
+-- the keys of a range after a name: that of a field, or that of one of JSON values and a path after a dot
+abbrev pub named_keys : FieldTexts → Range → Option ℕ → Result KeyRanges QueryParserError
+named_keys q r (Some field) = keys_in_field q field None r
+named_keys q r None = dotted_keys q r (position (λ b. b == 46) r.field_name)
+
+-- the keys of a range of a tree
+abbrev pub range_keys : FieldTexts → Range → Result KeyRanges QueryParserError
+range_keys q r = named_keys q r (field_named q.entries r.field_name)
+
+-- whether a document has a term with a key in a range, if there is one
+abbrev pub has_between : List IndexToken → ℕ → Option KeyRange → Bool
+has_between ts doc None = false
+has_between ts doc (Some keys) = list_any (is_token_between keys doc) ts
+
+-- whether a document has a term with a key in one of the ranges
+abbrev pub has_keys : List IndexToken → ℕ → Result KeyRanges QueryParserError → Bool
+has_keys ts doc (Err e) = false
+has_keys ts doc (Ok keys) = has_between ts doc keys.first || has_between ts doc keys.other
+
+-- the error of a range, if it has one
+abbrev pub range_refusal : Result KeyRanges QueryParserError → Option QueryParserError
+range_refusal (Err e) = Some e
+range_refusal (Ok keys) = None
+
 -- whether a document has a term, or the phrase where others follow it
 abbrev pub has_words : List IndexToken → ℕ → TermState → List PhraseTerm → Bool
 has_words ts doc first [] = list_any (is_token_of first doc) ts
@@ -278,6 +453,7 @@ are_some (and_asts t ts) = true
 abbrev mutual
   pub ast_matches : AnalyzedFields → Ast → List IndexToken → ℕ → Bool
   ast_matches q (leaf l) ts doc = has_one l.delimiter ts doc (terms_of q l)
+  ast_matches q (ranged r) ts doc = has_keys ts doc (range_keys q.texts r)
   ast_matches q (all_of us) ts doc = are_some us && all_match q us ts doc
   ast_matches q (any_of us) ts doc = any_matches q us ts doc
   ast_matches q (without first other) ts doc = ast_matches q first ts doc && not (ast_matches q other ts doc)
@@ -295,10 +471,11 @@ abbrev pub refused : Terms → Option QueryParserError
 refused (Err e) = Some e
 refused (Ok terms) = None
 
--- the error of a tree: that of its first word or phrase that has one
+-- the error of a tree: that of its first word, phrase or range that has one
 abbrev mutual
   pub ast_refusal : AnalyzedFields → Ast → Option QueryParserError
   ast_refusal q (leaf l) = refused (terms_of q l)
+  ast_refusal q (ranged r) = range_refusal (range_keys q.texts r)
   ast_refusal q (all_of us) = asts_refusal q us
   ast_refusal q (any_of us) = asts_refusal q us
   ast_refusal q (without first other) = option_or (ast_refusal q first) (ast_refusal q other)
@@ -423,6 +600,34 @@ abbrev pub CutsAtDot : List ℕ → Option (Bor (List ℕ) × Bor (List ℕ)) �
 CutsAtDot name None = position (λ b. b == 46) name ≡ None
 CutsAtDot name (Some parts) = (i : ℕ) × (position (λ b. b == 46) name ≡ Some i) × (parts.0.now ≡ take i name) × (parts.1.now ≡ drop (i + 1) name)
 
+-- These are the bytes of a key, or it has this error, or an allocation failed.
+abbrev pub IsKey : Result (List ℕ) QueryParserError → Result (Vec ℕ Global) QueryParserError → Type 0
+IsKey key (Ok bytes) = key ≡ Ok bytes.items
+IsKey key (Err e) = (e ≡ errors.Fault OutOfMemory) ⊎ (key ≡ Err e)
+
+-- This is what keys start with, or it has this error, or an allocation failed.
+abbrev pub IsStart : Result TermState QueryParserError → Result TermState QueryParserError → Type 0
+IsStart start (Ok prefix) = start ≡ Ok prefix
+IsStart start (Err e) = (e ≡ errors.Fault OutOfMemory) ⊎ (start ≡ Err e)
+
+-- This is a bound of keys, or it has this error, or an allocation failed.
+abbrev pub IsBound : Result Bound QueryParserError → Result KeyBound QueryParserError → Type 0
+IsBound bound (Ok keys) = bound ≡ Ok (key_bound keys)
+IsBound bound (Err e) = (e ≡ errors.Fault OutOfMemory) ⊎ (bound ≡ Err e)
+
+-- These are the ranges of keys, or they have this error, or an allocation failed.
+abbrev pub AreRangesOf : Result KeyRanges QueryParserError → Result TermRanges QueryParserError → Type 0
+AreRangesOf keys (Ok ranges) = keys ≡ Ok (ranges_of ranges)
+AreRangesOf keys (Err e) = (e ≡ errors.Fault OutOfMemory) ⊎ (keys ≡ Err e)
+
+-- The terms of a range are of one of the first n fields, if there is a range.
+abbrev pub IsInside : ℕ → Option TermRange → Type 0
+IsInside n range = IfSome range (λ r. r.prefix.field < n)
+
+-- The terms of ranges are of the first n fields.
+abbrev pub AreInside : ℕ → TermRanges → Type 0
+AreInside n ranges = IsInside n ranges.first × IsInside n ranges.other
+
 -- Queries mean what trees do, one by one.
 abbrev pub MeanEach : AnalyzedFields → Asts → List Query → Type 0
 MeanEach q no_asts [] = Unit {0}
@@ -460,7 +665,7 @@ abbrev pub names_field : List SchemaEntry → List ℕ → Option ℕ → Bool
 names_field entries name (Some field) = true
 names_field entries name None = names_path entries name (position (λ b. b == 46) name)
 
--- the name of a literal that is neither
+-- the name of a literal or a range that is neither
 abbrev pub unknown_name : List SchemaEntry → Option (List ℕ) → Option (List ℕ)
 unknown_name entries None = None
 unknown_name entries (Some name) = if names_field entries name (field_named entries name) then None else Some name
@@ -469,6 +674,7 @@ unknown_name entries (Some name) = if names_field entries name (field_named entr
 abbrev mutual
   pub unknown_in : List SchemaEntry → Ast → Option (List ℕ)
   unknown_in entries (leaf l) = unknown_name entries l.field_name
+  unknown_in entries (ranged r) = unknown_name entries (Some r.field_name)
   unknown_in entries (all_of us) = unknown_among entries us
   unknown_in entries (any_of us) = unknown_among entries us
   unknown_in entries (without first other) = option_or (unknown_in entries first) (unknown_in entries other)

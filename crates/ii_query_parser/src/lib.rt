@@ -1,17 +1,19 @@
 //! Queries over the fields of a schema, and the parser of query texts.
 #![tactic(auto)]
 
+pub mod laws;
 pub mod literal;
 mod phrase_words;
 pub mod query;
 pub mod query_parser;
 pub mod query_parser_error;
+mod range_text;
 pub mod term_range;
 mod unknown_field;
 
 pub use ii_query_grammar::{
-    Delimiter, Expected, Feature, MAX_NESTING, ParseError, UserInputAst, UserInputLiteral,
-    can_name, parse, spell_name,
+    Delimiter, Expected, Feature, MAX_NESTING, ParseError, UserInputAst, UserInputBound,
+    UserInputLiteral, UserInputRange, can_name, parse, spell_name,
 };
 pub use literal::field_named;
 pub use query::{PhraseTerm, Query};

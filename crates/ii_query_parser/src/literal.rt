@@ -272,16 +272,16 @@ fn push_in_field<A: TextAnalyzer>(
 
 // A field in which a text is looked up.
 #[derive(Clone, Copy)]
-struct Place {
-    field: Field,
-    value_type: ValueType,
-    option: IndexRecordOption,
-    expand_dots: bool,
+pub(crate) struct Place {
+    pub(crate) field: Field,
+    pub(crate) value_type: ValueType,
+    pub(crate) option: IndexRecordOption,
+    pub(crate) expand_dots: bool,
 }
 
 impl Place {
     // Adds the terms of a text, by the type of the field's values.
-    fn push_terms<A: TextAnalyzer>(
+    pub(crate) fn push_terms<A: TextAnalyzer>(
         self,
         alloc: Global,
         analyzer: &A,
@@ -356,7 +356,7 @@ impl Place {
 
     // Adds the terms that a text is looked up by: that of a value, and the text's words. There has to be one
     // of them.
-    fn push_words(
+    pub(crate) fn push_words(
         self,
         alloc: Global,
         value: Option<Term>,

@@ -57,6 +57,13 @@ impl PhraseWords {
         self.first.field()
     }
 
+    // The bytes of its first term.
+    pub(crate) fn key(&self) -> &[u8]
+        ensures { result.now ≡ self.now.first.value }
+    {
+        self.first.serialized_value_bytes()
+    }
+
     // Its first term, and the others.
     pub(crate) fn into_terms(self) -> (Term, Vec<PhraseTerm>)
         ensures first { result.0 ≡ self.first }

@@ -1,18 +1,22 @@
-ghost use Rattle.std.specs.Prelude.{◌≡◌, ℕ, List, IfOk, OnOk, map, true};
+ghost use Rattle.std.specs.Prelude.{◌≡◌, ℕ, List, IfOk, Ok, OnOk, map, true};
+ghost use Rattle.std.specs.Option.{option_map};
 ghost use Rattle.std.specs.List.{list_all, list_any};
 ghost use Rattle.ii_io.specs.Faults.{OnlyMemory};
 ghost use Rattle.ii_base.specs.Schema.{SchemaEntry};
 ghost use Rattle.ii_definitions.specs.Tokens.{IndexToken};
-ghost use Rattle.ii_query_grammar.specs.Trees.{Ast, Asts, all_of, any_of, ast_of, asts_from, leaf, literal_of, without};
+ghost use Rattle.ii_query_grammar.specs.Trees.{Ast, Asts, all_of, any_of, ast_of, asts_from, leaf, literal_of, range_of, ranged, without};
 ghost use Rattle.ii_query_parser.specs.Queries.{has_fields, keeps_positions, matches};
-ghost use Rattle.ii_query_parser.specs.QueryTexts.{AnalyzedFields, AreAlone, AreQueriesOf, HasPushed, IsQueryBy, IsQueryOf, IsQueryOfText, IsQueryOfTextBy, has_delimited, has_term, has_words, is_alone, is_token_under, phrase_kept, phrase_within};
+ghost use Rattle.ii_query_parser.specs.Ranges.{keys_of, ranges_of};
+ghost use Rattle.ii_query_parser.specs.QueryTexts.{AnalyzedFields, AreAlone, AreQueriesOf, HasPushed, IsQueryBy, IsQueryOf, AreInside, IsInside, IsQueryOfText, IsQueryOfTextBy, has_between, has_delimited, has_keys, has_term, has_words, is_alone, is_token_under, phrase_kept, phrase_within};
 
 use crate::literal::push_literal;
 use crate::phrase_words::PhraseWords;
 use crate::query::Query;
 use crate::query_parser_error::QueryParserError;
+use crate::range_text::{TermRanges, range_keys};
+use crate::term_range::TermRange;
 use ii_base::{Fault, Field, Schema, TextAnalyzer};
-use ii_query_grammar::{Delimiter, UserInputAst, UserInputLiteral, parse};
+use ii_query_grammar::{Delimiter, UserInputAst, UserInputLiteral, UserInputRange, parse};
 use ii_tokenizers::{FieldAnalyzers, OneAnalyzer};
 use std::alloc::Global;
 
@@ -25,7 +29,7 @@ use std::alloc::Global;
 /// # Errors
 ///
 /// `SyntaxError` or `Unsupported` with the first byte at which the text is not a query; otherwise the error
-/// of the first word or phrase that has one.
+/// of the first word, phrase or range that has one.
 pub fn parse_query<A: TextAnalyzer>(
     alloc: Global,
     schema: &Schema,
@@ -70,7 +74,7 @@ pub fn query_of<A: TextAnalyzer>(
     query_of_by(alloc, schema, default_fields, &analyzers, ast)
 }
 
-/// Returns the query of a tree. Its words and phrases mean this:
+/// Returns the query of a tree. Its words, phrases and ranges mean this:
 ///
 /// - A name is that of a field of the schema, or that of a JSON field, a dot and a path in its values. In
 ///   that case the field's name ends at the first dot. `FieldDoesNotExist` if it is neither.
@@ -82,10 +86,16 @@ pub fn query_of<A: TextAnalyzer>(
 ///   `ExpectedBool` if there is none.
 /// - At a JSON path, a text matches as a token or phrase, as in a text field, or as a value: a signed number,
 ///   an unsigned one or a boolean. `UnsupportedPhrase` if it is neither.
+/// - A range matches the documents that have a value of the field, or at the JSON path, between its bounds:
+///   numbers in their order, `false` before `true`, tokens in the order of their bytes. No document has one between
+///   bounds in the wrong order. A bound is a value as above; in a text field, a text of which the field's analyzer
+///   makes one token, otherwise `UnsupportedBound`. At a JSON path, bounds that are all integers are between
+///   integers; other bounds are between the tokens of texts.
+/// - `UnsupportedType` for a text or a bound in a field of dates, bytes or addresses.
 ///
 /// # Errors
 ///
-/// The error of the first word or phrase that has one, or `OutOfMemory` in a `Fault`.
+/// The error of the first word, phrase or range that has one, or `OutOfMemory` in a `Fault`.
 #[cycle(query_of_by)]
 pub fn query_of_by<F: FieldAnalyzers>(
     alloc: Global,
@@ -99,6 +109,9 @@ pub fn query_of_by<F: FieldAnalyzers>(
     match ast {
         UserInputAst::Leaf(literal) => {
             literal_query(alloc, schema, default_fields, analyzers, literal)
+        }
+        UserInputAst::Range(range) => {
+            range_query(alloc, schema, default_fields, analyzers, range)
         }
         UserInputAst::And(parts) => {
             and_query(queries_of(alloc, schema, default_fields, analyzers, parts))
@@ -191,6 +204,49 @@ fn literal_query<F: FieldAnalyzers>(
     ) {
         Ok(()) => Ok(any_of(alloc, terms, literal.delimiter)?),
         Err(error) => Err(error),
+    }
+}
+
+// The query of a range.
+fn range_query<F: FieldAnalyzers>(
+    alloc: Global,
+    schema: &Schema,
+    default_fields: &[Field],
+    analyzers: &F,
+    range: &UserInputRange,
+) -> Result<Query, QueryParserError>
+    ensures { IsQueryBy (record { texts = record { analyze = F.words analyzers.now; entries = schema.now }; defaults = default_fields.now }) (ranged (range_of range.now)) result }
+{
+    match range_keys(alloc, schema, analyzers, range) {
+        Ok(ranges) => Ok(ranges_query(alloc, ranges)?),
+        Err(error) => Err(error),
+    }
+}
+
+// The query that matches what has a term in one of the ranges.
+fn ranges_query(alloc: Global, ranges: TermRanges) -> Result<Query, Fault>
+    ensures matches { IfOk result (λ query. (ts : List IndexToken) (doc : ℕ) → matches query ts doc ≡ has_keys ts doc (Ok (ranges_of ranges))) }
+    ensures fields { (n : ℕ) → AreInside n ranges → IfOk result (λ query. has_fields n query ≡ true) }
+    ensures positions { IfOk result (λ query. (entries : List SchemaEntry) → keeps_positions entries query ≡ true) }
+    ensures only { OnlyMemory result }
+{
+    let TermRanges { first, other } = ranges;
+    let first = range_or_none(first);
+    let Some(other) = other else {
+        return Ok(first);
+    };
+    Query::or(alloc, first, Query::range(other))
+}
+
+// The query that matches what has a term in a range, if there is one.
+fn range_or_none(range: Option<TermRange>) -> Query
+    ensures matches { (ts : List IndexToken) (doc : ℕ) → matches result ts doc ≡ has_between ts doc (option_map keys_of range) }
+    ensures fields { (n : ℕ) → IsInside n range → has_fields n result ≡ true }
+    ensures positions { (entries : List SchemaEntry) → keeps_positions entries result ≡ true }
+{
+    match range {
+        Some(range) => Query::range(range),
+        None => Query::Empty,
     }
 }
 

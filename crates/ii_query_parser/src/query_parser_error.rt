@@ -39,10 +39,13 @@ pub enum QueryParserError {
     /// A prefix that is not one word, or in a field without texts.
     #[error("a prefix must be the start of one word, in a field of texts")]
     UnsupportedPrefix(Field),
+    /// A bound of a range that is not one word, in a field of texts or of JSON values.
+    #[error("a bound of a range must be one word")]
+    UnsupportedBound(Field),
     /// A path that contains byte 0.
     #[error("a path with byte 0 is not supported")]
     UnsupportedPath(Field),
-    /// A field of dates, bytes or addresses.
+    /// A text to search for, or a bound of a range, in a field of dates, bytes or addresses.
     #[error("queries of dates, bytes and addresses are not supported")]
     UnsupportedType(Field),
     /// An allocation failed.
@@ -65,6 +68,7 @@ impl QueryParserError {
             | QueryParserError::UnsupportedPhrase(field)
             | QueryParserError::FieldDoesNotHavePositionsIndexed(field)
             | QueryParserError::UnsupportedPrefix(field)
+            | QueryParserError::UnsupportedBound(field)
             | QueryParserError::UnsupportedPath(field)
             | QueryParserError::UnsupportedType(field) => Some(field),
             QueryParserError::SyntaxError(..)

@@ -1,5 +1,5 @@
 ghost use Rattle.std.specs.Prelude.{◌≡◌};
-ghost use Rattle.ii_query_parser.specs.Ranges.{in_range, is_from, is_less, is_up_to};
+ghost use Rattle.ii_query_parser.specs.Ranges.{in_range, is_from, is_less, is_up_to, key_bound};
 
 use ii_base::Term;
 use std::cmp::Ordering;
@@ -53,7 +53,7 @@ impl TermRange {
 
 // Returns whether a lower bound lets a key in.
 fn is_from(bound: &KeyBound, key: &[u8]) -> bool
-    ensures { result ≡ is_from bound.now key.now }
+    ensures { result ≡ is_from (key_bound bound.now) key.now }
 {
     match bound {
         KeyBound::Unbounded => true,
@@ -64,7 +64,7 @@ fn is_from(bound: &KeyBound, key: &[u8]) -> bool
 
 // Returns whether an upper bound lets a key in.
 fn is_up_to(bound: &KeyBound, key: &[u8]) -> bool
-    ensures { result ≡ is_up_to bound.now key.now }
+    ensures { result ≡ is_up_to (key_bound bound.now) key.now }
 {
     match bound {
         KeyBound::Unbounded => true,

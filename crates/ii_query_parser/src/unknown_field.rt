@@ -1,4 +1,4 @@
-ghost use Rattle.std.specs.Prelude.{◌≡◌, map};
+ghost use Rattle.std.specs.Prelude.{◌≡◌, Some, map};
 ghost use Rattle.std.specs.Option.{option_copied};
 ghost use Rattle.ii_query_grammar.specs.Trees.{ast_of, asts_from, literal_of};
 ghost use Rattle.ii_query_parser.specs.QueryTexts.{field_named, names_field, unknown_among, unknown_in, unknown_name};
@@ -15,6 +15,7 @@ pub fn unknown_field_name<'a>(schema: &Schema, ast: &'a UserInputAst) -> Option<
 {
     match ast {
         UserInputAst::Leaf(literal) => unknown_name(schema, literal),
+        UserInputAst::Range(range) => unless_named(schema, range.field_name.as_str()),
         UserInputAst::And(parts) => unknown_among(schema, parts),
         UserInputAst::Or(parts) => unknown_among(schema, parts),
         UserInputAst::AndNot(first, other) => match unknown_field_name(schema, first) {
@@ -43,13 +44,18 @@ fn unknown_name<'a>(schema: &Schema, literal: &'a UserInputLiteral) -> Option<&'
 {
     match &literal.field_name {
         None => None,
-        Some(name) => {
-            if names_field(schema, name.as_str()) {
-                return None;
-            }
-            Some(name.as_str())
-        }
+        Some(name) => unless_named(schema, name.as_str()),
     }
+}
+
+// A name, unless it is that of a field, or of one of JSON values and a path after a dot.
+fn unless_named<'a>(schema: &Schema, name: &'a str) -> Option<&'a str>
+    ensures { option_copied result ≡ unknown_name schema.now (Some name.now) }
+{
+    if names_field(schema, name) {
+        return None;
+    }
+    Some(name)
 }
 
 // Whether a name is that of a field, or of one of JSON values and a path after a dot.

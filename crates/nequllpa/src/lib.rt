@@ -37,8 +37,8 @@ pub use ii_reader::{BlockSegmentPostings, FreqReadingOption, LoadedPostings, Seg
 // how an index is searched
 pub use ii_query_parser::{
     Delimiter, Expected, Feature, KeyBound, MAX_NESTING, ParseError, PhraseTerm, Query,
-    QueryParserError, TermRange, UserInputAst, UserInputLiteral, can_name, parse, parse_query,
-    query_of, spell_name, unknown_field_name,
+    QueryParserError, TermRange, UserInputAst, UserInputBound, UserInputLiteral, UserInputRange,
+    can_name, parse, parse_query, query_of, spell_name, unknown_field_name,
 };
 pub use ii_search::{QueryCursor, TermOrPhrase, count, search, top_by_count};
 

@@ -107,6 +107,7 @@ fn has_default_phrase(
             }
             has_words(alloc, analyzer, literal.phrase.as_str())
         }
+        UserInputAst::Range(_) => Ok(false),
         UserInputAst::And(parts) => have_default_phrase(alloc, analyzer, parts),
         UserInputAst::Or(parts) => have_default_phrase(alloc, analyzer, parts),
         UserInputAst::AndNot(first, other) => {

@@ -14,10 +14,35 @@ fn read(alloc: Global, text: &str) -> Result<String, Fault> {
     }
 }
 
-static TREES: [(&str, &str); 14] = [
+static TREES: [(&str, &str); 24] = [
     ("a NOT b", "a AND -b"),
     ("new\\ york", "new\\ york"),
-    ("se* AND (a title:*)", "se* AND (a OR title:*)"),
+    ("se* AND (a title:*)", "se* AND (a OR title:[* TO *])"),
+    (
+        "year:[1 TO {]",
+        "at byte 11: expected a bound: a word, a text in quotes, or * within brackets",
+    ),
+    ("year:{1 TO \"a ]\"]", "year:{\"1\" TO \"a ]\"]"),
+    ("a year:>=-5 b", "a OR year:[\"-5\" TO *] OR b"),
+    ("year:<\\*", "year:[* TO \"*\"}"),
+    ("-year:>1 b", "b AND -year:{\"1\" TO *]"),
+    (
+        "year:[1 TO 2",
+        "at byte 12: expected ] or } after the bounds of a range",
+    ),
+    (
+        "year:[1 2]",
+        "at byte 8: expected the word TO between two bounds, as in year:[1 TO 2]",
+    ),
+    (
+        "[1 TO 2]",
+        "at byte 0: a range needs the name of a field before it, as in year:[1 TO 2]; put the word in quotes to search for it as it is",
+    ),
+    (
+        "a <=2",
+        "at byte 2: a comparison needs the name of a field before it, as in year:>7; put the word in quotes to search for it as it is",
+    ),
+    ("year:[\"1 TO 2]", "at byte 14: expected a closing quote"),
     (
         "s*a",
         "at byte 1: wildcards (s*a, s?a) are not supported, but for a * that ends a word; put the word in quotes to search for it as it is",
@@ -74,6 +99,12 @@ fn refused_texts_are_told(rt: HostRuntime) -> Result<(), Fail> {
         ("field:red", "it is one"),
         ("color:red", "no field has this name"),
         ("field:.", "expected a text with words"),
+        ("field:[a TO b]", "it is one"),
+        (
+            "field:[a TO \"b c\"]",
+            "a bound of a range must be one word",
+        ),
+        ("color:>1", "no field has this name"),
         (
             "a )",
             "at byte 2: expected the end of the query: this parenthesis closes none",
