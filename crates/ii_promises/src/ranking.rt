@@ -1,9 +1,26 @@
 // The best documents of a query.
-ghost use Rattle.std.specs.Prelude.{◌≡◌, ◌<◌, ◌≤◌, ℕ, IfErr, IfOk, get_or, length, true};
-ghost use Rattle.ii_query_parser.specs.Queries.{has_fields};
+ghost use Rattle.std.specs.Prelude.{◌≡◌, ◌<◌, ◌≤◌, ◌⊎◌, ◌&&◌, ◌==◌, ◌∷◌, ℕ, [], IfErr, IfOk, None, Some, bytes_eq, count_by, filter, get_or, length, map, min, true};
+ghost use Rattle.std.specs.List.{All, Contains, range_with_len};
+ghost use Rattle.ii_base.specs.Options.{has_freq};
+ghost use Rattle.ii_base.specs.declared.schema.value_type.ValueType.TheVariants.{Str};
+ghost use Rattle.ii_bm25.specs.Bm25.{bm25_score, bm25_weight};
+ghost use Rattle.ii_bm25.specs.Statistics.{idfs_of};
+ghost use Rattle.ii_definitions.specs.Fields.{option_of};
+ghost use Rattle.ii_definitions.specs.IndexCalls.{MayAllBeIndexed, call_of};
+ghost use Rattle.ii_definitions.specs.Norms.{has_norms};
+ghost use Rattle.ii_definitions.specs.Tokens.{IndexToken, tokens_of};
+ghost use Rattle.ii_fieldnorm.specs.Norms.{id_of_norm};
+ghost use Rattle.ii_indexing.specs.RamFiles.{IsRamFault};
+ghost use Rattle.ii_indexing.specs.Refusals.{calls_fault};
+ghost use Rattle.ii_query_parser.specs.Queries.{has_fields, keeps_positions, matches};
+ghost use Rattle.ii_ranking.specs.Statistics.{statistics_of};
+ghost use Rattle.ii_ranking.specs.TokenScores.{token_score};
+ghost use Rattle.ii_segments.specs.Segments.{type_of_field};
 
 use ii_ranking::{GatheredStatistics, Score, TopDocs, search};
-use nequllpa::{DocId, Fault, OpenIndex, Query};
+use nequllpa::{
+    DocId, Fault, IndexCall, OpenIndex, Query, Schema, Term, TextAnalyzer, index_in_ram,
+};
 use std::alloc::Global;
 
 /// A search returns at most as many documents as are wanted, and those with the greatest scores come first: no
@@ -24,4 +41,67 @@ pub fn the_best_come_first(
 {
     let docs = TopDocs::with_limit(limit);
     search(alloc, index, num_docs, statistics, query, &docs)
+}
+
+/// For any index calls, the best documents of a query are those of the tokens: each is returned with the score that
+/// the tokens alone give; as many are returned as match, but at most `limit`; and no document that isn't returned has
+/// a greater score than one that is. This fails only for the reasons for which indexing fails.
+pub fn the_best_score_by_their_tokens<A: TextAnalyzer>(
+    alloc: Global,
+    schema: Schema,
+    num_docs: DocId,
+    calls: Vec<IndexCall>,
+    analyzer: &A,
+    statistics: &GatheredStatistics,
+    query: &Query,
+    limit: usize,
+) -> Result<Vec<(Score, DocId)>, Fault>
+    requires docs { num_docs ≤ 2147483647 }
+    requires calls { MayAllBeIndexed schema num_docs calls.items }
+    requires fields { has_fields (length schema) query.now ≡ true }
+    requires positions { keeps_positions schema query.now ≡ true }
+    ensures scores { IfOk result (λ best. All (λ (b : ℕ × ℕ). (b.1 < num_docs)
+        × (token_score schema (tokens_of (A.words analyzer.now) (map (call_of schema) calls.items)) (statistics_of statistics.now) query.now b.1 ≡ Some b.0)) best.items) }
+    ensures many { IfOk result (λ best. length best.items ≡ min limit (length (filter (matches query.now (tokens_of (A.words analyzer.now) (map (call_of schema) calls.items))) (range_with_len 0 num_docs)))) }
+    ensures greatest { IfOk result (λ best. (doc score : ℕ) → doc < num_docs
+        → token_score schema (tokens_of (A.words analyzer.now) (map (call_of schema) calls.items)) (statistics_of statistics.now) query.now doc ≡ Some score
+        → Contains best.items (score, doc) ⊎ All (λ (b : ℕ × ℕ). score ≤ b.0) best.items) }
+    ensures fault { calls_fault (A.words analyzer.now) (option_of schema) [] (map (call_of schema) calls.items) ≡ None
+        → IfErr result (λ e. (e ≡ Fault.OutOfMemory) ⊎ IsRamFault schema num_docs (tokens_of (A.words analyzer.now) (map (call_of schema) calls.items)) e) }
+{
+    let docs = TopDocs::with_limit(limit);
+    match index_in_ram(alloc, schema, num_docs, calls, analyzer) {
+        Ok(index) => search(alloc, &index, num_docs, statistics, query, &docs),
+        Err(fault) => Err(fault),
+    }
+}
+
+/// A word's score in a document is BM25 of how often the document has the word, and of its number of tokens in the
+/// field. The field is one of texts, with counts and norms.
+pub fn a_word_scores_by_its_count<A: TextAnalyzer>(
+    alloc: Global,
+    schema: Schema,
+    num_docs: DocId,
+    calls: Vec<IndexCall>,
+    analyzer: &A,
+    statistics: &GatheredStatistics,
+    word: Term,
+    limit: usize,
+) -> Result<Vec<(Score, DocId)>, Fault>
+    requires docs { num_docs ≤ 2147483647 }
+    requires calls { MayAllBeIndexed schema num_docs calls.items }
+    requires field { word.field < length schema }
+    requires texts { type_of_field schema word.field ≡ Str }
+    requires counts { has_freq (option_of schema word.field) ≡ true }
+    requires norms { has_norms schema word.field ≡ true }
+    ensures scores { IfOk result (λ best. All (λ (b : ℕ × ℕ). b.0 ≡ bm25_score (bm25_weight (idfs_of (statistics_of statistics.now) (word ∷ [])) (statistics_of statistics.now).num_docs ((statistics_of statistics.now).num_tokens word.field))
+        (id_of_norm (count_by (λ (t : IndexToken). (t.doc == b.1) && (t.field == word.field)) (tokens_of (A.words analyzer.now) (map (call_of schema) calls.items))))
+        (count_by (λ (t : IndexToken). (t.doc == b.1) && ((t.field == word.field) && bytes_eq t.key word.value)) (tokens_of (A.words analyzer.now) (map (call_of schema) calls.items)))) best.items) }
+{
+    let query = Query::Term(word);
+    let found = the_best_score_by_their_tokens(
+        alloc, schema, num_docs, calls, analyzer, statistics, &query, limit,
+    );
+    drop(query);
+    found
 }

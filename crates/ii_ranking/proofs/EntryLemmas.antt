@@ -38,9 +38,6 @@ pub record IsAdding (score_of : ℕ → Option Entry → Option ℕ) (all rest :
   pub many : length new ≡ length old
   pub each : (doc : ℕ) → doc < length old → either (get_or new doc None) (score_of doc (entry_at rest doc)) ≡ either (get_or old doc None) (score_of doc (entry_at all doc))
 
-pub adds_none : (score_of : ℕ → Option Entry → Option ℕ) (all : List Entry) (old : List (Option ℕ)) → IsAdding score_of all all old old
-adds_none score_of all old = record { many = refl; each = λ doc inside. refl }
-
 -- the score of a document after that of one was added
 added_here : (score : Option ℕ) (doc : ℕ) (row : List (Option ℕ)) → doc < length row → get_or (added_at score doc row) doc None ≡ either (get_or row doc None) score
 added_here score doc row inside = rw (lt-ltb doc (length row) inside) (get_or-set_same row doc (either (get_or row doc None) score) None inside)

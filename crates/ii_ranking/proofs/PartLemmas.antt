@@ -37,9 +37,6 @@ pub record IsKeeping (doc : ℕ) (all row : List PhrasePartState) (k : ℕ) (pos
   pub kept : filter (stand_from (drop k row) doc) starts ≡ filter (stand_from all doc) positions
   pub moved : take k row ++ map (from_part doc) (drop k row) ≡ map (from_part doc) all
 
-pub keeps_none : (doc : ℕ) (all : List PhrasePartState) (positions : List ℕ) → IsKeeping doc all all 0 positions positions
-keeps_none doc all positions = record { kept = refl; moved = refl }
-
 pub keeps_one : (doc : ℕ) (all row : List PhrasePartState) (k : ℕ) (d next : PhrasePartState) (positions starts later : List ℕ) → k < length row → IsKeeping doc all row k positions starts → next ≡ from_part doc (get_or row k d)
     → later ≡ filter (λ (start : ℕ). has_position (get_or row k d).rest doc (start + (get_or row k d).distance)) starts → IsKeeping doc all (set row k next) (k + 1) positions later
 keeps_one doc all row k d next positions starts later inside i next_is later_is =

@@ -1,5 +1,5 @@
 -- Laws of the scores of phrases.
-use Rattle.std.proofs.Common.{◌≡◌, ◌∙◌, ℕ, ◌<◌, ◌≤◌, List, [], ◌∷◌, Option, drop, filter, length, refl, sym, ap, arith}
+use Rattle.std.proofs.Common.{◌≡◌, ◌∙◌, ℕ, ◌<◌, ◌≤◌, List, [], ◌∷◌, Option, drop, filter, length, sym, ap, arith}
 use Rattle.std.proofs.lemmas.List.Elements.{filter_agree}
 use Rattle.std.specs.Option.{option_map, unwrap_or}
 use Rattle.ii_base.specs.declared.doc_id.TheConstants.{TERMINATED}
@@ -17,9 +17,6 @@ starts_score score_of parts found = if_occurs score_of (unwrap_or (option_map (n
 -- From a document on the terms of a phrase have what they had.
 pub record HaveMoved (doc : ℕ) (old new : List PhrasePartState) : Type 0 where
   pub alike : (d start : ℕ) → doc ≤ d → stand_from new d start ≡ stand_from old d start
-
-pub moved_none : (doc : ℕ) (old : List PhrasePartState) → HaveMoved doc old old
-moved_none doc old = record { alike = λ d start up. refl }
 
 pub moved_on : (doc next : ℕ) (old now later : List PhrasePartState) → HaveMoved doc old now → AreFrom doc now later → doc ≤ next → HaveMoved next old later
 moved_on doc next old now later m is up = record { alike = λ d start above. stand_alike doc d start now later is (omega (arith, up, above)) ∙ m.alike d start (omega (arith, up, above)) }

@@ -1,8 +1,7 @@
 -- Laws of positions that are searched.
-use Rattle.std.proofs.Common.{◌≡◌, ◌∙◌, ℕ, suc, ◌<◌, ◌≤◌, Bool, true, false, List, [], ◌∷◌, Result, Ok, Err, get_or, is_ok, length, nat_eq, nat_le, nat_lt, ◌≢◌, refl, sym, ap, arith}
-use Rattle.std.proofs.Math.Bool.{or-false}
+use Rattle.std.proofs.Common.{◌≡◌, ◌∙◌, ℕ, suc, ◌<◌, ◌≤◌, Bool, true, false, List, [], ◌∷◌, Result, Ok, Err, get_or, is_ok, length, nat_eq, nat_lt, ◌≢◌, refl, sym, ap, arith}
 use Rattle.std.specs.Result.{MatchResult}
-use Rattle.std.proofs.lemmas.Bool.{eq-eqb, ltb-false, ltb-true, leb-true, ne_eqb}
+use Rattle.std.proofs.lemmas.Bool.{eq-eqb, ltb-false, ltb-true, ne_eqb}
 use Rattle.std.proofs.lemmas.List.{get_or_default}
 use Rattle.std.proofs.lemmas.List.Folds.{list_any_at, list_any_none}
 use Rattle.std.specs.List.{filter}
@@ -10,7 +9,8 @@ use Rattle.ii_base.specs.declared.doc_id.TheConstants.{TERMINATED}
 use Rattle.ii_base.specs.Entries.{Entry}
 use Rattle.ii_docset.specs.Cursor.{IsAscending, doc_at, from_doc, positions_at}
 use Rattle.ii_query.specs.Phrase.{has_position, is_among}
-use Rattle.ii_query.proofs.PhraseLemmas.{has_below, has_from}
+use Rattle.ii_docset.proofs.IntersectionLemmas.{doc_at-from_doc}
+use Rattle.ii_query.proofs.PhraseLemmas.{has_below, has_from, has_here}
 
 -- what was found among ascending numbers, or wasn't
 pub found_among : (xs : List ℕ) (x : ℕ) (r : Result ℕ ℕ) → MatchResult r (λ i. (i < length xs) × (get_or xs i 0 ≡ x)) (λ i. (i ≤ length xs) × ((k : ℕ) → k < i → get_or xs k 0 < x) × ((k : ℕ) → i ≤ k → k < length xs → x < get_or xs k 0))
@@ -29,22 +29,6 @@ none_among (p ∷ xs) x bound few above =
     let first = few 0 in
     rw (ne_eqb p x (λ same. omega (arith, first, same, above))) (none_among xs x bound (λ k. few (suc k)) above)
 
--- what is left from a document on begins there or later
-from_up : (target : ℕ) (es : List Entry) → target ≤ TERMINATED → target ≤ doc_at (from_doc target es)
-from_up target [] low = low
-from_up target (e ∷ es) low = by (nat_le target e.doc) refl (from_up target es low)
-  where
-    by : (t : Bool) → nat_le target e.doc ≡ t → target ≤ doc_at (from_doc target es) → target ≤ doc_at (from_doc target (e ∷ es))
-    by true test later = rw test (leb-true target e.doc test)
-    by false test later = rw test later
-
--- at its first document a list has the positions of its entry
-has_here : (doc position : ℕ) (es : List Entry) → IsAscending es → doc_at es ≡ doc → doc < TERMINATED → has_position es doc position ≡ is_among (positions_at es) position
-has_here doc position [] ascend here low = absurd (omega (arith, here, low))
-has_here doc position (e ∷ es) ascend here low =
-    let next = ascend.0 in
-    rw (eq-eqb e.doc doc here, has_below doc position es ascend.1 (omega (arith, here, next))) (or-false (is_among e.positions position))
-
 -- those of a document that was sought
 pub sought_has : (doc position : ℕ) (old new : List Entry) → IsAscending new → new ≡ from_doc doc old → doc_at new ≡ doc → doc < TERMINATED → is_among (positions_at new) position ≡ has_position old doc position
 sought_has doc position old new up is here low = sym (has_here doc position new up here low) ∙ ap (λ (es : List Entry). has_position es doc position) is ∙ has_from doc doc position old (omega arith)
@@ -52,7 +36,7 @@ sought_has doc position old new up is here low = sym (has_here doc position new 
 -- a document that wasn't found has none
 pub sought_none : (doc position : ℕ) (old new : List Entry) → IsAscending new → new ≡ from_doc doc old → doc_at new ≢ doc → doc < TERMINATED → has_position old doc position ≡ false
 sought_none doc position old new up is other low =
-    let above : doc ≤ doc_at new = rw is (from_up doc old (omega (arith, low))) in
+    let above : doc ≤ doc_at new = rw is (doc_at-from_doc doc old (omega (arith, low))) in
     sym (has_from doc doc position old (omega arith)) ∙ ap (λ (es : List Entry). has_position es doc position) (sym is) ∙ has_below doc position new up (by above)
   where
     by : doc ≤ doc_at new → doc < doc_at new

@@ -1,5 +1,5 @@
 -- Laws of the scores of queries that are made of others.
-use Rattle.std.proofs.Common.{◌≡◌, ◌∙◌, ℕ, ◌+◌, ◌<◌, ◌≤◌, inl, inr, Bool, true, false, true≢false, List, [], ◌∷◌, Option, None, Some, Result, Ok, Err, OnOk, Box, Global, Vec, get_or, if◌then◌else◌, length, map, replicate, refl, sym, ap, arith}
+use Rattle.std.proofs.Common.{◌≡◌, ◌∙◌, ℕ, ◌+◌, ◌<◌, ◌≤◌, inl, inr, Bool, true, false, List, [], ◌∷◌, Option, None, Some, Result, Ok, Err, OnOk, Box, Global, Vec, get_or, if◌then◌else◌, length, map, replicate, refl, sym, ap, arith}
 use Rattle.std.specs.List.{fold, list_all, range_with_len}
 use Rattle.std.proofs.lemmas.Bool.{and_parts}
 use Rattle.std.proofs.lemmas.List.{get_or-replicate, get_or_default, length-replicate, same_lists}
@@ -62,17 +62,6 @@ later_fields n left others q is fields = (and_parts (has_fields n q) (list_all (
 later_sound : (index : OpenIndexState) (left others : List Query) (q : Query) → left ≡ q ∷ others → query_damage index q ≡ None → trees_damage index (trees_of others) ≡ trees_damage index (trees_of left)
 later_sound index left others q is sound = ap (λ (d : Option Part). first_of d (trees_damage index (trees_of others))) (sym sound) ∙ ap (λ (qs : List Query). trees_damage index (trees_of qs)) (sym is)
 
-pub any_one : (s : Scored) (index : OpenIndexState) (all left others : List Query) (q : Query) (old new next : List (Option ℕ)) → IsAddingAny s index all left old new → left ≡ q ∷ others → Adds (query_score s q) new next → query_damage index q ≡ None → IsAddingAny s index all others old next
-any_one s index all left others q old new next a is added sound = record {
-  many = added.many ∙ a.many;
-  each = λ doc inside.
-      let many = a.many in
-      ap (λ (score : Option ℕ). fold either score (tree_scores s (trees_of others) doc)) (added.each doc (omega (arith, many, inside)))
-      ∙ ap (λ (qs : List Query). fold either (get_or new doc None) (tree_scores s (trees_of qs) doc)) (sym is) ∙ a.each doc inside;
-  sound = later_sound index left others q is sound ∙ a.sound;
-  fields = later_fields (length index.readers) left others q is a.fields;
-}
-
 pub any_all : (s : Scored) (index : OpenIndexState) (all left : List Query) (old new : List (Option ℕ)) → IsAddingAny s index all left old new → left ≡ [] → Adds (λ (doc : ℕ). any_of (tree_scores s (trees_of all) doc)) old new
 any_all s index all left old new a none = record {
   many = a.many;
@@ -110,29 +99,6 @@ each_none s index all size scores is fields = record {
   sound = refl;
   fields = fields;
 }
-
-pub each_one : (s : Scored) (index : OpenIndexState) (all left others : List Query) (q : Query) (first : Bool) (size : ℕ) (scores next : List (Option ℕ)) → IsAddingEach s index all left first size scores → left ≡ q ∷ others → AreCombined (next_by first) (query_score s q) scores next → query_damage index q ≡ None
-    → IsAddingEach s index all others false size next
-each_one s index all left others q first size scores next a is added sound = record {
-  many = added.many ∙ a.many;
-  none = λ never. absurd (true≢false (sym never));
-  each = λ doc inside. let many = a.many in by first doc inside a added (added.each doc (omega (arith, many, inside)));
-  sound = later_sound index left others q is sound ∙ a.sound;
-  fields = later_fields (length index.readers) left others q is a.fields;
-}
-  where
-    by : (f : Bool) (doc : ℕ) → doc < size → IsAddingEach s index all left f size scores → AreCombined (next_by f) (query_score s q) scores next → get_or next doc None ≡ combined (next_by f) (get_or scores doc None) (query_score s q doc)
-        → fold both (get_or next doc None) (tree_scores s (trees_of others) doc) ≡ each_of (tree_scores s (trees_of all) doc)
-    by true doc inside b more here =
-        ap (λ (score : Option ℕ). fold both score (tree_scores s (trees_of others) doc)) (here ∙ ap (λ (score : Option ℕ). either score (query_score s q doc)) (b.none refl doc inside))
-        ∙ ap (λ (qs : List Query). each_of (tree_scores s (trees_of qs) doc)) (sym is) ∙ b.each doc inside
-    by false doc inside b more here =
-        ap (λ (score : Option ℕ). fold both score (tree_scores s (trees_of others) doc)) here
-        ∙ ap (λ (qs : List Query). fold both (get_or scores doc None) (tree_scores s (trees_of qs) doc)) (sym is) ∙ b.each doc inside
-
-pub each_all : (s : Scored) (index : OpenIndexState) (all left : List Query) (first : Bool) (size : ℕ) (scores : List (Option ℕ)) → IsAddingEach s index all left first size scores → left ≡ [] → (doc : ℕ) → doc < size → get_or scores doc None ≡ each_of (tree_scores s (trees_of all) doc)
-each_all s index all left true size scores a none doc inside = a.none refl doc inside ∙ ap (λ (qs : List Query). each_of (tree_scores s (trees_of qs) doc)) (sym none) ∙ a.each doc inside
-each_all s index all left false size scores a none doc inside = ap (λ (qs : List Query). fold both (get_or scores doc None) (tree_scores s (trees_of qs) doc)) (sym none) ∙ a.each doc inside
 
 -- other scores that were combined
 pub combined_alike : (by : Combination) (f g : ℕ → Option ℕ) (old new : List (Option ℕ)) → ((doc : ℕ) → doc < length old → f doc ≡ g doc) → AreCombined by f old new → AreCombined by g old new

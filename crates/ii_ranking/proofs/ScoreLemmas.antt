@@ -1,5 +1,5 @@
 -- Laws of the scores of terms and phrases.
-use Rattle.std.proofs.Common.{◌≡◌, ℕ, ◌+◌, ◌<◌, inl, inr, true, List, [], ◌∷◌, ◌++◌, Option, None, IfErr, Result, Err, Ok, append_assoc, get_or, length, map, nat_lt, refl, sym, ap, ◌∙◌}
+use Rattle.std.proofs.Common.{◌≡◌, ℕ, ◌+◌, ◌<◌, inl, inr, true, List, [], ◌∷◌, ◌++◌, Option, None, IfErr, Result, Err, Ok, get_or, length, map, nat_lt, refl, sym, ap, ◌∙◌}
 use Rattle.std.specs.List.{list_all}
 use Rattle.std.proofs.lemmas.Bool.{and_parts, ltb-true}
 use Rattle.ii_io.specs.Faults.{OnlyMemory}
@@ -53,22 +53,6 @@ lists_none index all fields = record { listed = refl; sound = refl; fields = fie
 -- the field of the next one
 pub field_next : (index : OpenIndexState) (all left others : List PhraseTerm) (parts : List PhrasePartState) (o : PhraseTerm) → IsListing index all left parts → left ≡ o ∷ others → o.term.field < length index.readers
 field_next index all left others parts o l is = ltb-true o.term.field (length index.readers) (and_parts (nat_lt o.term.field (length index.readers)) (list_all (λ (q : PhraseTerm). nat_lt q.term.field (length index.readers)) others) (rw is at l.fields)).0
-
--- one term more
-pub lists_one : (index : OpenIndexState) (all left others : List PhraseTerm) (parts more : List PhrasePartState) (o : PhraseTerm) (p : PhrasePartState) → IsListing index all left parts → left ≡ o ∷ others → p.distance ≡ o.distance → docs_of_term WithFreqsAndPositions index o.term ≡ Ok p.rest
-    → more ≡ parts ++ p ∷ [] → IsListing index all others more
-lists_one index all left others parts more o p l is distance found more_is = record {
-  listed = ap (λ (ps : List PhrasePartState). ps ++ map (part_in index) others) more_is ∙ append_assoc parts (p ∷ []) (map (part_in index) others)
-      ∙ ap (λ (q : PhrasePartState). parts ++ q ∷ map (part_in index) others) part_is ∙ ap (λ (os : List PhraseTerm). parts ++ map (part_in index) os) (sym is) ∙ l.listed;
-  sound = opened ∙ ap (parts_damage index) (sym is) ∙ l.sound;
-  fields = (and_parts (nat_lt o.term.field (length index.readers)) (list_all (λ (q : PhraseTerm). nat_lt q.term.field (length index.readers)) others) (rw is at l.fields)).1;
-}
-  where
-    part_is : p ≡ part_in index o
-    part_is = λ j. record { distance = distance j; rest = opened_or_none (sym found j) }
-
-    opened : parts_damage index others ≡ parts_damage index (o ∷ others)
-    opened = rw found refl
 
 -- a term that doesn't open
 pub lists_refused : (index : OpenIndexState) (all left others : List PhraseTerm) (parts : List PhrasePartState) (o : PhraseTerm) (fault : Fault) → IsListing index all left parts → left ≡ o ∷ others → IsRefusal (docs_of_term WithFreqsAndPositions index o.term) fault → IsScoreFault (parts_damage index all) fault

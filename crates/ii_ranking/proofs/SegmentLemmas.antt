@@ -1,14 +1,13 @@
 -- Laws of the best documents of several segments.
-use Rattle.std.proofs.Common.{◌≡◌, ◌∙◌, ℕ, suc, ◌+◌, ◌<◌, ◌≤◌, inl, inr, Bool, true, List, [], ◌∷◌, ◌++◌, Option, None, append_assoc, drop, get_or, if◌then◌else◌, length, map, refl, sym, ap, arith}
+use Rattle.std.proofs.Common.{◌≡◌, ◌∙◌, ℕ, suc, ◌+◌, ◌<◌, ◌≤◌, inl, inr, Bool, true, List, [], ◌∷◌, ◌++◌, Option, None, append_assoc, drop, get_or, if◌then◌else◌, length, map, sym, ap, arith}
 use Rattle.std.specs.List.{range_with_len}
 use Rattle.std.proofs.Math.Numerals.{add-one}
 use Rattle.std.proofs.Math.Seq.{drop-cons}
-use Rattle.std.proofs.lemmas.List.{append-nil, get_or-map, length-map, take_all}
+use Rattle.std.proofs.lemmas.List.{append-nil, get_or-map, length-map}
 use Rattle.std.proofs.lemmas.List.FromFn.{get_or-map-range_with_len}
 use Rattle.ii_io.specs.declared.faults.Fault.{Fault}
 use Rattle.ii_io.specs.declared.faults.Part.{Part}
 use Rattle.ii_alive.specs.Alive.{num_living, rank}
-use Rattle.ii_alive.proofs.RankLemmas.{rank_mono}
 use Rattle.ii_bm25.specs.Statistics.{Statistics}
 use Rattle.ii_query_parser.specs.declared.query.Query.{Query}
 use Rattle.ii_query_parser.specs.Queries.{has_fields}
@@ -19,15 +18,11 @@ use Rattle.ii_ranking.specs.Scores.{IsScoreFault, first_of, query_damage, query_
 use Rattle.ii_ranking.specs.Segments.{living_row, living_score, segment_of, segment_scored, segments_damage, segments_scored}
 use Rattle.ii_ranking.proofs.TopLemmas.{scored_alike}
 
--- no document has a rank above the number of living ones
-pub rank_few : (alive : List Bool) (doc : ℕ) → doc ≤ length alive → rank alive doc ≤ num_living alive
-rank_few alive doc inside = let up = rank_mono alive doc (length alive) inside in let all = ap num_living (take_all (length alive) alive (omega arith)) in omega (arith, up, all)
-
 -- the living documents of a list of scores
-pub rows_scored : (base : ℕ) (s : OpenSegmentState) (f : ℕ → Option ℕ) (scores : List (Option ℕ)) → scores ≡ map f (range_with_len 0 (length s.alive)) → living_row base s.alive (length s.alive) scores ≡ segment_scored base s f
-rows_scored base s f scores is =
-    scored_alike (λ (doc : ℕ). base + rank s.alive doc) (length s.alive) (λ (doc : ℕ). if is_living s.alive doc then get_or scores doc None else None) (living_score s f)
-    (λ doc below. ap (λ (score : Option ℕ). if is_living s.alive doc then score else None) (ap (λ (row : List (Option ℕ)). get_or row doc None) is ∙ get_or-map-range_with_len f 0 (length s.alive) doc doc None below (omega arith)))
+pub rows_scored : (base : ℕ) (alive : List Bool) (f : ℕ → Option ℕ) (scores : List (Option ℕ)) → scores ≡ map f (range_with_len 0 (length alive)) → living_row base alive (length alive) scores ≡ segment_scored base alive f
+rows_scored base alive f scores is =
+    scored_alike (λ (doc : ℕ). base + rank alive doc) (length alive) (λ (doc : ℕ). if is_living alive doc then get_or scores doc None else None) (living_score alive f)
+    (λ doc below. ap (λ (score : Option ℕ). if is_living alive doc then score else None) (ap (λ (row : List (Option ℕ)). get_or row doc None) is ∙ get_or-map-range_with_len f 0 (length alive) doc doc None below (omega arith)))
 
 -- What was found so far, in front of what is found in the segments that are left, is all.
 pub record IsRanking (statistics : Statistics) (query : Query) (all left : List OpenSegmentState) (base : ℕ) (scored : List (ℕ × ℕ)) : Type 0 where
@@ -36,15 +31,12 @@ pub record IsRanking (statistics : Statistics) (query : Query) (all left : List 
   pub sound : segments_damage query left ≡ segments_damage query all
   pub fields : HaveFields query left
 
-pub ranks_none : (statistics : Statistics) (query : Query) (all : List OpenSegmentState) → HaveFields query all → IsRanking statistics query all all 0 []
-ranks_none statistics query all fields = record { scored_is = refl; few = omega arith; sound = refl; fields = fields }
-
 -- one segment more
 pub ranks_one : (statistics : Statistics) (query : Query) (all left others : List OpenSegmentState) (s : OpenSegmentState) (base : ℕ) (scored more : List (ℕ × ℕ)) → IsRanking statistics query all left base scored → left ≡ s ∷ others
-    → more ≡ scored ++ segment_scored base s (query_score (scored_in s.index statistics) query) → query_damage s.index query ≡ None → IsRanking statistics query all others (base + num_living s.alive) more
+    → more ≡ scored ++ segment_scored base s.alive (query_score (scored_in s.index statistics) query) → query_damage s.index query ≡ None → IsRanking statistics query all others (base + num_living s.alive) more
 ranks_one statistics query all left others s base scored more r is more_is sound = record {
   scored_is = ap (λ (row : List (ℕ × ℕ)). row ++ segments_scored statistics query (base + num_living s.alive) others) more_is
-      ∙ append_assoc scored (segment_scored base s (query_score (scored_in s.index statistics) query)) (segments_scored statistics query (base + num_living s.alive) others)
+      ∙ append_assoc scored (segment_scored base s.alive (query_score (scored_in s.index statistics) query)) (segments_scored statistics query (base + num_living s.alive) others)
       ∙ ap (λ (ss : List OpenSegmentState). scored ++ segments_scored statistics query base ss) (sym is) ∙ r.scored_is;
   few = let few = r.few in let here = ap total_living is in omega (arith, few, here);
   sound = ap (λ (d : Option Part). first_of d (segments_damage query others)) (sym sound) ∙ ap (segments_damage query) (sym is) ∙ r.sound;

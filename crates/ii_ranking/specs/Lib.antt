@@ -2,4 +2,6 @@ pub mod Combinations
 pub mod Scores
 pub mod Segments
 pub mod Statistics
+pub mod TokenCounts
+pub mod TokenScores
 pub mod TopDocs

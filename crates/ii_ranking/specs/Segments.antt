@@ -15,12 +15,12 @@ abbrev pub segment_of : RankedSegment → OpenSegmentState
 segment_of s = record { index = s.index.now; alive = s.alive.now }
 
 -- what a document scores, if it is alive
-abbrev pub living_score : OpenSegmentState → (ℕ → Option ℕ) → ℕ → Option ℕ
-living_score s score_of doc = if is_living s.alive doc then score_of doc else None
+abbrev pub living_score : List Bool → (ℕ → Option ℕ) → ℕ → Option ℕ
+living_score alive score_of doc = if is_living alive doc then score_of doc else None
 
 -- the living documents of a segment that have a score, given the number of the first one
-abbrev pub segment_scored : ℕ → OpenSegmentState → (ℕ → Option ℕ) → List (ℕ × ℕ)
-segment_scored base s score_of = scored_by_number (λ (doc : ℕ). base + rank s.alive doc) (length s.alive) (living_score s score_of)
+abbrev pub segment_scored : ℕ → List Bool → (ℕ → Option ℕ) → List (ℕ × ℕ)
+segment_scored base alive score_of = scored_by_number (λ (doc : ℕ). base + rank alive doc) (length alive) (living_score alive score_of)
 
 -- the first living documents that have a score in a list, given the number of the first one
 abbrev pub living_row : ℕ → List Bool → ℕ → List (Option ℕ) → List (ℕ × ℕ)
@@ -29,7 +29,7 @@ living_row base alive n scores = scored_by_number (λ (doc : ℕ). base + rank a
 -- those of segments, one after the other
 abbrev pub segments_scored : Statistics → Query → ℕ → List OpenSegmentState → List (ℕ × ℕ)
 segments_scored statistics query base [] = []
-segments_scored statistics query base (s ∷ ss) = segment_scored base s (query_score (scored_in s.index statistics) query) ++ segments_scored statistics query (base + num_living s.alive) ss
+segments_scored statistics query base (s ∷ ss) = segment_scored base s.alive (query_score (scored_in s.index statistics) query) ++ segments_scored statistics query (base + num_living s.alive) ss
 
 -- the first damage of what the scores of a query need, segment by segment
 abbrev pub segments_damage : Query → List OpenSegmentState → Option Part

@@ -1,5 +1,7 @@
 -- The numbers that scores need, as they were gathered.
 use Rattle.std.specs.Prelude.{ℕ, Bool, ◌&&◌, ◌==◌, List, [], ◌∷◌, bytes_eq, get_or, if◌then◌else◌}
+use Rattle.std.specs.List.{list_any}
+use Rattle.ii_base.specs.Terms.{TermState}
 use Rattle.ii_bm25.specs.Statistics.{Statistics}
 use Rattle.ii_ranking.specs.declared.statistics.GatheredStatistics.{GatheredStatistics}
 use Rattle.ii_ranking.specs.declared.statistics.TermCount.{TermCount}
@@ -12,6 +14,13 @@ is_of field key c = (c.field == field) && bytes_eq c.key.items key
 abbrev pub doc_freq_in : List TermCount → ℕ → List ℕ → ℕ
 doc_freq_in [] field key = 0
 doc_freq_in (c ∷ cs) field key = if is_of field key c then c.doc_freq else doc_freq_in cs field key
+
+-- how many documents have a key, after a number was set for a term: the earlier number, if there is one
+abbrev pub doc_freq_after : List TermCount → TermState → ℕ → ℕ → List ℕ → ℕ
+doc_freq_after cs term doc_freq field key =
+    if list_any (is_of field key) cs then doc_freq_in cs field key
+    else if (term.field == field) && bytes_eq term.value key then doc_freq
+    else 0
 
 -- the numbers that scores need
 abbrev pub statistics_of : GatheredStatistics → Statistics

@@ -3,6 +3,7 @@
 #![tactic(auto)]
 
 pub mod combination;
+pub mod laws;
 pub mod phrase_scores;
 pub mod range_scores;
 pub mod ranking;
@@ -13,6 +14,7 @@ pub mod term_scores;
 pub mod top_docs;
 
 pub use ii_bm25::{Bm25StatisticsProvider, SCORE_ONE, Score};
+pub use laws::{scores_are_of_tokens, scores_count_tokens};
 pub use ranking::search;
 pub use scores::score_docs;
 pub use segments::{RankedSegment, search_segments};

@@ -1,9 +1,13 @@
 //! The best documents of a query.
-ghost use Rattle.std.specs.Prelude.{◌≡◌, ◌<◌, ◌^◌, ◌++◌, IfErr, IfOk, None, OnOk, get_or, length, true};
+ghost use Rattle.std.specs.Prelude.{◌≡◌, ◌<◌, ◌≤◌, ◌^◌, ◌++◌, ℕ, IfErr, IfOk, List, None, OnOk, get_or, length, true};
 ghost use Rattle.std.specs.List.{All};
 ghost use Rattle.ii_io.specs.Faults.{OnlyMemory};
+ghost use Rattle.ii_base.specs.Schema.{SchemaEntry};
+ghost use Rattle.ii_definitions.specs.Tokens.{IndexToken};
 ghost use Rattle.ii_query_parser.specs.Queries.{has_fields};
+ghost use Rattle.ii_reader.specs.OpenIndex.{IndexHolds};
 ghost use Rattle.ii_ranking.specs.Scores.{IsScoreFault, query_damage, query_score, scored_in};
+ghost use Rattle.ii_ranking.specs.TokenScores.{GivesBest, token_score};
 ghost use Rattle.ii_ranking.specs.TopDocs.{AreBest, Fits, scored_docs, with_score};
 
 use crate::scores::score_docs;
@@ -28,6 +32,9 @@ pub fn search<S: Bm25StatisticsProvider>(
     ensures best { IfOk result (λ best. AreBest docs.now (scored_docs num_docs (query_score (scored_in index.now (S.statistics statistics.now)) query.now)) best.items) }
     ensures sound { OnOk result (query_damage index.now query.now ≡ None) }
     ensures fault { IfErr result (IsScoreFault (query_damage index.now query.now)) }
+    // where the index holds tokens of at least so many documents
+    ensures holds { (schema : List SchemaEntry) (held : ℕ) (tokens : List IndexToken) → IndexHolds schema held index.now tokens → num_docs ≤ held → held < 2 ^ 32
+        → has_fields (length schema) query.now ≡ true → GivesBest docs.now (scored_docs num_docs (token_score schema tokens (S.statistics statistics.now) query.now)) result }
 {
     let scores = score_docs(alloc, index, num_docs, statistics, query)?;
     let scored = with_scores(alloc, &scores);

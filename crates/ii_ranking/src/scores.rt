@@ -1,9 +1,13 @@
 //! The scores of the documents that match a query.
-ghost use Rattle.std.specs.Prelude.{◌≡◌, ◌<◌, ℕ, IfErr, IfOk, None, OnOk, get_or, if◌then◌else◌, length, map, true};
+ghost use Rattle.std.specs.Prelude.{◌≡◌, ◌<◌, ◌≤◌, ◌^◌, ℕ, IfErr, IfOk, List, None, OnOk, get_or, if◌then◌else◌, length, map, true};
 ghost use Rattle.std.specs.List.{list_all, range_with_len};
+ghost use Rattle.ii_base.specs.Schema.{SchemaEntry};
+ghost use Rattle.ii_definitions.specs.Tokens.{IndexToken};
 ghost use Rattle.ii_query_parser.specs.Queries.{has_fields, trees_of};
+ghost use Rattle.ii_reader.specs.OpenIndex.{IndexHolds};
 ghost use Rattle.ii_ranking.specs.Combinations.{Adds, AreCombined, any_of, each_of, unless};
 ghost use Rattle.ii_ranking.specs.Scores.{IsScoreFault, query_damage, query_score, scored_in, tree_scores, trees_damage};
+ghost use Rattle.ii_ranking.specs.TokenScores.{GivesScores, token_score};
 
 use crate::combination::{Combination, add_all, combine, no_scores};
 use crate::phrase_scores::add_phrase;
@@ -38,6 +42,9 @@ pub fn score_docs<S: Bm25StatisticsProvider>(
     ensures scored { IfOk result (λ scores. scores.items ≡ map (query_score (scored_in index.now (S.statistics statistics.now)) query.now) (range_with_len 0 num_docs)) }
     ensures sound { OnOk result (query_damage index.now query.now ≡ None) }
     ensures fault { IfErr result (IsScoreFault (query_damage index.now query.now)) }
+    // where the index holds tokens of at least so many documents
+    ensures holds { (schema : List SchemaEntry) (held : ℕ) (tokens : List IndexToken) → IndexHolds schema held index.now tokens → num_docs ≤ held → held < 2 ^ 32
+        → has_fields (length schema) query.now ≡ true → GivesScores num_docs (token_score schema tokens (S.statistics statistics.now) query.now) result }
 {
     scores_of(alloc, index, statistics, query, num_docs as usize)
 }

@@ -1,13 +1,15 @@
 //! The best documents of several segments.
-ghost use Rattle.std.specs.Prelude.{◌≡◌, ◌+◌, ◌<◌, ◌≤◌, ◌^◌, ◌++◌, ℕ, IfErr, IfOk, None, OnOk, get_or, if◌then◌else◌, length, map, true};
+ghost use Rattle.std.specs.Prelude.{◌≡◌, ◌+◌, ◌<◌, ◌≤◌, ◌^◌, ◌++◌, ℕ, IfErr, IfOk, List, None, OnOk, get_or, if◌then◌else◌, length, map, true};
 ghost use Rattle.std.specs.List.{All};
 ghost use Rattle.ii_io.specs.Faults.{OnlyMemory};
+ghost use Rattle.ii_base.specs.Schema.{SchemaEntry};
 ghost use Rattle.ii_alive.specs.Alive.{num_living};
-ghost use Rattle.ii_segments.specs.Segments.{is_living};
-ghost use Rattle.ii_segment_search.specs.Searcher.{HaveFields, total_living};
+ghost use Rattle.ii_segments.specs.Segments.{Segment, is_living};
+ghost use Rattle.ii_segment_search.specs.Searcher.{HaveFields, SegmentsHold, total_living};
 ghost use Rattle.ii_query_parser.specs.Queries.{has_fields};
 ghost use Rattle.ii_ranking.specs.Scores.{IsScoreFault, query_damage, query_score, scored_in};
 ghost use Rattle.ii_ranking.specs.Segments.{living_row, segment_of, segment_scored, segments_damage, segments_scored};
+ghost use Rattle.ii_ranking.specs.TokenScores.{FailsForMemory, GivesBest, tokens_scored};
 ghost use Rattle.ii_ranking.specs.TopDocs.{AreBest, Fits};
 
 use crate::ranking::push_scored;
@@ -43,6 +45,9 @@ pub fn search_segments<S: Bm25StatisticsProvider>(
     ensures best { IfOk result (λ best. AreBest docs.now (segments_scored (S.statistics statistics.now) query.now 0 (map segment_of segments.now)) best.items) }
     ensures sound { OnOk result (segments_damage query.now (map segment_of segments.now) ≡ None) }
     ensures fault { IfErr result (IsScoreFault (segments_damage query.now (map segment_of segments.now))) }
+    // where the segments hold tokens
+    ensures holds { (schema : List SchemaEntry) (ss : List Segment) → SegmentsHold schema (map segment_of segments.now) ss
+        → has_fields (length schema) query.now ≡ true → GivesBest docs.now (tokens_scored schema (S.statistics statistics.now) query.now 0 ss) result }
 {
     let mut scored = Vec::new(alloc);
     let mut base = 0;
@@ -77,10 +82,11 @@ fn add_segment<S: Bm25StatisticsProvider>(
 ) -> Result<(), Fault>
     requires fields { has_fields (length index.now.readers) query.now ≡ true }
     requires few { base + num_living alive.now < 2 ^ 32 }
-    ensures scored { OnOk result (scored.new.items ≡ scored.old.items ++ segment_scored base (record { index = index.now; alive = alive.now }) (query_score (scored_in index.now (S.statistics statistics.now)) query.now)) }
+    ensures scored { OnOk result (scored.new.items ≡ scored.old.items ++ segment_scored base alive.now (query_score (scored_in index.now (S.statistics statistics.now)) query.now)) }
     ensures fits { All Fits scored.old.items → OnOk result (All Fits scored.new.items) }
     ensures sound { OnOk result (query_damage index.now query.now ≡ None) }
     ensures fault { IfErr result (IsScoreFault (query_damage index.now query.now)) }
+    ensures memory { IfErr result (FailsForMemory query.now (length alive.now) index.now) }
 {
     let scores = score_docs(alloc, index, alive.num_docs(), statistics, query)?;
     push_living(alive, base, &scores, scored)?;

@@ -1,7 +1,7 @@
 //! The numbers that scores need, as they were gathered.
-ghost use Rattle.std.specs.Prelude.{◌≡◌, ◌++◌, ◌∷◌, [], OnOk};
+ghost use Rattle.std.specs.Prelude.{◌≡◌, ℕ, List, [], OnErr, OnOk};
 ghost use Rattle.ii_io.specs.Faults.{OnlyMemory};
-ghost use Rattle.ii_ranking.specs.Statistics.{doc_freq_in, is_of, statistics_of};
+ghost use Rattle.ii_ranking.specs.Statistics.{doc_freq_after, doc_freq_in, is_of, statistics_of};
 
 use ii_base::{Fault, Field, Term};
 use ii_bm25::Bm25StatisticsProvider;
@@ -42,8 +42,10 @@ impl GatheredStatistics {
     /// Sets how many documents have a term. Of a term that is set twice the first number counts. Returns
     /// `OutOfMemory`, and changes nothing, if an allocation fails.
     pub fn add_term(&mut self, alloc: Global, term: &Term, doc_freq: u64) -> Result<(), Fault>
+        ensures set { OnOk result ((field : ℕ) (key : List ℕ) → doc_freq_in self.new.terms.items field key ≡ doc_freq_after self.old.terms.items term.now doc_freq field key) }
         ensures docs { self.new.num_docs ≡ self.old.num_docs }
         ensures tokens { self.new.num_tokens ≡ self.old.num_tokens }
+        ensures unchanged { OnErr result (self.new.terms.items ≡ self.old.terms.items) }
         ensures only { OnlyMemory result }
     {
         let key = Vec::from_slice(alloc, term.serialized_value_bytes())?;

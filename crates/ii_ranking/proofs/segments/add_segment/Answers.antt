@@ -1,5 +1,6 @@
-use Rattle.std.proofs.Common.{◌∙◌, ◌++◌, ℕ, List, ap, length, map}
+use Rattle.std.proofs.Common.{◌∙◌, ◌++◌, ◌<◌, ◌^◌, ℕ, List, ap, arith, length, map, rules}
 use Rattle.std.specs.List.{range_with_len}
+use Rattle.std.proofs.lemmas.Result.{err_from_is_err_and}
 use Rattle.std.proofs.lemmas.List.FromFn.{length-map-range_with_len}
 use Rattle.ii_ranking.specs.Scores.{query_score, scored_in}
 use Rattle.ii_ranking.proofs.SegmentLemmas.{rows_scored}
@@ -14,4 +15,11 @@ pub returns-clause-scored : goal.returns-clause-scored
 returns-clause-scored g c =
     let f = query_score (scored_in c.args.index.now (g.S.Bm25StatisticsProvider.statistics c.args.statistics.now)) c.args.query.now in
     let scores = c.in_ok-scores.ensures.scored ∙ ap (λ (n : ℕ). map f (range_with_len 0 n)) c.num_docs.ensures in
-    c.in_ok-push_living.ensures.scored ∙ ap (λ (row : List (ℕ × ℕ)). c.args.scored.now.items ++ row) (rows_scored c.args.base (record { index = c.args.index.now; alive = c.args.alive.now }) f c.in_ok-scores.scores.items scores)
+    c.in_ok-push_living.ensures.scored ∙ ap (λ (row : List (ℕ × ℕ)). c.args.scored.now.items ++ row) (rows_scored c.args.base c.args.alive.now f c.in_ok-scores.scores.items scores)
+
+pub returns-in_err-scores-clause-memory : goal.returns-in_err-scores-clause-memory
+returns-in_err-scores-clause-memory g c =
+    let p = err_from_is_err_and c.from_residual.result c.from_residual.ensures.1 in
+    let many = c.num_docs.ensures in
+    let small : c.num_docs.result < 2 ^ 32 = search rules in
+    rw (p.1, p.2) (λ schema tokens holds fields. c.in_err-scores.ensures.holds schema (length c.args.alive.now) tokens holds (omega (arith, many)) (omega (arith, many, small)) fields)

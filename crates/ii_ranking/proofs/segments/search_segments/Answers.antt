@@ -1,6 +1,9 @@
-use Rattle.std.proofs.Common.{◌+◌, ◌<◌, ◌^◌, ℕ, arith, drop, map, rules, subst, sym}
+use Rattle.std.proofs.Common.{◌+◌, ◌<◌, ◌≤◌, ◌^◌, ℕ, IfOk, List, arith, drop, length, map, rules, subst, sym}
+use Rattle.std.proofs.lemmas.List.{drop_all, length-map}
 use Rattle.ii_ranking.specs.Segments.{segment_of}
-use Rattle.ii_ranking.proofs.SegmentLemmas.{IsRanking, next_segment, ranking_refused, ranks_one, segment_at}
+use Rattle.ii_ranking.specs.TopDocs.{AreBest}
+use Rattle.ii_ranking.proofs.SegmentLemmas.{IsRanking, next_segment, ranking_refused, ranks_all, ranks_one, segment_at}
+use Rattle.ii_ranking.proofs.SegmentTokenLaws.{gives_best_of_segments, memory_of_segments}
 use Rattle.ii_ranking.proofs.segments.search_segments.Goals as goal
 
 pub add_segment-requires-clause-fields : goal.add_segment-requires-clause-fields
@@ -51,3 +54,20 @@ loop-place-preserved g c =
           c.in-Ok.ensures.scored c.in-Ok.ensures.sound);
       fits = c.in-Ok.ensures.fits l.invariant.fits;
     }
+
+pub returns-in-Err-clause-holds : goal.returns-in-Err-clause-holds
+returns-in-Err-clause-holds g c = λ schema ss hold fields.
+    let l = c.loop-place in
+    let all = map segment_of c.args.segments.now in
+    let s = c.index-segments-place.result in
+    memory_of_segments schema c.args.query.now fields (segment_of s) c.in-Err.fault c.in-Err.ensures.memory l.place all (drop (l.place + 1) all) ss hold (segment_at c.args.segments.now l.place s c.loop-place-test.true c.index-segments-place.is)
+
+pub returns-clause-holds : goal.returns-clause-holds
+returns-clause-holds g c = λ schema ss hold fields.
+    let l = c.loop-place in
+    let st = g.S.Bm25StatisticsProvider.statistics c.args.statistics.now in
+    let all = map segment_of c.args.segments.now in
+    let many = length-map c.args.segments.now segment_of in
+    let end : length c.args.segments.now ≤ l.place = search rules in
+    let ranked = (ranks_all st c.args.query.now all (drop l.place all) l.base l.scored.items l.invariant.ranking (drop_all l.place all (omega (arith, many, end)))).0 in
+    gives_best_of_segments schema st c.args.query.now fields c.args.docs.now all ss c.best.result hold (subst (λ (row : List (ℕ × ℕ)). IfOk c.best.result (λ best. AreBest c.args.docs.now row best.items)) ranked c.best.ensures.best) c.best.ensures.only

@@ -1,0 +1,17 @@
+//! Laws of all indexes and queries.
+ghost use Rattle.ii_ranking.specs.TokenCounts.{MatchesScore, PhrasesScoreByStarts, TermsScoreByCounts};
+ghost use Rattle.ii_ranking.specs.TokenScores.{ScoresAreOfTokens};
+
+/// Law of scores: in an index that holds tokens, each document scores what the tokens alone say: for a term or a
+/// phrase by how often it occurs in the document, and by the document's number of tokens in the field.
+pub fn scores_are_of_tokens()
+    ensures { ScoresAreOfTokens }
+{}
+
+/// Law of counts, for tokens in the order of their documents: a document scores by a term as often as it has the
+/// term's tokens, and by a phrase as often as the phrase begins in it; and it has a score if and only if it matches.
+pub fn scores_count_tokens()
+    ensures terms { TermsScoreByCounts }
+    ensures phrases { PhrasesScoreByStarts }
+    ensures matches { MatchesScore }
+{}
