@@ -3,3 +3,4 @@ pub mod DeepValues
 pub mod OrderlyCalls
 pub mod PlainCalls
 pub mod Texts
+pub mod HopelessBlocks

@@ -1,5 +1,5 @@
 // What queries find.
-ghost use Rattle.std.specs.Prelude.{◌≡◌, ◌<◌, ◌≤◌, ◌⊎◌, ◌&&◌, ◌==◌, ℕ, [], List, true, length, map, min, nat_eq, None, IfErr, IfOk, OnOk};
+ghost use Rattle.std.specs.Prelude.{◌≡◌, ◌+◌, ◌<◌, ◌≤◌, ◌⊎◌, ◌&&◌, ◌==◌, ℕ, [], List, true, length, map, min, nat_eq, None, IfErr, IfOk, OnOk};
 ghost use Rattle.std.specs.List.{AllByRecursion, Contains, list_any, starts_with};
 ghost use Rattle.ii_base.specs.Entries.{Entry};
 ghost use Rattle.ii_docset.specs.Cursor.{IsAscending, IsTarget};
@@ -16,6 +16,7 @@ ghost use Rattle.ii_base.specs.Schema.{SchemaEntry};
 ghost use Rattle.ii_reader.specs.OpenIndex.{IndexHolds};
 ghost use Rattle.ii_indexing.specs.RamFiles.{IsRamFault};
 ghost use Rattle.ii_promises.specs.Decodes.{HaveDecodedFew};
+ghost use Rattle.ii_promises.specs.HopelessBlocks.{hopeful_blocks};
 
 use bytes::Bytes;
 use nequllpa::{
@@ -195,4 +196,18 @@ pub fn most_frequent_documents_are_found(
 {
     let best = top_by_count(alloc, cursor, n)?;
     Ok(best)
+}
+
+/// So, besides the current block, each block is decoded at most once, and none if `n` of the remaining documents before
+/// it have counts that its bound doesn't exceed.
+pub fn hopeless_blocks_are_not_decoded(
+    alloc: Global,
+    cursor: &mut SegmentPostings,
+    n: usize,
+) -> Result<Vec<(DocId, u32)>, Fault>
+    ensures once { cursor.new.doc_decodes + cursor.old.block ≤ cursor.old.doc_decodes + cursor.new.block }
+    ensures docs { cursor.new.doc_decodes ≤ cursor.old.doc_decodes + hopeful_blocks n cursor.old cursor.new.block }
+    ensures freqs { cursor.new.freq_decodes ≤ cursor.old.freq_decodes + hopeful_blocks n cursor.old cursor.new.block }
+{
+    top_by_count(alloc, cursor, n)
 }

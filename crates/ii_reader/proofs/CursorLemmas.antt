@@ -47,6 +47,15 @@ list_docs n docs freqs deltas a = located_docs (positions_if freqs deltas) (entr
 pub length-list : (docs : List ℕ) (es : List Entry) → map (λ (e : Entry). e.doc) es ≡ docs → length es ≡ length docs
 length-list docs es are = sym (length-map es (λ (e : Entry). e.doc)) ∙ ap length are
 
+-- what is left from a place of a block on
+pub stands_at : (n block cur : ℕ) (docs : List ℕ) (freqs deltas : Option (List ℕ)) → AreEntries n docs freqs → cur < 128
+    → ((0 < length (drop (128 * block + cur) (list_of docs freqs deltas)) → 128 * block + length (drop (128 * block + cur) (list_of docs freqs deltas)) ≤ length docs)
+    × (length docs < 128 * block + 128 + length (drop (128 * block + cur) (list_of docs freqs deltas))))
+stands_at n block cur docs freqs deltas a below =
+    let whole = length-list docs (list_of docs freqs deltas) (list_docs n docs freqs deltas a) in
+    let left = length-drop (128 * block + cur) (list_of docs freqs deltas) in
+    ((λ some. omega arith), omega arith)
+
 -- at its first block all of a list is left
 pub length_opened : (n block : ℕ) (docs : List ℕ) (freqs deltas : Option (List ℕ)) → AreEntries n docs freqs → block ≡ 0 → length (drop (128 * block + 0) (list_of docs freqs deltas)) ≡ n
 length_opened n block docs freqs deltas a first =

@@ -1,6 +1,6 @@
 -- Terms that are known to open.
 use Rattle.std.proofs.Common.{◌≡◌, ◌<◌, ◌+◌, ◌++◌, ◌∙◌, ℕ, zero, suc, subst, take, drop, Bool, true, false, List, [], ◌∷◌, length, map, Option, None, Some, Ok, Err, refl, sym, ap, arith}
-use Rattle.std.specs.Prelude.{Result, IfSome, IsOk, IsSome, IsSomeAnd, MatchOption, is_ok, ok_or, slice_get, slice_index_or, slice_set}
+use Rattle.std.specs.Prelude.{Result, IfSome, IsOk, IsSomeAnd, MatchOption, is_ok, ok_or, slice_get, slice_index_or, slice_set}
 use Rattle.std.specs.List.{All}
 use Rattle.std.specs.Option.{option_map}
 use Rattle.std.proofs.lemmas.Bool.{and_parts}

@@ -1,5 +1,5 @@
 -- A cursor over the documents of a term, with their term frequencies and positions.
-use Rattle.std.specs.Prelude.{◌≡◌, ℕ, ◌+◌, ◌*◌, ◌/◌, ◌≤◌, true, List, [], Option, None, Some, Ok, drop, length, min, ⊤}
+use Rattle.std.specs.Prelude.{◌≡◌, ℕ, ◌+◌, ◌*◌, ◌/◌, ◌<◌, ◌≤◌, true, List, [], Option, None, Some, Ok, drop, length, min, ⊤}
 use Rattle.std.specs.List.{sum, list_all}
 use Rattle.ii_base.specs.Options.{downgrade, has_positions}
 use Rattle.ii_codes.specs.Sums.{fit_u32}
@@ -106,6 +106,11 @@ pub record StaysLazy (s : SegmentPostingsState) : Type 0 where
   pub doc_decodes : s.doc_decodes ≤ s.block + 1
   pub freq_decodes : s.freq_decodes ≤ s.block + 1
   pub entries_read : s.entries_read ≤ min (s.block + 1) (s.doc_freq / 128)
+
+-- The first of the remaining documents is in the current block.
+pub record StandsInBlock (s : SegmentPostingsState) : Type 0 where
+  pub here : 0 < length s.rest → 128 * s.block + length s.rest ≤ s.doc_freq
+  pub near : s.doc_freq < 128 * s.block + 128 + length s.rest
 
 -- At most one block was decoded, documents and frequencies, and no positions.
 pub record DecodesOnce (old new : SegmentPostingsState) : Type 0 where

@@ -12,7 +12,7 @@ ghost use Rattle.ii_check.specs.CheckedPostings.{is_read};
 ghost use Rattle.ii_check.specs.Positions.{deltas_read};
 ghost use Rattle.ii_reader.specs.Bounds.{blocks_with_freq, sought_with_freq, trusted};
 ghost use Rattle.ii_reader.specs.BlockSegmentPostings.{cursor_of_none};
-ghost use Rattle.ii_reader.specs.SegmentPostings.{DecodesOnce, DecodesPositions, FitCursor, OpensList, OpensParts, SpentLazily, StaysLazy, WentLazily, decodes_read, postings_from, postings_of_none};
+ghost use Rattle.ii_reader.specs.SegmentPostings.{DecodesOnce, DecodesPositions, FitCursor, OpensList, OpensParts, SpentLazily, StandsInBlock, StaysLazy, WentLazily, decodes_read, postings_from, postings_of_none};
 
 use super::block_segment_postings::BlockSegmentPostings;
 use bytes::Bytes;
@@ -242,7 +242,9 @@ impl SegmentPostings {
         ensures sound { IsSound self.new.rest }
         ensures work { WentLazily self.old self.new }
         ensures decodes { self.new.doc_decodes ≤ self.old.doc_decodes + blocks_with_freq least self.old.bounds self.old.block self.new.block }
+        ensures freqs { self.new.freq_decodes ≤ self.old.freq_decodes + blocks_with_freq least self.old.bounds self.old.block self.new.block }
         ensures lazy { StaysLazy self.new }
+        ensures place { StandsInBlock self.new }
     {
         // For the proof: documents ascend.
         let _doc = self.doc();
@@ -299,6 +301,7 @@ impl DocSet for SegmentPostings {
         ensures once { DecodesOnce self.old self.new }
         ensures next { self.new.block ≤ self.old.block + 1 }
         ensures lazy { StaysLazy self.new }
+        ensures place { StandsInBlock self.new }
     {
         if self.cur < COMPRESSION_BLOCK_SIZE - 1 {
             self.cur += 1;
@@ -315,6 +318,7 @@ impl DocSet for SegmentPostings {
         ensures sound { IsSound self.now.rest }
         // What a caller learns beyond the trait.
         ensures lazy { StaysLazy self.now }
+        ensures place { StandsInBlock self.now }
     {
         self.block_cursor.doc(self.cur)
     }
@@ -334,6 +338,7 @@ impl DocSet for SegmentPostings {
         // What a caller learns beyond the trait.
         ensures once { DecodesOnce self.old self.new }
         ensures lazy { StaysLazy self.new }
+        ensures place { StandsInBlock self.new }
     {
         let doc = self.doc();
         if doc >= target {

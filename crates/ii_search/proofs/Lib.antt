@@ -7,3 +7,4 @@ pub mod RangeMatches
 pub mod SameDocs
 pub mod TopLemmas
 pub mod DecodesLaws
+mod TopWorkLemmas

@@ -5,10 +5,9 @@ use Rattle.std.proofs.lemmas.Bool.{le-leb, lt-leb, leb-true, leb-false}
 use Rattle.std.proofs.lemmas.List.{take-append-le, take_all}
 use Rattle.ii_base.specs.declared.doc_id.TheConstants.{TERMINATED}
 use Rattle.ii_base.specs.Entries.{Entry}
-use Rattle.ii_docset.specs.Cursor.{doc_at, IsAscending, IsSound, term_freq_at}
-use Rattle.ii_docset.proofs.CursorLemmas.{nothing_left}
+use Rattle.ii_docset.specs.Cursor.{doc_at}
 use Rattle.ii_reader.specs.Bounds.{is_wanted, sought_with_freq}
-use Rattle.ii_search.specs.TopByCount.{placed, top}
+use Rattle.ii_search.specs.TopByCount.{placed}
 
 -- where an entry is placed
 pub placed_at : (e : ℕ × ℕ) (bs : List (ℕ × ℕ)) (i : ℕ) → i ≤ length bs → ((j : ℕ) → j < i → e.1 ≤ (get_or bs j (0, 0)).1) → (i < length bs → (get_or bs i (0, 0)).1 < e.1) → placed e bs ≡ insert bs i e
@@ -40,15 +39,15 @@ placed_first (suc n) e (b ∷ bs) = by (nat_le e.1 b.1) refl (placed_first n e b
     by false test later = rw test (ap (λ (rest : List (ℕ × ℕ)). e ∷ rest) (take_again n b bs))
 
 -- what follows a sorted row
-abbrev after : List (ℕ × ℕ) → List Entry → List (ℕ × ℕ)
+abbrev pub after : List (ℕ × ℕ) → List Entry → List (ℕ × ℕ)
 after bs es = fold (λ (sorted : List (ℕ × ℕ)) (e : Entry). placed (e.doc, e.term_freq) sorted) bs es
 
-take_twice : (n : ℕ) (bs : List (ℕ × ℕ)) → take n (take n bs) ≡ take n bs
+pub take_twice : (n : ℕ) (bs : List (ℕ × ℕ)) → take n (take n bs) ≡ take n bs
 take_twice zero bs = refl
 take_twice (suc n) [] = refl
 take_twice (suc n) (b ∷ bs) = ap (λ (rest : List (ℕ × ℕ)). b ∷ rest) (take_twice n bs)
 
-after_first : (n : ℕ) (bs : List (ℕ × ℕ)) (es : List Entry) → take n (after bs es) ≡ take n (after (take n bs) es)
+pub after_first : (n : ℕ) (bs : List (ℕ × ℕ)) (es : List Entry) → take n (after bs es) ≡ take n (after (take n bs) es)
 after_first n bs [] = sym (take_twice n bs)
 after_first n bs (e ∷ es) =
     after_first n (placed (e.doc, e.term_freq) bs) es
@@ -72,7 +71,7 @@ pub record AreBest (n least : ℕ) (bs : List (ℕ × ℕ)) : Type 0 where
   pub all : (k : ℕ) → k < length bs → least ≤ (get_or bs k (0, 0)).1 + 1
 
 -- entries that a seek by count passes aren't among the first n
-passed_one : (n least : ℕ) (bs : List (ℕ × ℕ)) (x : Entry) (es : List Entry) → AreBest n least bs → x.term_freq < least → take n (after bs (x ∷ es)) ≡ take n (after bs es)
+pub passed_one : (n least : ℕ) (bs : List (ℕ × ℕ)) (x : Entry) (es : List Entry) → AreBest n least bs → x.term_freq < least → take n (after bs (x ∷ es)) ≡ take n (after bs es)
 passed_one n least bs x es b low =
     let few = b.few in
     let many : length bs ≡ n = by (nat_le n (length bs)) refl in
@@ -82,38 +81,6 @@ passed_one n least bs x es b low =
     by : (t : Bool) → nat_le n (length bs) ≡ t → length bs ≡ n
     by true test = let more = leb-true n (length bs) test in let few = b.few in omega arith
     by false test = let less = leb-false n (length bs) test in let zero_is = b.none less in absurd (omega arith)
-
-pub passed_over : (n doc least : ℕ) (bs : List (ℕ × ℕ)) (es : List Entry) → AreBest n least bs → IsAscending es → doc < doc_at es → take n (after bs es) ≡ take n (after bs (sought_with_freq (doc + 1) least es))
-passed_over n doc least bs [] b up low = refl
-passed_over n doc least bs (x ∷ es) b up low = by (nat_le least x.term_freq) refl (passed_over n doc least bs es b up.1 (omega (arith, up.0)))
-  where
-    by : (t : Bool) → nat_le least x.term_freq ≡ t → take n (after bs es) ≡ take n (after bs (sought_with_freq (doc + 1) least es)) → take n (after bs (x ∷ es)) ≡ take n (after bs (sought_with_freq (doc + 1) least (x ∷ es)))
-    by true test later = let above = le-leb (doc + 1) x.doc (omega arith) in rw (above, test) refl
-    by false test later =
-        let above = le-leb (doc + 1) x.doc (omega arith) in
-        rw (above, test) (passed_one n least bs x es b (leb-false least x.term_freq test) ∙ later)
-
--- A cursor and the first n of what it passed.
-pub record IsTopping (n doc : ℕ) (initial now : List Entry) (bs : List (ℕ × ℕ)) : Type 0 where
-  pub doc_is : doc ≡ doc_at now
-  pub sound : IsSound now
-  pub top_is : top n initial ≡ take n (after bs now)
-  pub few : length bs ≤ n
-
--- one document more
-pub tops_on : (n doc count least : ℕ) (initial now later : List Entry) (bs cs : List (ℕ × ℕ)) → IsTopping n doc initial now bs → doc < TERMINATED → count ≡ term_freq_at false now → cs ≡ take n (placed (doc, count) bs) → AreBest n least cs
-    → later ≡ sought_with_freq (doc + 1) least now → top n initial ≡ take n (after cs later)
-tops_on n doc count least initial [] later bs cs t below freq cs_is b on = let here = t.doc_is in absurd (omega arith)
-tops_on n doc count least initial (e ∷ es) later bs cs t below freq cs_is b on =
-    let here = t.doc_is in
-    let up = t.sound.ascending in
-    let next = lt-leb (doc + 1) e.doc (omega arith) in
-    let on_is : later ≡ sought_with_freq (doc + 1) least es = on ∙ (rw next refl) in
-    let row : placed (e.doc, e.term_freq) bs ≡ placed (doc, count) bs = (λ j. placed (sym here j, sym freq j) bs) in
-    t.top_is ∙ after_first n (placed (e.doc, e.term_freq) bs) es
-    ∙ ap (λ (r : List (ℕ × ℕ)). take n (after r es)) (ap (take n) row ∙ sym cs_is)
-    ∙ passed_over n doc least cs es b up.1 (omega (arith, up.0))
-    ∙ ap (λ (r : List Entry). take n (after cs r)) (sym on_is)
 
 -- what is left gets shorter
 sought_short : (target least : ℕ) (es : List Entry) → length (sought_with_freq target least es) ≤ length es
@@ -131,14 +98,3 @@ shorter doc least (e ∷ es) later here below on =
     let on_is : later ≡ sought_with_freq (doc + 1) least es = on ∙ (rw next refl) in
     let less = sought_short (doc + 1) least es in
     rw on_is (omega arith)
-
--- nothing is left at the end
-pub at_end : (n doc : ℕ) (initial now : List Entry) (bs : List (ℕ × ℕ)) → IsTopping n doc initial now bs → TERMINATED ≤ doc → now ≡ []
-at_end n doc initial now bs t end = let here = t.doc_is in sym (nothing_left now t.sound.ascending (omega arith))
-
--- all documents were looked at
-pub tops_all : (n doc : ℕ) (initial now : List Entry) (bs : List (ℕ × ℕ)) → IsTopping n doc initial now bs → TERMINATED ≤ doc → bs ≡ top n initial
-tops_all n doc initial now bs t end =
-    let few = t.few in
-    let none = at_end n doc initial now bs t end in
-    sym (t.top_is ∙ ap (λ (r : List Entry). take n (after bs r)) none ∙ take_all n bs (omega arith))

@@ -2,7 +2,8 @@
 ghost use Rattle.std.specs.Prelude.{◌≡◌, ◌+◌, ◌<◌, ◌≤◌, ℕ, [], insert, length, take, IfOk, OnOk};
 ghost use Rattle.std.specs.List.{slice_index_or};
 ghost use Rattle.ii_io.specs.Faults.{OnlyMemory};
-ghost use Rattle.ii_search.specs.TopByCount.{placed, top};
+ghost use Rattle.ii_reader.specs.SegmentPostings.{WentLazily};
+ghost use Rattle.ii_search.specs.TopByCount.{DecodesForTop, needed, placed, top};
 
 use ii_base::Fault;
 use ii_docset::{DocId, DocSet, Postings, TERMINATED};
@@ -10,9 +11,11 @@ use ii_reader::SegmentPostings;
 use std::alloc::Global;
 
 /// Returns the `n` remaining documents of a cursor with the greatest counts, each with its count: the greatest
-/// count first, and of equal counts the smaller document. Each count is 1 if counts aren't read. It seeks by
-/// count, so it skips blocks whose bounds rule out that one of their documents is among the `n`. The cursor
+/// count first, and of equal counts the smaller document. Each count is 1 if counts aren't read. The cursor
 /// is at its end afterwards.
+///
+/// Seeks by count: besides the current block, it decodes a block at most once, and only if its bound allows
+/// a count that is greater than the least of the `n` greatest counts before the block.
 ///
 /// # Errors
 ///
@@ -25,6 +28,9 @@ pub fn top_by_count(
     ensures top { IfOk result (λ best. best.items ≡ top n cursor.old.rest) }
     ensures ends { OnOk result (cursor.new.rest ≡ []) }
     ensures only { OnlyMemory result }
+    // What it costs.
+    ensures work { WentLazily cursor.old cursor.new }
+    ensures decodes { DecodesForTop n cursor.old cursor.new }
 {
     let mut best = Vec::new(alloc);
     let mut doc = cursor.doc();
@@ -68,8 +74,7 @@ fn place_of(best: &[(DocId, u32)], count: u32) -> usize
 
 // Returns the count that a document needs to be among the first `n`, given the best so far.
 fn least_of(best: &[(DocId, u32)], n: usize) -> u32
-    ensures few { length best.now < n → result ≡ 0 }
-    ensures all { (k : ℕ) → k < length best.now → result ≤ (slice_index_or best.now k (0, 0)).1 + 1 }
+    ensures { result ≡ needed n best.now }
 {
     if best.len() < n {
         return 0;

@@ -1,5 +1,6 @@
-use Rattle.std.proofs.Common.{rules, refl, sym, ◌∙◌, append_assoc}
+use Rattle.std.proofs.Common.{rules, refl, sym, ap, ◌∙◌, append_assoc, arith, drop}
 use Rattle.std.proofs.lemmas.List.{append-nil}
+use Rattle.ii_docset.proofs.CursorLemmas.{length_step}
 use Rattle.iiq.proofs.OutputLemmas.{list_text_first, list_text_none, more_items_next, more_items_none, below_end}
 use Rattle.iiq.proofs.output.push_list.Goals as goal
 
@@ -29,6 +30,13 @@ loop-doc-preserved c =
     let below = below_end c.loop-doc.cursor.rest c.loop-doc.doc known.ascending known.here c.loop-doc-test.true in
     let next = more_items_next c.args.option c.loop-doc.cursor.rest below in
     record { here = c.advance-doc-in-loop-doc.ensures.doc; ascending = c.advance-doc-in-loop-doc.ensures.sound.ascending; written = rw (← known.written, next, c.advance-doc-in-loop-doc.ensures.rest, c.push_item-in-loop-doc.ensures.rest, c.in_ok-push_item-2.ensures.item, c.in_ok-push.ensures.bytes, append_assoc, append_assoc) refl }
+
+pub loop-doc-smaller : goal.loop-doc-smaller
+loop-doc-smaller c =
+    let known = c.loop-doc.invariant in
+    let below = below_end c.loop-doc.cursor.rest c.loop-doc.doc known.ascending known.here c.loop-doc-test.true in
+    let left = c.advance-doc-in-loop-doc.ensures.rest ∙ ap (drop 1) c.push_item-in-loop-doc.ensures.rest in
+    rw left (omega (arith, length_step c.loop-doc.cursor.rest below))
 
 pub returns : goal.returns
 returns c =

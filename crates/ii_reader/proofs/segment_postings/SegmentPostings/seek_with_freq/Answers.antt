@@ -49,3 +49,17 @@ returns-clause-decodes c =
     let unread = ap is_read (sym c.freq_reading_option.ensures.option) ∙ sym c.is_read.ensures ∙ c.if-is_read.false in
     let went = c.seek-2.ensures.work in
     rw (← c.self.view_is) (unread_decodes c.args.least s.block_cursor.block c.seek-2.new.self.block s.block_cursor.doc_decodes c.seek-2.new.self.doc_decodes s.block_cursor.freq_reading s.block_cursor.bounds unread (rw (← c.self.view_is) at went.forward) (rw (← c.self.view_is) at went.doc_decodes))
+
+pub returns-then-least-le1-clause-freqs : goal.returns-then-least-le1-clause-freqs
+returns-then-least-le1-clause-freqs c =
+    let s = c.self.inside in
+    let unread = ap is_read (sym c.freq_reading_option.ensures.option) ∙ sym c.is_read.ensures ∙ c.if-is_read.false in
+    let went = c.seek.ensures.work in
+    rw (← c.self.view_is) (unread_decodes c.args.least s.block_cursor.block c.seek.new.self.block s.block_cursor.freq_decodes c.seek.new.self.freq_decodes s.block_cursor.freq_reading s.block_cursor.bounds unread (rw (← c.self.view_is) at went.forward) (rw (← c.self.view_is) at went.freq_decodes))
+
+pub returns-clause-freqs : goal.returns-clause-freqs
+returns-clause-freqs c =
+    let s = c.self.inside in
+    let unread = ap is_read (sym c.freq_reading_option.ensures.option) ∙ sym c.is_read.ensures ∙ c.if-is_read.false in
+    let went = c.seek-2.ensures.work in
+    rw (← c.self.view_is) (unread_decodes c.args.least s.block_cursor.block c.seek-2.new.self.block s.block_cursor.freq_decodes c.seek-2.new.self.freq_decodes s.block_cursor.freq_reading s.block_cursor.bounds unread (rw (← c.self.view_is) at went.forward) (rw (← c.self.view_is) at went.freq_decodes))
