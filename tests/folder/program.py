@@ -243,8 +243,8 @@ def grows(user, docs, chosen):
     user.wants(['index', 'grown', '--schema', schema], 0, f'{cuts[1]} documents indexed\n', given=lines(docs[:cuts[1]]).encode())
     for begin, end in zip(cuts[1:], cuts[2:]):
         user.write('more.jsonl', lines(docs[begin:end]))
-        user.wants(['add', 'grown', 'more.jsonl'], 0, f'{end - begin} documents added\n')
-    user.wants(['add', 'grown'], 0, '0 documents added\n')
+        user.wants(['add', 'grown', '--no-merge', 'more.jsonl'], 0, f'{end - begin} documents added\n')
+    user.wants(['add', 'grown', '--no-merge'], 0, '0 documents added\n')
     words = chosen.sample(sorted(texts.lists_of(docs, 'body')), 4)
     asked = [['fields'], ['terms', 'body'], ['terms', 'body', '--top', 9], ['terms', 'body', '--prefix', 'co'], ['terms', 'about'], ['terms', 'number', '--top', 3]]
     for one, two in zip(words, words[1:]):
@@ -315,6 +315,33 @@ def merges(user, docs, asked):
 DELETED_SCHEMA = '[[field]]\nname = "id"\ntype = "bytes"\n[[field]]\nname = "body"\ntype = "text"\n[[field]]\nname = "flag"\ntype = "text"\nrecord = "basic"\nfieldnorms = false\n'
 
 
+def settles(user, docs):
+    """Adds documents in parts of different sizes. After each one, the segments are those that a plain reading of the rule
+    joins, and in the end they answer as one index of all documents."""
+    schema = user.path('schema.toml')
+    user.wants(['index', 'settled', '--schema', schema], 0, '0 documents indexed\n')
+    sizes, done = [0], 0
+    for size in (1, 1, 1, 2, 9, 1, 1, 3, 4, 2, 20, 1, 1, 1, 1):
+        user.wants(['add', 'settled'], 0, f'{size} documents added\n', given=lines(docs[done:done + size]).encode())
+        done, sizes = done + size, sizes + [size]
+        for place in range(len(sizes) - 1):
+            if sizes[place] <= sum(sizes[place + 1:]):
+                sizes = sizes[:place] + [sum(sizes[place:])]
+                break
+        if f'{done:>12} documents\n{len(sizes):>12} segments\n' not in user.wants(['stats', 'settled'], 0):
+            raise Failed(f'segments after {done} documents; wanted {sizes}')
+    user.wants(['check', 'settled'], 0)
+    user.wants(['index', 'one', '--schema', schema], 0, f'{done} documents indexed\n', given=lines(docs[:done]).encode())
+    word = sorted(texts.lists_of(docs[:done], 'body'))[0]
+    for words in (['fields'], ['terms', 'body'], ['search', word, '--positions'], ['search', 'the', '--count'], ['postings', 'body', word]):
+        one, two = (user.run(words[0], name, *words[1:]) for name in ('one', 'settled'))
+        told = lambda run: [row.split(' terms')[0] for row in run.stdout.decode().splitlines()] if words == ['fields'] else run.stdout
+        if one.returncode != two.returncode or told(one) != told(two):
+            raise Failed(f'{words} after merges: {two.stdout[-300:]!r}; wanted {one.stdout[-300:]!r}')
+    for name in ('one', 'settled'):
+        shutil.rmtree(user.path(name))
+
+
 def started(user, name):
     """Creates an index without documents."""
     user.write('deleted.toml', DELETED_SCHEMA)
@@ -322,7 +349,7 @@ def started(user, name):
 
 
 def adds(user, name, *docs):
-    user.wants(['add', name], 0, f'{len(docs)} documents added\n', given=lines(docs).encode())
+    user.wants(['add', name, '--no-merge'], 0, f'{len(docs)} documents added\n', given=lines(docs).encode())
 
 
 def deletes(user):
@@ -718,6 +745,7 @@ def main():
             values(user, docs)
             refusals(user, docs)
             grows(user, docs, chosen)
+            settles(user, docs)
             deletes(user)
             first_versions(user, docs)
             ids(user)

@@ -226,7 +226,7 @@ class Reader:
     """A folder that the program wrote, and a plain reading of its lines."""
 
     def __init__(self, program, room, fields, lines):
-        self.program, self.room, self.settings, self.runs = program, room, fields, 0
+        self.program, self.room, self.settings, self.runs, self.merges_some = program, room, fields, 0, False
         self.read(lines)
 
     def read(self, lines):
@@ -259,8 +259,12 @@ class Reader:
         if version == 1:
             versions.to_first(os.path.join(self.room, 'folder'))
         for part, text in zip(parts[1:], texts[1:]):
-            self.wants(['add', 'folder'], 0, f'{len(part)} documents added\n', text)
+            self.wants(['add', 'folder', *self.merging()], 0, f'{len(part)} documents added\n', text)
         self.is_sound()
+
+    def merging(self):
+        """Returns the option that keeps all segments, unless the last ones may be merged."""
+        return [] if self.merges_some else ['--no-merge']
 
     def is_sound(self):
         """Looks that the index has the number of its lines, and no damage."""
@@ -322,7 +326,7 @@ class Reader:
             got, said, err = self.run('add', 'folder', f'--replace-by={name}', given=text)
             if got != 1 or said or '-:' not in err:
                 raise Failed(f'add --replace-by {name}: status {got}, {said!r}, {err!r}')
-        self.wants(['add', 'folder', '--skip-bad', f'--replace-by={name}'], 0, f'{len(added)} documents added, {len(gone)} replaced{bad}\n', text)
+        self.wants(['add', 'folder', *self.merging(), '--skip-bad', f'--replace-by={name}'], 0, f'{len(added)} documents added, {len(gone)} replaced{bad}\n', text)
         self.read([line for doc, line in enumerate(self.lines) if doc not in gone] + added)
         self.is_sound()
 
@@ -360,7 +364,7 @@ class Reader:
         return set(field.lists.get(word.encode(), {}))
 
     def searches(self, chosen):
-        """Compares searches for words, pairs of words, prefixes and numbers with a filter of the documents."""
+        """Compares searches for words, pairs of words, prefixes, ranges and numbers with a filter of the documents."""
         text_fields = [field for field in self.fields if field.kind == 'text' and field.setting.get('indexed') is not False]
         everywhere = lambda word: set().union(*(self.docs_of(field, word) for field in text_fields))
         plain = [word for word in WORDS if texts.words_of(word) == [word]]
@@ -376,6 +380,7 @@ class Reader:
             if not field.lists or not name.isalnum() or name == 'AND':
                 continue
             key = chosen.choice(sorted(field.lists))
+            self.ranges(chosen, field, name)
             if field.kind in ('u64', 'i64', 'bool'):
                 self.finds(f'{name}:"{field.texts[key]}"', set(field.lists[key]))
             elif field.kind == 'text' and field.records() == 'position':
@@ -395,6 +400,20 @@ class Reader:
                 if field.setting['name'].isalnum() and field.setting['name'] != 'AND':
                     self.finds(f"{field.setting['name']}:{start}*", begun(field))
 
+    def ranges(self, chosen, field, name):
+        """Compares searches for values between bounds, which belong to the range or not, or of which one is missing."""
+        between = lambda takes: set().union(*(docs for key, docs in field.lists.items() if takes(key)))
+        for query in (f'{name}:*', f'{name}:[* TO *]'):
+            self.finds(query, between(lambda key: True))
+        if field.kind not in ('u64', 'i64', 'bool', 'text'):
+            return
+        one, two = (chosen.choice(sorted(field.lists)) for _ in range(2))
+        low, high = (f'"{field.texts[key]}"' for key in (one, two))
+        for query, takes in ((f'{name}:[{low} TO {high}]', lambda key: one <= key <= two), (f'{name}:{{{low} TO {high}}}', lambda key: one < key < two),
+                             (f'{name}:[{low} TO {high}}}', lambda key: one <= key < two), (f'{name}:{{* TO {high}]', lambda key: key <= two),
+                             (f'{name}:>={low}', lambda key: key >= one), (f'{name}:>{low}', lambda key: key > one), (f'{name}:<{high}', lambda key: key < two)):
+            self.finds(query, between(takes))
+
     def phrase(self, chosen, field, name):
         """Compares the search for a phrase of two words in a field."""
         one, two = chosen.choice(sorted(field.lists)), chosen.choice(sorted(field.lists))
@@ -411,6 +430,7 @@ def one_folder(program, room, chosen, is_large):
     fields = random_schema(chosen)
     lines = [random_line(chosen, fields) for _ in range(chosen.randint(300, 900) if is_large else chosen.randint(0, 30))]
     reader = Reader(program, room, fields, lines)
+    reader.merges_some = chosen.random() < 0.5
     cuts = sorted(chosen.randint(0, len(lines)) for _ in range(chosen.choice((0, 0, 1, 2, 4))))
     version = chosen.choice((1, 2, 2))
     reader.indexes(fields, cuts, chosen.random() < 0.3, version)

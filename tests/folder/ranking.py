@@ -159,7 +159,7 @@ def one_folder(program, room, chosen):
             reading.docs.append(doc)
             lines.append(json.dumps({'id': doc['id'], **{name: ' '.join(doc[name]) for name in FIELDS}}) + '\n')
         given = ''.join(lines).encode()
-        user.run(*(['index', 'index', '--schema', 'schema.toml'] if part == 0 else ['add', 'index']), given=given)
+        user.run(*(['index', 'index', '--schema', 'schema.toml'] if part == 0 else ['add', 'index', '--no-merge']), given=given)
     for _ in range(QUERIES // 2):
         compares(user, chosen, reading)
     field, word = chosen.choice(FIELDS), chosen.choice(['storm', 'bird', 'of'])

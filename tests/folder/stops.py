@@ -1,6 +1,6 @@
 #!/usr/bin/env python3
-"""Stops `nequllpa index`, `add`, `delete` and `merge` before each of their system calls, and runs two programs that write to one
-folder. The folder must hold the old index or the new one, and a second writer must fail at once."""
+"""Stops `nequllpa index`, `add`, `delete`, `merge`, and the merges after `add`, before each of their system calls, and runs two
+programs that write to one folder. The folder must hold the old index or the new one, and a second writer must fail at once."""
 import json
 import os
 import shutil
@@ -101,8 +101,8 @@ def adds_everywhere(folder, before, version=2):
         if version == 1:
             versions.to_first(folder.path('index'))
         for lines in before[1:]:
-            folder.wants(folder.run('add', 'index', lines)[0], 0, '1 documents added')
-        done, calls = folder.run('add', 'index', 'old.jsonl', STOP_AT=stop)
+            folder.wants(folder.run('add', 'index', '--no-merge', lines)[0], 0, '1 documents added')
+        done, calls = folder.run('add', 'index', '--no-merge', 'old.jsonl', STOP_AT=stop)
         if done.returncode == 0:
             folder.holds(many)
             return calls
@@ -110,7 +110,7 @@ def adds_everywhere(folder, before, version=2):
             raise Failed(f'add stopped at {stop}: status {done.returncode}, {done.stderr!r}')
         folder.holds(many - 1, many)
         has = int(folder.run('search', 'index', 'sea', '--count')[0].stdout)
-        folder.wants(folder.run('add', 'index', 'new.jsonl')[0], 0, '2 documents added')
+        folder.wants(folder.run('add', 'index', '--no-merge', 'new.jsonl')[0], 0, '2 documents added')
         folder.holds(has + 2)
         # files of a stopped run were removed
         named = [name for name in os.listdir(folder.path('index')) if name.endswith('.term')]
@@ -128,8 +128,8 @@ def deletes_everywhere(folder):
     for stop in range(1, 1000):
         shutil.rmtree(folder.path('index'), ignore_errors=True)
         folder.wants(folder.index('none.jsonl')[0], 0, '0 documents indexed')
-        folder.wants(folder.run('add', 'index', 'old.jsonl')[0], 0, '1 documents added')
-        folder.wants(folder.run('add', 'index', 'new.jsonl')[0], 0, '2 documents added')
+        folder.wants(folder.run('add', 'index', '--no-merge', 'old.jsonl')[0], 0, '1 documents added')
+        folder.wants(folder.run('add', 'index', '--no-merge', 'new.jsonl')[0], 0, '2 documents added')
         folder.wants(folder.run('delete', 'index', 'body', 'bird')[0], 0, '1 documents deleted')
         done, calls = folder.run('delete', 'index', 'body', 'sea', STOP_AT=stop)
         if done.returncode not in (0, -signal.SIGKILL):
@@ -138,7 +138,7 @@ def deletes_everywhere(folder):
         folder.run('delete', 'index', 'body', 'sea')
         folder.holds(0)
         # an add removes the files of a stopped run, and the flags that no list has any more
-        folder.wants(folder.run('add', 'index', 'old.jsonl')[0], 0, '1 documents added')
+        folder.wants(folder.run('add', 'index', '--no-merge', 'old.jsonl')[0], 0, '1 documents added')
         folder.holds(1)
         named = [name for name in os.listdir(folder.path('index')) if name.endswith('.alive')]
         if len(named) != 2 or os.path.exists(folder.path('index/meta.new')):
@@ -159,7 +159,7 @@ def merges_everywhere(folder, version=2):
         folder.wants(folder.index('new.jsonl')[0], 0, '2 documents indexed')
         if version == 1:
             versions.to_first(folder.path('index'))
-        folder.wants(folder.run('add', 'index', 'old.jsonl')[0], 0, '1 documents added')
+        folder.wants(folder.run('add', 'index', '--no-merge', 'old.jsonl')[0], 0, '1 documents added')
         if version == 2:
             folder.wants(folder.run('delete', 'index', 'body', 'bird')[0], 0, '1 documents deleted')
         left = 2 if version == 2 else 3
@@ -174,13 +174,43 @@ def merges_everywhere(folder, version=2):
         folder.wants(again, 0, f'{left} documents')
         folder.holds(left)
         # an add removes the files of a stopped run
-        folder.wants(folder.run('add', 'index', 'old.jsonl')[0], 0, '1 documents added')
+        folder.wants(folder.run('add', 'index', '--no-merge', 'old.jsonl')[0], 0, '1 documents added')
         folder.holds(left + 1)
         named = [name for name in os.listdir(folder.path('index')) if name.split('.')[-1] in ('term', 'alive', 'new')]
         if sorted(name.split('.')[-1] for name in named) != ['term', 'term']:
             raise Failed(f'after a merge that was stopped at {stop}: {sorted(os.listdir(folder.path("index")))}')
         if done.returncode == 0:
             folder.wants(done, 0, f'2 segments merged, {left} documents')
+            return calls
+        folder.stops += 1
+    raise Failed('the program makes no end of calls')
+
+
+def settles_everywhere(folder):
+    """Stops `add` before each of its calls, where it merges the last segments afterwards. Returns its calls."""
+    asked = (['search', 'index', 'sea', '--positions'], ['terms', 'index', 'body'])
+    answers = lambda: [folder.run(*words)[0].stdout for words in asked]
+    for stop in range(1, 1000):
+        shutil.rmtree(folder.path('index'), ignore_errors=True)
+        folder.wants(folder.index('new.jsonl')[0], 0, '2 documents indexed')
+        folder.wants(folder.run('add', 'index', '--no-merge', 'old.jsonl')[0], 0, '1 documents added')
+        folder.run('add', 'index', '--no-merge', 'old.jsonl')
+        wanted = answers()
+        shutil.rmtree(folder.path('index'))
+        folder.wants(folder.index('new.jsonl')[0], 0, '2 documents indexed')
+        folder.wants(folder.run('add', 'index', '--no-merge', 'old.jsonl')[0], 0, '1 documents added')
+        done, calls = folder.run('add', 'index', 'old.jsonl', STOP_AT=stop)
+        if done.returncode not in (0, -signal.SIGKILL):
+            raise Failed(f'add with a merge stopped at {stop}: status {done.returncode}, {done.stderr!r}')
+        folder.holds(*((4,) if done.returncode == 0 else (3, 4)))
+        if int(folder.run('search', 'index', 'sea', '--count')[0].stdout) == 4 and answers() != wanted:
+            raise Failed(f'after an add with a merge that was stopped at {stop}: {answers()}; wanted {wanted}')
+        folder.run('add', 'index', 'new.jsonl')
+        kinds = [name.split('.')[-1] for name in os.listdir(folder.path('index'))]
+        told = folder.run('stats', 'index')[0].stdout
+        if f'{kinds.count("term")} segments\n' not in told or 'new' in kinds:
+            raise Failed(f'after an add that merges, once one was stopped at {stop}: {kinds}; {told!r}')
+        if done.returncode == 0:
             return calls
         folder.stops += 1
     raise Failed('the program makes no end of calls')
@@ -196,14 +226,14 @@ def replaces_everywhere(folder):
     for stop in range(1, 1000):
         shutil.rmtree(folder.path('index'), ignore_errors=True)
         folder.wants(folder.run('index', 'index', '--schema', 'keyed.toml', 'first.jsonl')[0], 0, '2 documents indexed')
-        done, calls = folder.run('add', 'index', '--replace-by', 'id', 'second.jsonl', STOP_AT=stop)
+        done, calls = folder.run('add', 'index', '--no-merge', '--replace-by', 'id', 'second.jsonl', STOP_AT=stop)
         if done.returncode not in (0, -signal.SIGKILL):
             raise Failed(f'add --replace-by stopped at {stop}: status {done.returncode}, {done.stderr!r}')
         folder.holds(2, 3)
         told = folder.run('postings', 'index', 'body', 'new')[0].stdout + folder.run('postings', 'index', 'body', 'old')[0].stdout
         if told != '1 1\n2 1\n0 1\n' and (told != '0 1\n1 1\n' or done.returncode == 0):
             raise Failed(f'after an add --replace-by that was stopped at {stop}: {told!r}')
-        folder.wants(folder.run('add', 'index', '--replace-by', 'id', 'second.jsonl')[0], 0, '2 documents added, ')
+        folder.wants(folder.run('add', 'index', '--no-merge', '--replace-by', 'id', 'second.jsonl')[0], 0, '2 documents added, ')
         folder.holds(3)
         if done.returncode == 0:
             folder.wants(done, 0, '2 documents added, 1 replaced')
@@ -330,6 +360,7 @@ def main():
             in_order(merges_everywhere(folder))
             merges_everywhere(folder, 1)
             replaces_everywhere(folder)
+            settles_everywhere(folder)
         except Failed as why:
             print(f'tests/folder: {why}')
             return 1

@@ -19,5 +19,9 @@ mod ReadsLaws
 pub mod DecodesLaws
 pub mod SearchingLaws
 pub mod TextLaws
+mod TokenOrderLaws
 mod TopLaws
+mod WordScoreLaws
 mod WorkedRows
+mod SegmentLaws
+mod TopDecodes

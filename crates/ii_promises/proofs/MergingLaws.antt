@@ -1,5 +1,5 @@
 -- What a search returns over segments, and over merged ones.
-use Rattle.std.proofs.Common.{◌≡◌, List, Result, Ok, Err, ◌∙◌, ℕ}
+use Rattle.std.proofs.Common.{◌≡◌, List, Result, Ok, Err, ◌∙◌, ℕ, subst, sym}
 use Rattle.std.specs.Prelude.{IfErr, IfOk, filter}
 use Rattle.std.specs.List.{range_with_len}
 use Rattle.ii_io.specs.declared.faults.Fault.{Fault}
@@ -11,7 +11,7 @@ use Rattle.ii_query_parser.specs.Queries.{matches}
 use Rattle.ii_living_docs.specs.Chain.{ChainState, chained}
 use Rattle.ii_living_docs.specs.LivingDocs.{LivingParts}
 use Rattle.ii_segments.specs.Segments.{Segment, index_tokens, num_docs_of}
-use Rattle.ii_segment_search.specs.Searcher.{GivesFound, living_rest}
+use Rattle.ii_segment_search.specs.Searcher.{AreFound, GivesFound, living_rest}
 use Rattle.ii_base.specs.Schema.{SchemaEntry}
 use Rattle.ii_definitions.specs.Tokens.{IndexToken}
 use Rattle.ii_io.specs.declared.faults.Part.{Part}
@@ -39,3 +39,12 @@ not_damaged e part memory is = absurd (cc)
 pub opened_undamaged : (entries : List SchemaEntry) (n : ℕ) (ts : List IndexToken) (r : Result OpenIndexState Fault) → GivesAll entries n ts r → IfErr r (λ e. (part : Part) → ¬ (e ≡ Damaged part))
 opened_undamaged entries n ts (Ok index) gives = tt
 opened_undamaged entries n ts (Err e) gives = λ part is. not_damaged e part gives.0 is
+
+-- what is found in segments of the same tokens
+pub same_found : {S T : Type 0} (query : Query) (ss ts : List Segment) (before : Result (ChainState (LivingParts (QueryCursorState S))) Fault) (after : Result (ChainState (LivingParts (QueryCursorState T))) Fault) (a : ChainState (LivingParts (QueryCursorState S))) (b : ChainState (LivingParts (QueryCursorState T)))
+    → before ≡ Ok a → after ≡ Ok b → GivesFound query ss before → GivesFound query ts after → index_tokens ts ≡ index_tokens ss → num_docs_of ts ≡ num_docs_of ss
+    → docs_of (chained living_rest b.cursors b.current) ≡ docs_of (chained living_rest a.cursors a.current)
+same_found {S} {T} query ss ts before after a b a_is b_is first second tokens docs =
+    let found_first : AreFound query ss (chained living_rest a.cursors a.current) = subst (λ (r : Result (ChainState (LivingParts (QueryCursorState S))) Fault). GivesFound query ss r) a_is first in
+    let found_second : AreFound query ts (chained living_rest b.cursors b.current) = subst (λ (r : Result (ChainState (LivingParts (QueryCursorState T))) Fault). GivesFound query ts r) b_is second in
+    found_second ∙ (λ j. filter (matches query (tokens j)) (range_with_len 0 (docs j))) ∙ sym found_first

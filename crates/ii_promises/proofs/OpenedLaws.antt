@@ -10,7 +10,7 @@ use Rattle.ii_termstore.specs.declared.term_info.TermInfo.{TermInfo}
 use Rattle.ii_check.specs.declared.freq_reading_option.FreqReadingOption.{FreqReadingOption}
 use Rattle.ii_check.specs.declared.validation.Validation.{Validation}
 use Rattle.ii_check.specs.declared.validation.Validation.TheVariants.{Complete, Skipped}
-use Rattle.ii_check.specs.CheckedBlocks.{BlockCounts, blocks_checked, counts_checked, freqs_checked, num_blocks}
+use Rattle.ii_check.specs.CheckedBlocks.{BlockCounts, blocks_checked, counts_checked, num_blocks}
 use Rattle.ii_check.specs.CheckedPostings.{is_read}
 use Rattle.ii_reader.specs.InvertedIndexReader.{InvertedIndexReaderState, IsTrusted, OpensTerm, term_of_file, trusted_reader}
 use Rattle.ii_reader.specs.SegmentPostings.{SegmentPostingsState}

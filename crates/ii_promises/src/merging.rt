@@ -1,6 +1,6 @@
 // Segments are merged, and searched as one index.
-ghost use Rattle.std.specs.Prelude.{◌≡◌, ◌<◌, ◌≤◌, ℕ, List, true, filter, length, map, IfErr, IfOk};
-ghost use Rattle.std.specs.List.{AllByRecursion, range_with_len};
+ghost use Rattle.std.specs.Prelude.{◌≡◌, ◌<◌, ◌≤◌, ◌++◌, ◌∷◌, [], ℕ, List, true, drop, filter, if◌then◌else◌, length, map, nat_lt, take, IfErr, IfOk};
+ghost use Rattle.std.specs.List.{AllByRecursion, range_with_len, sum};
 ghost use Rattle.ii_docset.specs.Intersection.{has_doc};
 ghost use Rattle.ii_io.specs.declared.faults.Part.{Part};
 ghost use Rattle.ii_base.specs.Entries.{docs_of};
@@ -19,6 +19,8 @@ use nequllpa::{
     Fault, IndexWriters, OpenIndex, Query, QueryCursor, Schema, SegmentPostings, TermOrPhrase,
     open_in_ram, search,
 };
+use nequllpa_merging::first_to_merge;
+use nequllpa_merging::merge_policy::{merges_settle, settled_are_few};
 use std::alloc::Global;
 
 /// Over segments that hold tokens, a query finds exactly the living documents whose tokens match it, numbered
@@ -36,6 +38,29 @@ pub fn living_documents_are_found<'a>(
         → IfErr result (λ e. e ≡ Fault.OutOfMemory) }
 {
     searcher.search(alloc, query)
+}
+
+/// So a query finds the same documents in segments of the same tokens, which merges of neighbours leave.
+pub fn merges_change_no_answer<'a>(
+    alloc: Global,
+    before: &'a Searcher,
+    after: &'a Searcher,
+    query: &Query,
+) -> Result<(SegmentsCursor<'a>, SegmentsCursor<'a>), Fault>
+    requires before { HaveFields query.now before.now }
+    requires after { HaveFields query.now after.now }
+    ensures same { (entries : List SchemaEntry) (ss ts : List Segment) → SegmentsHold entries before.entry.now ss → SegmentsHold entries after.entry.now ts
+        → index_tokens ts ≡ index_tokens ss → num_docs_of ts ≡ num_docs_of ss → MayAsk entries query.entry.now → Reaches query.entry.now ss → Reaches query.entry.now ts
+        → IfOk result (λ found. docs_of (chained living_rest found.1.cursors found.1.current) ≡ docs_of (chained living_rest found.0.cursors found.0.current)) }
+{
+    let earlier = match before.search(alloc, query) {
+        Ok(found) => found,
+        Err(fault) => return Err(fault),
+    };
+    match after.search(alloc, query) {
+        Ok(later) => Ok((earlier, later)),
+        Err(fault) => Err(fault),
+    }
 }
 
 /// Segments that hold tokens are merged into files that open as an index of exactly the tokens of their living
@@ -86,4 +111,14 @@ pub fn merged_segments_find_what_matches(
         Ok(index) => search(alloc, &index, query),
         Err(fault) => Err(fault),
     }
+}
+
+/// Once the segments from the place on that the policy gives are one, at most 32 segments are left of fewer than 2^31
+/// documents.
+pub fn few_segments_are_left(num_living: &[u32]) -> usize
+    ensures { sum num_living.now < 2147483648 → length (if nat_lt result (length num_living.now) then take result num_living.now ++ sum (drop result num_living.now) ∷ [] else num_living.now) ≤ 32 }
+{
+    merges_settle();
+    settled_are_few();
+    first_to_merge(num_living)
 }

@@ -1,5 +1,5 @@
 // An index of segments in a directory: segments are added, documents deleted, and stops lose neither.
-ghost use Rattle.std.specs.Prelude.{◌≡◌, ◌⊎◌, Ok, IfOk, IsTrue, OnOk, map};
+ghost use Rattle.std.specs.Prelude.{◌≡◌, ◌⊎◌, List, Ok, IfOk, IsTrue, OnOk, map};
 ghost use Rattle.std.specs.Option.{option_map};
 ghost use Rattle.ii_directory.specs.Directory.{Files};
 ghost use Rattle.ii_directory.specs.declared.name.Name.TheVariants.{Meta};
@@ -8,8 +8,10 @@ ghost use Rattle.ii_store.specs.Segments.{index_with, list_in, segments_of};
 ghost use Rattle.ii_segment_store.specs.Changes.{changed_index};
 ghost use Rattle.ii_segment_store.specs.Commits.{index_of_segment};
 ghost use Rattle.ii_segment_store.specs.Contents.{contents_view, files_contents, index_contents, with_segment};
+ghost use Rattle.ii_segments.specs.Segments.{Segment, index_tokens, num_docs_of};
+ghost use Rattle.nequllpa_merging.specs.Joins.{HoldsIndex};
 
-use ii_base::DocId;
+use ii_base::{DocId, Schema};
 use ii_segment_store::{
     CommitFault, SegmentFiles, StoredSegments, append_segment, commit_changes, load_segments,
     replace_index, upgrade,
@@ -18,6 +20,7 @@ use ii_store::collect::collect;
 use ii_store::commit_check::may_commit;
 use ii_store::segments::commit;
 use ii_store::{Directory, DirectoryFault, IndexMeta, StoreFault};
+use nequllpa_merging::{JoinFault, merge_last};
 use std::alloc::Global;
 
 /// What is loaded is what the index of the directory holds.
@@ -75,6 +78,24 @@ pub fn changes_are_made_at_once<D: Directory>(
         → (index_contents files ≡ index_contents (D.seen directory.old)) ⊎ (index_contents files ≡ changed_index (map (λ v. v.items) deleted.now) (option_map (λ f. files_contents f.now) added.entry) (index_contents (D.seen directory.old))) }
 {
     commit_changes(alloc, directory, deleted, added)
+}
+
+/// A merge of the last segments keeps all documents of an index, with their tokens, under their numbers, wherever it is
+/// stopped.
+#[tactic(auto, using(crate::proofs::SegmentLaws::same_documents, crate::proofs::SegmentLaws::same_if_done))]
+pub fn merges_keep_the_documents<D: Directory>(
+    alloc: Global,
+    directory: &mut D,
+    schema: &Schema,
+    first: usize,
+) -> Result<(), JoinFault>
+    requires { D.is_known directory.old }
+    ensures merged { (ss : List Segment) → HoldsIndex schema.now (D.seen directory.old) ss
+        → OnOk result ((ts : List Segment) × HoldsIndex schema.now (D.seen directory.new) ts × (index_tokens ts ≡ index_tokens ss) × (num_docs_of ts ≡ num_docs_of ss)) }
+    ensures stopped { (ss : List Segment) → HoldsIndex schema.now (D.seen directory.old) ss → (files : Files) → D.left_since directory.new (D.moment directory.old) files
+        → (ts : List Segment) × HoldsIndex schema.now files ts × (index_tokens ts ≡ index_tokens ss) × (num_docs_of ts ≡ num_docs_of ss) }
+{
+    merge_last(alloc, directory, schema, first)
 }
 
 /// An index of version 1 becomes one of version 2 that holds the same, wherever this is stopped.

@@ -310,7 +310,7 @@ next_of (Err fault) = 0
 below_next : (r : Result MetaState IndexFault) (m : MetaState) → r ≡ Ok m → m.next_segment_id ≤ next_of r
 below_next r m e = omega (arith, ap next_of e)
 
-contents_same : (a c : Files) → Same a c → index_contents c ≡ index_contents a
+pub contents_same : (a c : Files) → Same a c → index_contents c ≡ index_contents a
 contents_same a c same =
     same_contents (next_of (list_in (a Meta))) a c (record { meta = same Meta; slots = λ slot kind. same (File slot kind); segments = λ i component lt. same (Segment i component) }) (below_next (list_in (a Meta)))
 

@@ -5,3 +5,4 @@ mod ClearLaws
 mod WorkedRows
 pub mod ChangeLaws
 pub mod ListLaws
+pub mod JoinLaws

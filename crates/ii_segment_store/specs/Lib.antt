@@ -1,3 +1,4 @@
 pub mod Contents
 pub mod Commits
 pub mod Changes
+pub mod Joins

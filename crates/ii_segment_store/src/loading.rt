@@ -126,7 +126,7 @@ fn load_list<D: Directory>(
 }
 
 // Loads segments one by one.
-fn load_each<D: Directory>(
+pub(crate) fn load_each<D: Directory>(
     alloc: Global,
     directory: &D,
     listed: &[SegmentMeta],

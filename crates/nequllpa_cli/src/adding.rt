@@ -2,6 +2,7 @@
 use crate::commands::{PROGRAM, REFUSED, refuse, refuse_path, tell_no_index};
 use crate::indexing::{Intake, begun, take_inputs, target_of, tell_long_words};
 use crate::keyed_lines::KeyedLines;
+use crate::merging::settle;
 use crate::replacing::replace_keys;
 use clap::ArgMatches;
 use ii_base::{Schema, ValueType};
@@ -49,7 +50,11 @@ fn added(rt: &HostRuntime, path: &str, given: &ArgMatches<'_>) -> anyhow::Result
     if let Err(status) = take_inputs(rt, given, &mut intake)? {
         return Ok(ExitCode::from(status));
     }
-    add_segment(rt, path, intake, replaces)
+    let status = add_segment(rt, path, intake, replaces)?;
+    if status == ExitCode::SUCCESS && !given.get_flag("no-merge") {
+        settle(rt, path)?;
+    }
+    Ok(status)
 }
 
 // Returns what keeps lines whose documents replace others, if the option is given. Returns the status if documents

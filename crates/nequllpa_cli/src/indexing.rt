@@ -523,8 +523,8 @@ fn tell_indexed(rt: &HostRuntime, num_docs: u32, bad_lines: u64) -> anyhow::Resu
     Ok(())
 }
 
-/// Saves an index of one segment, and removes the files of the previous index.
-pub fn put_index(
+// Saves an index of one segment, and removes the files of the previous index.
+fn put_index(
     rt: &HostRuntime,
     path: &str,
     schema: Vec<u8>,

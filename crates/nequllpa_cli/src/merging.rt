@@ -1,10 +1,15 @@
-//! The command `merge`.
+//! The command `merge`, and the merges after `add`.
 use crate::adding::refuse_commit;
-use crate::commands::{NO, PROGRAM, loaded_at, refuse_path};
-use crate::indexing::{put_index, target_of};
+use crate::commands::{NO, PROGRAM, loaded_at, refuse_path, tell_no_index};
+use crate::indexing::target_of;
 use ii_segment_store::StoredSegments;
+use ii_segment_store::loading::file_of;
+use ii_store::collect::collect;
+use ii_store::segments::load_meta;
+use ii_store::{Folder, IndexFault, IndexMeta, SegmentComponent, StoreFault};
 use nequllpa_folder::schema_of;
-use nequllpa_merging::{MergeFault, merge_segments};
+use nequllpa_merging::{JoinFault, MergeFault, first_to_merge, merge_last};
+use std::alloc::{AllocError, Global};
 use std::process::ExitCode;
 
 /// Makes all segments of an index one, of the documents that weren't deleted.
@@ -20,56 +25,105 @@ pub fn answer_merge(rt: &HostRuntime, path: &str) -> anyhow::Result<ExitCode> {
 
 // Does it, once the folder is locked.
 fn merged(rt: &HostRuntime, path: &str) -> anyhow::Result<ExitCode> {
-    let stored = match loaded_at(rt, path)? {
+    let folder = Folder::new(rt, path);
+    match load_meta(rt.alloc(), &folder) {
+        Ok(list) => merge_all(rt, path, list),
+        Err(StoreFault::Index(IndexFault::OtherVersion(_))) => tell_one(rt, path),
+        Err(fault) => Ok(ExitCode::from(refuse_store(rt, path, fault)?)),
+    }
+}
+
+// Prints that an index of version 1 is one segment.
+fn tell_one(rt: &HostRuntime, path: &str) -> anyhow::Result<ExitCode> {
+    let StoredSegments {
+        schema: _,
+        segments,
+    } = match loaded_at(rt, path)? {
         Ok(stored) => stored,
         Err(status) => return Ok(ExitCode::from(status)),
     };
-    if stored.segments.len() < 2 && !has_deletes(&stored) {
-        println!(rt; "nothing to merge, {} documents", num_living(&stored))?;
+    let mut count = 0u64;
+    for segment in &segments {
+        count = count.saturating_add(u64::from(segment.alive.num_living()));
+    }
+    println!(rt; "nothing to merge, {count} documents")?;
+    Ok(ExitCode::SUCCESS)
+}
+
+// Merges the segments of a list, and prints how many there were.
+fn merge_all(rt: &HostRuntime, path: &str, list: IndexMeta) -> anyhow::Result<ExitCode> {
+    let count = list.segments.len();
+    let num_docs = num_living(&list);
+    if count < 2 && !has_deletes(&list) {
+        println!(rt; "nothing to merge, {num_docs} documents")?;
         return Ok(ExitCode::SUCCESS);
     }
-    merge_stored(rt, path, stored)
+    if let Err(status) = merge_from(rt, path, &list, 0)? {
+        return Ok(ExitCode::from(status));
+    }
+    println!(rt; "{count} segments merged, {num_docs} documents")?;
+    Ok(ExitCode::SUCCESS)
 }
 
 // Returns how many documents weren't deleted.
-fn num_living(stored: &StoredSegments) -> u64 {
+fn num_living(list: &IndexMeta) -> u64 {
     let mut count = 0u64;
-    for segment in &stored.segments {
-        count = count.saturating_add(u64::from(segment.alive.num_living()));
+    for segment in &list.segments {
+        count = count.saturating_add(u64::from(segment.num_living));
     }
     count
 }
 
 // Returns whether a document was deleted.
-fn has_deletes(stored: &StoredSegments) -> bool {
-    for segment in &stored.segments {
-        if segment.alive.num_living() < segment.alive.num_docs() {
+fn has_deletes(list: &IndexMeta) -> bool {
+    for segment in &list.segments {
+        if segment.num_living < segment.num_docs {
             return true;
         }
     }
     false
 }
 
-// Merges the segments of an index, puts the merged one in their place, and prints how many there were.
-fn merge_stored(rt: &HostRuntime, path: &str, stored: StoredSegments) -> anyhow::Result<ExitCode> {
-    let StoredSegments { schema, segments } = stored;
-    let count = segments.len();
-    let fields = match schema_of(rt.alloc(), schema.as_slice()) {
+// Merges the segments of a list from a place on, and removes their files. Prints why it doesn't, and returns the
+// status then.
+fn merge_from(
+    rt: &HostRuntime,
+    path: &str,
+    list: &IndexMeta,
+    first: usize,
+) -> anyhow::Result<Result<(), u8>> {
+    let fields = match schema_of(rt.alloc(), list.schema.as_slice()) {
         Ok(fields) => fields,
-        Err(fault) => return Ok(ExitCode::from(refuse_path(rt, path, fault)?)),
+        Err(fault) => return Ok(Err(refuse_path(rt, path, fault)?)),
     };
-    let segment = match merge_segments(rt.alloc(), &fields, segments) {
-        Ok(segment) => segment,
-        Err(fault) => return Ok(ExitCode::from(refuse_merge(rt, path, fault)?)),
-    };
-    if let Err(fault) = put_index(rt, path, schema, &segment) {
-        return Ok(ExitCode::from(refuse_commit(rt, path, fault)?));
+    let mut folder = Folder::new(rt, path);
+    if let Err(fault) = merge_last(rt.alloc(), &mut folder, &fields, first) {
+        return Ok(Err(refuse_join(rt, path, fault)?));
     }
-    println!(rt; "{count} segments merged, {} documents", segment.num_docs)?;
-    Ok(ExitCode::SUCCESS)
+    match collect(rt.alloc(), &mut folder) {
+        Ok(_) => Ok(Ok(())),
+        Err(fault) => Ok(Err(refuse_path(rt, path, fault)?)),
+    }
 }
 
 // Prints why segments aren't merged. Returns the status.
+fn refuse_join(rt: &HostRuntime, path: &str, fault: JoinFault) -> anyhow::Result<u8> {
+    match fault {
+        JoinFault::Store(fault) => refuse_store(rt, path, fault),
+        JoinFault::Merge(fault) => refuse_merge(rt, path, fault),
+        JoinFault::Commit(fault) => refuse_commit(rt, path, fault),
+    }
+}
+
+// Prints why an index isn't loaded. Returns the status.
+fn refuse_store(rt: &HostRuntime, path: &str, fault: StoreFault) -> anyhow::Result<u8> {
+    match fault {
+        StoreFault::Index(fault) => tell_no_index(rt, path, fault),
+        StoreFault::Directory(fault) => refuse_path(rt, path, fault),
+    }
+}
+
+// Prints why segments can't be one. Returns the status.
 fn refuse_merge(rt: &HostRuntime, path: &str, fault: MergeFault) -> anyhow::Result<u8> {
     if !fault.is_damage() {
         return refuse_path(rt, path, fault);
@@ -77,4 +131,44 @@ fn refuse_merge(rt: &HostRuntime, path: &str, fault: MergeFault) -> anyhow::Resu
     println!(rt; "{path}: {fault}")?;
     eprintln!(rt; "{PROGRAM}: the command check prints what is damaged")?;
     Ok(NO)
+}
+
+/// Merges the last segments of an index that have as many documents together as the one before them or more. If
+/// they can't be merged, prints why on standard error: the index stays as it is.
+pub fn settle(rt: &HostRuntime, path: &str) -> anyhow::Result<()> {
+    if let Err(fault) = settled(rt, path) {
+        eprintln!(rt;
+            "{PROGRAM}: the documents were added, but segments were not merged: {fault}"
+        )?;
+    }
+    Ok(())
+}
+
+// Does it, of the segments behind the last one without counts: in one with them these could not be deleted any more.
+fn settled(rt: &HostRuntime, path: &str) -> anyhow::Result<()> {
+    let mut folder = Folder::new(rt, path);
+    let list = load_meta(rt.alloc(), &folder)?;
+    let counts = counts_behind(rt.alloc(), &list)?;
+    let kept = list.segments.len().saturating_sub(counts.len());
+    let first = kept.saturating_add(first_to_merge(counts.as_slice()));
+    if first == list.segments.len() {
+        return Ok(());
+    }
+    let fields = schema_of(rt.alloc(), list.schema.as_slice())?;
+    merge_last(rt.alloc(), &mut folder, &fields, first)?;
+    collect(rt.alloc(), &mut folder)?;
+    Ok(())
+}
+
+// Returns the number of living documents of each segment behind the last one without counts.
+fn counts_behind(alloc: Global, list: &IndexMeta) -> Result<Vec<u32>, AllocError> {
+    let mut counts = Vec::new(alloc);
+    for segment in &list.segments {
+        if file_of(segment.files.as_slice(), SegmentComponent::Counts).is_none() {
+            counts.clear();
+        } else {
+            counts.push(segment.num_living)?;
+        }
+    }
+    Ok(counts)
 }

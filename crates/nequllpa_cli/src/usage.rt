@@ -71,12 +71,17 @@ static USAGES: [Usage; 11] = [
     },
     Usage {
         name: "add",
-        about: "Adds JSON lines to an index, by its schema: their documents come after those that it has. Takes as much memory as index, for the new lines alone",
+        about: "Adds JSON lines to an index, by its schema: their documents come after those that it has. Takes as much memory as index, for the new lines alone. Then merges the last segments if they have as many documents together as the one before them",
         words: &[
             Word {
                 name: "FILE",
                 given: Given::Words,
                 help: "Files of JSON lines, an object on each line; - is standard input, which is read if no file is given",
+            },
+            Word {
+                name: "no-merge",
+                given: Given::Flag,
+                help: "Merges no segments",
             },
             Word {
                 name: "replace-by",

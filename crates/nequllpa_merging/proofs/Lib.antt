@@ -3,3 +3,5 @@ mod LoopLemmas
 mod MergeLemmas
 pub mod OpenLemmas
 mod ResultLemmas
+mod PolicyLaws
+mod JoinLemmas

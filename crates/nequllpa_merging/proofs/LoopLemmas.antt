@@ -89,7 +89,7 @@ pub record IsOpening (entries : List SchemaEntry) (all taken rest : List StoredS
   pub whole : taken ++ rest ≡ all
   pub zip : AllZip (OpensFrom entries) (map segment_contents taken) (map opened_view made)
 
-zip_more : {A B : Type 0} (R : A → B → Type 0) (xs : List A) (ys : List B) (x : A) (y : B) → AllZip R xs ys → R x y → AllZip R (xs ++ x ∷ []) (ys ++ y ∷ [])
+pub zip_more : {A B : Type 0} (R : A → B → Type 0) (xs : List A) (ys : List B) (x : A) (y : B) → AllZip R xs ys → R x y → AllZip R (xs ++ x ∷ []) (ys ++ y ∷ [])
 zip_more R [] [] x y zip holds = (holds, tt)
 zip_more R [] (b ∷ ys) x y zip holds = absurd zip
 zip_more R (a ∷ xs) [] x y zip holds = absurd zip

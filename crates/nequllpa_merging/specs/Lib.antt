@@ -2,3 +2,5 @@ pub mod Faults
 pub mod HeldSegments
 pub mod MergedSegments
 pub mod OpenedSegments
+pub mod MergePolicy
+pub mod Joins

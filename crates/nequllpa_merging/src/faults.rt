@@ -4,6 +4,8 @@ ghost use Rattle.nequllpa_merging.specs.Faults.{IsDamage};
 ghost use Rattle.nequllpa_merging.specs.declared.faults.MergeFault.TheVariants as faults;
 
 use ii_base::{Fault, Part};
+use ii_segment_store::CommitFault;
+use ii_store::StoreFault;
 use std::alloc::{AllocError, AllocFailed};
 use thiserror::Error;
 
@@ -24,6 +26,20 @@ pub enum MergeFault {
     /// allocation failed.
     #[error("{0}")]
     Merge(Fault),
+}
+
+/// Why the last segments of an index aren't merged.
+#[derive(Clone, Copy, Debug, PartialEq, Eq, Error)]
+pub enum JoinFault {
+    /// The list of segments, or one of the last segments, can't be loaded.
+    #[error("{0}")]
+    Store(StoreFault),
+    /// The last segments can't be merged.
+    #[error("{0}")]
+    Merge(MergeFault),
+    /// The merged segment can't be put in the place of the last ones.
+    #[error("{0}")]
+    Commit(CommitFault),
 }
 
 impl MergeFault {

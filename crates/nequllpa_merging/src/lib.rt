@@ -1,11 +1,15 @@
-//! Merges the segments of an index into one.
+//! Merges the segments of an index into one, and says which are to be merged.
 #![tactic(auto)]
 
 pub mod faults;
+pub mod joining;
+pub mod merge_policy;
 pub mod merging;
 mod opening;
 mod sources;
 mod totals;
 
-pub use faults::MergeFault;
+pub use faults::{JoinFault, MergeFault};
+pub use joining::merge_last;
+pub use merge_policy::first_to_merge;
 pub use merging::merge_segments;

@@ -1,4 +1,4 @@
-use Rattle.std.proofs.Common.{◌≡◌, List, Result, ℕ, length, map, subst}
+use Rattle.std.proofs.Common.{◌≡◌, List, Result, length, map, subst}
 use Rattle.std.specs.Prelude.{OnOk}
 use Rattle.ii_io.specs.declared.faults.Fault.{Fault}
 use Rattle.ii_segments.specs.Segments.{Segment, index_tokens, num_docs_of}

@@ -1,0 +1,72 @@
+//! Puts a segment in the place of the last ones of an index, so that a stop leaves the old index or the new one.
+ghost use Rattle.std.specs.Prelude.{◌≡◌, IfErr, OnOk, drop, map};
+ghost use Rattle.ii_store.specs.Index.{AnswersFromFiles};
+ghost use Rattle.ii_store.specs.IndexMeta.{meta_view};
+ghost use Rattle.ii_segment_store.specs.Commits.{IsCommitFault, LeavesOneIndex};
+ghost use Rattle.ii_segment_store.specs.Contents.{all_contents, files_contents, index_contents, segment_contents, with_segment};
+ghost use Rattle.ii_segment_store.specs.Joins.{first_contents, first_list, first_listed};
+
+use crate::committing::commit_segment;
+use crate::faults::CommitFault;
+use crate::loading::load_each;
+use crate::stored_segments::{SegmentFiles, StoredSegment};
+use ii_store::segments::load_meta;
+use ii_store::{Directory, IndexMeta, StoreFault};
+use std::alloc::Global;
+
+/// Loads the segments of a list from a place on: exactly the bytes of each, and which of its documents are alive.
+/// The files of those before aren't read.
+///
+/// Returns the first fault of a file or of flags, as `load_segments` does.
+pub fn load_last<D: Directory>(
+    alloc: Global,
+    directory: &D,
+    list: &IndexMeta,
+    first: usize,
+) -> Result<Vec<StoredSegment>, StoreFault>
+    ensures { D.is_known directory.now → AnswersFromFiles (λ v. map segment_contents v.items) result (all_contents (drop first (meta_view list.now).segments) (D.seen directory.now)) }
+{
+    match list.segments.as_slice().get(first..) {
+        Some(last) => load_each(alloc, directory, last),
+        None => Ok(Vec::new(alloc)),
+    }
+}
+
+/// Puts a segment in the place of those of an index of version 2 from a place on: writes its files under an id that
+/// no segment had, and atomically replaces `meta`.
+///
+/// After a stop or an error the directory holds the old index or the one with the new segment. After an error,
+/// open the directory again. The files of other segments aren't read; those of the segments that were replaced
+/// remain until `collect`.
+///
+/// # Errors
+///
+/// The errors of `load_meta`, `OtherVersion` for an index of version 1 (see `upgrade`); `TooMany` if no `meta` can
+/// hold the new index. Nothing is written then.
+pub fn replace_last<D: Directory>(
+    alloc: Global,
+    directory: &mut D,
+    first: usize,
+    segment: &SegmentFiles,
+) -> Result<(), CommitFault>
+    ensures known { D.is_known directory.old → OnOk result (D.is_known directory.new) }
+    ensures replaced { D.is_known directory.old → OnOk result (index_contents (D.seen directory.new) ≡ with_segment (files_contents segment.now) (first_contents first (D.seen directory.old))) }
+    ensures leaves_one { D.is_known directory.old → LeavesOneIndex D.moment D.left_since D.seen directory.old directory.new (with_segment (files_contents segment.now) (first_contents first (D.seen directory.old))) }
+    ensures fault { D.is_known directory.old → IfErr result (λ e. IsCommitFault e (first_list first (D.seen directory.old)) (files_contents segment.now)) }
+{
+    let list = match load_meta(alloc, directory) {
+        Ok(list) => list,
+        Err(fault) => return Err(CommitFault::Store(fault)),
+    };
+    let list = first_listed(list, first);
+    commit_segment(alloc, directory, list, segment)
+}
+
+// Returns a list with its first segments alone.
+fn first_listed(list: IndexMeta, first: usize) -> IndexMeta
+    ensures { meta_view result ≡ first_listed first (meta_view list) }
+{
+    let mut list = list;
+    list.segments.truncate(first);
+    list
+}
