@@ -3,10 +3,6 @@ use Rattle.std.proofs.Common.{◌≡◌, ℕ, ◌+◌, Option, Some, None, refl,
 use Rattle.std.proofs.lemmas.Bool.{ne_eqb}
 use Rattle.ii_io.specs.WriteCalls.{Rises, failed_by_count}
 
-pub Rises-none : (a : Option ℕ) → Rises a a 0
-Rises-none None = tt
-Rises-none (Some a) = omega arith
-
 pub Rises-trans : (a b c : Option ℕ) (m n : ℕ) → Rises a b m → Rises b c n → Rises a c (m + n)
 Rises-trans None b c m n first second = tt
 Rises-trans (Some a) None c m n first second = absurd first

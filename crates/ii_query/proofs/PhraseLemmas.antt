@@ -114,7 +114,7 @@ has_below doc position (e ∷ es) ascend low =
     rw (ne_eqb e.doc doc (λ same. omega (arith, low, same))) (has_below doc position es ascend.1 (omega (arith, low, first)))
 
 -- at its first document it has those of its entry
-has_here : (doc position : ℕ) (es : List Entry) → IsAscending es → doc_at es ≡ doc → doc < TERMINATED → has_position es doc position ≡ is_among (positions_at es) position
+pub has_here : (doc position : ℕ) (es : List Entry) → IsAscending es → doc_at es ≡ doc → doc < TERMINATED → has_position es doc position ≡ is_among (positions_at es) position
 has_here doc position [] ascend here low = absurd (omega (arith, here, low))
 has_here doc position (e ∷ es) ascend here low =
     let next = ascend.0 in
@@ -163,9 +163,6 @@ phrase_above es others ascend = (kept_ascends (begins_phrase others) es ascend).
 -- A document is found below which there is no phrase.
 pub phrase_bound : (bound : ℕ) (es : List Entry) (others : List PhrasePartState) → IsSound es → bound ≤ doc_at (phrase_docs es others) → bound ≤ TERMINATED
 phrase_bound bound es others sound least = let below = doc_below (phrase_docs es others) (phrase_sound es others sound).ascending in omega (arith, least, below)
-
-pub phrase_target : (doc bound : ℕ) (es : List Entry) (others : List PhrasePartState) → IsSound es → doc ≡ doc_at es → doc ≤ bound → bound ≤ doc_at (phrase_docs es others) → IsTarget bound es
-phrase_target doc bound es others sound here low least = record { up_to = phrase_bound bound es others sound least; forward = λ current. omega (arith, here, low) }
 
 pub phrase_on : (bound : ℕ) (es later : List Entry) (others : List PhrasePartState) → IsSound es → bound ≤ doc_at (phrase_docs es others) → later ≡ from_doc bound es → phrase_docs later others ≡ phrase_docs es others
 phrase_on bound es later others sound least is =

@@ -9,10 +9,7 @@ use Rattle.ii_termstore.specs.declared.term_info.TermInfo.{TermInfo}
 use Rattle.ii_termdict.specs.Written.{ends_from, written_dictionary}
 use Rattle.ii_termstore.proofs.SizeLemmas.{length-flat_map-le, length-written_store-le}
 use Rattle.ii_termstore.specs.Written.{written_store}
-
-length-ends_from : (start : ℕ) (keys : List (List ℕ)) → length (ends_from start keys) ≡ length keys
-length-ends_from start [] = refl
-length-ends_from start (k ∷ ks) = ap suc (length-ends_from (start + length k) ks)
+use Rattle.ii_termdict.proofs.ReadDictionaryLemmas.{length-ends_from}
 
 length-joined-le : (size : ℕ) (keys : List (List ℕ)) → AllByRecursion (λ (k : List ℕ). length k ≤ size) keys → length (flat_map (λ (k : List ℕ). k) keys) ≤ length keys * size
 length-joined-le size [] short = omega arith
