@@ -6,3 +6,4 @@ pub mod JsonKeys
 pub mod Norms
 pub mod Postings
 pub mod Tokens
+pub mod TrueBounds

@@ -1,12 +1,16 @@
 -- What the files of an index hold once they were closed.
-use Rattle.std.proofs.Common.{Err, List, Ok, Result, [], ap, arith, false, inl, inr, is_err, length, map, refl, subst, sym, true, true≢false, ℕ, ⊎_elim, ◌+◌, ◌<◌, ◌^◌, ◌∙◌, ◌∷◌, ◌≡◌}
+use Rattle.std.proofs.Common.{Err, List, Ok, Result, Some, [], ap, arith, false, inl, inr, is_err, length, map, refl, subst, sym, true, true≢false, ℕ, ⊎_elim, ◌+◌, ◌<◌, ◌^◌, ◌∙◌, ◌∷◌, ◌≡◌}
 use Rattle.std.specs.Prelude.{◌⊎◌, ◌↔◌, IsTrue, IfErr, IsErrOf, OnOk, nat_le}
 use Rattle.std.specs.List.{AllByRecursion}
 use Rattle.std.proofs.lemmas.Bool.{le-leb}
 use Rattle.ii_io.specs.declared.faults.Fault.{Fault}
 use Rattle.ii_io.specs.declared.faults.Fault.TheVariants.{Limit, OutOfMemory, SerializerClosed, Write}
 use Rattle.ii_io.specs.declared.faults.LimitName.TheVariants as limit
-use Rattle.ii_io.specs.Composite.{Body, fit_fields, written_composite}
+use Rattle.ii_io.specs.Composite.{Body, composite, fit_fields, written_composite}
+use Rattle.ii_io.specs.StepLemmas.{some-same}
+use Rattle.ii_base.specs.declared.schema.index_record_option.IndexRecordOption.{IndexRecordOption}
+use Rattle.ii_definitions.specs.Fields.{option_of}
+use Rattle.ii_definitions.specs.TrueBounds.{HaveTrueBodies, HaveTrueBounds}
 use Rattle.ii_io.specs.CompositeWrite.{CompositeWriteState, HasBodies, WroteComposite}
 use Rattle.ii_io.specs.CountingWriter.{CountingWriterState, IsFull, Writes}
 use Rattle.ii_base.specs.Schema.{SchemaEntry}
@@ -40,10 +44,22 @@ fit_parts body same n (p ∷ ps) few known =
 abbrev pub Closes : CompositeWriteState → CountingWriterState → Result (Unit {0}) Fault → Type 0
 Closes c new result = (initial : CountingWriterState) (bodies : List Body) → HasBodies initial c bodies → fit_fields bodies ≡ true → OnOk result (WroteComposite initial new bodies)
 
+-- bodies that are the same have the same bounds
+pub bodies_bound : (option : ℕ → IndexRecordOption) (terms postings terms' postings' norms : List Body) → terms ≡ terms' → postings ≡ postings' → HaveTrueBodies option terms postings norms → HaveTrueBodies option terms' postings' norms
+bodies_bound option terms postings terms' postings' norms a b h =
+    subst (λ (xs : List Body). HaveTrueBodies option xs postings' norms) a (subst (λ (xs : List Body). HaveTrueBodies option terms xs norms) b h)
+
+-- bounds of bodies are those of the files, with the norms of a file
+pub files_bound : (option : ℕ → IndexRecordOption) (terms postings fieldnorms : List ℕ) (norms : List Body) → composite fieldnorms ≡ Some norms
+    → ((tb pb : List Body) → composite terms ≡ Some tb → composite postings ≡ Some pb → HaveTrueBodies option tb pb norms) → HaveTrueBounds option terms postings fieldnorms
+files_bound option terms postings fieldnorms norms read h = record {
+  bodies = λ tb pb nb terms_are postings_are norms_are. subst (λ (xs : List Body). HaveTrueBodies option tb pb xs) (some-same (sym read ∙ norms_are)) (h tb pb terms_are postings_are);
+}
+
 -- the three files
-pub closed_files : (old now : IndexSerializerState) (t p q : CountingWriterState) (result : Result (Unit {0}) Fault) (ts : List IndexToken) → length old.entries < 2 ^ 32 → WroteTokens old now ts
-    → Closes now.bodies.terms t result → Closes now.bodies.postings p result → Closes now.bodies.positions q result → OnOk result (ClosedFiles old t p q ts)
-closed_files old now t p q result ts few wrote terms postings positions =
+pub closed_files : (old now : IndexSerializerState) (t p q : CountingWriterState) (result : Result (Unit {0}) Fault) (norms : List Body) (ts : List IndexToken) → length old.entries < 2 ^ 32 → WroteTokens old now norms ts
+    → Closes now.bodies.terms t result → Closes now.bodies.postings p result → Closes now.bodies.positions q result → OnOk result (ClosedFiles old t p q norms ts)
+closed_files old now t p q result norms ts few wrote terms postings positions =
     let n = length old.entries in
     let a = terms old.bodies.terms.writer (map (terms_body old.entries) wrote.fs) wrote.fields.terms (fit_parts (terms_body old.entries) (λ f. refl) n wrote.fs few wrote.known) in
     let b = postings old.bodies.postings.writer (map (postings_body old.entries) wrote.fs) wrote.fields.postings (fit_parts (postings_body old.entries) (λ f. refl) n wrote.fs few wrote.known) in
@@ -51,7 +67,7 @@ closed_files old now t p q result ts few wrote terms postings positions =
     by result a b c
   where
     by : (r : Result (Unit {0}) Fault) → OnOk r (WroteComposite old.bodies.terms.writer t (map (terms_body old.entries) wrote.fs)) → OnOk r (WroteComposite old.bodies.postings.writer p (map (postings_body old.entries) wrote.fs))
-        → OnOk r (WroteComposite old.bodies.positions.writer q (map (positions_of_part old.entries) wrote.fs)) → OnOk r (ClosedFiles old t p q ts)
+        → OnOk r (WroteComposite old.bodies.positions.writer q (map (positions_of_part old.entries) wrote.fs)) → OnOk r (ClosedFiles old t p q norms ts)
     by (Err e) a b c = tt
     by (Ok x) a b c = record {
       terms = written_composite (map (terms_body old.entries) wrote.fs);
@@ -70,6 +86,7 @@ closed_files old now t p q result ts few wrote terms postings positions =
         present = wrote.held.present;
         fields = wrote.held.fields;
       };
+      bounds = λ tb pb terms_are postings_are. bodies_bound (option_of old.entries) (map (terms_body old.entries) wrote.fs) (map (postings_body old.entries) wrote.fs) tb pb norms (some-same (sym a.reads_back ∙ terms_are)) (some-same (sym b.reads_back ∙ postings_are)) wrote.bounds;
     }
 
 -- norms that were refused, before anything else was written

@@ -1,14 +1,15 @@
 -- The files of an index as they are written.
-use Rattle.std.specs.Prelude.{◌≡◌, ℕ, ◌+◌, ◌≤◌, ◌⊎◌, List, length, Result}
+use Rattle.std.specs.Prelude.{◌≡◌, ℕ, ◌+◌, ◌≤◌, ◌⊎◌, List, length, Result, Some}
 use Rattle.ii_io.specs.declared.faults.Fault.{Fault}
 use Rattle.ii_io.specs.declared.faults.Fault.TheVariants.{Limit, OutOfMemory, Write}
 use Rattle.ii_io.specs.declared.faults.LimitName.TheVariants as limit
-use Rattle.ii_io.specs.Composite.{written_composite}
+use Rattle.ii_io.specs.Composite.{Body, composite, written_composite}
 use Rattle.ii_io.specs.CountingWriter.{CountingWriterState, Grows, IsFull, Wrote}
 use Rattle.ii_base.specs.Schema.{SchemaEntry}
 use Rattle.ii_definitions.specs.Fields.{option_of}
 use Rattle.ii_definitions.specs.Files.{HoldTokens}
 use Rattle.ii_definitions.specs.Tokens.{IndexToken}
+use Rattle.ii_definitions.specs.TrueBounds.{HaveTrueBodies, HaveTrueBounds}
 use Rattle.ii_recorder.specs.Endings.{CountsOnce}
 use Rattle.ii_recorder.specs.IndexSerializer.{IndexSerializerState}
 use Rattle.ii_definitions.specs.Norms.{HoldNorms}
@@ -27,8 +28,8 @@ pub record WroteTermFiles {W : Type 0} (entries : List SchemaEntry) (old new : I
   pub wrote_positions : Wrote old.positions new.positions positions
   pub hold : HoldTokens (option_of entries) terms postings positions ts
 
--- The writers of a serializer without output wrote the three files, which hold these tokens.
-pub record ClosedFiles (begun : IndexSerializerState) (new_terms new_postings new_positions : CountingWriterState) (ts : List IndexToken) : Type 0 where
+-- The writers of a serializer without output wrote the three files, which hold these tokens, with bounds by these norms.
+pub record ClosedFiles (begun : IndexSerializerState) (new_terms new_postings new_positions : CountingWriterState) (norms : List Body) (ts : List IndexToken) : Type 0 where
   pub terms : List ℕ
   pub postings : List ℕ
   pub positions : List ℕ
@@ -36,6 +37,7 @@ pub record ClosedFiles (begun : IndexSerializerState) (new_terms new_postings ne
   pub wrote_postings : Wrote begun.bodies.postings.writer new_postings postings
   pub wrote_positions : Wrote begun.bodies.positions.writer new_positions positions
   pub hold : HoldTokens (option_of begun.entries) terms postings positions ts
+  pub bounds : (term_bodies postings_bodies : List Body) → composite terms ≡ Some term_bodies → composite postings ≡ Some postings_bodies → HaveTrueBodies (option_of begun.entries) term_bodies postings_bodies norms
 
 -- The file of norms was written, with `num_docs` norms for each field that has norms.
 pub record WroteNormFile {W : Type 0} (entries : List SchemaEntry) (num_docs : ℕ) (old new : IndexWriters W) (ts : List IndexToken) : Type 0 where
@@ -43,10 +45,11 @@ pub record WroteNormFile {W : Type 0} (entries : List SchemaEntry) (num_docs : �
   pub wrote : Wrote old.fieldnorms new.fieldnorms fieldnorms
   pub hold : HoldNorms entries num_docs fieldnorms ts
 
--- An index of these tokens was written.
+-- An index of these tokens was written, with bounds of blocks that are true by its file of norms.
 pub record WroteIndex {W : Type 0} (entries : List SchemaEntry) (num_docs : ℕ) (old new : IndexWriters W) (ts : List IndexToken) : Type 0 where
   pub terms : WroteTermFiles entries old new ts
   pub norms : WroteNormFile entries num_docs old new ts
+  pub bounds : HaveTrueBounds (option_of entries) terms.terms terms.postings norms.fieldnorms
 
 -- Each of the four files keeps its bytes, and may have more after them.
 pub record FilesGrow {W : Type 0} (old new : IndexWriters W) : Type 0 where

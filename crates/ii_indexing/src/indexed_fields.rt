@@ -1,4 +1,5 @@
-ghost use Rattle.std.specs.Prelude.{◌≡◌, ◌<◌, ◌≤◌, ◌^◌, ◌∷◌, ◌++◌, [], List, ℕ, true, false, length, map, IfOk, OnErr, OnOk, ◌+◌};
+ghost use Rattle.std.specs.Prelude.{◌≡◌, ◌<◌, ◌≤◌, ◌^◌, ◌∷◌, ◌++◌, [], List, ℕ, true, false, length, map, IfOk, OnErr, OnOk, Some, ◌+◌};
+ghost use Rattle.ii_io.specs.Composite.{composite};
 ghost use Rattle.ii_io.specs.Faults.{OnlyMemory};
 ghost use Rattle.ii_base.specs.Schema.{SchemaEntry, keeps_norms};
 ghost use Rattle.ii_base.specs.declared.doc_id.TheConstants.{TERMINATED};
@@ -96,6 +97,7 @@ impl IndexedFields {
         ensures schema { IfOk result (λ f. f.schema ≡ schema.now) }
         ensures terms { IfOk result (λ f. f.terms ≡ self.indexed) }
         ensures norms { IfOk result (λ f. (ps : List Piece) (ts : List IndexToken) → TellsAll ps ts self.opened → HoldNorms schema.now num_docs f.norms ts) }
+        ensures read { IfOk result (λ f. composite f.norms ≡ Some f.readers) }
         ensures short { IfOk result (λ f. AreShortNorms f.readers) }
         ensures many { IfOk result (λ f. HaveNormsOf num_docs f.readers) }
 

@@ -1,4 +1,4 @@
-ghost use Rattle.std.specs.Prelude.{◌≡◌, ◌<◌, ◌≤◌, ◌∷◌, ◌++◌, [], ℕ, List, length, true, false, Err, IfErr, IfOk, OnErr, OnOk, ◌^◌, ◌⊎◌};
+ghost use Rattle.std.specs.Prelude.{◌≡◌, ◌<◌, ◌≤◌, ◌∷◌, ◌++◌, [], ℕ, List, length, true, false, Err, IfErr, IfOk, OnErr, OnOk, Some, ◌^◌, ◌⊎◌};
 ghost use Rattle.ii_io.specs.Faults.{OnlyMemory};
 ghost use Rattle.ii_base.specs.declared.doc_id.TheConstants.{TERMINATED};
 ghost use Rattle.ii_definitions.specs.Fields.{option_of};
@@ -8,6 +8,7 @@ ghost use Rattle.ii_definitions.specs.IndexCalls.{Takes, call_of, doc_of, expand
 ghost use Rattle.ii_indexing.specs.Indexer.{Stores};
 ghost use Rattle.ii_indexing.specs.Refusals.{call_fault};
 ghost use Rattle.ii_json.specs.LeafVisit.{IsRefusedBy};
+ghost use Rattle.ii_io.specs.Composite.{composite};
 ghost use Rattle.ii_io.specs.CountingWriter.{Grows, Writes};
 ghost use Rattle.ii_recorder.specs.IndexBodies.{CountsFailuresOf};
 ghost use Rattle.ii_postings_writer.specs.FieldParts.{AreShortNorms, HasFields};
@@ -221,6 +222,7 @@ impl FinishedFields {
         requires same { self.schema ≡ schema.now }
         requires few { length schema.now < 2 ^ 32 }
         requires writers { length self.terms.writers ≡ length schema.now }
+        requires read { composite self.norms ≡ Some self.readers }
         requires short { AreShortNorms self.readers }
         requires terms { MayWriteTerms schema.now self.readers self.terms.paths self.terms.terms }
         ensures holds { (ts : List IndexToken) → HoldNorms schema.now num_docs self.norms ts → HaveHeldTokens schema.now self.terms.paths self.terms.terms self.terms.writers ts
@@ -304,7 +306,7 @@ fn write_files<W: Write>(
     requires norms { AreShortNorms fieldnorm_readers.now }
     requires terms { MayWriteTerms schema.now fieldnorm_readers.now ctx.path_to_unordered_id ctx.term_index }
     ensures holds { (ts : List IndexToken) → HaveHeldTokens serializer.entries ctx.path_to_unordered_id ctx.term_index postings_writers.now ts
-        → OnOk result.3 (ClosedFiles serializer result.0 result.1 result.2 ts) }
+        → OnOk result.3 (ClosedFiles serializer result.0 result.1 result.2 fieldnorm_readers.now ts) }
 
     // The writers: a failed call counts once, and earlier output is kept.
     ensures failures { CountsFailuresOf serializer.bodies result.0 result.1 result.2 result.3 }

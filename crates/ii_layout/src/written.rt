@@ -1,7 +1,7 @@
 ghost use Rattle.ii_layout.specs.Positions.{ReadsPositionsBack};
 ghost use Rattle.ii_layout.specs.TermList.{ReadsTermBack, ReadsUncountedTermBack};
 ghost use Rattle.ii_layout.specs.Written.{ReadsPostingsBack, ReadsUncountedBack, ReadsDocumentsBack};
-ghost use Rattle.ii_layout.specs.WrittenBounds.{BoundsTakeNoRoom, BoundsWhatIsWritten, PlainTermsHaveNoBounds};
+ghost use Rattle.ii_layout.specs.WrittenBounds.{BoundsTakeNoRoom, BoundsWhatIsWritten, BoundsWrittenTerms, PlainTermsHaveNoBounds};
 
 /// States that written postings read back as their list for each requested option, whatever follows them.
 pub fn reads_postings_back()
@@ -37,10 +37,11 @@ pub fn reads_uncounted_term_back()
 {}
 
 /// States the laws of bounds. Postings written with norms hold the least norm id and the greatest term
-/// frequency of each full block that has frequencies. No length depends on bounds, and a term without term
-/// frequencies has none.
+/// frequency of each full block that has frequencies, and so they are read back. No length depends on bounds, and a
+/// term without term frequencies has none.
 pub fn bounds_what_is_written()
     ensures bounds { BoundsWhatIsWritten }
+    ensures read { BoundsWrittenTerms }
     ensures room { BoundsTakeNoRoom }
     ensures plain { PlainTermsHaveNoBounds }
 {}

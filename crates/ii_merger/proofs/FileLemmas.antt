@@ -1,5 +1,5 @@
 -- The files of a merged segment.
-use Rattle.std.proofs.Common.{◌≡◌, ◌-◌, ◌^◌, ◌<◌, List, [], ◌∷◌, true, false, length, map, Result, Ok, Err, refl, arith, ◌+◌, subst}
+use Rattle.std.proofs.Common.{◌≡◌, ◌-◌, ◌^◌, ◌<◌, List, [], ◌∷◌, true, false, length, map, Result, Ok, Err, refl, sym, arith, ◌+◌, ◌∙◌, subst}
 use Rattle.std.specs.Prelude.{OnOk, IsErrOf}
 use Rattle.std.specs.List.{AllByRecursion}
 use Rattle.ii_io.specs.declared.faults.Fault.{Fault}
@@ -13,7 +13,10 @@ use Rattle.ii_segments.specs.Segments.{AreSegmentTokens, Segment, index_tokens}
 use Rattle.ii_segments.specs.SegmentLaws.{MergedIsSegment}
 use Rattle.ii_merger.specs.MergedFiles.{AreBegun}
 use Rattle.ii_merger.specs.MergedIndex.{FieldsBelow, HasMergedFields, MergeSourceState, MergeSourcesHold, positions_body_of, postings_body_of, terms_body_of}
-use Rattle.ii_merger.proofs.IndexMergeLemmas.{fit_parts, hold_tokens}
+use Rattle.ii_merger.proofs.IndexMergeLemmas.{bodies_bound, fit_parts, hold_tokens}
+use Rattle.ii_indexing.proofs.WrittenFiles.{bodies_bound as same_bound}
+use Rattle.ii_io.specs.StepLemmas.{some-same}
+use Rattle.ii_definitions.specs.TrueBounds.{HaveTrueBodies}
 use Rattle.ii_merger.proofs.NormLemmas.{starts_none}
 use Rattle.ii_recorder.proofs.GrowthLemmas.{begun_bodies}
 use Rattle.ii_io.specs.declared.faults.Fault.TheVariants.{Write}
@@ -34,8 +37,8 @@ all_begun t p q = record { terms = begun_bodies t; postings = begun_bodies p; po
 pub none_below : (b : IndexBodiesState) → AreBegun b → FieldsBelow 0 b
 none_below b h = record { terms = starts_none b.terms h.terms.starts; postings = starts_none b.postings h.postings.starts; positions = starts_none b.positions h.positions.starts }
 
-pub none_merged : (entries : List SchemaEntry) (b : IndexBodiesState) (ts : List IndexToken) → AreBegun b → HasMergedFields entries b b 0 ts
-none_merged entries b ts h = record {
+pub none_merged : (entries : List SchemaEntry) (b : IndexBodiesState) (norms : List Body) (ts : List IndexToken) → AreBegun b → HasMergedFields entries b b 0 norms ts
+none_merged entries b norms ts h = record {
   parts = [];
   below = tt;
   terms = h.terms;
@@ -43,6 +46,7 @@ none_merged entries b ts h = record {
   positions = h.positions;
   present = λ field low. absurd (omega (arith, low));
   holds = tt;
+  bounds = tt;
 }
 
 -- ---- files that were closed
@@ -55,10 +59,10 @@ are_segments entries [] (g ∷ gs) h = absurd (h)
 are_segments entries (s ∷ ss) [] h = absurd (h)
 are_segments entries (s ∷ ss) (g ∷ gs) h = (h.0.tokens, are_segments entries ss gs h.1)
 
-pub closed_files : (entries : List SchemaEntry) (begun : IndexSerializerState) (now : IndexBodiesState) (t p q : CountingWriterState) (result : Result (Unit {0}) Fault) (ss : List MergeSourceState) (gs : List Segment) → length entries < 2 ^ 32 - 1 → entries ≡ begun.entries → MergedIsSegment → MergeSourcesHold entries ss gs
-    → HasMergedFields entries begun.bodies now (length entries) (index_tokens gs) → Closes now.terms t result → Closes now.postings p result → Closes now.positions q result
-    → OnOk result (ClosedFiles begun t p q (index_tokens gs))
-closed_files entries begun now t p q result ss gs few same law hold h terms postings positions =
+pub closed_files : (entries : List SchemaEntry) (begun : IndexSerializerState) (now : IndexBodiesState) (t p q : CountingWriterState) (result : Result (Unit {0}) Fault) (norms : List Body) (ss : List MergeSourceState) (gs : List Segment) → length entries < 2 ^ 32 - 1 → entries ≡ begun.entries → MergedIsSegment → MergeSourcesHold entries ss gs
+    → HasMergedFields entries begun.bodies now (length entries) norms (index_tokens gs) → Closes now.terms t result → Closes now.postings p result → Closes now.positions q result
+    → OnOk result (ClosedFiles begun t p q norms (index_tokens gs))
+closed_files entries begun now t p q result norms ss gs few same law hold h terms postings positions =
     let n = length entries in
     let low : length entries < 2 ^ 32 = omega (arith, few) in
     by result
@@ -70,7 +74,7 @@ closed_files entries begun now t p q result ss gs few same law hold h terms post
     known = (law entries gs (are_segments entries ss gs hold)).known
 
     by : (r : Result (Unit {0}) Fault) → OnOk r (WroteComposite begun.bodies.terms.writer t (map terms_body_of h.parts)) → OnOk r (WroteComposite begun.bodies.postings.writer p (map postings_body_of h.parts)) → OnOk r (WroteComposite begun.bodies.positions.writer q (map positions_body_of h.parts))
-        → OnOk r (ClosedFiles begun t p q (index_tokens gs))
+        → OnOk r (ClosedFiles begun t p q norms (index_tokens gs))
     by (Err e) a b c = tt
     by (Ok x) a b c = record {
       terms = written_composite (map terms_body_of h.parts);
@@ -80,7 +84,10 @@ closed_files entries begun now t p q result ss gs few same law hold h terms post
       wrote_postings = b.wrote;
       wrote_positions = c.wrote;
       hold = subst (λ (es : List SchemaEntry). HoldTokens (option_of es) (written_composite (map terms_body_of h.parts)) (written_composite (map postings_body_of h.parts)) (written_composite (map positions_body_of h.parts)) (index_tokens gs)) same
-          (hold_tokens entries begun.bodies now (index_tokens gs) h known a.reads_back b.reads_back c.reads_back);
+          (hold_tokens entries begun.bodies now norms (index_tokens gs) h known a.reads_back b.reads_back c.reads_back);
+      bounds = λ tb pb terms_are postings_are.
+          same_bound (option_of begun.entries) (map terms_body_of h.parts) (map postings_body_of h.parts) tb pb norms (some-same (sym a.reads_back ∙ terms_are)) (some-same (sym b.reads_back ∙ postings_are))
+          (subst (λ (es : List SchemaEntry). HaveTrueBodies (option_of es) (map terms_body_of h.parts) (map postings_body_of h.parts) norms) same (bodies_bound entries begun.bodies now norms (index_tokens gs) h known));
     }
 
 -- ---- failures of the four writers

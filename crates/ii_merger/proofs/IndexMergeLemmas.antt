@@ -17,6 +17,7 @@ use Rattle.ii_definitions.specs.Fields.{option_of}
 use Rattle.ii_definitions.specs.Files.{HasField, HoldTokens, HoldsField}
 use Rattle.ii_definitions.specs.Postings.{field_count}
 use Rattle.ii_definitions.specs.Tokens.{IndexToken}
+use Rattle.ii_definitions.specs.TrueBounds.{HasTrueTerms, HaveTrueBodies}
 use Rattle.ii_base.specs.declared.doc_id.TheConstants.{TERMINATED}
 use Rattle.ii_base.specs.Schema.{SchemaEntry}
 use Rattle.ii_fieldnorm.specs.Readers.{Norms, norms_of_ids}
@@ -28,7 +29,7 @@ use Rattle.ii_recorder.specs.Terms.{FieldBodies}
 use Rattle.ii_segments.specs.Segments.{Segment}
 use Rattle.ii_merger.specs.MergeSources.{FieldSourceState, living_in_sources}
 use Rattle.ii_merger.specs.MergedField.{WroteMergedField}
-use Rattle.ii_merger.specs.MergedIndex.{AreNormsOf, FieldsBelow, HasMergedFields, MergeSourceState, MergeSourcesHold, MergedPart, StartsBelow, all_living, field_of_segment, field_sources, has_part, norms_of_field, positions_body_of, postings_body_of, opened_segment, terms_body_of}
+use Rattle.ii_merger.specs.MergedIndex.{AreNormsOf, FieldsBelow, HasMergedFields, HasTruePart, MergeSourceState, MergeSourcesHold, MergedPart, StartsBelow, all_living, field_of_segment, field_sources, has_part, norms_of_field, positions_body_of, postings_body_of, opened_segment, terms_body_of}
 use Rattle.ii_merger.specs.MergedTerm.{CoversBelow}
 use Rattle.ii_merger.specs.SourcesHold.{SourceHolds, SourcesHold, WroteField}
 use Rattle.ii_merger.specs.declared.merge_source.MergeSource.{MergeSource}
@@ -170,9 +171,9 @@ parts_raised n (p ∷ ps) below = (omega (arith, below.0), parts_raised n ps bel
 some_count : (n : ℕ) → 0 < n → nat_lt 0 n ≡ true
 some_count n some = lt-ltb 0 n some
 
-module _ (entries : List SchemaEntry) (initial : IndexBodiesState) (n : ℕ) (ts : List IndexToken) where
-  skipped : (now : IndexBodiesState) → HasMergedFields entries initial now n ts → field_count n ts ≡ 0 → HasMergedFields entries initial now (n + 1) ts
-  skipped now h none = record { parts = h.parts; below = parts_raised n h.parts h.below; terms = h.terms; postings = h.postings; positions = h.positions; present = λ field low. by field (nat_eq field n) refl low; holds = h.holds }
+module _ (entries : List SchemaEntry) (initial : IndexBodiesState) (n : ℕ) (norms : List Body) (ts : List IndexToken) where
+  skipped : (now : IndexBodiesState) → HasMergedFields entries initial now n norms ts → field_count n ts ≡ 0 → HasMergedFields entries initial now (n + 1) norms ts
+  skipped now h none = record { parts = h.parts; below = parts_raised n h.parts h.below; terms = h.terms; postings = h.postings; positions = h.positions; present = λ field low. by field (nat_eq field n) refl low; holds = h.holds; bounds = h.bounds }
     where
       by : (field : ℕ) (b : Bool) → nat_eq field n ≡ b → field < n + 1 → has_part field h.parts ≡ nat_lt 0 (field_count field ts)
       by field true same low =
@@ -180,7 +181,7 @@ module _ (entries : List SchemaEntry) (initial : IndexBodiesState) (n : ℕ) (ts
           no_part n field h.parts h.below (omega (arith, is)) ∙ sym (ap (λ (k : ℕ). nat_lt 0 (field_count k ts)) is ∙ ap (nat_lt 0) none)
       by field false other low = h.present field (omega (arith, low, eqb-false field n other))
 
-  module _ (old new : IndexBodiesState) (h : HasMergedFields entries initial old n ts) (w : WroteField entries old new n ts) (some : 0 < field_count n ts) where
+  module _ (old new : IndexBodiesState) (h : HasMergedFields entries initial old n norms ts) (w : WroteField entries old new n (norms_of_field norms n) ts) (some : 0 < field_count n ts) where
     abbrev own_part : MergedPart
     own_part = record { field = n; bodies = w.bodies }
 
@@ -188,7 +189,7 @@ module _ (entries : List SchemaEntry) (initial : IndexBodiesState) (n : ℕ) (ts
     bodies_more body writer c d bytes has adds is =
         subst (HasBodies writer d) (sym (map-append body h.parts (own_part ∷ []) ∙ ap (λ (b : Body). map body h.parts ++ b ∷ []) is)) (HasBodies-more writer c d (map body h.parts) n bytes has adds)
 
-    added : HasMergedFields entries initial new (n + 1) ts
+    added : HasMergedFields entries initial new (n + 1) norms ts
     added = record {
       parts = h.parts ++ own_part ∷ [];
       below = all_push (λ (p : MergedPart). p.field < n + 1) h.parts own_part (parts_raised n h.parts h.below) (omega arith);
@@ -197,6 +198,7 @@ module _ (entries : List SchemaEntry) (initial : IndexBodiesState) (n : ℕ) (ts
       positions = bodies_more positions_body_of initial.positions.writer old.positions new.positions w.bodies.positions h.positions w.adds.positions refl;
       present = λ field low. any_more (λ (p : MergedPart). p.field == field) h.parts own_part ∙ by field (nat_eq n field) refl low;
       holds = all_push (λ (p : MergedPart). HoldsField (option_of entries p.field) p.field p.bodies.terms p.bodies.postings p.bodies.positions ts) h.parts own_part h.holds w.holds;
+      bounds = all_push (HasTruePart entries norms) h.parts own_part h.bounds (record { each = w.bounds });
     }
       where
         by : (field : ℕ) (b : Bool) → nat_eq n field ≡ b → field < n + 1 → (has_part field h.parts || (n == field)) ≡ nat_lt 0 (field_count field ts)
@@ -208,8 +210,8 @@ module _ (entries : List SchemaEntry) (initial : IndexBodiesState) (n : ℕ) (ts
             let here = h.present field (omega (arith, low, eqb-false n field other)) in
             ap (λ (b : Bool). has_part field h.parts || b) other ∙ or-false (has_part field h.parts) ∙ here
 
-  pub field_merged : (old new : IndexBodiesState) (total : ℕ) → HasMergedFields entries initial old n ts → total ≡ field_count n ts → (total ≡ 0 → new ≡ old) → (total ≡ field_count n ts → 0 < total → WroteField entries old new n ts) → HasMergedFields entries initial new (n + 1) ts
-  field_merged old new zero h counted none wrote = skipped new (subst (λ (b : IndexBodiesState). HasMergedFields entries initial b n ts) (sym (none refl)) h) (sym counted)
+  pub field_merged : (old new : IndexBodiesState) (total : ℕ) → HasMergedFields entries initial old n norms ts → total ≡ field_count n ts → (total ≡ 0 → new ≡ old) → (total ≡ field_count n ts → 0 < total → WroteField entries old new n (norms_of_field norms n) ts) → HasMergedFields entries initial new (n + 1) norms ts
+  field_merged old new zero h counted none wrote = skipped new (subst (λ (b : IndexBodiesState). HasMergedFields entries initial b n norms ts) (sym (none refl)) h) (sym counted)
   field_merged old new (suc total) h counted none wrote = added old new h (wrote counted (omega arith)) (omega (arith, counted))
 
 -- ---- the files of all fields
@@ -250,7 +252,7 @@ found_part P field (q ∷ ps) p all is = by (nat_eq q.field field) refl (found_p
         record { is = ap (λ (r : MergedPart). r.field) (sym own) ∙ eqb-true q.field field same; holds = subst P own all.0 }
     by false other others = others (rw other at is)
 
-module _ (entries : List SchemaEntry) (initial now : IndexBodiesState) (ts : List IndexToken) (h : HasMergedFields entries initial now (length entries) ts) (known : AllByRecursion (λ (t : IndexToken). t.field < length entries) ts) where
+module _ (entries : List SchemaEntry) (initial now : IndexBodiesState) (norms : List Body) (ts : List IndexToken) (h : HasMergedFields entries initial now (length entries) norms ts) (known : AllByRecursion (λ (t : IndexToken). t.field < length entries) ts) where
   all_present : (field : ℕ) → has_part field h.parts ≡ nat_lt 0 (field_count field ts)
   all_present field = ⊎_elim (λ (low : field < length entries). h.present field low)
       (λ (high : length entries ≤ field). no_part (length entries) field h.parts h.below high ∙ sym (ap (nat_lt 0) (count_none field (length entries) ts known high))) (cases_lt field (length entries))
@@ -291,6 +293,24 @@ module _ (entries : List SchemaEntry) (initial now : IndexBodiesState) (ts : Lis
     present = λ field. (body_present terms_body_of (λ r. r.bodies.terms) (λ r. refl) (λ r. refl) field, body_present postings_body_of (λ r. r.bodies.postings) (λ r. refl) (λ r. refl) field, body_present positions_body_of (λ r. r.bodies.positions) (λ r. refl) (λ r. refl) field);
     fields = held;
   }
+
+  -- and their bounds are true by the norms
+  pub bodies_bound : HaveTrueBodies (option_of entries) (map terms_body_of h.parts) (map postings_body_of h.parts) norms
+  bodies_bound = record {
+    fields = λ field t p ids is_t is_p normed.
+        by field t p ids normed (find (λ (r : MergedPart). r.field == field) h.parts) refl (sym (find_is field terms_body_of (λ r. r.bodies.terms) (λ r. refl) (λ r. refl) h.parts) ∙ is_t) (sym (find_is field postings_body_of (λ r. r.bodies.postings) (λ r. refl) (λ r. refl) h.parts) ∙ is_p);
+  }
+    where
+      by : (field : ℕ) (t p ids : List ℕ) → body_of field norms ≡ Some ids → (o : Option MergedPart) → find (λ (r : MergedPart). r.field == field) h.parts ≡ o → option_map (λ r. r.bodies.terms) o ≡ Some t → option_map (λ r. r.bodies.postings) o ≡ Some p → HasTrueTerms (option_of entries field) (norms_of_ids ids) t p
+      by field t p ids normed None found a b = absurd (cc)
+      by field t p ids normed (Some r) found a b =
+          let own = found_part (HasTruePart entries norms) field h.parts r h.bounds found in
+          let t_is : r.bodies.terms ≡ t = cc in
+          let p_is : r.bodies.postings ≡ p = cc in
+          let norms_are : norms_of_field norms r.field ≡ Some (norms_of_ids ids) = ap (norms_of_field norms) own.is ∙ ap (option_map norms_of_ids) normed in
+          subst (λ (xs : List ℕ). HasTrueTerms (option_of entries field) (norms_of_ids ids) xs p) t_is
+          (subst (λ (xs : List ℕ). HasTrueTerms (option_of entries field) (norms_of_ids ids) r.bodies.terms xs) p_is
+          (subst (λ (f : ℕ). HasTrueTerms (option_of entries f) (norms_of_ids ids) r.bodies.terms r.bodies.postings) own.is (own.holds.each (norms_of_ids ids) norms_are)))
 
 -- fields of 32 bits
 pub fit_parts : (body : MergedPart → Body) → ((p : MergedPart) → (body p).field ≡ p.field) → (n : ℕ) (ps : List MergedPart) → n < 2 ^ 32 → AllByRecursion (λ (p : MergedPart). p.field < n) ps → fit_fields (map body ps) ≡ true

@@ -1,5 +1,5 @@
 -- A field that was written with the terms of sources.
-use Rattle.std.proofs.Common.{inl, inr, ◌≡◌, ℕ, List, [], Option, Some, Result, Ok, Err, false, refl, sym, ap, ◌∙◌, subst, arith}
+use Rattle.std.proofs.Common.{inl, inr, ◌≡◌, ℕ, List, [], map, Option, Some, Result, Ok, Err, false, refl, sym, ap, ◌∙◌, subst, arith}
 use Rattle.std.specs.Prelude.{◌⊎◌, OnOk, slice_get}
 use Rattle.ii_io.specs.declared.faults.Fault.{Fault}
 use Rattle.ii_io.specs.declared.faults.Fault.TheVariants.{Limit, OutOfMemory, Write}
@@ -14,7 +14,7 @@ use Rattle.ii_recorder.specs.HeldTerms.{HoldsTerms}
 use Rattle.ii_recorder.specs.IndexBodies.{AddsBodies, IndexBodiesState, OneIsFull}
 use Rattle.ii_recorder.specs.IndexSerializer.{IndexSerializerState, IsFieldFault, IsWriting}
 use Rattle.ii_recorder.specs.Terms.{WrittenTerm, field_bodies}
-use Rattle.ii_recorder.specs.TokenTerms.{HoldsItsTokens}
+use Rattle.ii_recorder.specs.TokenTerms.{BoundsItsTokens, HoldsItsTokens, field_keys, token_term}
 use Rattle.ii_postings_writer.specs.TermLimits.{PassEnds}
 use Rattle.ii_postings_writer.specs.WriteFaults.{IsFaultBy}
 use Rattle.ii_postings_writer.proofs.FaultLemmas.{closed_fault}
@@ -72,18 +72,20 @@ module _ (entries : List SchemaEntry) (field tokens : ℕ) (norms : Option Norms
       by mode (inr (inr (inr (inr (is, inr far))))) = absurd (no_ends now all wrote.writing far)
 
 -- a field that was written holds the tokens of the living documents
-pub wrote_tokens : KeysOfSegments → HoldsItsTokens → (entries : List SchemaEntry) (field tokens : ℕ) (norms : Option Norms) (sources : List FieldSourceState) (ss : List Segment) (old new : IndexBodiesState) → SourcesHold entries field sources ss
-    → tokens ≡ field_count field (index_tokens ss) → WroteMergedField entries field tokens norms sources old new → WroteField entries old new field (index_tokens ss)
-wrote_tokens keys law entries field tokens norms sources ss old new hold counted h =
+pub wrote_tokens : KeysOfSegments → HoldsItsTokens → BoundsItsTokens → (entries : List SchemaEntry) (field tokens : ℕ) (norms : Option Norms) (sources : List FieldSourceState) (ss : List Segment) (old new : IndexBodiesState) → SourcesHold entries field sources ss
+    → tokens ≡ field_count field (index_tokens ss) → WroteMergedField entries field tokens norms sources old new → WroteField entries old new field norms (index_tokens ss)
+wrote_tokens keys law bounded entries field tokens norms sources ss old new hold counted h =
     let own = entry_of_field entries field h.entry h.is in
     let ts = index_tokens ss in
     let option = option_of entries field in
     let bodies = field_bodies h.entry.option tokens (merged_terms norms h.entry sources h.keys) in
     let by_option = subst (λ (m : IndexRecordOption). HoldsTerms m tokens bodies (merged_terms norms h.entry sources h.keys)) (sym own.option) h.holds in
     let by_tokens = subst (λ (n : ℕ). HoldsTerms option n bodies (merged_terms norms h.entry sources h.keys)) counted by_option in
-    let by_terms = subst (HoldsTerms option (field_count field ts) bodies) (field_terms keys entries field h.entry own sources ss hold norms h.keys h.are) by_tokens in
+    let by_terms : HoldsTerms option (field_count field ts) bodies (map (token_term norms option field ts) (field_keys field ts)) = subst (HoldsTerms option (field_count field ts) bodies) (field_terms keys entries field h.entry own sources ss hold norms h.keys h.are) by_tokens in
+    let readable = field_readable keys entries field h.entry own sources ss hold h.keys h.are h.sound in
     record {
       bodies = bodies;
       adds = h.adds;
-      holds = law norms option field ts bodies (field_readable keys entries field h.entry own sources ss hold h.keys h.are h.sound) by_terms;
+      holds = law norms option field ts bodies readable by_terms;
+      bounds = λ n is. bounded n option field ts bodies readable (subst (λ (o : Option Norms). HoldsTerms option (field_count field ts) bodies (map (token_term o option field ts) (field_keys field ts))) is by_terms);
     }

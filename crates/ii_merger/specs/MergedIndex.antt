@@ -13,6 +13,7 @@ use Rattle.ii_definitions.specs.Fields.{option_of}
 use Rattle.ii_definitions.specs.Files.{HoldsField}
 use Rattle.ii_definitions.specs.Postings.{field_count}
 use Rattle.ii_definitions.specs.Tokens.{IndexToken}
+use Rattle.ii_definitions.specs.TrueBounds.{HasTrueTerms}
 use Rattle.ii_reader.specs.InvertedIndexReader.{reader_of_none}
 use Rattle.ii_reader.specs.OpenIndex.{IndexHolds, OpenIndexState}
 use Rattle.ii_base.specs.declared.schema.index_record_option.IndexRecordOption.TheVariants.{Basic}
@@ -155,8 +156,12 @@ pub record IsFieldsFault (m : Merging) (initial : IndexBodiesState) (fault : Fau
   pub wrote : WroteFieldsBelow m initial before field
   pub cause : IsMergedFieldFault m.entries field (slice_index m.num_tokens field) (norms_of_field m.norms field) (field_sources field m.segments) before fault
 
--- Of the fields below n exactly those with tokens were written, and hold these.
-pub record HasMergedFields (entries : List SchemaEntry) (initial now : IndexBodiesState) (n : ℕ) (ts : List IndexToken) : Type 0 where
+-- The bodies of a field have true bounds, by a file of norms that has some for it.
+pub record HasTruePart (entries : List SchemaEntry) (norms : List Body) (p : MergedPart) : Type 0 where
+  pub each : (own : Norms) → norms_of_field norms p.field ≡ Some own → HasTrueTerms (option_of entries p.field) own p.bodies.terms p.bodies.postings
+
+-- Of the fields below n exactly those with tokens were written, and hold these, with true bounds.
+pub record HasMergedFields (entries : List SchemaEntry) (initial now : IndexBodiesState) (n : ℕ) (norms : List Body) (ts : List IndexToken) : Type 0 where
   pub parts : List MergedPart
   pub below : AllByRecursion (λ (p : MergedPart). p.field < n) parts
   pub terms : HasBodies initial.terms.writer now.terms (map terms_body_of parts)
@@ -164,3 +169,4 @@ pub record HasMergedFields (entries : List SchemaEntry) (initial now : IndexBodi
   pub positions : HasBodies initial.positions.writer now.positions (map positions_body_of parts)
   pub present : (field : ℕ) → field < n → has_part field parts ≡ nat_lt 0 (field_count field ts)
   pub holds : AllByRecursion (λ (p : MergedPart). HoldsField (option_of entries p.field) p.field p.bodies.terms p.bodies.postings p.bodies.positions ts) parts
+  pub bounds : AllByRecursion (HasTruePart entries norms) parts

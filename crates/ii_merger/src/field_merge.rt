@@ -20,7 +20,7 @@ use crate::field_source::FieldSource;
 use crate::merging::merge_terms;
 use ii_base::{Fault, Field, FieldEntry, Schema};
 use ii_fieldnorm::FieldNormReader;
-use ii_recorder::held_terms::holds_its_tokens;
+use ii_recorder::held_terms::{bounds_its_tokens, holds_its_tokens};
 use ii_recorder::{FieldSerializer, InvertedIndexSerializer};
 use ii_segments::keys_of_segments;
 use ii_termdict::{ComingTerms, TermMerger};
@@ -68,7 +68,7 @@ pub fn merge_field<W: Write>(
     ensures wrote { 0 < total_num_tokens → OnOk result (WroteMergedField schema.now field total_num_tokens fieldnorm_reader (map source_of sources.now) serializer.old.bodies serializer.new.bodies) }
     ensures none { total_num_tokens ≡ 0 → (result ≡ Ok tt) × (serializer.new ≡ serializer.old) }
     ensures holds { (ss : List Segment) → SourcesHold schema.now field (map source_of sources.now) ss → total_num_tokens ≡ field_count field (index_tokens ss) → 0 < total_num_tokens
-        → OnOk result (WroteField schema.now serializer.old.bodies serializer.new.bodies field (index_tokens ss)) }
+        → OnOk result (WroteField schema.now serializer.old.bodies serializer.new.bodies field fieldnorm_reader (index_tokens ss)) }
 
     // The outcomes, and which errors it returns.
     ensures fault { IfErr result (λ e. (e ≡ Fault.SerializerClosed) ⊎ IsMergedFieldFault schema.now field total_num_tokens fieldnorm_reader (map source_of sources.now) serializer.old.bodies e) }
@@ -81,6 +81,7 @@ pub fn merge_field<W: Write>(
     }
     keys_of_segments();
     holds_its_tokens();
+    bounds_its_tokens();
     write_field(
         alloc,
         schema,

@@ -35,7 +35,7 @@ pub(crate) fn merge_fields<W: Write>(
     requires counts { length num_tokens.now ≡ length schema.now }
     ensures wrote { OnOk result (WroteFieldsBelow (record { entries = schema.now; num_tokens = num_tokens.now; norms = norms.now; segments = map opened_segment sources.now }) serializer.old.bodies serializer.new.bodies (length schema.now)) }
     ensures holds { (ss : List Segment) → MergeSourcesHold schema.now (map opened_segment sources.now) ss → num_tokens.now ≡ num_tokens_by_field (length schema.now) (index_tokens ss)
-        → OnOk result (HasMergedFields schema.now serializer.old.bodies serializer.new.bodies (length schema.now) (index_tokens ss)) }
+        → OnOk result (HasMergedFields schema.now serializer.old.bodies serializer.new.bodies (length schema.now) norms.now (index_tokens ss)) }
 
     // The outcomes, and which errors it returns.
     ensures fault { IfErr result (λ e. (e ≡ Fault.OutOfMemory)
@@ -79,7 +79,7 @@ fn add_field<W: Write>(
     ensures none { total_num_tokens ≡ 0 → OnOk result (serializer.new.bodies ≡ serializer.old.bodies) }
     ensures wrote { 0 < total_num_tokens → OnOk result (WroteMergedField schema.now field total_num_tokens (norms_of_field norms.now field) (field_sources field (map opened_segment sources.now)) serializer.old.bodies serializer.new.bodies) }
     ensures holds { (ss : List Segment) → MergeSourcesHold schema.now (map opened_segment sources.now) ss → total_num_tokens ≡ field_count field (index_tokens ss) → 0 < total_num_tokens
-        → OnOk result (WroteField schema.now serializer.old.bodies serializer.new.bodies field (index_tokens ss)) }
+        → OnOk result (WroteField schema.now serializer.old.bodies serializer.new.bodies field (norms_of_field norms.now field) (index_tokens ss)) }
 
     // The outcomes, and which errors it returns.
     ensures fault { IfErr result (λ e. (e ≡ Fault.OutOfMemory)

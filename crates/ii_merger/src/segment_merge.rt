@@ -78,6 +78,7 @@ fn merge_and_open_norms(
     requires many { length schema.now < 2 ^ 32 - 1 }
     ensures file { IfOk result (λ r. r.0 ≡ merged_norm_bytes schema.now (map opened_segment sources.now)) }
     ensures norms { IfOk result (λ r. r.1 ≡ merged_norm_file schema.now (map opened_segment sources.now)) }
+    ensures read { IfOk result (λ r. composite r.0 ≡ Some r.1) }
     ensures copy { IfOk result (λ r. r.2 ≡ schema.now) }
     ensures sound { OnOk result (HaveNorms schema.now (map opened_segment sources.now)) }
     ensures holds { (ss : List Segment) → MergeSourcesHold schema.now (map opened_segment sources.now) ss → IfOk result (λ r. HoldNorms schema.now (num_docs_of ss) r.0 (index_tokens ss)) }
@@ -120,6 +121,7 @@ fn write_segment<W: Write>(
     requires counts { length num_tokens.now ≡ length schema.now }
     requires file { file.now ≡ merged_norm_bytes schema.now (map opened_segment sources.now) }
     requires norms { norms.now ≡ merged_norm_file schema.now (map opened_segment sources.now) }
+    requires read { composite file.now ≡ Some norms.now }
     requires sound { HaveNorms schema.now (map opened_segment sources.now) }
     ensures wrote { OnOk result.1 (WroteMerged (merging_of schema.now num_tokens.now (map opened_segment sources.now)) writers result.0) }
     ensures holds { (ss : List Segment) → MergeSourcesHold schema.now (map opened_segment sources.now) ss → num_tokens.now ≡ num_tokens_by_field (length schema.now) (index_tokens ss)
@@ -193,7 +195,7 @@ fn write_terms<W: Write>(
     requires counts { length num_tokens.now ≡ length schema.now }
     ensures wrote { OnOk result.3 (WroteParts (record { entries = schema.now; num_tokens = num_tokens.now; norms = norms.now; segments = map opened_segment sources.now }) serializer.bodies.terms.writer serializer.bodies.postings.writer serializer.bodies.positions.writer result.0 result.1 result.2) }
     ensures holds { (ss : List Segment) → MergeSourcesHold schema.now (map opened_segment sources.now) ss → num_tokens.now ≡ num_tokens_by_field (length schema.now) (index_tokens ss)
-        → OnOk result.3 (ClosedFiles serializer result.0 result.1 result.2 (index_tokens ss)) }
+        → OnOk result.3 (ClosedFiles serializer result.0 result.1 result.2 norms.now (index_tokens ss)) }
 
     // The writers, and which errors it returns.
     ensures failures { CountsFailuresOf serializer.bodies result.0 result.1 result.2 result.3 }

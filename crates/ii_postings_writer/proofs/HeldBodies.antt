@@ -22,15 +22,17 @@ use Rattle.ii_postings_writer.specs.HeldBodies.{BodiesHold, HaveTokens, WroteTok
 use Rattle.ii_postings_writer.specs.IndexingTerm.{AreTermBytes, field_bytes}
 use Rattle.ii_postings_writer.specs.Records.{HasPostings}
 use Rattle.ii_postings_writer.proofs.HeldFields.{IsKnown, all_known, each_found, found_in, some_terms, some_tokens}
-use Rattle.ii_postings_writer.proofs.TokenTerms.{HasFieldTokens, holds_field}
-use Rattle.ii_recorder.specs.TokenTerms.{HoldsItsTokens}
+use Rattle.ii_postings_writer.proofs.TokenTerms.{HasFieldTokens, bounds_field, holds_field}
+use Rattle.ii_recorder.specs.TokenTerms.{BoundsItsTokens, HoldsItsTokens}
 use Rattle.ii_postings_writer.proofs.SortedLemmas.{kept_writable}
 use Rattle.ii_recorder.specs.IndexSerializer.{IndexSerializerState}
 use Rattle.ii_postings_writer.specs.IndexingContext.{TermIndex, recorder_of}
 use Rattle.ii_postings_writer.specs.PostingsWriter.{PostingsWriterState}
 use Rattle.ii_postings_writer.specs.SortedTerms.{norms_in, MayBeWritten, SortedTerm, terms_in}
 use Rattle.ii_postings_writer.proofs.PartLemmas.{part_of}
-use Rattle.ii_fieldnorm.specs.Readers.{Norms}
+use Rattle.ii_fieldnorm.specs.Readers.{Norms, norms_of_ids}
+use Rattle.ii_definitions.specs.TrueBounds.{HasTrueTerms, HaveTrueBodies}
+use Rattle.std.specs.Option.{option_map}
 use Rattle.ii_definitions.proofs.GroupedLaws.{count_none}
 
 module _ (entries : List SchemaEntry) (writers : List PostingsWriterState) (readers : List Body) (lists : List (List SortedTerm)) where
@@ -232,6 +234,31 @@ module _ (law : HoldsItsTokens) (entries : List SchemaEntry) (writers : List Pos
       fields = held_fields;
     }
 
+    bounded_fields : BoundsItsTokens → (field : ℕ) (t p ids : List ℕ) → body_of field (map (terms_body entries) (first_parts entries writers readers lists n)) ≡ Some t → body_of field (map (postings_body entries) (first_parts entries writers readers lists n)) ≡ Some p
+        → body_of field readers ≡ Some ids → HasTrueTerms (mode_of field) (norms_of_ids ids) t p
+    bounded_fields bounds field t p ids at_terms at_postings normed = by_case (nat_lt field n) refl
+      where
+        inside_holds : field < n → HasTrueTerms (mode_of field) (norms_of_ids ids) t p
+        inside_holds inside =
+            let terms = body_is (terms_body entries) (λ f. refl) field t inside at_terms in
+            let postings = body_is (postings_body entries) (λ f. refl) field p inside at_postings in
+            let own = part_of entries field (tokens_in writers field) (norms_in readers field) (terms_in field sorted) in
+            let norms : norms_in readers field ≡ Some (norms_of_ids ids) = ap (option_map norms_of_ids) normed in
+            let bounded = bounds_field (norms_in readers field) (mode_of field) field sorted ts (has_tokens field inside) bounds (norms_of_ids ids) norms (tokens_in writers field) (bodies_of entries own) (w.tokens.counted field inside)
+            (part_is_held field inside terms.0).terms (known_in field inside) in
+            subst (λ (bytes : List ℕ). HasTrueTerms (mode_of field) (norms_of_ids ids) bytes p) terms.1
+            (subst (λ (bytes : List ℕ). HasTrueTerms (mode_of field) (norms_of_ids ids) (bodies_of entries own).terms bytes) postings.1 bounded)
+
+        by_case : (b : Bool) → nat_lt field n ≡ b → HasTrueTerms (mode_of field) (norms_of_ids ids) t p
+        by_case true is = inside_holds (ltb-true field n is)
+        by_case false is =
+            let none = none_found entries writers readers lists (terms_body entries) (λ f. refl) field n (ltb-false field n is) in
+            absurd (cc)
+
+    -- and their bounds are true by the norms
+    pub bodies_bound : BoundsItsTokens → HaveTrueBodies mode_of (map (terms_body entries) (first_parts entries writers readers lists n)) (map (postings_body entries) (first_parts entries writers readers lists n)) readers
+    bodies_bound bounds = record { fields = bounded_fields bounds }
+
 pub sorted_tokens : (entries : List SchemaEntry) (terms sorted : TermIndex) (writers : List PostingsWriterState) (ts : List IndexToken) → ((bytes : List ℕ) → recorder_of sorted bytes ≡ recorder_of terms bytes) → HaveTokens entries terms writers ts → HaveTokens entries sorted writers ts
 sorted_tokens entries terms sorted writers ts same has = record {
   records = λ field key small. subst (λ (o : Option RecorderState). MatchOption o (tokens_at field key ts ≡ []) (HasPostings (kind_of (option_of entries field) (tokens_at field key ts)) (tokens_at field key ts))) (sym (same (field_bytes field ++ key))) (has.records field key small);
@@ -253,12 +280,13 @@ parts_known : (entries : List SchemaEntry) (writers : List PostingsWriterState) 
 parts_known entries writers readers terms n = parts_below entries writers readers terms 0 n n (omega arith)
 
 -- how a call ends that writes the terms of a context with tokens
-pub wrote_tokens : {A E : Type 0} (result : Result A E) → HoldsItsTokens → (old new : IndexSerializerState) (writers : List PostingsWriterState) (readers : List Body) (terms sorted : TermIndex) (ts : List IndexToken) → IsWritten old.entries writers readers sorted ts
-    → OnOk result (WroteTerms old new writers readers terms sorted) → OnOk result (WroteTokens old new ts)
-wrote_tokens (Ok x) law old new writers readers terms sorted ts w wrote = record {
+pub wrote_tokens : {A E : Type 0} (result : Result A E) → HoldsItsTokens → BoundsItsTokens → (old new : IndexSerializerState) (writers : List PostingsWriterState) (readers : List Body) (terms sorted : TermIndex) (ts : List IndexToken) → IsWritten old.entries writers readers sorted ts
+    → OnOk result (WroteTerms old new writers readers terms sorted) → OnOk result (WroteTokens old new readers ts)
+wrote_tokens (Ok x) law bounds old new writers readers terms sorted ts w wrote = record {
   fs = first_parts old.entries writers readers (map (λ (field : ℕ). terms_in field sorted) (range_with_len 0 (length old.entries))) (length old.entries);
   known = parts_known old.entries writers readers (map (λ (field : ℕ). terms_in field sorted) (range_with_len 0 (length old.entries))) (length old.entries);
   fields = wrote.fields;
   held = bodies_hold law old.entries writers readers sorted ts w wrote.fields.held;
+  bounds = bodies_bound law old.entries writers readers sorted ts w wrote.fields.held bounds;
 }
-wrote_tokens (Err e) law old new writers readers terms sorted ts w wrote = tt
+wrote_tokens (Err e) law bounds old new writers readers terms sorted ts w wrote = tt

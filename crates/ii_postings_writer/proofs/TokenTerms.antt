@@ -13,6 +13,7 @@ use Rattle.ii_base.specs.Entries.{Entry, docs_of}
 use Rattle.ii_definitions.specs.Cut.{cut_entry}
 use Rattle.ii_definitions.specs.Postings.{grouped, kind_of, occurs, tokens_at}
 use Rattle.ii_definitions.specs.Tokens.{IndexToken}
+use Rattle.ii_definitions.specs.TrueBounds.{HasTrueTerms}
 use Rattle.ii_recorder.specs.Pushed.{pushed_deltas, pushed_freqs}
 use Rattle.ii_recorder.specs.Recorded.{RecorderState, entries_of_recorder}
 use Rattle.ii_recorder.specs.Terms.{WrittenTerm}
@@ -25,7 +26,7 @@ use Rattle.ii_definitions.specs.Files.{HoldsField}
 use Rattle.ii_definitions.specs.Postings.{field_count}
 use Rattle.ii_recorder.specs.HeldTerms.{HoldsTerms}
 use Rattle.ii_recorder.specs.Terms.{FieldBodies}
-use Rattle.ii_recorder.specs.TokenTerms.{HoldsItsTokens, IsReadableKey, entries_term, field_keys, token_term}
+use Rattle.ii_recorder.specs.TokenTerms.{BoundsItsTokens, HoldsItsTokens, IsReadableKey, entries_term, field_keys, token_term}
 use Rattle.ii_recorder.proofs.TokenLaws.{kind_which}
 use Rattle.ii_postings_writer.proofs.HeldFields.{IsKnown, each_found, found_has_key, found_in, none_occurred}
 use Rattle.ii_postings_writer.proofs.HoldLaws.{readable_key, recorder_occurred}
@@ -150,3 +151,12 @@ module _ (norms : Option Norms) (mode : IndexRecordOption) (field : ℕ) (sorted
       law norms mode field ts bodies (subst (AllByRecursion (IsReadableKey mode field ts)) keys_written (readable_keys (terms_in field sorted) known))
       (subst (λ (n : ℕ). HoldsTerms mode n bodies (map (token_term norms mode field ts) (field_keys field ts))) counted
       (subst (HoldsTerms mode tokens bodies) field_written holds))
+
+  -- and have true bounds, by its norms
+  pub bounds_field : BoundsItsTokens → (own : Norms) → norms ≡ Some own → (tokens : ℕ) (bodies : FieldBodies) → tokens ≡ field_count field ts → HoldsTerms mode tokens bodies (map (written_term norms mode) (terms_in field sorted))
+      → AllByRecursion (IsKnown norms mode field sorted) (terms_in field sorted) → HasTrueTerms mode own bodies.terms bodies.postings
+  bounds_field law own is tokens bodies counted holds known =
+      law own mode field ts bodies (subst (AllByRecursion (IsReadableKey mode field ts)) keys_written (readable_keys (terms_in field sorted) known))
+      (subst (λ (o : Option Norms). HoldsTerms mode (field_count field ts) bodies (map (token_term o mode field ts) (field_keys field ts))) is
+      (subst (λ (n : ℕ). HoldsTerms mode n bodies (map (token_term norms mode field ts) (field_keys field ts))) counted
+      (subst (HoldsTerms mode tokens bodies) field_written holds)))

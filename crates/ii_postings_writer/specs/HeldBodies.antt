@@ -8,6 +8,7 @@ use Rattle.ii_definitions.specs.Fields.{option_of}
 use Rattle.ii_definitions.specs.Files.{HasField, HoldsField}
 use Rattle.ii_definitions.specs.Postings.{field_count, kind_of, tokens_at}
 use Rattle.ii_definitions.specs.Tokens.{IndexToken}
+use Rattle.ii_definitions.specs.TrueBounds.{HaveTrueBodies}
 use Rattle.ii_recorder.specs.IndexSerializer.{IndexSerializerState}
 use Rattle.ii_postings_writer.specs.FieldParts.{FieldPart, HasFields, positions_of_part, postings_body, terms_body, tokens_in}
 use Rattle.ii_postings_writer.specs.IndexingContext.{TermIndex}
@@ -25,9 +26,10 @@ pub record HaveTokens (entries : List SchemaEntry) (terms : TermIndex) (writers 
   pub counted : (field : ℕ) → field < length entries → tokens_in writers field ≡ field_count field ts
   pub known : AllByRecursion (λ (t : IndexToken). t.field < length entries) ts
 
--- Tokens were written: the bodies in the files hold them.
-pub record WroteTokens (old new : IndexSerializerState) (ts : List IndexToken) : Type 0 where
+-- Tokens were written: the bodies in the files hold them, with bounds that are true by these norms.
+pub record WroteTokens (old new : IndexSerializerState) (norms : List Body) (ts : List IndexToken) : Type 0 where
   pub fs : List FieldPart
   pub known : AllByRecursion (λ (p : FieldPart). p.field < length old.entries) fs
   pub fields : HasFields old.entries old.bodies new.bodies fs
   pub held : BodiesHold (option_of old.entries) (map (terms_body old.entries) fs) (map (postings_body old.entries) fs) (map (positions_of_part old.entries) fs) ts
+  pub bounds : HaveTrueBodies (option_of old.entries) (map (terms_body old.entries) fs) (map (postings_body old.entries) fs) norms

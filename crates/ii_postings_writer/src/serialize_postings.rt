@@ -19,7 +19,7 @@ use crate::sorted_terms::FieldTerms;
 use ii_base::{Fault, Field, FieldEntry, Schema, ValueType};
 use ii_fieldnorm::FieldNormReaders;
 use ii_json::JsonTermSerializer;
-use ii_recorder::held_terms::holds_its_tokens;
+use ii_recorder::held_terms::{bounds_its_tokens, holds_its_tokens};
 use ii_recorder::{BufferLender, InvertedIndexSerializer};
 use std::alloc::Global;
 use std::io::Write;
@@ -183,7 +183,7 @@ pub fn serialize_postings<W: Write>(
     requires norms { AreShortNorms fieldnorm_readers.now }
     requires terms { MayWriteTerms schema.now fieldnorm_readers.now ctx.path_to_unordered_id ctx.term_index }
     ensures wrote { OnOk result (WroteContext serializer.old serializer.new per_field_postings_writers.now fieldnorm_readers.now (resolved_terms (json_fields schema.now) ctx.path_to_unordered_id ctx.term_index)) }
-    ensures holds { (ts : List IndexToken) → HaveHeldTokens serializer.old.entries ctx.path_to_unordered_id ctx.term_index per_field_postings_writers.now ts → OnOk result (WroteTokens serializer.old serializer.new ts) }
+    ensures holds { (ts : List IndexToken) → HaveHeldTokens serializer.old.entries ctx.path_to_unordered_id ctx.term_index per_field_postings_writers.now ts → OnOk result (WroteTokens serializer.old serializer.new fieldnorm_readers.now ts) }
     ensures tokens { (ts : List IndexToken) → HaveHeldTokens serializer.old.entries ctx.path_to_unordered_id ctx.term_index per_field_postings_writers.now ts
         → HaveUnlessMemory (HaveTokens serializer.old.entries (resolved_terms (json_fields schema.now) ctx.path_to_unordered_id ctx.term_index) per_field_postings_writers.now ts) result }
 
@@ -193,6 +193,7 @@ pub fn serialize_postings<W: Write>(
     ensures err { IfErr result (ClosesOrStays serializer.old serializer.new) }
 {
     holds_its_tokens();
+    bounds_its_tokens();
     let terms = field_terms(alloc, &ctx, schema)?;
     let told = serialize_fields(
         alloc,

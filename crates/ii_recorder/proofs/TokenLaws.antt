@@ -1,6 +1,6 @@
 -- What is written for the tokens of a field holds them.
 use Rattle.std.proofs.Common.{inl, inr, ◌≡◌, ℕ, zero, suc, ◌<◌, ◌==◌, Bool, true, false, ◌||◌, List, [], ◌∷◌, length, map, get_or, Option, Some, None, Ok, refl, sym, ap, ◌∙◌, subst, nat_eq, arith}
-use Rattle.std.specs.Prelude.{◌⊎◌, IsTrue, MatchOption, Result, bytes_eq, filter, is_some}
+use Rattle.std.specs.Prelude.{◌⊎◌, IsTrue, MatchOption, Result, bytes_eq, filter, if◌then◌else◌, is_some}
 use Rattle.std.specs.Ordering.{eq_by_cmp, nat_cmp}
 use Rattle.std.specs.Cmp.Lexicographic.{nat_list_cmp_total, slice_cmp}
 use Rattle.std.specs.FinMap.{contains_key-keys, from_entries, get-from_entries}
@@ -12,23 +12,25 @@ use Rattle.std.proofs.lemmas.Map.Text.{is_eq-slice_cmp}
 use Rattle.ii_io.specs.declared.faults.Part.{Part}
 use Rattle.ii_base.specs.declared.schema.index_record_option.IndexRecordOption.{IndexRecordOption}
 use Rattle.ii_base.specs.declared.schema.index_record_option.IndexRecordOption.TheVariants.{Basic, WithFreqs, WithFreqsAndPositions}
-use Rattle.ii_base.specs.Options.{downgrade}
+use Rattle.ii_base.specs.Options.{downgrade, has_freq}
+use Rattle.ii_io.specs.StepLemmas.{some-same}
 use Rattle.ii_base.specs.Entries.{Entry, docs_of}
 use Rattle.ii_fieldnorm.specs.Readers.{Norms}
 use Rattle.ii_layout.specs.TermList.{ReadsUncountedTermBack, term_list}
+use Rattle.ii_layout.specs.WrittenBounds.{BoundsWrittenTerms, HasTrueBounds}
 use Rattle.ii_termstore.specs.declared.term_info.TermInfo.{TermInfo}
-use Rattle.ii_termdict.specs.Dictionary.{info_under}
+use Rattle.ii_termdict.specs.Dictionary.{dictionary, info_under}
 use Rattle.ii_definitions.specs.Cut.{cut_entry}
 use Rattle.ii_definitions.specs.Files.{HoldsField, HoldsTerm, bytes_in}
 use Rattle.ii_definitions.specs.Postings.{field_count, grouped, kind_of, occurs, tokens_at}
 use Rattle.ii_definitions.specs.Tokens.{IndexToken}
 use Rattle.ii_definitions.proofs.GroupedLaws.{none_occurs}
 use Rattle.ii_recorder.specs.HeldTerms.{HoldsKey, HoldsTerms, HoldsWritten, has_key}
-use Rattle.ii_recorder.specs.Pushed.{AreReadable, ReadsEntriesBack}
+use Rattle.ii_recorder.specs.Pushed.{AreReadable, ReadsEntriesBack, pushed_freqs}
 use Rattle.ii_recorder.specs.Terms.{FieldBodies, WrittenTerm, positions_bytes, postings_bytes}
-use Rattle.ii_recorder.specs.TokenTerms.{HoldsItsTokens, IsReadableKey, entries_term, field_keys, kept_entries, token_term}
+use Rattle.ii_recorder.specs.TokenTerms.{BoundsItsTokens, HoldsItsTokens, IsReadableKey, entries_term, field_keys, kept_entries, token_term}
 use Rattle.ii_recorder.proofs.Documents.{few_documents}
-use Rattle.ii_recorder.proofs.PushedEntries.{documents_read}
+use Rattle.ii_recorder.proofs.PushedEntries.{documents_read, pushed_are_freqs}
 
 -- whether a key occurred, by the keys of a field's tokens
 pub occurs_among : (field : ℕ) (key : List ℕ) (ts : List IndexToken) → occurs field key ts ≡ list_any (bytes_eq key) (map (λ (t : IndexToken). t.key) (filter (λ (t : IndexToken). t.field == field) ts))
@@ -94,6 +96,22 @@ all_cut_twice kept requested (e ∷ es) = rw (cut_twice kept requested e, all_cu
 abbrev list_read : IndexRecordOption → IndexRecordOption → WrittenTerm → Result (List Entry) Part
 list_read mode requested t = term_list mode requested (length t.docs) (postings_bytes t) (Some (positions_bytes mode t.deltas))
 
+module _ (norms : Option Norms) (mode : IndexRecordOption) (field : ℕ) (ts : List IndexToken) where
+  -- Which key a written term has.
+  record KeyOf (t : WrittenTerm) : Type 0 where
+    key : List ℕ
+    is : token_term norms mode field ts key ≡ t
+    readable : IsReadableKey mode field ts key
+
+  key_at : (ks : List (List ℕ)) (t : WrittenTerm) (n : ℕ) → AllByRecursion (IsReadableKey mode field ts) ks → n < length (map (token_term norms mode field ts) ks) → get_or (map (token_term norms mode field ts) ks) n t ≡ t → KeyOf t
+  key_at [] t n all inside is = absurd (omega (arith, inside))
+  key_at (k ∷ ks) t zero all inside is = record { key = k; is = is; readable = all.0 }
+  key_at (k ∷ ks) t (suc n) all inside is = key_at ks t n all.1 (omega (arith, inside)) is
+
+  -- the key of a term of a field
+  found_key : (key postings positions : List ℕ) (info : TermInfo) → AllByRecursion (IsReadableKey mode field ts) (field_keys field ts) → (k : HoldsKey mode postings positions (map (token_term norms mode field ts) (field_keys field ts)) key info) → KeyOf k.term
+  found_key key postings positions info all k = key_at (field_keys field ts) k.term k.written.0 all k.written.1 k.written.2
+
 module _ (law : ReadsEntriesBack) (uncounted : ReadsUncountedTermBack) (norms : Option Norms) where
   -- entries that keep what their field records, and those that keep documents alone
   all_read : (kind requested : IndexRecordOption) (key : List ℕ) (es : List Entry) → AreReadable kind (map (cut_entry kind) es)
@@ -144,21 +162,10 @@ module _ (law : ReadsEntriesBack) (uncounted : ReadsUncountedTermBack) (norms : 
               ∙ kept_read mode kind requested key es (kind_which mode tokens) readable;
         }
 
-    -- Which key a written term has.
-    record KeyOf (t : WrittenTerm) : Type 0 where
-      key : List ℕ
-      is : token_term norms mode field ts key ≡ t
-      readable : IsReadableKey mode field ts key
-
-    key_at : (ks : List (List ℕ)) (t : WrittenTerm) (n : ℕ) → AllByRecursion (IsReadableKey mode field ts) ks → n < length (map (token_term norms mode field ts) ks) → get_or (map (token_term norms mode field ts) ks) n t ≡ t → KeyOf t
-    key_at [] t n all inside is = absurd (omega (arith, inside))
-    key_at (k ∷ ks) t zero all inside is = record { key = k; is = is; readable = all.0 }
-    key_at (k ∷ ks) t (suc n) all inside is = key_at ks t n all.1 (omega (arith, inside)) is
-
     holds_key : (key postings positions : List ℕ) (info : TermInfo) → AllByRecursion (IsReadableKey mode field ts) (field_keys field ts) → HoldsKey mode postings positions (map (token_term norms mode field ts) (field_keys field ts)) key info
         → HoldsTerm mode field key postings positions ts info
     holds_key key postings positions info all k =
-        let o = key_at (field_keys field ts) k.term k.written.0 all k.written.1 k.written.2 in
+        let o = found_key norms mode field ts key postings positions info all k in
         let same : o.key ≡ key = ap (λ (t : WrittenTerm). t.key) o.is ∙ k.key_is in
         subst (λ (q : List ℕ). HoldsTerm mode field q postings positions ts info) same (holds_term o.key postings positions info o.readable (subst (λ (t : WrittenTerm). HoldsWritten mode postings positions t info) (sym o.is) k.held))
 
@@ -184,3 +191,45 @@ module _ (law : ReadsEntriesBack) (uncounted : ReadsUncountedTermBack) (norms : 
 
 pub holds_its_tokens : ReadsEntriesBack → ReadsUncountedTermBack → HoldsItsTokens
 holds_its_tokens law uncounted norms mode field ts bodies all h = holds_field law uncounted norms mode field ts bodies all h
+
+module _ (law : BoundsWrittenTerms) (norms : Norms) (mode : IndexRecordOption) (field : ℕ) (ts : List IndexToken) where
+  -- the bounds of a key are true as they are written
+  bounds_key : (key : List ℕ) → IsReadableKey mode field ts key → HasTrueBounds norms mode (length (token_term (Some norms) mode field ts key).docs) (postings_bytes (token_term (Some norms) mode field ts key))
+  bounds_key key readable =
+      let tokens = tokens_at field key ts in
+      let kind = kind_of mode tokens in
+      let kept = kept_entries mode tokens in
+      let many : length (docs_of kept) ≡ length kept = length-map kept (λ (e : Entry). e.doc) in
+      let counts : length (pushed_freqs kind kept) ≡ length (docs_of kept) = length-map kept (λ (e : Entry). if has_freq kind then e.term_freq else 0) ∙ sym many in
+      let few = few_documents (docs_of kept) readable.documents in
+      law norms mode kind (docs_of kept) (pushed_freqs kind kept) (kind_which mode tokens) readable.documents (omega (arith, few))
+      (λ has. pushed_are_freqs kind (docs_of kept) (pushed_freqs kind kept) counts (readable.counted has) readable.fit readable.small)
+
+  bounds_held : (key postings positions : List ℕ) (info : TermInfo) → AllByRecursion (IsReadableKey mode field ts) (field_keys field ts) → HoldsKey mode postings positions (map (token_term (Some norms) mode field ts) (field_keys field ts)) key info
+      → HasTrueBounds norms mode info.doc_freq (bytes_in postings info.postings_range)
+  bounds_held key postings positions info all k =
+      let o = found_key (Some norms) mode field ts key postings positions info all k in
+      let bounds : HasTrueBounds norms mode (length k.term.docs) (postings_bytes k.term) = subst (λ (t : WrittenTerm). HasTrueBounds norms mode (length t.docs) (postings_bytes t)) o.is (bounds_key o.key o.readable) in
+      subst (λ (n : ℕ). HasTrueBounds norms mode n (bytes_in postings info.postings_range)) (sym k.held.doc_freq)
+      (subst (λ (bytes : List ℕ). HasTrueBounds norms mode (length k.term.docs) bytes) (sym k.held.postings_are) bounds)
+
+  bounds_under : (key postings positions : List ℕ) (o : Option TermInfo) (info : TermInfo) → AllByRecursion (IsReadableKey mode field ts) (field_keys field ts)
+      → MatchOption o (has_key key (map (token_term (Some norms) mode field ts) (field_keys field ts)) ≡ false) (HoldsKey mode postings positions (map (token_term (Some norms) mode field ts) (field_keys field ts)) key)
+      → o ≡ Some info → HasTrueBounds norms mode info.doc_freq (bytes_in postings info.postings_range)
+  bounds_under key postings positions None info all h is = absurd (cc)
+  bounds_under key postings positions (Some found) info all h is =
+      subst (λ (i : TermInfo). HasTrueBounds norms mode i.doc_freq (bytes_in postings i.postings_range)) (some-same is) (bounds_held key postings positions found all h)
+
+-- a value that two results have
+ok_value : {A E : Type 0} (r : Result A E) (x y : A) → r ≡ Ok x → r ≡ Ok y → x ≡ y
+ok_value r x y a b = cc
+
+pub bounds_its_tokens : BoundsWrittenTerms → BoundsItsTokens
+bounds_its_tokens law norms mode field ts bodies all h = record {
+  each = λ entries counted key info sorted counted_is found.
+      let same : h.entries ≡ entries = ok_value (dictionary bodies.terms) h.entries entries h.sorted sorted in
+      let body : counted ≡ (field_count field ts, h.postings_body) = some-same (sym counted_is ∙ h.counted) in
+      let there : info_under key h.entries ≡ Some info = ap (info_under key) same ∙ found in
+      subst (λ (bytes : List ℕ). HasTrueBounds norms mode info.doc_freq (bytes_in bytes info.postings_range)) (sym (ap (λ (c : ℕ × List ℕ). c.1) body))
+      (bounds_under law norms mode field ts key h.postings_body bodies.positions (info_under key h.entries) info all (h.exact key) there);
+}

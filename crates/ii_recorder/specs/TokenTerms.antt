@@ -1,5 +1,5 @@
 -- What is written for the tokens of a field.
-use Rattle.std.specs.Prelude.{ℕ, ◌==◌, List, filter, map, Option}
+use Rattle.std.specs.Prelude.{ℕ, ◌==◌, List, filter, map, Option, Some}
 use Rattle.std.specs.Cmp.Lexicographic.{slice_cmp}
 use Rattle.std.specs.FinMap.{from_entries, keys}
 use Rattle.std.specs.List.{AllByRecursion}
@@ -11,6 +11,7 @@ use Rattle.ii_definitions.specs.Cut.{cut_entry}
 use Rattle.ii_definitions.specs.Files.{HoldsField}
 use Rattle.ii_definitions.specs.Postings.{field_count, grouped, kind_of, tokens_at}
 use Rattle.ii_definitions.specs.Tokens.{IndexToken}
+use Rattle.ii_definitions.specs.TrueBounds.{HasTrueTerms}
 use Rattle.ii_recorder.specs.HeldTerms.{HoldsTerms}
 use Rattle.ii_recorder.specs.Pushed.{AreReadable, pushed_deltas, pushed_freqs}
 use Rattle.ii_recorder.specs.Terms.{FieldBodies, WrittenTerm}
@@ -41,3 +42,10 @@ HoldsItsTokens = (norms : Option Norms) (mode : IndexRecordOption) (field : ℕ)
     → AllByRecursion (IsReadableKey mode field ts) (field_keys field ts)
     → HoldsTerms mode (field_count field ts) bodies (map (token_term norms mode field ts) (field_keys field ts))
     → HoldsField mode field bodies.terms bodies.postings bodies.positions ts
+
+-- Bodies that hold what is written for the tokens of a field with norms have true bounds.
+abbrev pub BoundsItsTokens : Type 0
+BoundsItsTokens = (norms : Norms) (mode : IndexRecordOption) (field : ℕ) (ts : List IndexToken) (bodies : FieldBodies)
+    → AllByRecursion (IsReadableKey mode field ts) (field_keys field ts)
+    → HoldsTerms mode (field_count field ts) bodies (map (token_term (Some norms) mode field ts) (field_keys field ts))
+    → HasTrueTerms mode norms bodies.terms bodies.postings

@@ -1,8 +1,8 @@
 ghost use Rattle.ii_recorder.specs.HeldTerms.{HoldsEachTerm, HoldsWhatIsWritten};
 ghost use Rattle.ii_recorder.specs.Pushed.{ReadsEntriesBack};
-ghost use Rattle.ii_recorder.specs.TokenTerms.{HoldsItsTokens};
+ghost use Rattle.ii_recorder.specs.TokenTerms.{BoundsItsTokens, HoldsItsTokens};
 
-use ii_layout::written::{reads_term_back, reads_uncounted_term_back};
+use ii_layout::written::{bounds_what_is_written, reads_term_back, reads_uncounted_term_back};
 use ii_termdict::written::reads_dictionary_back;
 
 /// States what the bodies of a written field hold: the number of its tokens, exactly the keys of its terms,
@@ -33,4 +33,12 @@ pub fn holds_its_tokens()
 {
     reads_entries_back();
     reads_uncounted_term_back();
+}
+
+/// States that bodies have true bounds if they hold the terms that are written for the tokens of a field with
+/// norms: for each full block of a term with frequencies the least norm id and the greatest frequency.
+pub fn bounds_its_tokens()
+    ensures { BoundsItsTokens }
+{
+    bounds_what_is_written();
 }

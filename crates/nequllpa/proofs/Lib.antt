@@ -1,3 +1,4 @@
+pub mod BoundLaws
 pub mod NoTokens
 pub mod RamLaws
 pub mod WithinLimits

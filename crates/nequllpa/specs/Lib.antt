@@ -1,1 +1,2 @@
 pub mod OpenedFiles
+pub mod TrueBounds

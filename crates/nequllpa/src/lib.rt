@@ -2,6 +2,7 @@
 //! postings of a term. Each item is exported here once; the crates below say how it is kept.
 #![tactic(auto)]
 
+pub mod bounds;
 pub mod ram;
 
 // fields, and the values that are indexed

@@ -12,6 +12,7 @@ ghost use Rattle.ii_indexing.specs.RamFiles.{IsRamFault};
 ghost use Rattle.ii_reader.specs.InvertedIndexReader.{AllOpen, IsTrusted};
 ghost use Rattle.ii_reader.specs.OpenIndex.{GivesReaders, IndexHolds, NormsHold, index_of_files, trusted_index};
 ghost use Rattle.nequllpa.specs.OpenedFiles.{OpensFiles};
+ghost use Rattle.nequllpa.specs.TrueBounds.{IndexHasTrueBounds};
 
 use bytes::Bytes;
 use ii_base::{Fault, Schema, TextAnalyzer};
@@ -21,7 +22,8 @@ use ii_reader::{OpenIndex, open_index_with_norms};
 use std::alloc::Global;
 
 /// Indexes calls in memory, and opens the index. The readers hold exactly the tokens of the calls.
-/// The norms give each document's number of tokens in each field that keeps norms.
+/// The norms give each document's number of tokens in each field that keeps norms, and the bounds of full blocks
+/// are true by them.
 ///
 /// Document ids must not decrease, and must be less than `num_docs`, which is at most `TERMINATED`.
 /// Each call's field must be indexed and have values of the call's type. The index is trusted, as it
@@ -42,6 +44,7 @@ pub fn index_in_ram<A: TextAnalyzer>(
     ensures holds { IfOk result (λ index. IndexHolds schema num_docs index (tokens_of (A.words analyzer.now) (map (call_of schema) calls.items))) }
     ensures many { IfOk result (λ index. length index.readers ≡ length schema) }
     ensures trusted { IfOk result (λ index. All IsTrusted index.readers) }
+    ensures bounds { IfOk result IndexHasTrueBounds }
     ensures refused { IfSome (calls_fault (A.words analyzer.now) (option_of schema) [] (map (call_of schema) calls.items)) (λ fault. (result ≡ Err fault) ⊎ (result ≡ Err Fault.OutOfMemory)) }
     ensures fault { calls_fault (A.words analyzer.now) (option_of schema) [] (map (call_of schema) calls.items) ≡ None
         → IfErr result (λ e. (e ≡ Fault.OutOfMemory) ⊎ IsRamFault schema num_docs (tokens_of (A.words analyzer.now) (map (call_of schema) calls.items)) e) }

@@ -9,7 +9,7 @@ use Rattle.ii_recorder.proofs.GrowthLemmas.{three_counted}
 
 pub returns-in-Ok-clause-holds : goal.returns-in-Ok-clause-holds
 returns-in-Ok-clause-holds g c ts has =
-    closed_files c.args.serializer c.serialize_postings.new.serializer c.close.result.0 c.close.result.1 c.close.result.2 c.close.result.3 ts (subst (λ (es : List SchemaEntry). length es < 2 ^ 32) c.requires.schema c.requires.few)
+    closed_files c.args.serializer c.serialize_postings.new.serializer c.close.result.0 c.close.result.1 c.close.result.2 c.close.result.3 c.args.fieldnorm_readers.now ts (subst (λ (es : List SchemaEntry). length es < 2 ^ 32) c.requires.schema c.requires.few)
     (c.in-Ok.ensures.holds ts has) c.close.ensures.terms c.close.ensures.postings c.close.ensures.positions
 
 pub returns-in-Ok-clause-failures : goal.returns-in-Ok-clause-failures

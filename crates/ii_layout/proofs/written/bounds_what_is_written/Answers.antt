@@ -9,3 +9,6 @@ returns-clause-room c = laws.bounds_take_no_room
 
 pub returns-clause-plain : goal.returns-clause-plain
 returns-clause-plain c = laws.plain_terms_have_no_bounds
+
+pub returns-clause-read : goal.returns-clause-read
+returns-clause-read c = laws.bounds_written_terms

@@ -9,7 +9,7 @@ use Rattle.ii_merger.proofs.field_merge.merge_field.Goals as goal
 pub returns-clause-holds : goal.returns-clause-holds
 returns-clause-holds g c ss hold counted some =
     on_ok c.write_field.result _ _
-    (λ wrote. wrote_tokens c.keys_of_segments.ensures c.holds_its_tokens.ensures c.args.schema.now c.args.field c.args.total_num_tokens c.args.fieldnorm_reader (map source_of c.args.sources.now) ss c.args.serializer.now.bodies c.write_field.new.serializer.bodies hold counted wrote)
+    (λ wrote. wrote_tokens c.keys_of_segments.ensures c.holds_its_tokens.ensures c.bounds_its_tokens.ensures c.args.schema.now c.args.field c.args.total_num_tokens c.args.fieldnorm_reader (map source_of c.args.sources.now) ss c.args.serializer.now.bodies c.write_field.new.serializer.bodies hold counted wrote)
     c.write_field.ensures.wrote
 
 pub returns-clause-undamaged : goal.returns-clause-undamaged

@@ -17,7 +17,7 @@ use Rattle.ii_merger.proofs.index_merge.merge_fields.Goals as goal
 pub loop-place-init : goal.loop-place-init
 loop-place-init g c = record {
   below = none_below c.args.serializer.now.bodies c.requires.begun;
-  holds = λ ss hold counts. none_merged c.args.schema.now c.args.serializer.now.bodies (index_tokens ss) c.requires.begun;
+  holds = λ ss hold counts. none_merged c.args.schema.now c.args.serializer.now.bodies c.args.norms.now (index_tokens ss) c.requires.begun;
   wrote = none_written (record { entries = c.args.schema.now; num_tokens = c.args.num_tokens.now; norms = c.args.norms.now; segments = map opened_segment c.args.sources.now }) c.args.serializer.now.bodies c.requires.begun;
   ends = ends_none c.args.serializer.now c.requires.open;
 }
@@ -52,9 +52,9 @@ loop-place-preserved g c =
           let ts = index_tokens ss in
           let counted : total ≡ field_count place ts =
           ap (λ (ns : List ℕ). get_or ns place 0) counts ∙ get_or-map-range_with_len (λ (f : ℕ). field_count f ts) 0 (length c.args.schema.now) place place 0 (omega (arith, c.loop-place-test.true, c.requires.counts)) (omega arith) in
-          field_merged c.args.schema.now first place ts old new total (c.loop-place.invariant.holds ss hold counts) counted
+          field_merged c.args.schema.now first place c.args.norms.now ts old new total (c.loop-place.invariant.holds ss hold counts) counted
           (λ zero. went_well _ r went (c.add_field-added.ensures.none zero))
-          (λ is some. subst (λ (f : ℕ). WroteField c.args.schema.now old new f ts) field (went_well _ r went (c.add_field-added.ensures.holds ss hold (is ∙ ap (λ (f : ℕ). field_count f ts) (sym field)) some)));
+          (λ is some. subst (λ (f : ℕ). WroteField c.args.schema.now old new f (norms_of_field m.norms f) ts) field (went_well _ r went (c.add_field-added.ensures.holds ss hold (is ∙ ap (λ (f : ℕ). field_count f ts) (sym field)) some)));
       wrote = field_written m place first old new c.loop-place.invariant.wrote total refl
           (λ zero. went_well _ r went (c.add_field-added.ensures.none zero))
           (λ some. subst (λ (f : ℕ). WroteMergedField m.entries f total (norms_of_field m.norms f) (field_sources f m.segments) old new) field (went_well _ r went (c.add_field-added.ensures.wrote some)));

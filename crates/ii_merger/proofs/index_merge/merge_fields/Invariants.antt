@@ -8,7 +8,7 @@ abbrev pub invariant-loop-place : goal.invariant-loop-place
 invariant-loop-place g l = record {
   below : FieldsBelow l.place l.serializer.bodies;
   holds : (ss : List Segment) → MergeSourcesHold l.schema (map opened_segment l.sources) ss → l.num_tokens ≡ num_tokens_by_field (length l.schema) (index_tokens ss)
-      → HasMergedFields l.schema l.fn.serializer.bodies l.serializer.bodies l.place (index_tokens ss);
+      → HasMergedFields l.schema l.fn.serializer.bodies l.serializer.bodies l.place l.norms (index_tokens ss);
   wrote : WroteFieldsBelow (record { entries = l.schema; num_tokens = l.num_tokens; norms = l.norms; segments = map opened_segment l.sources }) l.fn.serializer.bodies l.serializer.bodies l.place;
   ends : EndsFields l.fn.serializer l.serializer (Ok tt);
 }

@@ -25,7 +25,7 @@ returns-in-Err-clause-fault g c = files_fail (record { entries = c.args.schema.n
 
 pub returns-in-Ok-clause-holds : goal.returns-in-Ok-clause-holds
 returns-in-Ok-clause-holds g c ss hold counts =
-    closed_files c.args.schema.now c.args.serializer c.merge_fields.new.serializer.bodies c.close.result.0 c.close.result.1 c.close.result.2 c.close.result.3 (map opened_segment c.args.sources.now) ss c.requires.may.many c.requires.schema c.merged_is_segment.ensures hold
+    closed_files c.args.schema.now c.args.serializer c.merge_fields.new.serializer.bodies c.close.result.0 c.close.result.1 c.close.result.2 c.close.result.3 c.args.norms.now (map opened_segment c.args.sources.now) ss c.requires.may.many c.requires.schema c.merged_is_segment.ensures hold
     (c.in-Ok.ensures.holds ss hold counts) c.close.ensures.terms c.close.ensures.postings c.close.ensures.positions
 
 pub returns-in-Ok-clause-grow : goal.returns-in-Ok-clause-grow

@@ -47,7 +47,7 @@ returns-clause-holds g c ts has =
     let writers = c.args.per_field_postings_writers.now in
     let last = c.serialize_fields-told.new.serializer in
     let result = c.serialize_fields-told.result in
-    wrote_tokens result c.holds_its_tokens.ensures first last writers readers (resolved_terms (json_fields schema) paths old) (resolved_terms (json_fields schema) paths are.sorted) ts
+    wrote_tokens result c.holds_its_tokens.ensures c.bounds_its_tokens.ensures first last writers readers (resolved_terms (json_fields schema) paths old) (resolved_terms (json_fields schema) paths are.sorted) ts
     (written first schema c.requires.schema readers paths old fields c.requires.terms are writers ts has)
     (wrote_all first schema c.requires.schema readers paths old fields c.requires.terms are writers result last c.serialize_fields-told.ensures.wrote)
 

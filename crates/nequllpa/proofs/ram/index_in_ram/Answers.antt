@@ -11,7 +11,10 @@ use Rattle.ii_definitions.specs.IndexCalls.{call_of}
 use Rattle.ii_indexing.specs.IndexFiles.{IsIndexFault, WroteIndex}
 use Rattle.ii_indexing.specs.RamFiles.{IsRamFault}
 use Rattle.ii_reader.specs.InvertedIndexReader.{trusted_reader}
-use Rattle.ii_reader.specs.OpenIndex.{GivesReaders, OpenIndexState}
+use Rattle.ii_reader.specs.OpenIndex.{GivesReaders, OpenIndexState, index_of_files}
+use Rattle.ii_definitions.specs.TrueBounds.{HaveTrueBounds}
+use Rattle.nequllpa.specs.OpenedFiles.{OpensFiles}
+use Rattle.nequllpa.proofs.BoundLaws.{opens_true_bounds, trusted_bounds}
 use Rattle.ii_reader.proofs.KnownLemmas.{all_trusted}
 use Rattle.ii_indexing.proofs.RamLaws.{fault_in_ram}
 use Rattle.nequllpa.proofs.RamLaws.{GivesAll, all_open, in_ram, index_holds, readers_fault}
@@ -70,3 +73,14 @@ returns-in-Ok-open_in_ram-clause-many g c = rw c.trusted.ensures (length-map c.i
 
 pub returns-in-Ok-open_in_ram-clause-trusted : goal.returns-in-Ok-open_in_ram-clause-trusted
 returns-in-Ok-open_in_ram-clause-trusted g c = rw c.trusted.ensures (all_trusted c.in-Ok-open_in_ram.index.readers)
+
+pub returns-in-Ok-open_in_ram-clause-bounds : goal.returns-in-Ok-open_in_ram-clause-bounds
+returns-in-Ok-open_in_ram-clause-bounds g c =
+    let ts = tokens_of (g.A.TextAnalyzer.words c.args.analyzer.now) (map (call_of c.args.schema) c.args.calls.items) in
+    let files = c.in_memory-files.result in
+    let new = c.write_index-files.result.0 in
+    let wrote : WroteIndex c.args.schema c.args.num_docs files new ts = subst (λ (r : Result (Unit {0}) Fault). OnOk r (WroteIndex c.args.schema c.args.num_docs files new ts)) c.in-Ok.is c.write_index-files.ensures.wrote in
+    let ram = in_ram c.args.schema c.args.num_docs files new ts c.in_memory-files.ensures wrote in
+    let opened = subst (OpensFiles (index_of_files wrote.terms.terms wrote.terms.postings wrote.terms.positions wrote.norms.fieldnorms c.in_ok-copy.copy)) c.in-Ok-open_in_ram.is (c.open_in_ram.ensures.opened wrote.terms.terms wrote.terms.postings wrote.terms.positions wrote.norms.fieldnorms ram.0 ram.1 ram.2 ram.3) in
+    let bounds = subst (λ (es : List SchemaEntry). HaveTrueBounds (option_of es) wrote.terms.terms wrote.terms.postings wrote.norms.fieldnorms) (sym c.in_ok-copy.ensures.same) wrote.bounds in
+    rw c.trusted.ensures (trusted_bounds c.in-Ok-open_in_ram.index (opens_true_bounds c.in_ok-copy.copy wrote.terms.terms wrote.terms.postings wrote.terms.positions wrote.norms.fieldnorms c.in-Ok-open_in_ram.index bounds opened))

@@ -42,3 +42,6 @@ returns-clause-many c =
     let same = subst (λ (s : IndexedFieldsState). with_norms s.opened.norms ≡ map keeps_norms c.args.schema.now) (sym c.self.view_is) c.requires.norms in
     let held = c.in_ok-norms.ensures.holds c.args.schema.now c.requires.some.pieces ts same st.documents in
     counted_bodies c.args.schema.now c.args.num_docs c.in_ok-norms.norms ts c.in_ok-readers.readers held (sym (ap composite c.in_ok-clone.ensures.cases) ∙ c.in_ok-readers.ensures.opened)
+
+pub returns-clause-read : goal.returns-clause-read
+returns-clause-read c = sym (ap composite c.in_ok-clone.ensures.cases) ∙ c.in_ok-readers.ensures.opened

@@ -1,4 +1,4 @@
-use Rattle.std.proofs.Common.{◌≡◌, ◌∙◌, inl, inr, List, ℕ, refl, sym, subst, ⊎_elim, []}
+use Rattle.std.proofs.Common.{◌≡◌, ◌∙◌, Some, inl, inr, List, ℕ, refl, sym, subst, ⊎_elim, []}
 use Rattle.std.specs.Prelude.{◌⊎◌, IfErr}
 use Rattle.std.proofs.lemmas.Result.{IfErr-weaker}
 use Rattle.ii_io.specs.declared.faults.Fault.TheVariants.{OutOfMemory, Write}
@@ -7,12 +7,14 @@ use Rattle.ii_io.proofs.WriteSteps.{grows_not, writes_grows, writes_went}
 use Rattle.ii_base.specs.Schema.{SchemaEntry}
 use Rattle.ii_definitions.specs.Fields.{option_of}
 use Rattle.ii_definitions.specs.Files.{HoldTokens}
+use Rattle.ii_definitions.specs.TrueBounds.{HaveTrueBodies}
+use Rattle.ii_io.specs.Composite.{Body, composite}
 use Rattle.ii_recorder.specs.IndexBodies.{IndexBodiesState}
 use Rattle.ii_postings_writer.specs.FieldParts.{HasFields}
 use Rattle.ii_postings_writer.specs.ResolvedTerms.{HaveHeldTokens}
 use Rattle.ii_postings_writer.proofs.TermIndexLemmas.{on_ok}
 use Rattle.ii_indexing.specs.IndexFiles.{PassLimits}
-use Rattle.ii_indexing.proofs.WrittenFiles.{PassesBehind, begun_fields, files_counted, norms_refused}
+use Rattle.ii_indexing.proofs.WrittenFiles.{PassesBehind, begun_fields, files_bound, files_counted, norms_refused}
 use Rattle.ii_indexing.proofs.indexer.FinishedFields.write.Goals as goal
 
 pub write_files-terms-requires-clause-fresh : goal.write_files-terms-requires-clause-fresh
@@ -66,6 +68,8 @@ returns-clause-holds g c ts norms have =
         hold = subst (λ (es : List SchemaEntry). HoldTokens (option_of es) held.terms held.postings held.positions ts) entries held.hold;
       };
       norms = record { fieldnorms = bytes; wrote = wrote; hold = norms };
+      bounds = files_bound (option_of c.args.schema.now) held.terms held.postings bytes c.args.self.readers c.requires.read
+          (subst (λ (es : List SchemaEntry). (tb pb : List Body) → composite held.terms ≡ Some tb → composite held.postings ≡ Some pb → HaveTrueBodies (option_of es) tb pb c.args.self.readers) entries held.bounds);
     })
     (c.write_files-terms.ensures.holds ts tokens)
 
