@@ -7,6 +7,7 @@ pub mod FolderLaws
 mod HintLaws
 mod LoadedLaws
 pub mod MergingLaws
+mod NormBoundLaws
 mod OpenedLaws
 mod OpeningLaws
 mod PhraseLaws

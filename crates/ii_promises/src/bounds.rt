@@ -1,6 +1,7 @@
 // Bounds of blocks, and what a seek by term frequency decodes.
-ghost use Rattle.std.specs.Prelude.{◌≡◌, ◌+◌, ◌-◌, ◌*◌, ◌/◌, ◌<◌, ◌≤◌, ◌⊎◌, ◌&&◌, ◌==◌, ◌++◌, ℕ, List, drop, filter, length, not, nat_le, nat_lt, slice_index, take, true, if◌then◌else◌, IsTrue, Some};
+ghost use Rattle.std.specs.Prelude.{◌≡◌, ◌+◌, ◌-◌, ◌*◌, ◌/◌, ◌<◌, ◌≤◌, ◌⊎◌, ◌&&◌, ◌==◌, ◌++◌, ℕ, List, drop, filter, length, not, nat_le, nat_lt, slice_get, slice_index, take, true, if◌then◌else◌, IfOk, IfSome, IsTrue, Some};
 ghost use Rattle.std.specs.List.{list_all, range_with_len, slice_index_or, sum_by};
+ghost use Rattle.ii_definitions.specs.IndexCalls.{MayAllBeIndexed};
 ghost use Rattle.ii_docset.specs.Cursor.{IsTarget, doc_at};
 ghost use Rattle.ii_base.specs.Entries.{Entry, are_documents};
 ghost use Rattle.ii_base.specs.declared.schema.index_record_option.IndexRecordOption.TheVariants.{WithFreqs};
@@ -8,10 +9,14 @@ ghost use Rattle.ii_fieldnorm.specs.Readers.{id_of_doc};
 ghost use Rattle.ii_layout.specs.Documents.{skip_entry};
 ghost use Rattle.ii_layout.specs.SkipList.{SkipList, skip_list};
 ghost use Rattle.ii_layout.specs.Written.{AreFreqs, written_postings};
+ghost use Rattle.nequllpa.specs.TrueBounds.{IndexHasTrueBounds};
 
-use ii_fieldnorm::FieldNormReader;
 use ii_layout::written::bounds_what_is_written;
-use nequllpa::{BlockSegmentPostings, DocId, SegmentPostings};
+use nequllpa::{
+    BlockSegmentPostings, DocId, Fault, FieldNormReader, IndexCall, IndexRecordOption, OpenIndex, Schema,
+    SegmentPostings, Term, TextAnalyzer, index_in_ram,
+};
+use std::alloc::Global;
 
 /// No term frequency of a full block exceeds the block's bound. The bounds 0 and 255 say nothing.
 pub fn counts_stay_within_bounds(blocks: &BlockSegmentPostings) -> Option<(u8, u8)>
@@ -46,4 +51,45 @@ pub fn norms_stay_within_bounds(norms: &FieldNormReader)
         × (((skip_entry skip.entries i).block_wand_term_freq ≡ 255) ⊎ (slice_index freqs (128 * i + k) ≤ (skip_entry skip.entries i).block_wand_term_freq)) }
 {
     bounds_what_is_written();
+}
+
+/// In an index in memory, no norm of a full block's documents is below the norm id that the block's entry has, if the
+/// term's frequencies are read and the field has norms.
+pub fn indexed_norms_stay_within_bounds<A: TextAnalyzer>(
+    alloc: Global,
+    schema: Schema,
+    num_docs: DocId,
+    calls: Vec<IndexCall>,
+    analyzer: &A,
+    term: &Term,
+) -> Result<Option<(BlockSegmentPostings, FieldNormReader)>, Fault>
+    requires docs { num_docs ≤ 2147483647 }
+    requires calls { MayAllBeIndexed schema num_docs calls.items }
+    requires field { term.now.field < length schema }
+    ensures { IfOk result (λ found. IfSome found (λ f. (freqs : List ℕ) (i k : ℕ) (bound : ℕ × ℕ) → f.0.freqs ≡ Some freqs → slice_get f.0.bounds i ≡ Some bound → 128 * i + 128 ≤ length f.0.docs → k < 128
+        → bound.0 ≤ id_of_doc f.1 (slice_index f.0.docs (128 * i + k)))) }
+{
+    let index = index_in_ram(alloc, schema, num_docs, calls, analyzer)?;
+    with_norms(&index, term)
+}
+
+// Opens a term's blocks, and the norms of its field.
+fn with_norms(
+    index: &OpenIndex,
+    term: &Term,
+) -> Result<Option<(BlockSegmentPostings, FieldNormReader)>, Fault>
+    requires field { term.now.field < length index.now.readers }
+    requires bounds { IndexHasTrueBounds index.now }
+    ensures { IfOk result (λ found. IfSome found (λ f. (freqs : List ℕ) (i k : ℕ) (bound : ℕ × ℕ) → f.0.freqs ≡ Some freqs → slice_get f.0.bounds i ≡ Some bound → 128 * i + 128 ≤ length f.0.docs → k < 128
+        → bound.0 ≤ id_of_doc f.1 (slice_index f.0.docs (128 * i + k)))) }
+{
+    let field = term.field();
+    let reader = index.reader(field);
+    let Some(norms) = index.get_fieldnorms_reader(field)? else {
+        return Ok(None);
+    };
+    let Some(blocks) = reader.read_block_postings(term, IndexRecordOption::WithFreqs)? else {
+        return Ok(None);
+    };
+    Ok(Some((blocks, norms)))
 }
