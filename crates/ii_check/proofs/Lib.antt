@@ -1,4 +1,5 @@
 pub mod CheckedBlocksLemmas
+pub mod DecodedBlocksLaws
 pub mod CheckLemmas
 pub mod FrequencyLemmas
 pub mod LoadLemmas

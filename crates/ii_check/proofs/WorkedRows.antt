@@ -1,8 +1,9 @@
--- Worked rows: how many blocks are decoded to validate a list.
-use Rattle.std.proofs.Common.{◌≡◌, refl}
+-- Worked rows: how many blocks are decoded to validate a list, and which blocks a cursor decoded.
+use Rattle.std.proofs.Common.{◌≡◌, ◌≤◌, [], ◌∷◌, refl, arith}
 use Rattle.ii_check.specs.declared.freq_reading_option.FreqReadingOption.TheVariants.{NoFreq, SkipFreq, ReadFreq}
 use Rattle.ii_check.specs.declared.validation.Validation.TheVariants.{Complete, Skipped}
 use Rattle.ii_check.specs.CheckedBlocks.{blocks_checked, blocks_found, counts_checked, freqs_checked, no_blocks, num_blocks}
+use Rattle.ii_check.specs.DecodedBlocks.{AscendWithin, logged}
 
 -- 300 documents are two full blocks and one of 44
 pub row_blocks : num_blocks 300 ≡ 3
@@ -39,3 +40,17 @@ row_found = refl
 
 pub row_found_long : blocks_found Skipped 300 ≡ 0
 row_found_long = refl
+
+-- a decode adds the number of its block, unless the block is empty
+pub row_logged : logged 2 44 ≡ 2 ∷ []
+row_logged = refl
+
+pub row_empty : logged 3 0 ≡ []
+row_empty = refl
+
+-- blocks 0, 2 and 3 were decoded once each; block 2 twice is refused
+pub row_once : AscendWithin 0 3 (0 ∷ 2 ∷ 3 ∷ [])
+row_once = (omega arith, omega arith, (omega arith, omega arith, (omega arith, omega arith, tt)))
+
+pub row_twice : AscendWithin 0 3 (0 ∷ 2 ∷ 2 ∷ []) → 3 ≤ 2
+row_twice ascend = ascend.2.2.0

@@ -10,11 +10,13 @@ ghost use Rattle.ii_layout.specs.Postings.{postings};
 ghost use Rattle.ii_layout.specs.TermList.{deltas_if};
 ghost use Rattle.ii_check.specs.Positions.{deltas_read};
 ghost use Rattle.ii_check.specs.CheckedBlocks.{blocks_checked, freqs_checked};
+ghost use Rattle.ii_check.specs.DecodedBlocks.{LogsBlock};
 ghost use Rattle.ii_check.specs.CheckedPostings.{AreGiven, AreLastFreqs, HasDocuments, IsAtBlock, IsSkipData, LoadsBlock, SeeksBlock, SeeksFreq, new_decoder};
 ghost use Rattle.ii_check.specs.FreqReading.{freq_reading_of, reading_of_none};
 
 use super::check::freq_reading_option;
 use super::checked_blocks::CheckedBlocks;
+use super::decoded_blocks::DecodedBlocks;
 use super::freq_reading_option::FreqReadingOption;
 use super::load::{NO_FREQ, decode_docs, decode_freqs, is_passed};
 use super::places::find_postings;
@@ -75,8 +77,8 @@ impl CheckedPostings {
     /// postings must be valid, and only the first block is decoded, however long the list is.
     ///
     /// Borrows two new decoders, which then hold the documents and the term frequencies of the first block.
-    /// After an error they hold anything. Counts the blocks that were decoded to validate the list. Never
-    /// allocates, and ignores the bytes after what is read.
+    /// After an error they hold anything. The first block is added to `decoded_blocks`. Counts the blocks that
+    /// were decoded to validate the list. Never allocates, and ignores the bytes after what is read.
     pub fn open(
         doc_freq: u32,
         bytes: Bytes,
@@ -85,6 +87,7 @@ impl CheckedPostings {
         validation: Validation,
         doc_decoder: &mut BlockDecoder,
         freq_decoder: &mut BlockDecoder,
+        decoded_blocks: &mut DecodedBlocks,
         checked_blocks: &mut CheckedBlocks,
     ) -> Result<CheckedPostings, LayoutFault>
         requires known { validation ≡ Validation.Skipped → IsOk (postings record_option requested_option doc_freq bytes) }
@@ -98,6 +101,7 @@ impl CheckedPostings {
         // What the skip entries hold, and the first block, which is decoded.
         ensures documents { IfOk result (λ checked. HasDocuments checked) }
         ensures first { IfOk result (λ checked. LoadsBlock checked.postings 0 (new_decoder TERMINATED) doc_decoder.new (new_decoder 1) freq_decoder.new) }
+        ensures first_logged { IfOk result (λ checked. LogsBlock checked.postings 0 decoded_blocks.old.docs.blocks decoded_blocks.new.docs.blocks decoded_blocks.old.freqs.blocks decoded_blocks.new.freqs.blocks) }
         // What was decoded to validate the list.
         ensures docs_checked { OnOk result (checked_blocks.new.docs.value ≡ checked_blocks.old.docs.value + blocks_checked validation doc_freq) }
         ensures freqs_checked { IfOk result (λ checked. checked_blocks.new.freqs.value ≡ checked_blocks.old.freqs.value + freqs_checked validation checked.freq_reading doc_freq) }
@@ -124,7 +128,7 @@ impl CheckedPostings {
             places,
             freq_reading_option,
         };
-        checked.first_block(doc_decoder, freq_decoder);
+        checked.first_block(doc_decoder, freq_decoder, decoded_blocks);
         Ok(checked)
     }
 
@@ -156,18 +160,27 @@ impl CheckedPostings {
         }
     }
 
-    // Makes the decoders hold the first block, as new ones would. After the check of a short list they
-    // already do.
-    fn first_block(&self, doc_decoder: &mut BlockDecoder, freq_decoder: &mut BlockDecoder)
+    // Makes the decoders hold the first block, as new ones would, and adds it to the decoded blocks. After the
+    // check of a short list they already hold it.
+    fn first_block(
+        &self,
+        doc_decoder: &mut BlockDecoder,
+        freq_decoder: &mut BlockDecoder,
+        decoded_blocks: &mut DecodedBlocks,
+    )
         requires { self.now.doc_freq < 128 → LoadsBlock self.now.postings 0 (new_decoder TERMINATED) doc_decoder.old (new_decoder 1) freq_decoder.old }
-        ensures { LoadsBlock self.now.postings 0 (new_decoder TERMINATED) doc_decoder.new (new_decoder 1) freq_decoder.new }
+        ensures loads { LoadsBlock self.now.postings 0 (new_decoder TERMINATED) doc_decoder.new (new_decoder 1) freq_decoder.new }
+        ensures logs { LogsBlock self.now.postings 0 decoded_blocks.old.docs.blocks decoded_blocks.new.docs.blocks decoded_blocks.old.freqs.blocks decoded_blocks.new.freqs.blocks }
     {
+        let skip = self.skip_reader();
         if self.doc_freq < COMPRESSION_BLOCK_SIZE as u32 {
+            decoded_blocks.docs = decoded_blocks.docs.with_block(&skip, doc_decoder);
+            decoded_blocks.freqs = decoded_blocks.freqs.with_block(&skip, freq_decoder);
             return;
         }
         *doc_decoder = BlockDecoder::with_val(TERMINATED);
         *freq_decoder = BlockDecoder::with_val(NO_FREQ);
-        self.load_block(&self.skip_reader(), doc_decoder, freq_decoder);
+        self.load_block(&skip, doc_decoder, freq_decoder, decoded_blocks);
     }
 
     /// Clones the postings. The bytes are shared. Returns `OutOfMemory` if an allocation fails.
@@ -312,7 +325,13 @@ impl CheckedPostings {
         }
         let mut doc_decoder = BlockDecoder::with_val(TERMINATED);
         let mut freq_decoder = BlockDecoder::with_val(NO_FREQ);
-        self.load_block(&skip, &mut doc_decoder, &mut freq_decoder);
+        let mut decoded_blocks = DecodedBlocks::none();
+        self.load_block(
+            &skip,
+            &mut doc_decoder,
+            &mut freq_decoder,
+            &mut decoded_blocks,
+        );
         self.open_counted_positions(bytes, freq_decoder.output_array())
     }
 
@@ -407,11 +426,17 @@ impl CheckedPostings {
         let mut skip = self.skip_reader();
         let mut doc_decoder = BlockDecoder::with_val(TERMINATED);
         let mut freq_decoder = BlockDecoder::with_val(NO_FREQ);
+        let mut decoded_blocks = DecodedBlocks::none();
         let mut end = 0;
         // The last block has fewer documents.
         let blocks = self.doc_freq / COMPRESSION_BLOCK_SIZE as u32 + 1;
         for _block in 0..blocks {
-            self.load_block(&skip, &mut doc_decoder, &mut freq_decoder);
+            self.load_block(
+                &skip,
+                &mut doc_decoder,
+                &mut freq_decoder,
+                &mut decoded_blocks,
+            );
             let Some(next) = end_of_positions(reader, end, freq_decoder.output_array()) else {
                 return false;
             };
@@ -422,23 +447,27 @@ impl CheckedPostings {
     }
 
     /// Decodes the block of the skip reader: its documents, followed by `TERMINATED`, and its term
-    /// frequencies if they are read, followed by 1.
+    /// frequencies if they are read, followed by 1. The block is added to the decoded blocks.
     pub fn load_block(
         &self,
         skip: &SkipReader,
         doc_decoder: &mut BlockDecoder,
         freq_decoder: &mut BlockDecoder,
+        decoded_blocks: &mut DecodedBlocks,
     )
         requires { IsAtBlock self.now skip.now }
-        ensures { LoadsBlock self.now.postings skip.now.block doc_decoder.old doc_decoder.new freq_decoder.old freq_decoder.new }
+        ensures loads { LoadsBlock self.now.postings skip.now.block doc_decoder.old doc_decoder.new freq_decoder.old freq_decoder.new }
+        ensures logs { LogsBlock self.now.postings skip.now.block decoded_blocks.old.docs.blocks decoded_blocks.new.docs.blocks decoded_blocks.old.freqs.blocks decoded_blocks.new.freqs.blocks }
     {
         let info = skip.block_info();
         let bytes = bytes_from(self.body(), skip.byte_offset());
         let used = decode_docs(doc_decoder, info, skip.last_doc_in_previous_block(), bytes);
+        decoded_blocks.docs = decoded_blocks.docs.with_block(skip, doc_decoder);
         if !self.freq_reading_option.is_read() {
             return;
         }
         decode_freqs(freq_decoder, info, bytes_from(bytes, used));
+        decoded_blocks.freqs = decoded_blocks.freqs.with_block(skip, freq_decoder);
     }
 
     // Returns the bytes from the skip entries on.

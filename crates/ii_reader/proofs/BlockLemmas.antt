@@ -1,8 +1,8 @@
 -- Laws of the block that a cursor holds.
-use Rattle.std.proofs.Common.{◌≡◌, ℕ, zero, suc, ◌+◌, ◌-◌, ◌*◌, ◌/◌, ◌<◌, ◌≤◌, Bool, true, false, List, [], length, take, drop, get_or, min, nat_lt, Option, Some, None, Ok, is_some, refl, sym, ap, ◌∙◌, arith, length-take, length-drop}
+use Rattle.std.proofs.Common.{◌≡◌, ℕ, zero, suc, ◌+◌, ◌-◌, ◌*◌, ◌/◌, ◌<◌, ◌≤◌, ◌⊎◌, inl, inr, Bool, true, false, List, [], ◌++◌, length, take, drop, get_or, min, nat_lt, Option, Some, None, Ok, is_some, refl, sym, ap, subst, ◌∙◌, append-nil, arith, length-take, length-drop}
 use Rattle.std.specs.Option.{IsSome}
 use Rattle.std.proofs.lemmas.Bool.{ltb-true, ltb-false}
-use Rattle.std.proofs.lemmas.List.{nil_from_length, get_or-take, get_or-drop, get_or-replicate, get_or_past, get_or_default}
+use Rattle.std.proofs.lemmas.List.{length-append, nil_from_length, get_or-take, get_or-drop, get_or-replicate, get_or_past, get_or_default}
 use Rattle.ii_base.specs.declared.schema.index_record_option.IndexRecordOption.{IndexRecordOption}
 use Rattle.ii_base.specs.declared.doc_id.TheConstants.{TERMINATED}
 use Rattle.ii_codes.specs.BlockDecoder.{BlockDecoderState, decodes_of}
@@ -14,9 +14,26 @@ use Rattle.ii_check.specs.declared.freq_reading_option.FreqReadingOption.{FreqRe
 use Rattle.ii_check.specs.declared.validation.Validation.{Validation}
 use Rattle.ii_check.specs.CheckedBlocks.{BlockCounts, blocks_checked, counts_checked, freqs_checked, no_blocks}
 use Rattle.ii_check.specs.FreqReading.{freq_reading, freq_reading_of}
-use Rattle.ii_check.specs.CheckedPostings.{AreReadFreqs, AreLastFreqs, CheckedPostingsState, HasDocuments, HoldsBlock, HoldsFreqs, IsAtBlock, LoadsBlock, LoadsFreqs, new_decoder}
+use Rattle.ii_check.specs.CheckedPostings.{AreReadFreqs, AreLastFreqs, CheckedPostingsState, HasDocuments, HoldsBlock, HoldsFreqs, IsAtBlock, Loads, LoadsBlock, LoadsFreqs, is_read, new_decoder}
+use Rattle.ii_check.specs.DecodedBlocks.{AreDecoded, AscendWithin, DecodesLast, LogsBlock, LogsFreqs, logged}
+use Rattle.ii_check.proofs.DecodedBlocksLaws.{decoded_on, later_last}
 use Rattle.ii_reader.specs.Bounds.{bounds_of, bounds_read}
-use Rattle.ii_reader.specs.BlockSegmentPostings.{AreEntries, BlockSegmentPostingsState, GoesTo, IsLazy, IsLoaded, doc_in_block, first_decodes, freqs_of_block, freq_in_block}
+use Rattle.ii_reader.specs.BlockSegmentPostings.{AreEntries, BlockSegmentPostingsState, GoesTo, IsLazy, IsLoaded, doc_in_block, first_decodes, first_freqs, freqs_of_block, freq_in_block}
+
+-- A skip reader, the two decoders that hold its block, and the blocks that they decoded.
+pub record Held : Type 0 where
+  pub skip : SkipReaderState
+  pub docs : BlockDecoderState
+  pub freqs : BlockDecoderState
+  pub doc_blocks : List ℕ
+  pub freq_blocks : List ℕ
+
+abbrev pub held_by : SkipReaderState → BlockDecoderState → BlockDecoderState → List ℕ → List ℕ → Held
+held_by skip docs freqs doc_blocks freq_blocks = record { skip = skip; docs = docs; freqs = freqs; doc_blocks = doc_blocks; freq_blocks = freq_blocks }
+
+-- nothing was decoded
+none_decoded : (block decodes : ℕ) (blocks : List ℕ) → blocks ≡ [] → decodes ≡ 0 → AreDecoded block decodes blocks
+none_decoded block decodes blocks none count = let size = ap length none in record { many = omega arith; ascend = subst (AscendWithin 0 block) (sym none) tt }
 
 -- an entry of a block that a decoder holds, and what follows the block
 pub entry_held : (values : List ℕ) (block padding idx : ℕ) (decoder : BlockDecoderState) → HoldsBlock values block padding decoder → idx < length (block_of values block) → get_or decoder.output idx 0 ≡ get_or (block_of values block) idx 0
@@ -87,27 +104,58 @@ no_more values n before block many next same =
     let left = length-drop (128 * block) values in
     omega arith
 
-decodes_cases : (values : List ℕ) (n before block count count' : ℕ) (t : Bool) → length values ≡ n → block ≡ min (before + 1) (n / 128 + 1) → before ≤ n / 128 + 1 → nat_lt before block ≡ t
-    → count' ≡ count + decodes_of (length (block_of values block)) → count' ≤ count + min 1 (block - before)
-decodes_cases values n before block count count' true many next within test e =
-    let forward = ltb-true before block test in
-    let most = decodes_most (length (block_of values block)) in
-    omega arith
-decodes_cases values n before block count count' false many next within test e =
-    let here = ltb-false before block test in
-    let none = no_more values n before block many next (omega arith) in
-    let nothing : decodes_of (length (block_of values block)) ≡ 0 = ap decodes_of none in
-    omega arith
+pub empty_or_later : (values : List ℕ) (n before block : ℕ) → length values ≡ n → block ≡ min (before + 1) (n / 128 + 1) → before ≤ n / 128 + 1 → (length (block_of values block) ≡ 0) ⊎ (before < block)
+empty_or_later values n before block many next within = by (nat_lt before block) refl
+  where
+    by : (t : Bool) → nat_lt before block ≡ t → (length (block_of values block) ≡ 0) ⊎ (before < block)
+    by true test = inr (ltb-true before block test)
+    by false test = let here = ltb-false before block test in inl (no_more values n before block many next (omega arith))
 
-pub decodes_next : (values : List ℕ) (n before block count count' : ℕ) → length values ≡ n → block ≡ min (before + 1) (n / 128 + 1) → before ≤ n / 128 + 1 → count' ≡ count + decodes_of (length (block_of values block)) → count' ≤ count + min 1 (block - before)
-decodes_next values n before block count count' many next within e = decodes_cases values n before block count count' (nat_lt before block) many next within refl e
+-- Values of a block were decoded, and the block was added: a later one, if there are any values.
+record Adds (old new decodes decodes' : ℕ) (blocks blocks' : List ℕ) : Type 0 where
+  pub values : ℕ
+  pub blocks_are : blocks' ≡ blocks ++ logged new values
+  pub decodes_are : decodes' ≡ decodes + decodes_of values
+  pub some : (values ≡ 0) ⊎ (old < new)
 
-pub freq_decodes_next : (o : Option (List ℕ)) (n before block : ℕ) (old new : BlockDecoderState) → ((fs : List ℕ) → o ≡ Some fs → AreReadFreqs n fs) → block ≡ min (before + 1) (n / 128 + 1) → before ≤ n / 128 + 1 → LoadsFreqs o block old new
-    → new.decodes ≤ old.decodes + min 1 (block - before)
-freq_decodes_next None n before block old new all next within loads =
-    let same : new.decodes ≡ old.decodes = ap (λ (d : BlockDecoderState). d.decodes) loads in
-    omega arith
-freq_decodes_next (Some freqs) n before block old new all next within loads = decodes_next freqs n before block old.decodes new.decodes (all freqs refl).many next within loads.decodes
+docs_add : (values : List ℕ) (padding old new : ℕ) (decoder decoder' : BlockDecoderState) (blocks blocks' : List ℕ) → Loads values new padding decoder decoder' → blocks' ≡ blocks ++ logged new (length (block_of values new))
+    → (length (block_of values new) ≡ 0) ⊎ (old < new) → Adds old new decoder.decodes decoder'.decodes blocks blocks'
+docs_add values padding old new decoder decoder' blocks blocks' loads logs some = record { values = length (block_of values new); blocks_are = logs; decodes_are = loads.decodes; some = some }
+
+freqs_add : (o : Option (List ℕ)) (old new : ℕ) (decoder decoder' : BlockDecoderState) (blocks blocks' : List ℕ) → LoadsFreqs o new decoder decoder' → LogsFreqs o new blocks blocks'
+    → ((fs : List ℕ) → o ≡ Some fs → (length (block_of fs new) ≡ 0) ⊎ (old < new)) → Adds old new decoder.decodes decoder'.decodes blocks blocks'
+freqs_add None old new decoder decoder' blocks blocks' loads logs some =
+    let same : decoder'.decodes ≡ decoder.decodes = ap (λ (d : BlockDecoderState). d.decodes) loads in
+    record { values = 0; blocks_are = logs ∙ sym (append-nil blocks); decodes_are = omega arith; some = inl refl }
+freqs_add (Some fs) old new decoder decoder' blocks blocks' loads logs some = docs_add fs 1 old new decoder decoder' blocks blocks' loads logs (some fs refl)
+
+adds_last : (old new decodes decodes' : ℕ) (blocks blocks' : List ℕ) → Adds old new decodes decodes' blocks blocks' → DecodesLast old new blocks blocks'
+adds_last old new decodes decodes' blocks blocks' a = by a.values a.blocks_are a.some
+  where
+    by : (n : ℕ) → blocks' ≡ blocks ++ logged new n → (n ≡ 0) ⊎ (old < new) → DecodesLast old new blocks blocks'
+    by zero is some = inl (is ∙ append-nil blocks)
+    by (suc n) is (inl none) = absurd (omega arith)
+    by (suc n) is (inr later) = inr (later, is)
+
+adds_few : (old new decodes decodes' : ℕ) (blocks blocks' : List ℕ) → Adds old new decodes decodes' blocks blocks' → decodes' ≤ decodes + min 1 (new - old)
+adds_few old new decodes decodes' blocks blocks' a = by a.values a.decodes_are a.some
+  where
+    by : (n : ℕ) → decodes' ≡ decodes + decodes_of n → (n ≡ 0) ⊎ (old < new) → decodes' ≤ decodes + min 1 (new - old)
+    by zero is some = omega arith
+    by (suc n) is (inl none) = absurd (omega arith)
+    by (suc n) is (inr later) = omega arith
+
+length-logged : (block n : ℕ) → length (logged block n) ≡ decodes_of n
+length-logged block zero = refl
+length-logged block (suc n) = refl
+
+adds_decoded : (old new decodes decodes' : ℕ) (blocks blocks' : List ℕ) → old ≤ new → AreDecoded old decodes blocks → Adds old new decodes decodes' blocks blocks' → AreDecoded new decodes' blocks'
+adds_decoded old new decodes decodes' blocks blocks' forward was a =
+    let many = was.many in
+    let is = a.decodes_are in
+    let more = length-logged new a.values in
+    let size = ap length a.blocks_are ∙ length-append blocks (logged new a.values) in
+    decoded_on old new decodes decodes' blocks blocks' forward was (later_last old new blocks blocks' (adds_last old new decodes decodes' blocks blocks' a)) (omega arith)
 
 -- the first block
 first_cases : (values : List ℕ) (n : ℕ) → length values ≡ n → decodes_of (length (block_of values 0)) ≡ min 1 n
@@ -132,23 +180,74 @@ first_most : (o : Option (List ℕ)) (n : ℕ) → first_decodes o n ≤ 1
 first_most None n = omega arith
 first_most (Some freqs) n = omega arith
 
+-- the first block, logged
+logged_by : (block m n : ℕ) → min 1 m ≡ min 1 n → logged block m ≡ logged block n
+logged_by block zero zero same = refl
+logged_by block zero (suc n) same = absurd (omega arith)
+logged_by block (suc m) zero same = absurd (omega arith)
+logged_by block (suc m) (suc n) same = refl
+
+pub docs_logged : (values : List ℕ) (n : ℕ) (old new : List ℕ) → length values ≡ n → old ≡ [] → new ≡ old ++ logged 0 (length (block_of values 0)) → new ≡ logged 0 n
+docs_logged values n old new many none logs =
+    let size = length-take 128 (drop (128 * 0) values) in
+    let left = length-drop (128 * 0) values in
+    logs ∙ ap (λ (l : List ℕ). l ++ logged 0 (length (block_of values 0))) none ∙ logged_by 0 (length (block_of values 0)) n (omega arith)
+
+pub freqs_logged : (o : Option (List ℕ)) (reading : FreqReadingOption) (n : ℕ) (old new : List ℕ) → ((fs : List ℕ) → o ≡ Some fs → AreReadFreqs n fs) → is_some o ≡ is_read reading → old ≡ [] → LogsFreqs o 0 old new → new ≡ first_freqs reading n
+freqs_logged None reading n old new all read none logs = rw (← read) (logs ∙ none)
+freqs_logged (Some fs) reading n old new all read none logs = rw (← read) (docs_logged fs n old new (all fs refl).many none logs)
+
+first_decoded : (values : List ℕ) (decodes : ℕ) (old new : List ℕ) → old ≡ [] → new ≡ old ++ logged 0 (length (block_of values 0)) → decodes ≡ 0 + decodes_of (length (block_of values 0)) → AreDecoded 0 decodes new
+first_decoded values decodes old new none logs count = by (length (block_of values 0)) (logs ∙ ap (λ (l : List ℕ). l ++ logged 0 (length (block_of values 0))) none) count
+  where
+    by : (n : ℕ) → new ≡ logged 0 n → decodes ≡ 0 + decodes_of n → AreDecoded 0 decodes new
+    by n is count =
+        let size = ap length is ∙ length-logged 0 n in
+        record { many = omega arith; ascend = subst (AscendWithin 0 0) (sym is) (ascends n) }
+      where
+        ascends : (n : ℕ) → AscendWithin 0 0 (logged 0 n)
+        ascends zero = tt
+        ascends (suc n) = (omega arith, omega arith, tt)
+
+freqs_decoded : (o : Option (List ℕ)) (decoder : BlockDecoderState) (old new : List ℕ) → old ≡ [] → LogsFreqs o 0 old new → LoadsFreqs o 0 (new_decoder 1) decoder → AreDecoded 0 decoder.decodes new
+freqs_decoded None decoder old new none logs loads = none_decoded 0 decoder.decodes new (logs ∙ none) (ap (λ (d : BlockDecoderState). d.decodes) loads)
+freqs_decoded (Some fs) decoder old new none logs loads = first_decoded fs decoder.decodes old new none logs loads.decodes
+
 -- a cursor at the first block
-pub first_loaded : (p : CheckedPostingsState) (skip : SkipReaderState) (docs freqs : BlockDecoderState) → HasDocuments p → IsAtBlock p skip → skip.block ≡ 0 → LoadsBlock p.postings 0 (new_decoder TERMINATED) docs (new_decoder 1) freqs
-    → IsLoaded p skip docs freqs
-first_loaded p skip docs freqs has at first loads =
+pub first_loaded : (p : CheckedPostingsState) (h : Held) (doc_blocks freq_blocks : List ℕ) → HasDocuments p → IsAtBlock p h.skip → h.skip.block ≡ 0 → LoadsBlock p.postings 0 (new_decoder TERMINATED) h.docs (new_decoder 1) h.freqs
+    → doc_blocks ≡ [] → freq_blocks ≡ [] → LogsBlock p.postings 0 doc_blocks h.doc_blocks freq_blocks h.freq_blocks → IsLoaded p h.skip h.docs h.freqs h.doc_blocks h.freq_blocks
+first_loaded p h doc_blocks freq_blocks has at first loads no_docs no_freqs logs =
     let most = decodes_most (length (block_of p.postings.docs 0)) in
     let count = loads.docs_are.decodes in
-    let freq_count = freq_decodes_first p.postings.freqs p.doc_freq freqs has.freqs loads.freqs_are in
+    let freq_count = freq_decodes_first p.postings.freqs p.doc_freq h.freqs has.freqs loads.freqs_are in
     let freq_most = first_most p.postings.freqs p.doc_freq in
-    record { has = has; at = at; docs_held = rw first loads.docs_are.holds; freqs_held = rw first (freqs_first p.postings.freqs freqs loads.freqs_are); doc_decodes = omega arith; freq_decodes = omega arith }
+    record {
+      has = has;
+      at = at;
+      docs_held = rw first loads.docs_are.holds;
+      freqs_held = rw first (freqs_first p.postings.freqs h.freqs loads.freqs_are);
+      docs_decoded = rw first (first_decoded p.postings.docs h.docs.decodes doc_blocks h.doc_blocks no_docs logs.docs_are loads.docs_are.decodes);
+      freqs_decoded = rw first (freqs_decoded p.postings.freqs h.freqs freq_blocks h.freq_blocks no_freqs logs.freqs_are loads.freqs_are);
+      doc_decodes = omega arith;
+      freq_decodes = omega arith;
+    }
 
 -- a cursor over no documents
-pub none_loaded : (p : CheckedPostingsState) (skip : SkipReaderState) (docs freqs : BlockDecoderState) → HasDocuments p → p.postings.docs ≡ [] → p.postings.freqs ≡ None → IsAtBlock p skip → skip.block ≡ 0 → docs ≡ new_decoder TERMINATED → freqs ≡ new_decoder 1
-    → IsLoaded p skip docs freqs
-none_loaded p skip docs freqs has no_docs no_freqs at first docs_are freqs_are =
+pub none_loaded : (p : CheckedPostingsState) (h : Held) → HasDocuments p → p.postings.docs ≡ [] → p.postings.freqs ≡ None → IsAtBlock p h.skip → h.skip.block ≡ 0 → h.docs ≡ new_decoder TERMINATED → h.freqs ≡ new_decoder 1 → h.doc_blocks ≡ [] → h.freq_blocks ≡ []
+    → IsLoaded p h.skip h.docs h.freqs h.doc_blocks h.freq_blocks
+none_loaded p h has no_docs no_freqs at first docs_are freqs_are doc_blocks_are freq_blocks_are =
     let count = ap (λ (d : BlockDecoderState). d.decodes) docs_are in
     let freq_count = ap (λ (d : BlockDecoderState). d.decodes) freqs_are in
-    record { has = has; at = at; docs_held = rw (no_docs, first, docs_are) (record { many = refl; held = refl; filled = refl }); freqs_held = rw no_freqs freqs_are; doc_decodes = omega arith; freq_decodes = omega arith }
+    record {
+      has = has;
+      at = at;
+      docs_held = rw (no_docs, first, docs_are) (record { many = refl; held = refl; filled = refl });
+      freqs_held = rw no_freqs freqs_are;
+      docs_decoded = none_decoded h.skip.block h.docs.decodes h.doc_blocks doc_blocks_are count;
+      freqs_decoded = none_decoded h.skip.block h.freqs.decodes h.freq_blocks freq_blocks_are freq_count;
+      doc_decodes = omega arith;
+      freq_decodes = omega arith;
+    }
 
 -- what the bytes of a term give, by its postings
 pub docs_opened : (recorded requested : IndexRecordOption) (n : ℕ) (bytes : List ℕ) (p : Postings) → postings recorded requested n bytes ≡ Ok p → docs_and_freqs recorded requested n bytes ≡ Ok (p.docs, p.freqs)
@@ -165,94 +264,82 @@ entries_opened p n has is = record { many = has.many ∙ is; ascending = has.asc
 pub entries_first : (p : CheckedPostingsState) (skip : SkipReaderState) (n : ℕ) → IsAtBlock p skip → skip.block ≡ 0 → p.doc_freq ≡ n → skip.entries_read ≡ min 1 (n / 128)
 entries_first p skip n at first is = ap (λ (r : SkipReaderState). r.entries_read) at.reader ∙ rw (first, is) refl
 
--- a cursor that went on to the next block, or stayed at the empty one
-pub record Moves (p : CheckedPostingsState) (skip skip' : SkipReaderState) (docs docs' freqs freqs' : BlockDecoderState) : Type 0 where
-  pub was : IsLoaded p skip docs freqs
-  pub at : IsAtBlock p skip'
-  pub next : skip'.block ≡ min (skip.block + 1) (p.doc_freq / 128 + 1)
-  pub loads : LoadsBlock p.postings skip'.block docs docs' freqs freqs'
+abbrev pub state_of : BlockCounts → CheckedPostingsState → Held → BlockSegmentPostingsState
+state_of checked p h =
+    record { recorded = p.recorded; requested = p.requested; docs = p.postings.docs; freqs = p.postings.freqs; freq_reading = p.freq_reading; bounds = bounds_of p.postings.skip; block = h.skip.block; doc_blocks = h.doc_blocks; freq_blocks = h.freq_blocks; doc_decodes = h.docs.decodes; freq_decodes = h.freqs.decodes; entries_read = h.skip.entries_read; checked = checked }
 
-abbrev pub state_of : BlockCounts → CheckedPostingsState → SkipReaderState → BlockDecoderState → BlockDecoderState → BlockSegmentPostingsState
-state_of checked p skip docs freqs =
-    record { recorded = p.recorded; requested = p.requested; docs = p.postings.docs; freqs = p.postings.freqs; freq_reading = p.freq_reading; bounds = bounds_of p.postings.skip; block = skip.block; doc_decodes = docs.decodes; freq_decodes = freqs.decodes; entries_read = skip.entries_read; checked = checked }
+-- A cursor went on to a block: a later one, if there are any values.
+pub record GoesOn (p : CheckedPostingsState) (old new : Held) : Type 0 where
+  pub was : IsLoaded p old.skip old.docs old.freqs old.doc_blocks old.freq_blocks
+  pub at : IsAtBlock p new.skip
+  pub forward : old.skip.block ≤ new.skip.block
+  pub some : (values : List ℕ) → length values ≡ p.doc_freq → (length (block_of values new.skip.block) ≡ 0) ⊎ (old.skip.block < new.skip.block)
+  pub loads : LoadsBlock p.postings new.skip.block old.docs new.docs old.freqs new.freqs
+  pub logs : LogsBlock p.postings new.skip.block old.doc_blocks new.doc_blocks old.freq_blocks new.freq_blocks
 
-doc_count : (p : CheckedPostingsState) (skip skip' : SkipReaderState) (docs docs' freqs freqs' : BlockDecoderState) → Moves p skip skip' docs docs' freqs freqs' → docs'.decodes ≤ docs.decodes + min 1 (skip'.block - skip.block)
-doc_count p skip skip' docs docs' freqs freqs' m = decodes_next p.postings.docs p.doc_freq skip.block skip'.block docs.decodes docs'.decodes m.was.has.many m.next m.was.at.within m.loads.docs_are.decodes
+-- to the next block, or it stayed at the empty one
+pub goes_next : (p : CheckedPostingsState) (old new : Held) → IsLoaded p old.skip old.docs old.freqs old.doc_blocks old.freq_blocks → IsAtBlock p new.skip → new.skip.block ≡ min (old.skip.block + 1) (p.doc_freq / 128 + 1)
+    → LoadsBlock p.postings new.skip.block old.docs new.docs old.freqs new.freqs → LogsBlock p.postings new.skip.block old.doc_blocks new.doc_blocks old.freq_blocks new.freq_blocks → GoesOn p old new
+goes_next p old new was at next loads logs =
+    let within = was.at.within in
+    record { was = was; at = at; forward = omega arith; some = λ values many. empty_or_later values p.doc_freq old.skip.block new.skip.block many next within; loads = loads; logs = logs }
 
-freq_count : (p : CheckedPostingsState) (skip skip' : SkipReaderState) (docs docs' freqs freqs' : BlockDecoderState) → Moves p skip skip' docs docs' freqs freqs' → freqs'.decodes ≤ freqs.decodes + min 1 (skip'.block - skip.block)
-freq_count p skip skip' docs docs' freqs freqs' m = freq_decodes_next p.postings.freqs p.doc_freq skip.block skip'.block freqs freqs' m.was.has.freqs m.next m.was.at.within m.loads.freqs_are
+-- to a later block
+pub goes_later : (p : CheckedPostingsState) (old new : Held) → IsLoaded p old.skip old.docs old.freqs old.doc_blocks old.freq_blocks → IsAtBlock p new.skip → old.skip.block < new.skip.block
+    → LoadsBlock p.postings new.skip.block old.docs new.docs old.freqs new.freqs → LogsBlock p.postings new.skip.block old.doc_blocks new.doc_blocks old.freq_blocks new.freq_blocks → GoesOn p old new
+goes_later p old new was at later loads logs = record { was = was; at = at; forward = omega arith; some = λ values many. inr later; loads = loads; logs = logs }
 
-pub moved_loaded : (p : CheckedPostingsState) (skip skip' : SkipReaderState) (docs docs' freqs freqs' : BlockDecoderState) → Moves p skip skip' docs docs' freqs freqs' → IsLoaded p skip' docs' freqs'
-moved_loaded p skip skip' docs docs' freqs freqs' m =
-    let next = m.next in
-    let within = m.was.at.within in
-    let had = m.was.doc_decodes in
-    let freq_had = m.was.freq_decodes in
-    let count = doc_count p skip skip' docs docs' freqs freqs' m in
-    let counts = freq_count p skip skip' docs docs' freqs freqs' m in
-    record {
-      has = m.was.has;
-      at = m.at;
-      docs_held = m.loads.docs_are.holds;
-      freqs_held = freqs_loaded p.postings.freqs skip.block skip'.block freqs freqs' m.was.freqs_held m.loads.freqs_are;
-      doc_decodes = omega arith;
-      freq_decodes = omega arith;
-    }
+docs_on : (p : CheckedPostingsState) (old new : Held) → GoesOn p old new → Adds old.skip.block new.skip.block old.docs.decodes new.docs.decodes old.doc_blocks new.doc_blocks
+docs_on p old new g = docs_add p.postings.docs TERMINATED old.skip.block new.skip.block old.docs new.docs old.doc_blocks new.doc_blocks g.loads.docs_are g.logs.docs_are (g.some p.postings.docs g.was.has.many)
 
-pub moved_goes : (checked : BlockCounts) (p : CheckedPostingsState) (skip skip' : SkipReaderState) (docs docs' freqs freqs' : BlockDecoderState) → Moves p skip skip' docs docs' freqs freqs'
-    → GoesTo (state_of checked p skip docs freqs) (state_of checked p skip' docs' freqs') (min (skip.block + 1) (length p.postings.docs / 128 + 1))
-moved_goes checked p skip skip' docs docs' freqs freqs' m =
-    let next = m.next in
-    let many = m.was.has.many in
-    let count = doc_count p skip skip' docs docs' freqs freqs' m in
-    let counts = freq_count p skip skip' docs docs' freqs freqs' m in
-    record { recorded = refl; requested = refl; docs = refl; freqs = refl; freq_reading = refl; bounds = refl; checked = refl; block = omega arith; doc_decodes = omega arith; freq_decodes = omega arith }
+freqs_on : (p : CheckedPostingsState) (old new : Held) → GoesOn p old new → Adds old.skip.block new.skip.block old.freqs.decodes new.freqs.decodes old.freq_blocks new.freq_blocks
+freqs_on p old new g =
+    freqs_add p.postings.freqs old.skip.block new.skip.block old.freqs new.freqs old.freq_blocks new.freq_blocks g.loads.freqs_are g.logs.freqs_are (λ fs e. g.some fs (g.was.has.freqs fs e).many)
 
--- a cursor that went on to a later block
-pub record GoesOn (p : CheckedPostingsState) (skip skip' : SkipReaderState) (docs docs' freqs freqs' : BlockDecoderState) : Type 0 where
-  pub was : IsLoaded p skip docs freqs
-  pub at : IsAtBlock p skip'
-  pub later : skip.block < skip'.block
-  pub loads : LoadsBlock p.postings skip'.block docs docs' freqs freqs'
-
-docs_later : (p : CheckedPostingsState) (skip skip' : SkipReaderState) (docs docs' freqs freqs' : BlockDecoderState) → GoesOn p skip skip' docs docs' freqs freqs' → docs'.decodes ≤ docs.decodes + min 1 (skip'.block - skip.block)
-docs_later p skip skip' docs docs' freqs freqs' g =
-    let most = decodes_most (length (block_of p.postings.docs skip'.block)) in
-    let count = g.loads.docs_are.decodes in
-    let later = g.later in
-    omega arith
-
-freqs_by : (o : Option (List ℕ)) (block : ℕ) (old new : BlockDecoderState) → LoadsFreqs o block old new → new.decodes ≤ old.decodes + 1
-freqs_by None block old new loads = let same : new.decodes ≡ old.decodes = ap (λ (d : BlockDecoderState). d.decodes) loads in omega arith
-freqs_by (Some freqs) block old new loads =
-    let most = decodes_most (length (block_of freqs block)) in
-    let count = loads.decodes in
-    omega arith
-
-freqs_later : (p : CheckedPostingsState) (skip skip' : SkipReaderState) (docs docs' freqs freqs' : BlockDecoderState) → GoesOn p skip skip' docs docs' freqs freqs' → freqs'.decodes ≤ freqs.decodes + min 1 (skip'.block - skip.block)
-freqs_later p skip skip' docs docs' freqs freqs' g =
-    let most = freqs_by p.postings.freqs skip'.block freqs freqs' g.loads.freqs_are in
-    let later = g.later in
-    omega arith
-
-pub on_loaded : (p : CheckedPostingsState) (skip skip' : SkipReaderState) (docs docs' freqs freqs' : BlockDecoderState) → GoesOn p skip skip' docs docs' freqs freqs' → IsLoaded p skip' docs' freqs'
-on_loaded p skip skip' docs docs' freqs freqs' g =
+pub on_loaded : (p : CheckedPostingsState) (old new : Held) → GoesOn p old new → IsLoaded p new.skip new.docs new.freqs new.doc_blocks new.freq_blocks
+on_loaded p old new g =
     let had = g.was.doc_decodes in
     let freq_had = g.was.freq_decodes in
-    let count = docs_later p skip skip' docs docs' freqs freqs' g in
-    let counts = freqs_later p skip skip' docs docs' freqs freqs' g in
-    let later = g.later in
+    let docs = docs_on p old new g in
+    let freqs = freqs_on p old new g in
+    let count = adds_few _ _ _ _ _ _ docs in
+    let counts = adds_few _ _ _ _ _ _ freqs in
+    let forward = g.forward in
     record {
       has = g.was.has;
       at = g.at;
       docs_held = g.loads.docs_are.holds;
-      freqs_held = freqs_loaded p.postings.freqs skip.block skip'.block freqs freqs' g.was.freqs_held g.loads.freqs_are;
+      freqs_held = freqs_loaded p.postings.freqs old.skip.block new.skip.block old.freqs new.freqs g.was.freqs_held g.loads.freqs_are;
+      docs_decoded = adds_decoded _ _ _ _ _ _ forward g.was.docs_decoded docs;
+      freqs_decoded = adds_decoded _ _ _ _ _ _ forward g.was.freqs_decoded freqs;
       doc_decodes = omega arith;
       freq_decodes = omega arith;
     }
 
-pub on_goes : (checked : BlockCounts) (p : CheckedPostingsState) (skip skip' : SkipReaderState) (docs docs' freqs freqs' : BlockDecoderState) → GoesOn p skip skip' docs docs' freqs freqs' → GoesTo (state_of checked p skip docs freqs) (state_of checked p skip' docs' freqs') skip'.block
-on_goes checked p skip skip' docs docs' freqs freqs' g =
+pub on_goes : (checked : BlockCounts) (p : CheckedPostingsState) (old new : Held) (to : ℕ) → new.skip.block ≡ to → GoesOn p old new → GoesTo (state_of checked p old) (state_of checked p new) to
+on_goes checked p old new to there g =
+    let docs = docs_on p old new g in
+    let freqs = freqs_on p old new g in
+    let count = adds_few _ _ _ _ _ _ docs in
+    let counts = adds_few _ _ _ _ _ _ freqs in
+    record {
+      recorded = refl;
+      requested = refl;
+      docs = refl;
+      freqs = refl;
+      freq_reading = refl;
+      bounds = refl;
+      checked = refl;
+      block = there;
+      doc_blocks = adds_last _ _ _ _ _ _ docs;
+      freq_blocks = adds_last _ _ _ _ _ _ freqs;
+      doc_decodes = omega arith;
+      freq_decodes = omega arith;
+    }
+
+-- a cursor that stays
+pub stays_there : (s : BlockSegmentPostingsState) → GoesTo s s s.block
+stays_there s =
     record {
       recorded = refl;
       requested = refl;
@@ -262,18 +349,20 @@ on_goes checked p skip skip' docs docs' freqs freqs' g =
       bounds = refl;
       checked = refl;
       block = refl;
-      doc_decodes = docs_later p skip skip' docs docs' freqs freqs' g;
-      freq_decodes = freqs_later p skip skip' docs docs' freqs freqs' g;
+      doc_blocks = inl refl;
+      freq_blocks = inl refl;
+      doc_decodes = omega arith;
+      freq_decodes = omega arith;
     }
 
-pub loaded_lazy : (checked : BlockCounts) (p : CheckedPostingsState) (skip : SkipReaderState) (docs freqs : BlockDecoderState) → IsLoaded p skip docs freqs → IsLazy (state_of checked p skip docs freqs)
-loaded_lazy checked p skip docs freqs l =
+pub loaded_lazy : (checked : BlockCounts) (p : CheckedPostingsState) (h : Held) → IsLoaded p h.skip h.docs h.freqs h.doc_blocks h.freq_blocks → IsLazy (state_of checked p h)
+loaded_lazy checked p h l =
     let many = l.has.many in
     let within = l.at.within in
     let had = l.doc_decodes in
     let freq_had = l.freq_decodes in
     let entries = ap (λ (r : SkipReaderState). r.entries_read) l.at.reader in
-    record { within = omega arith; doc_decodes = omega arith; freq_decodes = omega arith; entries_read = omega arith }
+    record { within = omega arith; doc_blocks = l.docs_decoded; freq_blocks = l.freqs_decoded; doc_decodes = omega arith; freq_decodes = omega arith; entries_read = omega arith }
 
 -- what was counted from nothing to validate a list
 pub counted : (validation : Validation) (reading : FreqReadingOption) (n : ℕ) (old new : BlockCounts) → old ≡ no_blocks → new.docs ≡ old.docs + blocks_checked validation n → new.freqs ≡ old.freqs + freqs_checked validation reading n

@@ -29,7 +29,9 @@ use Rattle.ii_layout.specs.TermList.{list_of, positions_if}
 use Rattle.ii_layout.proofs.BlockDocs.{get_or-block_of}
 use Rattle.ii_check.specs.declared.freq_reading_option.FreqReadingOption.{FreqReadingOption}
 use Rattle.ii_check.specs.CheckedPostings.{CheckedPostingsState, HasDocuments, IsAtBlock, SeeksFreq, excludes, is_passed, is_read}
-use Rattle.ii_reader.specs.Bounds.{AreUnwanted, IsFirstWanted, IsPlaced, PassesBlocks, blocks_with_freq, stored_bounds, bounds_of, bounds_read, bounds_trusted, entry_bounds, freq_bound, is_wanted_at, sought_with_freq, trusted}
+use Rattle.ii_check.specs.DecodedBlocks.{DecodesAllowed, DecodesLater}
+use Rattle.ii_check.proofs.DecodedBlocksLaws.{allowed_all, allowed_last, allowed_none, allowed_on}
+use Rattle.ii_reader.specs.Bounds.{AllowsFreq, AreUnwanted, IsFirstWanted, IsPlaced, PassesBlocks, blocks_with_freq, stored_bounds, bounds_of, bounds_read, bounds_trusted, entry_bounds, freq_bound, is_wanted_at, sought_with_freq, trusted}
 use Rattle.ii_reader.specs.BlockSegmentPostings.{AreEntries, BlockSegmentPostingsState, GoesTo, IsLazy, LooksFor, doc_in_block, freq_in_block}
 use Rattle.ii_reader.specs.SegmentPostings.{WentLazily}
 use Rattle.ii_reader.proofs.CursorLemmas.{doc_at_drop, freq_at, list_docs, length-list}
@@ -249,7 +251,8 @@ looks_on least old now next was goes later lands =
     let more = goes.doc_decodes in
     let more_freqs = goes.freq_decodes in
     let parts = parts_sum least old.block now.block next.block old.bounds forward (omega arith) in
-    let one = last_counts least now.block next.block old.bounds later (rw was.bounds at lands) in
+    let allows = rw was.bounds at lands in
+    let one = last_counts least now.block next.block old.bounds later allows in
     record {
       recorded = goes.recorded ∙ was.recorded;
       requested = goes.requested ∙ was.requested;
@@ -259,6 +262,26 @@ looks_on least old now next was goes later lands =
       bounds = goes.bounds ∙ was.bounds;
       checked = goes.checked ∙ was.checked;
       forward = omega arith;
+      doc_blocks = allowed_on (AllowsFreq least old.bounds) old.block now.block next.block old.doc_blocks now.doc_blocks next.doc_blocks forward (omega arith) was.doc_blocks (allowed_last (AllowsFreq least old.bounds) now.block next.block now.doc_blocks next.doc_blocks allows goes.doc_blocks);
+      freq_blocks = allowed_on (AllowsFreq least old.bounds) old.block now.block next.block old.freq_blocks now.freq_blocks next.freq_blocks forward (omega arith) was.freq_blocks (allowed_last (AllowsFreq least old.bounds) now.block next.block now.freq_blocks next.freq_blocks allows goes.freq_blocks);
+      doc_decodes = omega arith;
+      freq_decodes = omega arith;
+    }
+
+-- a search begins where the cursor is
+pub looks_nowhere : (least : ℕ) (s : BlockSegmentPostingsState) → LooksFor least s s
+looks_nowhere least s =
+    record {
+      recorded = refl;
+      requested = refl;
+      docs = refl;
+      freqs = refl;
+      freq_reading = refl;
+      bounds = refl;
+      checked = refl;
+      forward = omega arith;
+      doc_blocks = allowed_none (AllowsFreq least s.bounds) s.block s.doc_blocks;
+      freq_blocks = allowed_none (AllowsFreq least s.bounds) s.block s.freq_blocks;
       doc_decodes = omega arith;
       freq_decodes = omega arith;
     }
@@ -409,6 +432,11 @@ unread_decodes least old new decodes decodes' reading bounds unread forward went
     let all = all_blocks least old new in
     rw unread (omega arith)
 
+pub unread_blocks : (least old new : ℕ) (blocks blocks' : List ℕ) (reading : FreqReadingOption) (bounds : List (ℕ × ℕ)) → is_read reading ≡ false → DecodesLater old new blocks blocks'
+    → DecodesAllowed (AllowsFreq least (trusted reading bounds)) old new blocks blocks'
+unread_blocks least old new blocks blocks' reading bounds unread later =
+    rw unread (allowed_all (AllowsFreq least []) old new blocks blocks' (λ b. ap (excludes least) (no_bound [] b (omega arith))) later)
+
 -- a cursor that goes on with another place
 pub looking_on : (target least from old_place place : ℕ) (old now next : BlockSegmentPostingsState) → IsLooking target least from old_place old now → 128 ≤ old_place → GoesTo now next next.block → now.block < next.block → excludes least (freq_bound now.bounds next.block) ≡ false
     → ((fs : List ℕ) → now.freqs ≡ Some fs → PassesBlocks target least now.docs fs now.block next.block) → IfSome next.freqs (λ (fs : List ℕ). IsPlaced target least next.docs fs (128 * next.block + 0) next.block place) → IsLazy next
@@ -425,8 +453,8 @@ looking_on target least from old_place place old now next l all goes later lands
 
 -- what a cursor over entries did
 pub went_with_freq : (least : ℕ) (old new : BlockSegmentPostingsState) (rest rest' : List Entry) (decodes : ℕ) → LooksFor least old new
-    → WentLazily (record { rest = rest; doc_freq = length old.docs; freq_reading = old.freq_reading; bounds = trusted old.freq_reading old.bounds; block = old.block; doc_decodes = old.doc_decodes; freq_decodes = old.freq_decodes; entries_read = old.entries_read; position_decodes = decodes; checked = old.checked })
-    (record { rest = rest'; doc_freq = length new.docs; freq_reading = new.freq_reading; bounds = trusted new.freq_reading new.bounds; block = new.block; doc_decodes = new.doc_decodes; freq_decodes = new.freq_decodes; entries_read = new.entries_read; position_decodes = decodes; checked = new.checked })
+    → WentLazily (record { rest = rest; doc_freq = length old.docs; freq_reading = old.freq_reading; bounds = trusted old.freq_reading old.bounds; block = old.block; doc_blocks = old.doc_blocks; freq_blocks = old.freq_blocks; doc_decodes = old.doc_decodes; freq_decodes = old.freq_decodes; entries_read = old.entries_read; position_decodes = decodes; checked = old.checked })
+    (record { rest = rest'; doc_freq = length new.docs; freq_reading = new.freq_reading; bounds = trusted new.freq_reading new.bounds; block = new.block; doc_blocks = new.doc_blocks; freq_blocks = new.freq_blocks; doc_decodes = new.doc_decodes; freq_decodes = new.freq_decodes; entries_read = new.entries_read; position_decodes = decodes; checked = new.checked })
 went_with_freq least old new rest rest' decodes l =
     let few = few_blocks least old.block new.block old.bounds in
     let forward = l.forward in
@@ -438,6 +466,8 @@ went_with_freq least old new rest rest' decodes l =
       bounds = λ j. trusted (l.freq_reading j) (l.bounds j);
       checked = l.checked;
       forward = forward;
+      doc_blocks = l.doc_blocks.later;
+      freq_blocks = l.freq_blocks.later;
       doc_decodes = omega arith;
       freq_decodes = omega arith;
       position_decodes = refl;

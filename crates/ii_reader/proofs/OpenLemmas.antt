@@ -33,6 +33,8 @@ module _ (validation : Validation) (recorded requested : IndexRecordOption) (doc
         reading = docs.reading;
         bounds = trusted_read recorded requested doc_freq postings cursor.freq_reading cursor.bounds docs.reading docs.bounds;
         first = docs.first;
+        doc_blocks = docs.doc_blocks;
+        freq_blocks = docs.freq_blocks;
         doc_decodes = omega arith;
         freq_decodes = omega arith;
         entries_read = omega arith;

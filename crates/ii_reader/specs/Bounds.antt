@@ -45,6 +45,10 @@ stored_bounds b = (b.0, code_of_max_tf b.1)
 abbrev pub freq_bound : List (ℕ × ℕ) → ℕ → ℕ
 freq_bound bounds block = (slice_index_or bounds block (0, 0)).1
 
+-- A block may have a term frequency of at least `least` by its bound.
+abbrev pub AllowsFreq : ℕ → List (ℕ × ℕ) → ℕ → Type 0
+AllowsFreq least bounds block = excludes least (freq_bound bounds block) ≡ false
+
 -- how many blocks after one, up to another, may have a term frequency of at least `least` by their bounds
 abbrev pub blocks_with_freq : ℕ → List (ℕ × ℕ) → ℕ → ℕ → ℕ
 blocks_with_freq least bounds old new = sum_by (λ b. if excludes least (freq_bound bounds b) then 0 else 1) (range_with_len (old + 1) (new - old))

@@ -16,12 +16,13 @@ use Rattle.ii_termdict.specs.Dictionary.{info_under}
 use Rattle.ii_check.specs.declared.validation.Validation.{Validation}
 use Rattle.ii_check.specs.declared.validation.Validation.TheVariants.{Complete, Skipped}
 use Rattle.ii_check.specs.CheckedBlocks.{counts_checked}
+use Rattle.ii_check.specs.DecodedBlocks.{logged}
 use Rattle.ii_check.specs.FreqReading.{freq_reading}
 use Rattle.ii_definitions.specs.Tokens.{IndexToken}
 use Rattle.ii_definitions.specs.Postings.{field_count, key_postings, occurs}
 use Rattle.ii_definitions.specs.Files.{HoldsTerm, bytes_in}
 use Rattle.ii_reader.specs.Bounds.{bounds_read, bounds_trusted}
-use Rattle.ii_reader.specs.BlockSegmentPostings.{AreEntries, BlockSegmentPostingsState, first_decodes}
+use Rattle.ii_reader.specs.BlockSegmentPostings.{AreEntries, BlockSegmentPostingsState, first_decodes, first_freqs}
 use Rattle.ii_reader.specs.SegmentPostings.{SegmentPostingsState}
 
 -- a reader: dictionary entries, bytes of postings and positions, option of the field, number of tokens, and whether lookups validate postings
@@ -100,6 +101,8 @@ pub record OpensTerm (validation : Validation) (reader : InvertedIndexReaderStat
   pub reading : freq_reading reader.option requested info.doc_freq (bytes_in reader.postings info.postings_range) ≡ Ok cursor.freq_reading
   pub bounds : bounds_trusted reader.option requested info.doc_freq (bytes_in reader.postings info.postings_range) ≡ Ok cursor.bounds
   pub first : cursor.block ≡ 0
+  pub doc_blocks : cursor.doc_blocks ≡ logged 0 info.doc_freq
+  pub freq_blocks : cursor.freq_blocks ≡ first_freqs cursor.freq_reading info.doc_freq
   pub doc_decodes : cursor.doc_decodes ≤ 1
   pub freq_decodes : cursor.freq_decodes ≤ 1
   pub entries_read : cursor.entries_read ≤ 1
@@ -115,6 +118,8 @@ pub record OpensBlocks (validation : Validation) (postings : List ℕ) (recorded
   pub bounds : bounds_read recorded requested info.doc_freq (bytes_in postings info.postings_range) ≡ Ok cursor.bounds
   pub entries : AreEntries info.doc_freq cursor.docs cursor.freqs
   pub first : cursor.block ≡ 0
+  pub doc_blocks : cursor.doc_blocks ≡ logged 0 info.doc_freq
+  pub freq_blocks : cursor.freq_blocks ≡ first_freqs cursor.freq_reading info.doc_freq
   pub doc_decodes : cursor.doc_decodes ≡ min 1 info.doc_freq
   pub freq_decodes : cursor.freq_decodes ≡ first_decodes cursor.freqs info.doc_freq
   pub entries_read : cursor.entries_read ≡ min 1 (info.doc_freq / 128)

@@ -10,19 +10,22 @@ use Rattle.ii_layout.specs.TermList.{deltas_if, list_of, term_list}
 use Rattle.ii_base.specs.declared.schema.index_record_option.IndexRecordOption.{IndexRecordOption}
 use Rattle.ii_check.specs.declared.validation.Validation.{Validation}
 use Rattle.ii_check.specs.CheckedBlocks.{BlockCounts, counts_checked, no_blocks}
+use Rattle.ii_check.specs.DecodedBlocks.{AreDecoded, DecodesLast, DecodesLater, logged}
 use Rattle.ii_check.specs.FreqReading.{freq_reading, reading_of_none}
 use Rattle.ii_check.specs.Positions.{deltas_read}
 use Rattle.ii_check.specs.declared.freq_reading_option.FreqReadingOption.{FreqReadingOption}
 use Rattle.ii_reader.specs.Bounds.{bounds_trusted, trusted}
-use Rattle.ii_reader.specs.BlockSegmentPostings.{BlockSegmentPostingsState, OpensDocs}
+use Rattle.ii_reader.specs.BlockSegmentPostings.{BlockSegmentPostingsState, OpensDocs, first_freqs}
 
--- a cursor: remaining documents, `doc_freq`, validated bounds, current block, what it decoded and read, and what was decoded to validate the list
+-- a cursor: remaining documents, `doc_freq`, validated bounds, current block, which blocks it decoded, how often it decoded and read, and what was decoded to validate the list
 pub record SegmentPostingsState : Type 0 where
   pub rest : List Entry
   pub doc_freq : ℕ
   pub freq_reading : FreqReadingOption
   pub bounds : List (ℕ × ℕ)
   pub block : ℕ
+  pub doc_blocks : List ℕ
+  pub freq_blocks : List ℕ
   pub doc_decodes : ℕ
   pub freq_decodes : ℕ
   pub entries_read : ℕ
@@ -31,7 +34,7 @@ pub record SegmentPostingsState : Type 0 where
 
 -- a cursor over no documents, by the recorded and the requested option
 abbrev pub postings_of_none : IndexRecordOption → IndexRecordOption → SegmentPostingsState
-postings_of_none recorded requested = record { rest = []; doc_freq = 0; freq_reading = reading_of_none recorded requested; bounds = []; block = 0; doc_decodes = 0; freq_decodes = 0; entries_read = 0; position_decodes = 0; checked = no_blocks }
+postings_of_none recorded requested = record { rest = []; doc_freq = 0; freq_reading = reading_of_none recorded requested; bounds = []; block = 0; doc_blocks = []; freq_blocks = []; doc_decodes = 0; freq_decodes = 0; entries_read = 0; position_decodes = 0; checked = no_blocks }
 
 -- how often positions were decoded
 abbrev pub decodes_read : Option PositionReaderState → ℕ
@@ -40,7 +43,7 @@ decodes_read (Some reader) = reader.decodes
 
 -- the cursor over the documents of a block cursor from a place on, with the positions of a reader
 abbrev pub postings_from : ℕ → BlockSegmentPostingsState → Option PositionReaderState → SegmentPostingsState
-postings_from place cursor reader = record { rest = drop place (list_of cursor.docs cursor.freqs (deltas_read reader)); doc_freq = length cursor.docs; freq_reading = cursor.freq_reading; bounds = trusted cursor.freq_reading cursor.bounds; block = cursor.block; doc_decodes = cursor.doc_decodes; freq_decodes = cursor.freq_decodes; entries_read = cursor.entries_read; position_decodes = decodes_read reader; checked = cursor.checked }
+postings_from place cursor reader = record { rest = drop place (list_of cursor.docs cursor.freqs (deltas_read reader)); doc_freq = length cursor.docs; freq_reading = cursor.freq_reading; bounds = trusted cursor.freq_reading cursor.bounds; block = cursor.block; doc_blocks = cursor.doc_blocks; freq_blocks = cursor.freq_blocks; doc_decodes = cursor.doc_decodes; freq_decodes = cursor.freq_decodes; entries_read = cursor.entries_read; position_decodes = decodes_read reader; checked = cursor.checked }
 
 -- A cursor was opened at the first document of a list, given by its bytes. Besides validation, it decoded no block but the first.
 pub record OpensList (validation : Validation) (recorded requested : IndexRecordOption) (doc_freq : ℕ) (postings : List ℕ) (positions : Option (List ℕ)) (cursor : SegmentPostingsState) : Type 0 where
@@ -50,6 +53,8 @@ pub record OpensList (validation : Validation) (recorded requested : IndexRecord
   pub reading : freq_reading recorded requested doc_freq postings ≡ Ok cursor.freq_reading
   pub bounds : bounds_trusted recorded requested doc_freq postings ≡ Ok cursor.bounds
   pub first : cursor.block ≡ 0
+  pub doc_blocks : cursor.doc_blocks ≡ logged 0 doc_freq
+  pub freq_blocks : cursor.freq_blocks ≡ first_freqs cursor.freq_reading doc_freq
   pub doc_decodes : cursor.doc_decodes ≤ 1
   pub freq_decodes : cursor.freq_decodes ≤ 1
   pub entries_read : cursor.entries_read ≤ 1
@@ -78,13 +83,15 @@ pub record OpensParts (validation : Validation) (recorded requested : IndexRecor
   pub deltas : deltas_if (has_positions (downgrade recorded requested)) cursor.freqs positions ≡ Some (deltas_read reader)
   pub decodes : decodes_read reader ≤ 1
 
--- The cursor moved forward, by at least as many blocks as it decoded, and decoded no positions.
+-- The cursor moved forward. It decoded only later blocks, up to the new one, each at most once, and no positions.
 pub record WentLazily (old new : SegmentPostingsState) : Type 0 where
   pub doc_freq : new.doc_freq ≡ old.doc_freq
   pub freq_reading : new.freq_reading ≡ old.freq_reading
   pub bounds : new.bounds ≡ old.bounds
   pub checked : new.checked ≡ old.checked
   pub forward : old.block ≤ new.block
+  pub doc_blocks : DecodesLater old.block new.block old.doc_blocks new.doc_blocks
+  pub freq_blocks : DecodesLater old.block new.block old.freq_blocks new.freq_blocks
   pub doc_decodes : new.doc_decodes + old.block ≤ old.doc_decodes + new.block
   pub freq_decodes : new.freq_decodes + old.block ≤ old.freq_decodes + new.block
   pub position_decodes : new.position_decodes ≡ old.position_decodes
@@ -96,6 +103,8 @@ pub record SpentLazily (asked counts : ℕ) (old new : SegmentPostingsState) : T
   pub bounds : new.bounds ≡ old.bounds
   pub checked : new.checked ≡ old.checked
   pub forward : old.block ≤ new.block
+  pub doc_blocks : DecodesLater old.block new.block old.doc_blocks new.doc_blocks
+  pub freq_blocks : DecodesLater old.block new.block old.freq_blocks new.freq_blocks
   pub doc_decodes : new.doc_decodes + old.block ≤ old.doc_decodes + new.block
   pub freq_decodes : new.freq_decodes + old.block ≤ old.freq_decodes + new.block
   pub position_decodes : new.position_decodes ≤ old.position_decodes + counts / 128 + 2 * asked
@@ -103,6 +112,8 @@ pub record SpentLazily (asked counts : ℕ) (old new : SegmentPostingsState) : T
 -- Each block and each skip entry up to here was decoded or read at most once; the empty block is the end.
 pub record StaysLazy (s : SegmentPostingsState) : Type 0 where
   pub within : s.block ≤ s.doc_freq / 128 + 1
+  pub doc_blocks : AreDecoded s.block s.doc_decodes s.doc_blocks
+  pub freq_blocks : AreDecoded s.block s.freq_decodes s.freq_blocks
   pub doc_decodes : s.doc_decodes ≤ s.block + 1
   pub freq_decodes : s.freq_decodes ≤ s.block + 1
   pub entries_read : s.entries_read ≤ min (s.block + 1) (s.doc_freq / 128)
@@ -112,8 +123,10 @@ pub record StandsInBlock (s : SegmentPostingsState) : Type 0 where
   pub here : 0 < length s.rest → 128 * s.block + length s.rest ≤ s.doc_freq
   pub near : s.doc_freq < 128 * s.block + 128 + length s.rest
 
--- At most one block was decoded, documents and frequencies, and no positions.
+-- At most one block was decoded, documents and frequencies: the new one, if it is a later one. No positions were.
 pub record DecodesOnce (old new : SegmentPostingsState) : Type 0 where
+  pub doc_blocks : DecodesLast old.block new.block old.doc_blocks new.doc_blocks
+  pub freq_blocks : DecodesLast old.block new.block old.freq_blocks new.freq_blocks
   pub doc_decodes : new.doc_decodes ≤ old.doc_decodes + 1
   pub freq_decodes : new.freq_decodes ≤ old.freq_decodes + 1
   pub position_decodes : new.position_decodes ≡ old.position_decodes
@@ -121,6 +134,8 @@ pub record DecodesOnce (old new : SegmentPostingsState) : Type 0 where
 -- Only the blocks of positions that hold `count` positions were decoded.
 pub record DecodesPositions (count : ℕ) (old new : SegmentPostingsState) : Type 0 where
   pub block : new.block ≡ old.block
+  pub doc_blocks : new.doc_blocks ≡ old.doc_blocks
+  pub freq_blocks : new.freq_blocks ≡ old.freq_blocks
   pub doc_decodes : new.doc_decodes ≡ old.doc_decodes
   pub freq_decodes : new.freq_decodes ≡ old.freq_decodes
   pub entries_read : new.entries_read ≡ old.entries_read

@@ -15,7 +15,9 @@ ghost use Rattle.ii_reader.specs.SegmentPostings.{decodes_read};
 
 use bytes::Bytes;
 use ii_base::{Fault, IndexRecordOption, LayoutFault, Part};
-use ii_check::{CheckedBlocks, CheckedPostings, FreqReadingOption, NO_FREQ, Validation};
+use ii_check::{
+    CheckedBlocks, CheckedPostings, DecodedBlocks, FreqReadingOption, NO_FREQ, Validation,
+};
 use ii_codes::{BlockDecoder, COMPRESSION_BLOCK_SIZE};
 use ii_docset::{DocId, TERMINATED};
 use ii_layout::skip::encode_block_wand_max_tf;
@@ -31,6 +33,7 @@ pub struct BlockSegmentPostings {
     skip: SkipReader,
     doc_decoder: BlockDecoder,
     freq_decoder: BlockDecoder,
+    decoded_blocks: DecodedBlocks,
     checked_blocks: CheckedBlocks,
 }
 
@@ -42,6 +45,7 @@ impl Drop for BlockSegmentPostings {
             skip: _,
             doc_decoder: _,
             freq_decoder: _,
+            decoded_blocks: _,
             checked_blocks: _,
         } = self;
     }
@@ -61,13 +65,15 @@ impl Model for BlockSegmentPostings {
       freq_reading = c.checked.freq_reading;
       bounds = bounds_of c.checked.postings.skip;
       block = c.skip.block;
+      doc_blocks = c.decoded_blocks.docs.blocks;
+      freq_blocks = c.decoded_blocks.freqs.blocks;
       doc_decodes = c.doc_decoder.decodes;
       freq_decodes = c.freq_decoder.decodes;
       entries_read = c.skip.entries_read;
       checked = record { docs = c.checked_blocks.docs.value; freqs = c.checked_blocks.freqs.value };
     } };
 
-    ghost invariant = { λ c. IsLoaded c.checked c.skip c.doc_decoder c.freq_decoder };
+    ghost invariant = { λ c. IsLoaded c.checked c.skip c.doc_decoder c.freq_decoder c.decoded_blocks.docs.blocks c.decoded_blocks.freqs.blocks };
 }
 
 impl BlockSegmentPostings {
@@ -114,6 +120,7 @@ impl BlockSegmentPostings {
             skip,
             doc_decoder: BlockDecoder::with_val(TERMINATED),
             freq_decoder: BlockDecoder::with_val(NO_FREQ),
+            decoded_blocks: DecodedBlocks::none(),
             checked_blocks: CheckedBlocks::none(),
         }
     }
@@ -151,6 +158,7 @@ impl BlockSegmentPostings {
             validation,
             &mut self.doc_decoder,
             &mut self.freq_decoder,
+            &mut self.decoded_blocks,
             &mut self.checked_blocks,
         );
         match opened {
@@ -162,6 +170,7 @@ impl BlockSegmentPostings {
             Err(fault) => {
                 self.doc_decoder = BlockDecoder::with_val(TERMINATED);
                 self.freq_decoder = BlockDecoder::with_val(NO_FREQ);
+                self.decoded_blocks = DecodedBlocks::none();
                 self.checked_blocks = CheckedBlocks::none();
                 Err(fault)
             }
@@ -207,10 +216,11 @@ impl BlockSegmentPostings {
         self.skip = self.checked.skip_reader();
         self.doc_decoder = BlockDecoder::with_val(TERMINATED);
         self.freq_decoder = BlockDecoder::with_val(NO_FREQ);
+        self.decoded_blocks = DecodedBlocks::none();
         self.checked_blocks = CheckedBlocks::none();
     }
 
-    /// Clones the cursor with its block and its numbers of decodes and reads. The bytes are shared. Returns
+    /// Clones the cursor with its block, its decoded blocks and its numbers of decodes and reads. The bytes are shared. Returns
     /// `OutOfMemory` if an allocation fails.
     pub fn clone(&self) -> Result<BlockSegmentPostings, Fault>
         ensures same { IfOk result (λ cursor. cursor ≡ self.now) }
@@ -225,6 +235,7 @@ impl BlockSegmentPostings {
             skip,
             doc_decoder,
             freq_decoder,
+            decoded_blocks: self.decoded_blocks.same(),
             checked_blocks: self.checked_blocks.same(),
         })
     }
@@ -357,7 +368,7 @@ impl BlockSegmentPostings {
 
     /// Moves to the first block, from the current one on, whose last document is at least `target`, or else
     /// to the last block. If it is already there, or after it, it doesn't move. Decodes only the block that
-    /// it moves to, once. Returns how many documents of that block are below the target, which is at most
+    /// it moves to, once, and none if it stays. Returns how many documents of that block are below the target, which is at most
     /// `TERMINATED`.
     #[inline(never)]
     pub fn seek(&mut self, target: DocId) -> usize
@@ -392,8 +403,12 @@ impl BlockSegmentPostings {
             return;
         }
         self.checked.seek(&mut self.skip, target);
-        self.checked
-            .load_block(&self.skip, &mut self.doc_decoder, &mut self.freq_decoder);
+        self.checked.load_block(
+            &self.skip,
+            &mut self.doc_decoder,
+            &mut self.freq_decoder,
+            &mut self.decoded_blocks,
+        );
     }
 
     /// Moves to the next block; at the empty block after the last one it stays. Decodes at most one block.
@@ -404,8 +419,12 @@ impl BlockSegmentPostings {
         ensures lazy { IsLazy self.new }
     {
         self.checked.advance(&mut self.skip);
-        self.checked
-            .load_block(&self.skip, &mut self.doc_decoder, &mut self.freq_decoder);
+        self.checked.load_block(
+            &self.skip,
+            &mut self.doc_decoder,
+            &mut self.freq_decoder,
+            &mut self.decoded_blocks,
+        );
     }
 
     /// Moves to the first document, from `from` in the block on, that is at least `target` and has a term
@@ -473,7 +492,11 @@ impl BlockSegmentPostings {
         ensures lands { excludes least (freq_bound self.old.bounds self.new.block) ≡ false }
     {
         self.checked.seek_with_freq(&mut self.skip, target, least);
-        self.checked
-            .load_block(&self.skip, &mut self.doc_decoder, &mut self.freq_decoder);
+        self.checked.load_block(
+            &self.skip,
+            &mut self.doc_decoder,
+            &mut self.freq_decoder,
+            &mut self.decoded_blocks,
+        );
     }
 }

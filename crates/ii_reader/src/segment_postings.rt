@@ -8,9 +8,10 @@ ghost use Rattle.ii_docset.specs.Cursor.{doc_at, from_doc, position_before, posi
 ghost use Rattle.ii_base.specs.Options.{downgrade, has_positions};
 ghost use Rattle.ii_layout.specs.TermList.{deltas_if, list_of, term_list};
 ghost use Rattle.ii_check.specs.CheckedBlocks.{no_blocks};
+ghost use Rattle.ii_check.specs.DecodedBlocks.{DecodesAllowed};
 ghost use Rattle.ii_check.specs.CheckedPostings.{is_read};
 ghost use Rattle.ii_check.specs.Positions.{deltas_read};
-ghost use Rattle.ii_reader.specs.Bounds.{blocks_with_freq, sought_with_freq, trusted};
+ghost use Rattle.ii_reader.specs.Bounds.{AllowsFreq, blocks_with_freq, sought_with_freq, trusted};
 ghost use Rattle.ii_reader.specs.BlockSegmentPostings.{cursor_of_none};
 ghost use Rattle.ii_reader.specs.SegmentPostings.{DecodesOnce, DecodesPositions, FitCursor, OpensList, OpensParts, SpentLazily, StandsInBlock, StaysLazy, WentLazily, decodes_read, postings_from, postings_of_none};
 
@@ -58,6 +59,8 @@ impl Model for SegmentPostings {
       freq_reading = s.block_cursor.freq_reading;
       bounds = trusted s.block_cursor.freq_reading s.block_cursor.bounds;
       block = s.block_cursor.block;
+      doc_blocks = s.block_cursor.doc_blocks;
+      freq_blocks = s.block_cursor.freq_blocks;
       doc_decodes = s.block_cursor.doc_decodes;
       freq_decodes = s.block_cursor.freq_decodes;
       entries_read = s.block_cursor.entries_read;
@@ -178,7 +181,7 @@ impl SegmentPostings {
 
     /// Opens a cursor over no documents.
     pub fn empty() -> SegmentPostings
-        ensures { result ≡ record { rest = []; doc_freq = 0; freq_reading = FreqReadingOption.NoFreq; bounds = []; block = 0; doc_decodes = 0; freq_decodes = 0; entries_read = 0; position_decodes = 0; checked = no_blocks } }
+        ensures { result ≡ record { rest = []; doc_freq = 0; freq_reading = FreqReadingOption.NoFreq; bounds = []; block = 0; doc_blocks = []; freq_blocks = []; doc_decodes = 0; freq_decodes = 0; entries_read = 0; position_decodes = 0; checked = no_blocks } }
     {
         SegmentPostings::from_block_postings(BlockSegmentPostings::empty(), None)
     }
@@ -240,11 +243,14 @@ impl SegmentPostings {
         ensures doc { result ≡ doc_at self.new.rest }
         ensures rest { self.new.rest ≡ sought_with_freq target least self.old.rest }
         ensures sound { IsSound self.new.rest }
-        ensures work { WentLazily self.old self.new }
-        ensures decodes { self.new.doc_decodes ≤ self.old.doc_decodes + blocks_with_freq least self.old.bounds self.old.block self.new.block }
-        ensures freqs { self.new.freq_decodes ≤ self.old.freq_decodes + blocks_with_freq least self.old.bounds self.old.block self.new.block }
         ensures lazy { StaysLazy self.new }
         ensures place { StandsInBlock self.new }
+        ensures work { WentLazily self.old self.new }
+        // Only blocks whose bound allows such a frequency, each at most once.
+        ensures doc_blocks { DecodesAllowed (AllowsFreq least self.old.bounds) self.old.block self.new.block self.old.doc_blocks self.new.doc_blocks }
+        ensures freq_blocks { DecodesAllowed (AllowsFreq least self.old.bounds) self.old.block self.new.block self.old.freq_blocks self.new.freq_blocks }
+        ensures decodes { self.new.doc_decodes ≤ self.old.doc_decodes + blocks_with_freq least self.old.bounds self.old.block self.new.block }
+        ensures freqs { self.new.freq_decodes ≤ self.old.freq_decodes + blocks_with_freq least self.old.bounds self.old.block self.new.block }
     {
         // For the proof: documents ascend.
         let _doc = self.doc();

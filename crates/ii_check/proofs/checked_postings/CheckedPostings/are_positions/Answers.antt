@@ -20,7 +20,7 @@ end_of_positions-requires-clause-low c =
     let s = c.self.inside in
     let p = c.args.self.now.postings in
     let to = l.invariant.to in
-    let row = row_is p.freqs l.skip.block l.end c.args.reader.now.deltas c.output_array.result.now l.freq_decoder c.load_block.new.freq_decoder to c.load_block.ensures.freqs_are c.output_array.ensures.values in
+    let row = row_is p.freqs l.skip.block l.end c.args.reader.now.deltas c.output_array.result.now l.freq_decoder c.load_block.new.freq_decoder to c.load_block.ensures.loads.freqs_are c.output_array.ensures.values in
     let given = are_given (asked s.record_option s.requested_option s.doc_freq s.bytes s.places.skip_info s.places.entries s.places.body) s.freq_reading_option c.self.invariant in
     let has : HasDocuments c.args.self.now = subst (λ p. HasDocuments p) c.self.view_is (has_documents _ given) in
     let freq = ap (λ p. p.doc_freq) c.self.view_is in
@@ -31,7 +31,7 @@ returns-in_default-clause-are c =
     let l = c.loop-block in
     let p = c.args.self.now.postings in
     let to = l.invariant.to in
-    let row = row_is p.freqs l.skip.block l.end c.args.reader.now.deltas c.output_array.result.now l.freq_decoder c.load_block.new.freq_decoder to c.load_block.ensures.freqs_are c.output_array.ensures.values in
+    let row = row_is p.freqs l.skip.block l.end c.args.reader.now.deltas c.output_array.result.now l.freq_decoder c.load_block.new.freq_decoder to c.load_block.ensures.loads.freqs_are c.output_array.ensures.values in
     let none = no_end (suffice c.output_array.result.now (drop l.end l.reader.deltas)) _ c.in_default.ensures.end in
     rw to.are (none_there p.freqs l.skip.block l.end c.args.reader.now.deltas c.output_array.result.now to row (rw l.invariant.same at none))
 
@@ -40,7 +40,7 @@ loop-block-preserved c =
     let l = c.loop-block in
     let p = c.args.self.now.postings in
     let to = l.invariant.to in
-    let row = row_is p.freqs l.skip.block l.end c.args.reader.now.deltas c.output_array.result.now l.freq_decoder c.load_block.new.freq_decoder to c.load_block.ensures.freqs_are c.output_array.ensures.values in
+    let row = row_is p.freqs l.skip.block l.end c.args.reader.now.deltas c.output_array.result.now l.freq_decoder c.load_block.new.freq_decoder to c.load_block.ensures.loads.freqs_are c.output_array.ensures.values in
     let found = an_end (suffice c.output_array.result.now (drop l.end l.reader.deltas)) _ c.in-Some.next c.in-Some.ensures.end in
     let freq = ap (λ p. p.doc_freq) c.self.view_is in
     let more = c.loop-block-test.true in

@@ -17,4 +17,4 @@ open_counted_positions-requires c =
     let here = c.loop-block.invariant.block in
     let over = c.loop-block-test.false in
     let most = c.loop-block.auto._block-end in
-    last_loaded p.postings.freqs p.doc_freq c.loop-block.skip.block c.output_array.result.now c.with_val-freq_decoder.result c.load_block.new.freq_decoder read.1 has.freqs (omega arith) c.load_block.ensures.freqs_are c.output_array.ensures.values
+    last_loaded p.postings.freqs p.doc_freq c.loop-block.skip.block c.output_array.result.now c.with_val-freq_decoder.result c.load_block.new.freq_decoder read.1 has.freqs (omega arith) c.load_block.ensures.loads.freqs_are c.output_array.ensures.values

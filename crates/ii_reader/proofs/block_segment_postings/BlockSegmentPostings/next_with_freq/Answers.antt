@@ -1,5 +1,5 @@
-use Rattle.std.proofs.Common.{arith}
-use Rattle.ii_reader.proofs.BlockLemmas.{GoesOn, on_loaded, on_goes}
+use Rattle.std.proofs.Common.{arith, refl}
+use Rattle.ii_reader.proofs.BlockLemmas.{goes_later, held_by, on_goes, on_loaded}
 use Rattle.ii_reader.proofs.BoundLemmas.{lands, passes}
 use Rattle.ii_reader.proofs.block_segment_postings.BlockSegmentPostings.next_with_freq.Goals as goal
 
@@ -13,18 +13,18 @@ seek_with_freq-requires-clause-full c =
 pub invariant_of-self : goal.invariant_of-self
 invariant_of-self c =
     let s = c.self.inside in
-    let goes : GoesOn s.checked s.skip c.seek_with_freq.new.skip s.doc_decoder c.load_block.new.doc_decoder s.freq_decoder c.load_block.new.freq_decoder =
-    record { was = c.self.invariant; at = c.seek_with_freq.ensures.at; later = c.seek_with_freq.ensures.seeks.behind; loads = c.load_block.ensures }
-    in
-    on_loaded s.checked s.skip c.seek_with_freq.new.skip s.doc_decoder c.load_block.new.doc_decoder s.freq_decoder c.load_block.new.freq_decoder goes
+    let old = held_by s.skip s.doc_decoder s.freq_decoder s.decoded_blocks.docs.blocks s.decoded_blocks.freqs.blocks in
+    let new = held_by c.seek_with_freq.new.skip c.load_block.new.doc_decoder c.load_block.new.freq_decoder c.load_block.new.decoded_blocks.docs.blocks c.load_block.new.decoded_blocks.freqs.blocks in
+    let goes = goes_later s.checked old new c.self.invariant c.seek_with_freq.ensures.at c.seek_with_freq.ensures.seeks.behind c.load_block.ensures.loads c.load_block.ensures.logs in
+    on_loaded s.checked old new goes
 
 pub returns-clause-goes : goal.returns-clause-goes
 returns-clause-goes c =
     let s = c.self.inside in
-    let goes : GoesOn s.checked s.skip c.seek_with_freq.new.skip s.doc_decoder c.load_block.new.doc_decoder s.freq_decoder c.load_block.new.freq_decoder =
-    record { was = c.self.invariant; at = c.seek_with_freq.ensures.at; later = c.seek_with_freq.ensures.seeks.behind; loads = c.load_block.ensures }
-    in
-    rw (← c.self.view_is) (on_goes (record { docs = s.checked_blocks.docs.value; freqs = s.checked_blocks.freqs.value }) s.checked s.skip c.seek_with_freq.new.skip s.doc_decoder c.load_block.new.doc_decoder s.freq_decoder c.load_block.new.freq_decoder goes)
+    let old = held_by s.skip s.doc_decoder s.freq_decoder s.decoded_blocks.docs.blocks s.decoded_blocks.freqs.blocks in
+    let new = held_by c.seek_with_freq.new.skip c.load_block.new.doc_decoder c.load_block.new.freq_decoder c.load_block.new.decoded_blocks.docs.blocks c.load_block.new.decoded_blocks.freqs.blocks in
+    let goes = goes_later s.checked old new c.self.invariant c.seek_with_freq.ensures.at c.seek_with_freq.ensures.seeks.behind c.load_block.ensures.loads c.load_block.ensures.logs in
+    rw (← c.self.view_is) (on_goes (record { docs = s.checked_blocks.docs.value; freqs = s.checked_blocks.freqs.value }) s.checked old new c.seek_with_freq.new.skip.block refl goes)
 
 pub returns-clause-passes : goal.returns-clause-passes
 returns-clause-passes c = λ fs e.

@@ -1,6 +1,6 @@
 use Rattle.std.proofs.Common.{◌<◌, refl, arith}
 use Rattle.ii_reader.specs.BlockSegmentPostings.{doc_in_block}
-use Rattle.ii_reader.proofs.BlockLemmas.{GoesOn, on_loaded, on_goes}
+use Rattle.ii_reader.proofs.BlockLemmas.{goes_later, held_by, on_goes, on_loaded, stays_there}
 use Rattle.ii_reader.proofs.SeekLemmas.{entries_are, goes_on, seeks_here}
 use Rattle.ii_reader.proofs.block_segment_postings.BlockSegmentPostings.seek_block.Goals as goal
 
@@ -16,10 +16,11 @@ invariant_of-self c =
     let last = rw (← c.self.view_is) at c.doc.ensures.doc in
     let over = c.if-target-doc.false in
     let high : doc_in_block s.checked.postings.docs s.skip.block 127 < c.args.target = omega arith in
-    let goes : GoesOn s.checked s.skip c.seek.new.skip s.doc_decoder c.load_block.new.doc_decoder s.freq_decoder c.load_block.new.freq_decoder =
-    record { was = c.self.invariant; at = c.seek.ensures.at; later = goes_on c.args.target s.checked.postings.docs s.skip.block c.seek.new.skip.block high c.requires c.seek.ensures.seeks; loads = c.load_block.ensures }
-    in
-    on_loaded s.checked s.skip c.seek.new.skip s.doc_decoder c.load_block.new.doc_decoder s.freq_decoder c.load_block.new.freq_decoder goes
+    let later = goes_on c.args.target s.checked.postings.docs s.skip.block c.seek.new.skip.block high c.requires c.seek.ensures.seeks in
+    let old = held_by s.skip s.doc_decoder s.freq_decoder s.decoded_blocks.docs.blocks s.decoded_blocks.freqs.blocks in
+    let new = held_by c.seek.new.skip c.load_block.new.doc_decoder c.load_block.new.freq_decoder c.load_block.new.decoded_blocks.docs.blocks c.load_block.new.decoded_blocks.freqs.blocks in
+    let goes = goes_later s.checked old new c.self.invariant c.seek.ensures.at later c.load_block.ensures.loads c.load_block.ensures.logs in
+    on_loaded s.checked old new goes
 
 pub returns-clause-goes : goal.returns-clause-goes
 returns-clause-goes c =
@@ -27,10 +28,11 @@ returns-clause-goes c =
     let last = rw (← c.self.view_is) at c.doc.ensures.doc in
     let over = c.if-target-doc.false in
     let high : doc_in_block s.checked.postings.docs s.skip.block 127 < c.args.target = omega arith in
-    let goes : GoesOn s.checked s.skip c.seek.new.skip s.doc_decoder c.load_block.new.doc_decoder s.freq_decoder c.load_block.new.freq_decoder =
-    record { was = c.self.invariant; at = c.seek.ensures.at; later = goes_on c.args.target s.checked.postings.docs s.skip.block c.seek.new.skip.block high c.requires c.seek.ensures.seeks; loads = c.load_block.ensures }
-    in
-    rw (← c.self.view_is) (on_goes (record { docs = s.checked_blocks.docs.value; freqs = s.checked_blocks.freqs.value }) s.checked s.skip c.seek.new.skip s.doc_decoder c.load_block.new.doc_decoder s.freq_decoder c.load_block.new.freq_decoder goes)
+    let later = goes_on c.args.target s.checked.postings.docs s.skip.block c.seek.new.skip.block high c.requires c.seek.ensures.seeks in
+    let old = held_by s.skip s.doc_decoder s.freq_decoder s.decoded_blocks.docs.blocks s.decoded_blocks.freqs.blocks in
+    let new = held_by c.seek.new.skip c.load_block.new.doc_decoder c.load_block.new.freq_decoder c.load_block.new.decoded_blocks.docs.blocks c.load_block.new.decoded_blocks.freqs.blocks in
+    let goes = goes_later s.checked old new c.self.invariant c.seek.ensures.at later c.load_block.ensures.loads c.load_block.ensures.logs in
+    rw (← c.self.view_is) (on_goes (record { docs = s.checked_blocks.docs.value; freqs = s.checked_blocks.freqs.value }) s.checked old new c.seek.new.skip.block refl goes)
 
 pub returns-clause-seeks : goal.returns-clause-seeks
 returns-clause-seeks c = rw (← c.self.view_is) c.seek.ensures.seeks
@@ -42,4 +44,4 @@ pub returns-then-target-doc-clause-entries : goal.returns-then-target-doc-clause
 returns-then-target-doc-clause-entries c = rw (← c.self.view_is) (entries_are c.self.inside.checked c.self.invariant.has)
 
 pub returns-then-target-doc-clause-goes : goal.returns-then-target-doc-clause-goes
-returns-then-target-doc-clause-goes c = record { recorded = refl; requested = refl; docs = refl; freqs = refl; freq_reading = refl; bounds = refl; checked = refl; block = refl; doc_decodes = omega arith; freq_decodes = omega arith }
+returns-then-target-doc-clause-goes c = stays_there c.args.self.now

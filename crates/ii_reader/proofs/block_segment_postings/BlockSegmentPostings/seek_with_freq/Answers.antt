@@ -1,5 +1,8 @@
-use Rattle.ii_reader.proofs.BoundLemmas.{looking_on}
+use Rattle.ii_reader.proofs.BoundLemmas.{looking_on, looks_nowhere}
 use Rattle.ii_reader.proofs.block_segment_postings.BlockSegmentPostings.seek_with_freq.Goals as goal
+
+pub loop-place-init : goal.loop-place-init
+loop-place-init c = record { looks = looks_nowhere c.args.least c.args.self.now; placed = c.place_with_freq-place.ensures.found; lazy = c.place_with_freq-place.ensures.lazy }
 
 pub loop-place-preserved : goal.loop-place-preserved
 loop-place-preserved c =

@@ -2,6 +2,7 @@ use Rattle.std.proofs.Common.{◌+◌, ◌*◌, not, ap, sym, refl, ◌∙◌, a
 use Rattle.ii_docset.specs.Cursor.{term_freq_at}
 use Rattle.ii_layout.specs.TermList.{list_of}
 use Rattle.ii_check.specs.Positions.{deltas_read}
+use Rattle.ii_check.proofs.DecodedBlocksLaws.{later_none}
 use Rattle.ii_reader.specs.SegmentPostings.{decodes_read}
 use Rattle.ii_reader.proofs.CursorLemmas.{inside, list_docs, freq_at_place, freq_by}
 use Rattle.ii_reader.proofs.PositionLemmas.{none_at, asks_inside, cursor_asks, asked_positions, sums_fit, shifted_sums}
@@ -69,7 +70,7 @@ returns-clause-decodes c =
     ∙ ap (λ (t : Bool). term_freq_at (not t) (drop (128 * b.block + s.cur) (list_of b.docs b.freqs deltas))) c.self.invariant.2 in
     let before = ap decodes_read c.in-Some.is in
     let more = c.append_positions.ensures.decodes in
-    rw (← c.self.view_is, ← count) (record { block = refl; doc_decodes = refl; freq_decodes = refl; entries_read = refl; position_decodes = omega arith })
+    rw (← c.self.view_is, ← count) (record { block = refl; doc_blocks = refl; freq_blocks = refl; doc_decodes = refl; freq_decodes = refl; entries_read = refl; position_decodes = omega arith })
 
 pub returns-clause-work : goal.returns-clause-work
 returns-clause-work c =
@@ -82,4 +83,4 @@ returns-clause-work c =
     ∙ ap (λ (t : Bool). term_freq_at (not t) (drop (128 * b.block + s.cur) (list_of b.docs b.freqs deltas))) c.self.invariant.2 in
     let before = ap decodes_read c.in-Some.is in
     let more = c.append_positions.ensures.decodes in
-    rw (← c.self.view_is, ← count) (record { doc_freq = refl; freq_reading = refl; bounds = refl; checked = refl; forward = omega arith; doc_decodes = omega arith; freq_decodes = omega arith; position_decodes = omega arith })
+    rw (← c.self.view_is, ← count) (record { doc_freq = refl; freq_reading = refl; bounds = refl; checked = refl; forward = omega arith; doc_blocks = later_none s.block_cursor.block s.block_cursor.doc_blocks; freq_blocks = later_none s.block_cursor.block s.block_cursor.freq_blocks; doc_decodes = omega arith; freq_decodes = omega arith; position_decodes = omega arith })

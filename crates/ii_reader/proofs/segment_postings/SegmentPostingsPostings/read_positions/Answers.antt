@@ -4,6 +4,7 @@ use Rattle.ii_docset.specs.Cursor.{position_before, positions_at}
 use Rattle.ii_docset.proofs.CursorLemmas.{positions_fit}
 use Rattle.ii_layout.specs.TermList.{list_of}
 use Rattle.ii_check.specs.Positions.{deltas_read}
+use Rattle.ii_check.proofs.DecodedBlocksLaws.{later_none}
 use Rattle.ii_reader.specs.SegmentPostings.{decodes_read}
 use Rattle.ii_reader.proofs.CursorLemmas.{inside, list_docs}
 use Rattle.ii_reader.proofs.PieceLemmas.{none_read, piece_length}
@@ -133,7 +134,7 @@ returns-clause-work c =
     let deltas = deltas_read s.position_reader in
     let before = ap decodes_read c.in-Some.is in
     let more = c.read_piece.ensures.decodes in
-    rw (← c.self.view_is) (record { doc_freq = refl; freq_reading = refl; bounds = refl; checked = refl; forward = omega arith; doc_decodes = omega arith; freq_decodes = omega arith; position_decodes = omega arith })
+    rw (← c.self.view_is) (record { doc_freq = refl; freq_reading = refl; bounds = refl; checked = refl; forward = omega arith; doc_blocks = later_none s.block_cursor.block s.block_cursor.doc_blocks; freq_blocks = later_none s.block_cursor.block s.block_cursor.freq_blocks; doc_decodes = omega arith; freq_decodes = omega arith; position_decodes = omega arith })
 
 pub returns-clause-decodes : goal.returns-clause-decodes
 returns-clause-decodes c =
@@ -142,4 +143,4 @@ returns-clause-decodes c =
     let deltas = deltas_read s.position_reader in
     let before = ap decodes_read c.in-Some.is in
     let more = c.read_piece.ensures.decodes in
-    rw (← c.self.view_is) (record { block = refl; doc_decodes = refl; freq_decodes = refl; entries_read = refl; position_decodes = omega arith })
+    rw (← c.self.view_is) (record { block = refl; doc_blocks = refl; freq_blocks = refl; doc_decodes = refl; freq_decodes = refl; entries_read = refl; position_decodes = omega arith })
