@@ -103,10 +103,6 @@ pub all_append : (P : ℕ → Type 0) (bs cs : List ℕ) → AllByRecursion P bs
 all_append P [] cs first second = second
 all_append P (b ∷ bs) cs first second = (first.0, all_append P bs cs first.1 second)
 
-pub all_weaker : (P Q : ℕ → Type 0) (bs : List ℕ) → ((b : ℕ) → P b → Q b) → AllByRecursion P bs → AllByRecursion Q bs
-all_weaker P Q [] weaker all = tt
-all_weaker P Q (b ∷ bs) weaker all = (weaker b all.0, all_weaker P Q bs weaker all.1)
-
 -- the same of blocks that are allowed
 pub allowed_on : (P : ℕ → Type 0) (i j k : ℕ) (bs cs ds : List ℕ) → i ≤ j → j ≤ k → DecodesAllowed P i j bs cs → DecodesAllowed P j k cs ds → DecodesAllowed P i k bs ds
 unfolding later_on
@@ -128,3 +124,10 @@ allowed_all P old new blocks blocks' all later = record { later = later; only = 
     each : (bs : List ℕ) → AllByRecursion P bs
     each [] = tt
     each (b ∷ bs) = (all b, each bs)
+
+pub allowed_weaker : (P Q : ℕ → Type 0) (old new : ℕ) (blocks blocks' : List ℕ) → ((b : ℕ) → old < b → b ≤ new → P b → Q b) → DecodesAllowed P old new blocks blocks' → DecodesAllowed Q old new blocks blocks'
+allowed_weaker P Q old new blocks blocks' weaker d = record { later = d.later; only = each (old + 1) d.later.added (omega arith) d.later.ascend d.only }
+  where
+    each : (first : ℕ) (bs : List ℕ) → old < first → AscendWithin first new bs → AllByRecursion P bs → AllByRecursion Q bs
+    each first [] low ascend all = tt
+    each first (b ∷ bs) low ascend all = let from = ascend.0 in (weaker b (omega arith) ascend.1 all.0, each (b + 1) bs (omega arith) ascend.2 all.1)

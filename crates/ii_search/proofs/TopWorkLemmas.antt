@@ -9,13 +9,15 @@ use Rattle.std.proofs.lemmas.List.Sums.{fold-append, sum_by-append, sum_by-cons}
 use Rattle.ii_base.specs.declared.doc_id.TheConstants.{TERMINATED}
 use Rattle.ii_base.specs.Entries.{Entry}
 use Rattle.ii_check.specs.CheckedPostings.{excludes}
+use Rattle.ii_check.specs.DecodedBlocks.{DecodesAllowed}
+use Rattle.ii_check.proofs.DecodedBlocksLaws.{allowed_none, allowed_on, allowed_weaker}
 use Rattle.ii_definitions.proofs.ListLaws.{range_append}
 use Rattle.ii_docset.specs.Cursor.{doc_at, IsAscending, IsSound, term_freq_at}
 use Rattle.ii_docset.proofs.CursorLemmas.{nothing_left}
-use Rattle.ii_reader.specs.Bounds.{blocks_with_freq, freq_bound, sought_with_freq}
+use Rattle.ii_reader.specs.Bounds.{AllowsFreq, blocks_with_freq, freq_bound, sought_with_freq}
 use Rattle.ii_reader.specs.SegmentPostings.{SegmentPostingsState, StandsInBlock, WentLazily}
 use Rattle.ii_reader.specs.SegmentPostingsLemmas.{went_nowhere, went_on}
-use Rattle.ii_search.specs.TopByCount.{DecodesForTop, before_block, blocks_for_top, by_count, least_count, needed, placed, top}
+use Rattle.ii_search.specs.TopByCount.{AllowsTop, DecodesForTop, before_block, blocks_for_top, by_count, least_count, needed, placed, top}
 use Rattle.ii_search.proofs.TopLemmas.{AreBest, after, after_first, passed_one, take_twice}
 
 -- the least of numbers is at most each of them
@@ -134,46 +136,67 @@ tops_none n doc s bs none here sound place = record {
   best = nothing n;
   went = went_nowhere s;
   place = place;
-  decodes = record { docs = omega arith; freqs = omega arith };
+  decodes = record { doc_blocks = allowed_none (AllowsTop n s) s.block s.doc_blocks; freq_blocks = allowed_none (AllowsTop n s) s.block s.freq_blocks; docs = omega arith; freqs = omega arith };
 }
   where
     nothing : (k : ℕ) → bs ≡ take k []
     nothing zero = none
     nothing (suc k) = none
 
--- the blocks of a seek by count are those that may have one of the first n
-blocks_same : (n least : ℕ) (s now next : SegmentPostingsState) (front skipped : List Entry) (e : Entry) → WentLazily s now → WentLazily now next → StandsInBlock now → StandsInBlock next → length (front ++ e ∷ []) ≤ length s.rest
-    → s.rest ≡ (front ++ e ∷ []) ++ (skipped ++ next.rest) → now.rest ≡ e ∷ (skipped ++ next.rest) → least ≡ needed n (top n (front ++ e ∷ [])) → length (top n (front ++ e ∷ [])) ≤ n → AllByRecursion (IsLow least) skipped
-    → blocks_with_freq least now.bounds now.block next.block ≡ sum_by (λ (b : ℕ). if excludes (needed n (top n (before_block s b))) (freq_bound s.bounds b) then 0 else 1) (range_with_len (now.block + 1) (next.block - now.block))
-blocks_same n least s now next front skipped e was goes stands lands inside whole rest_is least_is few low =
-    sum_same _ _ (now.block + 1) (next.block - now.block) (λ b after_block up_to.
-    ap (λ (bounds : List (ℕ × ℕ)). if excludes least (freq_bound bounds b) then 0 else 1) was.bounds
-    ∙ ap (λ (l : ℕ). if excludes l (freq_bound s.bounds b) then 0 else 1) (least_is ∙ ap (needed n) (sym (here b after_block up_to))))
+-- A seek by count passed entries after the one that was looked at, none of which is among the first n.
+record HasPassed (n least : ℕ) (s now next : SegmentPostingsState) (front skipped : List Entry) (e : Entry) : Type 0 where
+  pub was : WentLazily s now
+  pub goes : WentLazily now next
+  pub stands : StandsInBlock now
+  pub lands : StandsInBlock next
+  pub inside : length (front ++ e ∷ []) ≤ length s.rest
+  pub whole : s.rest ≡ (front ++ e ∷ []) ++ (skipped ++ next.rest)
+  pub rest_is : now.rest ≡ e ∷ (skipped ++ next.rest)
+  pub least_is : least ≡ needed n (top n (front ++ e ∷ []))
+  pub few : length (top n (front ++ e ∷ [])) ≤ n
+  pub low : AllByRecursion (IsLow least) skipped
+
+-- so the first n are the same before each block that was passed or reached
+top_before : (n least : ℕ) (s now next : SegmentPostingsState) (front skipped : List Entry) (e : Entry) → HasPassed n least s now next front skipped e → (b : ℕ) → now.block < b → b ≤ next.block → top n (before_block s b) ≡ top n (front ++ e ∷ [])
+top_before n least s now next front skipped e p b after_block up_to =
+    let m = 128 * b + length s.rest - s.doc_freq in
+    let total : length s.rest ≡ length looked + (length skipped + length next.rest) = ap length p.whole ∙ length-append looked (skipped ++ next.rest) ∙ ap (λ (k : ℕ). length looked + k) (length-append skipped next.rest) in
+    let left : length now.rest ≡ suc (length skipped + length next.rest) = ap length p.rest_is ∙ ap suc (length-append skipped next.rest) in
+    let same = p.was.doc_freq in
+    let same_next = p.goes.doc_freq in
+    let first = p.stands.here (omega (arith, left)) in
+    let near = p.stands.near in
+    let inside = p.inside in
+    let above : length looked ≤ m = omega arith in
+    ap (λ (rest : List Entry). top n (take m rest)) p.whole
+    ∙ same_top n least m looked skipped next.rest (rw p.least_is (needed_best n (top n looked) p.few)) p.few p.low above (within total same same_next (by_length next.rest))
   where
     looked : List Entry
     looked = front ++ e ∷ []
 
-    here : (b : ℕ) → now.block + 1 ≤ b → b < now.block + 1 + (next.block - now.block) → top n (before_block s b) ≡ top n looked
-    here b after_block up_to =
-        let m = 128 * b + length s.rest - s.doc_freq in
-        let total : length s.rest ≡ length looked + (length skipped + length next.rest) = ap length whole ∙ length-append looked (skipped ++ next.rest) ∙ ap (λ (k : ℕ). length looked + k) (length-append skipped next.rest) in
-        let left : length now.rest ≡ suc (length skipped + length next.rest) = ap length rest_is ∙ ap suc (length-append skipped next.rest) in
-        let same = was.doc_freq in
-        let same_next = goes.doc_freq in
-        let first = stands.here (omega (arith, left)) in
-        let near = stands.near in
-        let above : length looked ≤ m = omega arith in
-        ap (λ (rest : List Entry). top n (take m rest)) whole
-        ∙ same_top n least m looked skipped next.rest (rw least_is (needed_best n (top n looked) few)) few low above (within m b up_to total same same_next (by_length next.rest))
-      where
-        by_length : (rest : List Entry) → (length rest ≡ 0) ⊎ (0 < length rest)
-        by_length [] = inl refl
-        by_length (x ∷ xs) = inr (omega arith)
+    by_length : (rest : List Entry) → (length rest ≡ 0) ⊎ (0 < length rest)
+    by_length [] = inl refl
+    by_length (x ∷ xs) = inr (omega arith)
 
-        within : (m b : ℕ) → b < now.block + 1 + (next.block - now.block) → length s.rest ≡ length looked + (length skipped + length next.rest) → now.doc_freq ≡ s.doc_freq → next.doc_freq ≡ now.doc_freq → (length next.rest ≡ 0) ⊎ (0 < length next.rest)
-            → (length next.rest ≡ 0) ⊎ (128 * b + length s.rest - s.doc_freq ≤ length looked + length skipped)
-        within m b up_to total same same_next (inl none) = inl none
-        within m b up_to total same same_next (inr some) = let forward = goes.forward in let lands_at = lands.here some in inr (omega arith)
+    within : length s.rest ≡ length looked + (length skipped + length next.rest) → now.doc_freq ≡ s.doc_freq → next.doc_freq ≡ now.doc_freq → (length next.rest ≡ 0) ⊎ (0 < length next.rest)
+        → (length next.rest ≡ 0) ⊎ (128 * b + length s.rest - s.doc_freq ≤ length looked + length skipped)
+    within total same same_next (inl none) = inl none
+    within total same same_next (inr some) = let lands_at = p.lands.here some in inr (omega arith)
+
+-- its blocks are those that may have one of the first n
+blocks_same : (n least : ℕ) (s now next : SegmentPostingsState) (front skipped : List Entry) (e : Entry) → HasPassed n least s now next front skipped e
+    → blocks_with_freq least now.bounds now.block next.block ≡ sum_by (λ (b : ℕ). if excludes (needed n (top n (before_block s b))) (freq_bound s.bounds b) then 0 else 1) (range_with_len (now.block + 1) (next.block - now.block))
+blocks_same n least s now next front skipped e p =
+    let forward = p.goes.forward in
+    sum_same _ _ (now.block + 1) (next.block - now.block) (λ b after_block up_to.
+    ap (λ (bounds : List (ℕ × ℕ)). if excludes least (freq_bound bounds b) then 0 else 1) p.was.bounds
+    ∙ ap (λ (l : ℕ). if excludes l (freq_bound s.bounds b) then 0 else 1) (p.least_is ∙ ap (needed n) (sym (top_before n least s now next front skipped e p b (omega arith) (omega arith)))))
+
+allowed_same : (n least : ℕ) (s now next : SegmentPostingsState) (front skipped : List Entry) (e : Entry) → HasPassed n least s now next front skipped e
+    → (b : ℕ) → now.block < b → b ≤ next.block → AllowsFreq least now.bounds b → AllowsTop n s b
+allowed_same n least s now next front skipped e p b after_block up_to allowed =
+    ap (λ (l : ℕ). excludes l (freq_bound s.bounds b)) (ap (needed n) (top_before n least s now next front skipped e p b after_block up_to) ∙ sym p.least_is)
+    ∙ ap (λ (bounds : List (ℕ × ℕ)). excludes least (freq_bound bounds b)) (sym p.was.bounds) ∙ allowed
 
 -- What a seek by count does after a document.
 pub record IsSought (least after_doc next_doc : ℕ) (now next : SegmentPostingsState) : Type 0 where
@@ -182,6 +205,8 @@ pub record IsSought (least after_doc next_doc : ℕ) (now next : SegmentPostings
   pub sound : IsSound next.rest
   pub went : WentLazily now next
   pub place : StandsInBlock next
+  pub doc_blocks : DecodesAllowed (AllowsFreq least now.bounds) now.block next.block now.doc_blocks next.doc_blocks
+  pub freq_blocks : DecodesAllowed (AllowsFreq least now.bounds) now.block next.block now.freq_blocks next.freq_blocks
   pub docs : next.doc_decodes ≤ now.doc_decodes + blocks_with_freq least now.bounds now.block next.block
   pub freqs : next.freq_decodes ≤ now.freq_decodes + blocks_with_freq least now.bounds now.block next.block
 
@@ -211,7 +236,11 @@ tops_on n doc count least next_doc s now next bs cs i below freq cs_is few least
         cs_is ∙ (λ j. take n (placed (doc_is j, count_is j) (i.best j))) ∙ sym (top_append n i.front (e ∷ [])) in
         let fewer : length (top n looked) ≤ n = rw (← best) few in
         let long : length looked ≤ length s.rest = let total = ap length whole ∙ length-append looked (p.skipped ++ next.rest) in omega arith in
-        let same = blocks_same n least s now next i.front p.skipped e i.went sought.went i.place sought.place long whole (is ∙ ap (λ (l : List Entry). e ∷ l) split) (least_is ∙ ap (needed n) best) fewer p.low in
+        let passed : HasPassed n least s now next i.front p.skipped e =
+        record { was = i.went; goes = sought.went; stands = i.place; lands = sought.place; inside = long; whole = whole; rest_is = is ∙ ap (λ (l : List Entry). e ∷ l) split; least_is = least_is ∙ ap (needed n) best; few = fewer; low = p.low }
+        in
+        let same = blocks_same n least s now next i.front p.skipped e passed in
+        let allows = allowed_same n least s now next i.front p.skipped e passed in
         let forward = i.went.forward in
         let onward = sought.went.forward in
         let parts : next.block - s.block ≡ (now.block - s.block) + (next.block - now.block) = omega arith in
@@ -236,7 +265,12 @@ tops_on n doc count least next_doc s now next bs cs i below freq cs_is few least
           best = best ∙ sym (passed_all looked p.skipped fewer p.low (least_is ∙ ap (needed n) best));
           went = went_on s now next i.went sought.went;
           place = sought.place;
-          decodes = record { docs = omega (arith, sums, docs, docs_so_far); freqs = omega (arith, sums, freqs, freqs_so_far) };
+          decodes = record {
+            doc_blocks = allowed_on (AllowsTop n s) s.block now.block next.block s.doc_blocks now.doc_blocks next.doc_blocks forward onward i.decodes.doc_blocks (allowed_weaker (AllowsFreq least now.bounds) (AllowsTop n s) now.block next.block now.doc_blocks next.doc_blocks allows sought.doc_blocks);
+            freq_blocks = allowed_on (AllowsTop n s) s.block now.block next.block s.freq_blocks now.freq_blocks next.freq_blocks forward onward i.decodes.freq_blocks (allowed_weaker (AllowsFreq least now.bounds) (AllowsTop n s) now.block next.block now.freq_blocks next.freq_blocks allows sought.freq_blocks);
+            docs = omega (arith, sums, docs, docs_so_far);
+            freqs = omega (arith, sums, freqs, freqs_so_far);
+          };
         }
 
 -- nothing is left at the end

@@ -1,8 +1,9 @@
 -- The documents of a list with the greatest counts, and the blocks that may hold one of them.
-use Rattle.std.specs.Prelude.{ℕ, ◌+◌, ◌-◌, ◌*◌, ◌^◌, ◌≤◌, List, [], ◌∷◌, length, min, nat_le, nat_lt, take, if◌then◌else◌}
+use Rattle.std.specs.Prelude.{◌≡◌, false, ℕ, ◌+◌, ◌-◌, ◌*◌, ◌^◌, ◌≤◌, List, [], ◌∷◌, length, min, nat_le, nat_lt, take, if◌then◌else◌}
 use Rattle.std.specs.List.{fold, range_with_len, sum_by}
 use Rattle.ii_base.specs.Entries.{Entry}
 use Rattle.ii_check.specs.CheckedPostings.{excludes}
+use Rattle.ii_check.specs.DecodedBlocks.{DecodesAllowed}
 use Rattle.ii_reader.specs.Bounds.{freq_bound}
 use Rattle.ii_reader.specs.SegmentPostings.{SegmentPostingsState}
 
@@ -35,7 +36,13 @@ before_block s block = take (128 * block + length s.rest - s.doc_freq) s.rest
 abbrev pub blocks_for_top : ℕ → SegmentPostingsState → ℕ → ℕ
 blocks_for_top n s to = sum_by (λ b. if excludes (needed n (top n (before_block s b))) (freq_bound s.bounds b) then 0 else 1) (range_with_len (s.block + 1) (to - s.block))
 
--- A cursor decoded at most the blocks that may have one of the first n documents.
+-- A block may have one of the first n documents, by its bound and the documents before it.
+abbrev pub AllowsTop : ℕ → SegmentPostingsState → ℕ → Type 0
+AllowsTop n s block = excludes (needed n (top n (before_block s block))) (freq_bound s.bounds block) ≡ false
+
+-- A cursor decoded only later blocks that may have one of the first n documents, each at most once.
 pub record DecodesForTop (n : ℕ) (old new : SegmentPostingsState) : Type 0 where
+  pub doc_blocks : DecodesAllowed (AllowsTop n old) old.block new.block old.doc_blocks new.doc_blocks
+  pub freq_blocks : DecodesAllowed (AllowsTop n old) old.block new.block old.freq_blocks new.freq_blocks
   pub docs : new.doc_decodes ≤ old.doc_decodes + blocks_for_top n old new.block
   pub freqs : new.freq_decodes ≤ old.freq_decodes + blocks_for_top n old new.block

@@ -13,7 +13,7 @@ pub loop-doc-preserved : goal.loop-doc-preserved
 loop-doc-preserved c =
     let sought = c.seek_with_freq-doc.ensures in
     tops_on c.args.n c.loop-doc.doc c.term_freq-count.result c.least_of-least.result c.seek_with_freq-doc.result c.args.cursor.now c.loop-doc.cursor c.seek_with_freq-doc.new.self c.loop-doc.best.items c.put.new.best.items c.loop-doc.invariant c.loop-doc-test.true
-    c.term_freq-count.ensures.entry c.in_ok-put.ensures.ok c.in_ok-put.ensures.few (rw c.as_slice.ensures.value at c.least_of-least.ensures) (record { doc = sought.doc; rest = sought.rest; sound = sought.sound; went = sought.work; place = sought.place; docs = sought.decodes; freqs = sought.freqs })
+    c.term_freq-count.ensures.entry c.in_ok-put.ensures.ok c.in_ok-put.ensures.few (rw c.as_slice.ensures.value at c.least_of-least.ensures) (record { doc = sought.doc; rest = sought.rest; sound = sought.sound; went = sought.work; place = sought.place; doc_blocks = sought.doc_blocks; freq_blocks = sought.freq_blocks; docs = sought.decodes; freqs = sought.freqs })
 
 pub returns-clause-top : goal.returns-clause-top
 returns-clause-top c =
