@@ -1,9 +1,10 @@
 -- The bounds of an index's blocks, by its norms.
 use Rattle.std.proofs.Common.{◌≡◌, ◌∙◌, ◌*◌, ◌+◌, ◌/◌, ◌%◌, ◌<◌, ◌≤◌, ◌&&◌, if◌then◌else◌, ◌∷◌, ℕ, zero, suc, Bool, true, false, List, [], Option, None, Some, Ok, Err, get_or, length, map, refl, sym, ap, subst, arith}
-use Rattle.std.specs.Prelude.{MatchOption, Result, ok_or, slice_get, slice_index}
+use Rattle.std.specs.Prelude.{IfNone, IfOk, IfSome, IsSomeAnd, MatchOption, Result, ok_or, slice_get, slice_index}
 use Rattle.std.specs.List.{range_with_len}
 use Rattle.std.specs.Option.{option_map}
 use Rattle.std.proofs.lemmas.Option.{get_or_from_slice_get}
+use Rattle.ii_io.specs.declared.faults.Fault.{Fault}
 use Rattle.ii_io.specs.declared.faults.Part.{Part}
 use Rattle.ii_io.specs.declared.faults.Part.TheVariants.{Documents, Frequencies, Skip}
 use Rattle.ii_io.specs.Parts.{◌>>=◌}
@@ -111,3 +112,16 @@ norms_reach_bounds index field reader key cursor norms h at normed (Some info) f
         let id = norm_of_bound from.skip i bound (ap (λ (bs : List (ℕ × ℕ)). slice_get bs i) from.are ∙ bounded) in
         let least = rw (get_or-block_of cursor.docs i k within) at (block.not_above k (omega (arith, within, size))) in
         subst (λ (n : Norms). bound.0 ≤ id_of_doc n (slice_index cursor.docs (128 * i + k))) (sym (some-same is)) (rw id at least)
+
+-- what a lookup that found something opened
+pub opened_blocks : {B : Type 0} (P : TermInfo → B → Type 0) (o : Option TermInfo) (r : Result (Option B) Fault) (b : B) → r ≡ Ok (Some b) → IfNone o (r ≡ Ok None) → IfSome o (λ info. IfOk r (λ found. IsSomeAnd found (P info))) → MatchOption o ⊥ (λ info. P info b)
+opened_blocks P None r b is none some = let other : r ≡ Ok None = none in absurd (two r b is other)
+  where
+    two : {B : Type 0} (r : Result (Option B) Fault) (b : B) → r ≡ Ok (Some b) → r ≡ Ok None → ⊥
+    two {B} r b a c =
+        let same : Some b ≡ None = inside (sym a ∙ c) in
+        absurd (cc)
+      where
+        inside : ◌≡◌ {A = Result (Option B) Fault} (Ok (Some b)) (Ok None) → Some b ≡ None
+        inside e = cc
+opened_blocks {B} P (Some info) r b is none some = subst (λ (x : Result (Option B) Fault). IfOk x (λ found. IsSomeAnd found (P info))) is some
