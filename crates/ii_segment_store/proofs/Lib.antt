@@ -1,6 +1,8 @@
 mod LoadLaws
 mod PutLaws
 mod CommitLaws
+mod FlagLaws
+mod OrderLaws
 mod ClearLaws
 mod WorkedRows
 pub mod ChangeLaws
