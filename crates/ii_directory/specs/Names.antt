@@ -43,6 +43,7 @@ component_number components.Positions = 2
 component_number components.FieldNorms = 3
 component_number components.Counts = 4
 component_number (components.Alive _) = 5
+component_number components.Store = 6
 
 -- the generation of an alive file, and 0 for any other
 abbrev pub component_generation : SegmentComponent → ℕ
@@ -52,6 +53,7 @@ component_generation components.Positions = 0
 component_generation components.FieldNorms = 0
 component_generation components.Counts = 0
 component_generation (components.Alive generation) = generation
+component_generation components.Store = 0
 
 -- whether two components are equal
 abbrev pub same_component : SegmentComponent → SegmentComponent → Bool
@@ -108,6 +110,7 @@ component_text components.Positions = codes ".pos"
 component_text components.FieldNorms = codes ".norm"
 component_text components.Counts = codes ".count"
 component_text (components.Alive generation) = codes "." ++ hex_digits 16 generation ++ codes ".alive"
+component_text components.Store = codes ".store"
 
 -- the file name in a folder
 abbrev pub name_text : Name → List ℕ

@@ -70,6 +70,8 @@ pub enum SegmentComponent {
     Counts,
     /// Which documents are alive, as of a generation.
     Alive(Generation),
+    /// The lines of the documents.
+    Store,
 }
 
 /// The name of a file in the folder of an index.
@@ -150,6 +152,7 @@ impl SegmentComponent {
             SegmentComponent::FieldNorms => "field norms",
             SegmentComponent::Counts => "counts",
             SegmentComponent::Alive(_) => "living documents",
+            SegmentComponent::Store => "stored documents",
         }
     }
 }
@@ -161,10 +164,10 @@ impl fmt::Display for SegmentComponent {
 }
 
 impl SegmentComponent {
-    /// Returns the number that stands for the component in a `meta` file, below 6.
+    /// Returns the number that stands for the component in a `meta` file, below 7.
     pub fn number(self) -> u8
         ensures number { result ≡ component_number self }
-        ensures bound { result < 6 }
+        ensures bound { result < 7 }
     {
         match self {
             SegmentComponent::Terms => 0,
@@ -173,6 +176,7 @@ impl SegmentComponent {
             SegmentComponent::FieldNorms => 3,
             SegmentComponent::Counts => 4,
             SegmentComponent::Alive(_) => 5,
+            SegmentComponent::Store => 6,
         }
     }
 
@@ -208,6 +212,7 @@ impl SegmentComponent {
                 push_hex(text, 16, generation)?;
                 text.push_str(".alive")
             }
+            SegmentComponent::Store => text.push_str(".store"),
         }
     }
 }
@@ -238,7 +243,7 @@ fn hex_char(digit: u8) -> char
 }
 
 impl Name {
-    /// Returns the number of the name, below 18. Names of index files have numbers of their own; files of
+    /// Returns the number of the name, below 19. Names of index files have numbers of their own; files of
     /// segments have one for each component.
     pub fn number(self) -> u8
         ensures { result ≡ name_number self }
@@ -379,6 +384,9 @@ fn component_of_text(text: &[u8]) -> Option<SegmentComponent>
     }
     if text == b".count".as_slice() {
         return Some(SegmentComponent::Counts);
+    }
+    if text == b".store".as_slice() {
+        return Some(SegmentComponent::Store);
     }
     alive_of_text(text)
 }

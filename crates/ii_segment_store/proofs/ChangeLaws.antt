@@ -12,14 +12,15 @@ use Rattle.ii_store.specs.declared.faults.IndexFault.TheVariants.{DeletedDocumen
 use Rattle.ii_store.specs.declared.index_meta.FileMeta.{FileMeta}
 use Rattle.ii_directory.specs.declared.name.Name.TheVariants.{Segment}
 use Rattle.ii_directory.specs.declared.name.SegmentComponent.{SegmentComponent}
-use Rattle.ii_directory.specs.declared.name.SegmentComponent.TheVariants.{Alive, Counts, FieldNorms, Positions, Postings, Terms}
+use Rattle.ii_directory.specs.declared.name.SegmentComponent.TheVariants.{Alive, Counts, FieldNorms, Positions, Postings, Store, Terms}
 use Rattle.ii_directory.specs.Directory.{Elsewhere, Files, IsPut}
 use Rattle.ii_store.specs.Index.{◌>>=◌}
 use Rattle.ii_store.specs.IndexMeta.{SegmentState, file_meta}
 use Rattle.ii_directory.specs.Names.{component_generation, component_number, name_generation, same_component}
 use Rattle.ii_store.specs.Segments.{listed_bytes}
-use Rattle.ii_segment_store.specs.Changes.{IsChangedTo, IsFlagged, KeepsButFlags, KeepsOlder, latest_file, result_without, with_flags, without}
-use Rattle.ii_segment_store.specs.Contents.{SegmentContents, alive_file, component_bytes, counts_bytes, file_of, fitting_flags, flags_in, flags_with, segment_in}
+use Rattle.ii_segment_store.specs.Changes.{IsChangedTo, IsFlagged, KeepsButFlags, KeepsOlder, files_with_flags, latest_file, result_without, with_flags, without}
+use Rattle.ii_segment_store.specs.Contents.{SegmentContents, alive_file, component_bytes, file_of, fitting_flags, flags_in, flags_with, optional_bytes, segment_in}
+use Rattle.ii_segment_store.proofs.FlagLaws.{finds_after, finds_before, finds_flags, latest_with_flags}
 use Rattle.ii_segment_store.proofs.CommitLaws.{KeepsFileOf, flags_same, found_has, listed_same, read_back}
 
 -- older files are the same where only flags of later generations were changed
@@ -48,45 +49,6 @@ older_then g a b c one two name other = two name other ∙ one name other
 
 pub elsewhere_flags : (id g : ℕ) (a c : Files) → Elsewhere (Segment id (Alive g)) a c → KeepsButFlags g a c
 elsewhere_flags id g a c elsewhere name other = elsewhere name (λ e. other id e)
-
--- the files of a segment with new flags
-
-abbrev is_other : FileMeta → Bool
-is_other f = not (component_number f.component == 5)
-
-abbrev others_and : FileMeta → List FileMeta → List FileMeta
-others_and x fs = filter is_other fs ++ x ∷ []
-
-abbrev other_or : Bool → FileMeta → FileMeta → List FileMeta → List FileMeta
-other_or b x f fs = (if not b then f ∷ filter is_other fs else filter is_other fs) ++ x ∷ []
-
-differs : (c other : SegmentComponent) → component_number c ≡ 5 → component_number other ≢ 5 → same_component c other ≡ false
-differs c other five differ = rw (ne_eqb (component_number c) (component_number other) (λ same. differ (sym same ∙ five))) refl
-
-found_after : (component : SegmentComponent) (x f : FileMeta) (fs : List FileMeta) (b : Bool) → component_number component ≢ 5 → (component_number f.component == 5) ≡ b
-    → file_of component (others_and x fs) ≡ file_of component fs → file_of component (other_or b x f fs) ≡ file_of component (f ∷ fs)
-found_after component x f fs true differ is rest = rest ∙ sym (rw (differs f.component component (eqb-true (component_number f.component) 5 is) differ) refl)
-found_after component x f fs false differ is rest = rw rest refl
-
-others_find : (component : SegmentComponent) (x : FileMeta) (fs : List FileMeta) → component_number component ≢ 5 → component_number x.component ≡ 5 → file_of component (others_and x fs) ≡ file_of component fs
-others_find component x [] differ five = rw (differs x.component component five differ) refl
-others_find component x (f ∷ fs) differ five = found_after component x f fs (component_number f.component == 5) differ refl (others_find component x fs differ five)
-
-flags_after : (x f : FileMeta) (fs : List FileMeta) (b : Bool) → (component_number f.component == 5) ≡ b → alive_file (others_and x fs) ≡ Some x → alive_file (other_or b x f fs) ≡ Some x
-flags_after x f fs true is rest = rest
-flags_after x f fs false is rest = rw is rest
-
-others_flags : (x : FileMeta) (fs : List FileMeta) → component_number x.component ≡ 5 → alive_file (others_and x fs) ≡ Some x
-others_flags x [] five = rw (eq-eqb (component_number x.component) 5 five) refl
-others_flags x (f ∷ fs) five = flags_after x f fs (component_number f.component == 5) refl (others_flags x fs five)
-
-latest_after : (g : ℕ) (x f : FileMeta) (fs : List FileMeta) (b : Bool) → component_generation f.component ≤ g → latest_file (others_and x fs) ≤ g → latest_file (other_or b x f fs) ≤ g
-latest_after g x f fs true le rest = rest
-latest_after g x f fs false le rest = omega (arith, le, rest)
-
-others_latest : (g : ℕ) (x : FileMeta) (fs : List FileMeta) → component_generation x.component ≤ g → latest_file fs ≤ g → latest_file (others_and x fs) ≤ g
-others_latest g x [] one le = omega (arith, one)
-others_latest g x (f ∷ fs) one le = latest_after g x f fs (component_number f.component == 5) (omega (arith, le)) (others_latest g x fs one (omega (arith, le)))
 
 -- flags have as many documents as their segment
 
@@ -124,29 +86,31 @@ unfolding flags_with
 flags_again s g alive files size there =
     let x = file_meta (Alive g) (alive_bytes alive) in
     let bits : alive_of s.num_docs (alive_bytes alive) ≡ Some alive = subst (λ (n : ℕ). alive_of n (alive_bytes alive) ≡ Some alive) size (reads_written_flags alive) in
-    ap (λ (found : Option FileMeta). flags_with (with_flags s g alive) found files) (others_flags x s.files refl)
+    ap (λ (found : Option FileMeta). flags_with (with_flags s g alive) found files) (finds_flags x s.files refl)
     ∙ rw (read_back s.id (Alive g) (alive_bytes alive) (files (Segment s.id (Alive g))) there, bits, eq-eqb (num_living alive) (num_living alive) refl) refl
 
 -- what a segment holds, part by part
-abbrev parts : ℕ → Result (List ℕ) IndexFault → Result (List ℕ) IndexFault → Result (List ℕ) IndexFault → Result (List ℕ) IndexFault → Result (Option (List ℕ)) IndexFault → List Bool → Result SegmentContents IndexFault
-parts n a b d e f alive = do
+abbrev parts : ℕ → Result (List ℕ) IndexFault → Result (List ℕ) IndexFault → Result (List ℕ) IndexFault → Result (List ℕ) IndexFault → Result (Option (List ℕ)) IndexFault → Result (Option (List ℕ)) IndexFault → List Bool → Result SegmentContents IndexFault
+parts n a b d e f h alive = do
   terms ← a
   postings ← b
   positions ← d
   fieldnorms ← e
   counts ← f
-  Ok (record { num_docs = n; terms = terms; postings = postings; positions = positions; fieldnorms = fieldnorms; counts = counts; alive = alive })
+  store ← h
+  Ok (record { num_docs = n; terms = terms; postings = postings; positions = positions; fieldnorms = fieldnorms; counts = counts; store = store; alive = alive })
 
-parts_without : (docs : List ℕ) (n : ℕ) (a b d e : Result (List ℕ) IndexFault) (f : Result (Option (List ℕ)) IndexFault) (alive : List Bool) → parts n a b d e f (without docs alive) ≡ result_without docs (parts n a b d e f alive)
-parts_without docs n (Err fault) b d e f alive = refl
-parts_without docs n (Ok w) (Err fault) d e f alive = refl
-parts_without docs n (Ok w) (Ok x) (Err fault) e f alive = refl
-parts_without docs n (Ok w) (Ok x) (Ok y) (Err fault) f alive = refl
-parts_without docs n (Ok w) (Ok x) (Ok y) (Ok z) (Err fault) alive = refl
-parts_without docs n (Ok w) (Ok x) (Ok y) (Ok z) (Ok counts) alive = refl
+parts_without : (docs : List ℕ) (n : ℕ) (a b d e : Result (List ℕ) IndexFault) (f h : Result (Option (List ℕ)) IndexFault) (alive : List Bool) → parts n a b d e f h (without docs alive) ≡ result_without docs (parts n a b d e f h alive)
+parts_without docs n (Err fault) b d e f h alive = refl
+parts_without docs n (Ok w) (Err fault) d e f h alive = refl
+parts_without docs n (Ok w) (Ok x) (Err fault) e f h alive = refl
+parts_without docs n (Ok w) (Ok x) (Ok y) (Err fault) f h alive = refl
+parts_without docs n (Ok w) (Ok x) (Ok y) (Ok z) (Err fault) h alive = refl
+parts_without docs n (Ok w) (Ok x) (Ok y) (Ok z) (Ok counts) (Err fault) alive = refl
+parts_without docs n (Ok w) (Ok x) (Ok y) (Ok z) (Ok counts) (Ok store) alive = refl
 
 abbrev parts_of : SegmentState → Files → List Bool → Result SegmentContents IndexFault
-parts_of s files alive = parts s.num_docs (component_bytes s Terms files) (component_bytes s Postings files) (component_bytes s Positions files) (component_bytes s FieldNorms files) (counts_bytes s files) alive
+parts_of s files alive = parts s.num_docs (component_bytes s Terms files) (component_bytes s Postings files) (component_bytes s Positions files) (component_bytes s FieldNorms files) (optional_bytes s Counts files) (optional_bytes s Store files) alive
 
 with_known_flags : (s : SegmentState) (files : Files) (alive : List Bool) → flags_in s files ≡ Ok alive → segment_in s files ≡ parts_of s files alive
 unfolding segment_in
@@ -155,8 +119,9 @@ with_known_flags s files alive known = rw known refl
 same_parts : (s : SegmentState) (g : ℕ) (alive : List Bool) (files : Files) → parts_of (with_flags s g alive) files alive ≡ parts_of s files alive
 same_parts s g alive files =
     let x = file_meta (Alive g) (alive_bytes alive) in
-    let finds : (component : SegmentComponent) → component_number component ≢ 5 → file_of component (others_and x s.files) ≡ file_of component s.files = λ component differ. others_find component x s.files differ refl in
-    rw (finds Terms (λ e. omega (arith, e)), finds Postings (λ e. omega (arith, e)), finds Positions (λ e. omega (arith, e)), finds FieldNorms (λ e. omega (arith, e)), finds Counts (λ e. omega (arith, e))) refl
+    let finds : (component : SegmentComponent) → component_number component < 5 → file_of component (files_with_flags x s.files) ≡ file_of component s.files = λ component lt. finds_before component x s.files refl lt in
+    let found : file_of Store (files_with_flags x s.files) ≡ file_of Store s.files = finds_after Store x s.files refl (omega arith) in
+    rw (finds Terms (omega arith), finds Postings (omega arith), finds Positions (omega arith), finds FieldNorms (omega arith), finds Counts (omega arith), found) refl
 
 -- a segment after documents were deleted, whose flags were written
 pub flagged_reads : (docs : List ℕ) (s : SegmentState) (g : ℕ) (alive : List Bool) (old new : Files) → latest_file s.files < g → flags_in s old ≡ Ok alive → IsPut (Segment s.id (Alive g)) (Some (alive_bytes (without docs alive))) old new
@@ -169,7 +134,7 @@ flagged_reads docs s g alive old new later known put =
     let size : length flags ≡ s.num_docs = length_without docs alive ∙ flags_length s (alive_file s.files) old alive known in
     record {
       read = with_known_flags (with_flags s g flags) new flags (flags_again s g flags new size put.there) ∙ same_parts s g flags new
-          ∙ parts_without docs s.num_docs (component_bytes s Terms new) (component_bytes s Postings new) (component_bytes s Positions new) (component_bytes s FieldNorms new) (counts_bytes s new) alive
+          ∙ parts_without docs s.num_docs (component_bytes s Terms new) (component_bytes s Postings new) (component_bytes s Positions new) (component_bytes s FieldNorms new) (optional_bytes s Counts new) (optional_bytes s Store new) alive
           ∙ ap (result_without docs) (sym (with_known_flags s new alive now) ∙ older_segment (latest_file s.files) s old new (omega arith) older);
       flagged = inr (alive, known, refl);
       keeps = keeps;
@@ -180,7 +145,7 @@ flagged_reads docs s g alive old new later known put =
 pub flagged_latest : (docs : List ℕ) (g : ℕ) (s t : SegmentState) (files : Files) → latest_file s.files ≤ g → IsFlagged docs g s t files → latest_file t.files ≤ g
 flagged_latest docs g s t files le flagged = ⊎_elim
     (λ same. subst (λ (x : SegmentState). latest_file x.files ≤ g) (sym same.1) le)
-    (λ new. subst (λ (x : SegmentState). latest_file x.files ≤ g) (sym new.2) (others_latest g (file_meta (Alive g) (alive_bytes (without docs new.0))) s.files (omega arith) le))
+    (λ new. subst (λ (x : SegmentState). latest_file x.files ≤ g) (sym new.2) (latest_with_flags g (file_meta (Alive g) (alive_bytes (without docs new.0))) s.files (omega arith) le))
     flagged
 
 pub flagged_id : (docs : List ℕ) (g : ℕ) (s t : SegmentState) (files : Files) → IsFlagged docs g s t files → t.id ≡ s.id

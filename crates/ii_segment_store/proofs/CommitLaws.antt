@@ -15,7 +15,7 @@ use Rattle.ii_directory.specs.declared.name.Kind.TheVariants.{Schema}
 use Rattle.ii_directory.specs.declared.name.Kind.TheVariants as kinds_of
 use Rattle.ii_directory.specs.declared.name.Name.TheVariants.{File, Meta, Segment}
 use Rattle.ii_directory.specs.declared.name.SegmentComponent.{SegmentComponent}
-use Rattle.ii_directory.specs.declared.name.SegmentComponent.TheVariants.{Counts, FieldNorms, Positions, Postings, Terms}
+use Rattle.ii_directory.specs.declared.name.SegmentComponent.TheVariants.{Counts, FieldNorms, Positions, Postings, Store, Terms}
 use Rattle.ii_directory.specs.declared.name.Slot.{Slot}
 use Rattle.ii_directory.specs.Directory.{Elapses, Files, Same}
 use Rattle.ii_store.specs.Index.{◌>>=◌, Index, index_at, index_in, index_of, num_docs_in, used_slot, version_in, whole_num_docs_in}
@@ -24,7 +24,7 @@ use Rattle.ii_directory.specs.Names.{other_slot}
 use Rattle.ii_store.specs.Segments.{list_in, listed_bytes}
 use Rattle.ii_directory.proofs.Elapsing.{elapses_implies, elapses_none}
 use Rattle.ii_store.proofs.SaveLaws.{index_outside}
-use Rattle.ii_segment_store.specs.Commits.{HasSegment, HaveIdsBelow, HoldsOldOr, IsCommitted, IsFresh, KeepsUncommitted, LeavesOneIndex, MayBeCommitted, emptied, index_of_segment, listed_counts, listed_segment, next_list}
+use Rattle.ii_segment_store.specs.Commits.{HasFileIf, HasSegment, HaveIdsBelow, HoldsOldOr, IsCommitted, IsFresh, KeepsUncommitted, LeavesOneIndex, MayBeCommitted, emptied, index_of_segment, listed_if, listed_segment, next_list}
 use Rattle.ii_segment_store.specs.Contents.{IndexContents, SegmentContents, alive_file, bytes_if_listed, contents_at, contents_in, index_contents, file_of, bytes_of_component, flags_with, list_contents, one_segment, only_segment, segment_in, all_contents, with_segment}
 
 -- lists that a `meta` file holds
@@ -141,10 +141,10 @@ unfolding bytes_of_component
 found_same i component None a c same = refl
 found_same i component (Some f) a c same = rw same refl
 
-counts_same : (i : ℕ) (found : Option FileMeta) (a c : Files) → IfSome found (KeepsFileOf i a c) → bytes_if_listed i found c ≡ bytes_if_listed i found a
+optional_same : (i : ℕ) (found : Option FileMeta) (a c : Files) → IfSome found (KeepsFileOf i a c) → bytes_if_listed i found c ≡ bytes_if_listed i found a
 unfolding bytes_if_listed
-counts_same i None a c same = refl
-counts_same i (Some f) a c same = rw same refl
+optional_same i None a c same = refl
+optional_same i (Some f) a c same = rw same refl
 
 pub flags_same : (s : SegmentState) (found : Option FileMeta) (a c : Files) → IfSome found (KeepsFileOf s.id a c) → flags_with s found c ≡ flags_with s found a
 unfolding flags_with
@@ -161,7 +161,8 @@ listed_same s a c all =
       found_same s.id Postings (file_of Postings s.files) a c (has _),
       found_same s.id Positions (file_of Positions s.files) a c (has _),
       found_same s.id FieldNorms (file_of FieldNorms s.files) a c (has _),
-      counts_same s.id (file_of Counts s.files) a c (has _),
+      optional_same s.id (file_of Counts s.files) a c (has _),
+      optional_same s.id (file_of Store s.files) a c (has _),
       flags_same s (alive_file s.files) a c (has _),
     ) refl
 
@@ -222,15 +223,28 @@ pub read_back : (id : ℕ) (component : SegmentComponent) (bytes : List ℕ) (fo
 unfolding listed_bytes
 read_back id component bytes found is = rw is (rw (eq-eqb _ _ refl, nat_list_eq_equiv.refl (sha256 bytes)) refl)
 
-counts_again : (id : ℕ) (a b d e : List ℕ) (counts : Option (List ℕ)) (files : Files) → IfSome counts (λ bytes. files (Segment id Counts) ≡ Some bytes)
-    → bytes_if_listed id (file_of Counts (file_meta Terms a ∷ file_meta Postings b ∷ file_meta Positions d ∷ file_meta FieldNorms e ∷ listed_counts counts)) files ≡ Ok counts
-unfolding bytes_if_listed
-counts_again id a b d e None files there = refl
-counts_again id a b d e (Some bytes) files there = rw (read_back id Counts bytes (files (Segment id Counts)) there) refl
+-- the files of a new segment, without flags
+abbrev listed_files : List ℕ → List ℕ → List ℕ → List ℕ → Option (List ℕ) → Option (List ℕ) → List FileMeta
+listed_files a b d e counts store = file_meta Terms a ∷ file_meta Postings b ∷ file_meta Positions d ∷ file_meta FieldNorms e ∷ listed_if Counts counts ++ listed_if Store store
 
-no_flags : (a b d e : List ℕ) (counts : Option (List ℕ)) → alive_file (file_meta Terms a ∷ file_meta Postings b ∷ file_meta Positions d ∷ file_meta FieldNorms e ∷ listed_counts counts) ≡ None
-no_flags a b d e None = refl
-no_flags a b d e (Some bytes) = refl
+counts_again : (id : ℕ) (a b d e : List ℕ) (counts store : Option (List ℕ)) (files : Files) → HasFileIf id Counts counts files → bytes_if_listed id (file_of Counts (listed_files a b d e counts store)) files ≡ Ok counts
+unfolding bytes_if_listed
+counts_again id a b d e None None files there = refl
+counts_again id a b d e None (Some lines) files there = refl
+counts_again id a b d e (Some bytes) store files there = rw (read_back id Counts bytes (files (Segment id Counts)) there) refl
+
+store_again : (id : ℕ) (a b d e : List ℕ) (counts store : Option (List ℕ)) (files : Files) → HasFileIf id Store store files → bytes_if_listed id (file_of Store (listed_files a b d e counts store)) files ≡ Ok store
+unfolding bytes_if_listed
+store_again id a b d e None None files there = refl
+store_again id a b d e (Some bytes) None files there = refl
+store_again id a b d e None (Some lines) files there = rw (read_back id Store lines (files (Segment id Store)) there) refl
+store_again id a b d e (Some bytes) (Some lines) files there = rw (read_back id Store lines (files (Segment id Store)) there) refl
+
+no_flags : (a b d e : List ℕ) (counts store : Option (List ℕ)) → alive_file (listed_files a b d e counts store) ≡ None
+no_flags a b d e None None = refl
+no_flags a b d e None (Some lines) = refl
+no_flags a b d e (Some bytes) None = refl
+no_flags a b d e (Some bytes) (Some lines) = refl
 
 flags_again : (s : SegmentState) → s.num_living ≡ s.num_docs → (files : Files) → flags_with s None files ≡ Ok (replicate s.num_docs true)
 unfolding flags_with
@@ -244,8 +258,9 @@ segment_again id s files all there =
       read_back id Postings s.postings (files (Segment id Postings)) there.postings,
       read_back id Positions s.positions (files (Segment id Positions)) there.positions,
       read_back id FieldNorms s.fieldnorms (files (Segment id FieldNorms)) there.fieldnorms,
-      counts_again id s.terms s.postings s.positions s.fieldnorms s.counts files there.counts,
-      no_flags s.terms s.postings s.positions s.fieldnorms s.counts,
+      counts_again id s.terms s.postings s.positions s.fieldnorms s.counts s.store files there.counts,
+      store_again id s.terms s.postings s.positions s.fieldnorms s.counts s.store files there.store,
+      no_flags s.terms s.postings s.positions s.fieldnorms s.counts s.store,
       flags_again (listed_segment id s) refl files,
     ) (ap (λ (alive : List Bool). Ok (record s { alive = alive })) (sym all))
 

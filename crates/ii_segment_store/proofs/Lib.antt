@@ -1,6 +1,7 @@
 mod LoadLaws
 mod PutLaws
 mod CommitLaws
+mod FlagLaws
 mod ClearLaws
 mod WorkedRows
 pub mod ChangeLaws

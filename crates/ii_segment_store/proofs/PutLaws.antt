@@ -1,21 +1,21 @@
 -- What the calls of a commit leave, file by file.
 use Rattle.std.proofs.Common.{◌≡◌, inl, inr, ⊎_elim, ℕ, List, Option, None, Some, Ok, refl, ◌∙◌}
-use Rattle.std.specs.Prelude.{IfSome}
 use Rattle.ii_directory.specs.declared.name.Name.{Name}
 use Rattle.ii_directory.specs.declared.name.Name.TheVariants.{File, Meta, NewMeta, Segment}
 use Rattle.ii_directory.specs.declared.name.SegmentComponent.{SegmentComponent}
-use Rattle.ii_directory.specs.declared.name.SegmentComponent.TheVariants.{Counts, FieldNorms, Positions, Postings, Terms}
+use Rattle.ii_directory.specs.declared.name.SegmentComponent.TheVariants.{Counts, FieldNorms, Positions, Postings, Store, Terms}
 use Rattle.ii_directory.specs.Directory.{Elapses, Files}
 use Rattle.ii_store.specs.IndexMeta.{MetaState}
 use Rattle.ii_store.specs.Segments.{KeepsOtherFiles, MayBeReplaced, list_in}
 use Rattle.ii_store.proofs.CommitLaws.{segment_is_no_meta, segment_is_no_new_meta}
 use Rattle.ii_directory.proofs.Elapsing.{elapses_implies, elapses_then}
-use Rattle.ii_segment_store.specs.Commits.{HasSegment, IsCommitted, KeepsButSegment, MayBeCommitted}
+use Rattle.ii_segment_store.specs.Commits.{HasFileIf, HasSegment, IsCommitted, KeepsButSegment, MayBeCommitted}
 use Rattle.ii_segment_store.specs.Contents.{SegmentContents}
 
-counts_there : (counts : Option (List ℕ)) (ready new : Files) (id : ℕ) → new (Segment id Counts) ≡ ready (Segment id Counts) → IfSome counts (λ bytes. ready (Segment id Counts) ≡ Some bytes) → IfSome counts (λ bytes. new (Segment id Counts) ≡ Some bytes)
-counts_there None ready new id same there = tt
-counts_there (Some bytes) ready new id same there = same ∙ there
+-- a file that a segment may not have is there again
+if_there : (id : ℕ) (component : SegmentComponent) (found : Option (List ℕ)) (ready new : Files) → new (Segment id component) ≡ ready (Segment id component) → HasFileIf id component found ready → HasFileIf id component found new
+if_there id component None ready new same there = tt
+if_there id component (Some bytes) ready new same there = same ∙ there
 
 module _ (id : ℕ) (m : MetaState) (s : SegmentContents) (old ready : Files) (there : HasSegment id s ready) (keeps : KeepsButSegment id old ready) where
   -- a list replaced the old one, once the files were written
@@ -24,7 +24,14 @@ module _ (id : ℕ) (m : MetaState) (s : SegmentContents) (old ready : Files) (t
       let same : (component : SegmentComponent) → new (Segment id component) ≡ ready (Segment id component) = λ component. others (Segment id component) (segment_is_no_meta id component) (segment_is_no_new_meta id component) in
       record {
         meta = listed;
-        there = record { terms = same Terms ∙ there.terms; postings = same Postings ∙ there.postings; positions = same Positions ∙ there.positions; fieldnorms = same FieldNorms ∙ there.fieldnorms; counts = counts_there s.counts ready new id (same Counts) there.counts };
+        there = record {
+          terms = same Terms ∙ there.terms;
+          postings = same Postings ∙ there.postings;
+          positions = same Positions ∙ there.positions;
+          fieldnorms = same FieldNorms ∙ there.fieldnorms;
+          counts = if_there id Counts s.counts ready new (same Counts) there.counts;
+          store = if_there id Store s.store ready new (same Store) there.store;
+        };
         keeps = λ name no_segment no_meta no_new_meta. others name no_meta no_new_meta ∙ keeps name no_segment;
       }
 

@@ -74,7 +74,7 @@ no_file_of_terms = refl
 -- a segment more: the ids and generations rise by one, and it comes last
 
 abbrev words : ℕ → SegmentContents
-words n = record { num_docs = n; terms = n ∷ []; postings = []; positions = []; fieldnorms = []; counts = None; alive = replicate n true }
+words n = record { num_docs = n; terms = n ∷ []; postings = []; positions = []; fieldnorms = []; counts = None; store = None; alive = replicate n true }
 
 abbrev list : ℕ → List SegmentState → MetaState
 list number segments = record { generation = number; next_segment_id = number; schema = 9 ∷ []; segments = segments }

@@ -1,5 +1,5 @@
 -- What an index holds after documents were deleted, and how its list of segments changes.
-use Rattle.std.specs.Prelude.{◌≡◌, ◌≢◌, ◌⊎◌, ℕ, ◌+◌, ◌<◌, ◌≤◌, ◌^◌, ◌==◌, ◌&&◌, ⊤, max, not, Bool, false, is_some, List, [], ◌∷◌, ◌++◌, drop, filter, get_or, length, slice_get, slice_set, Option, Some, None, Result, Ok, Err, if◌then◌else◌}
+use Rattle.std.specs.Prelude.{◌≡◌, ◌≢◌, ◌⊎◌, ℕ, ◌+◌, ◌<◌, ◌≤◌, ◌^◌, ◌==◌, ◌&&◌, ⊤, max, not, Bool, false, is_some, nat_lt, List, [], ◌∷◌, ◌++◌, drop, filter, get_or, length, slice_get, slice_set, Option, Some, None, Result, Ok, Err, if◌then◌else◌}
 use Rattle.ii_alive.specs.Alive.{num_living}
 use Rattle.ii_alive.specs.AliveBytes.{alive_bytes}
 use Rattle.ii_store.specs.declared.faults.IndexFault.{IndexFault}
@@ -70,13 +70,17 @@ KeepsButFlags generation old new = (name : Name) → ((id : ℕ) → name ≡ Se
 abbrev pub KeepsOlder : ℕ → Files → Files → Type 0
 KeepsOlder generation old new = (name : Name) → ((id g : ℕ) → generation < g → name ≡ Segment id (Alive g) → ⊥) → new name ≡ old name
 
+-- the files of a segment with other flags, in the order of their components
+abbrev pub files_with_flags : FileMeta → List FileMeta → List FileMeta
+files_with_flags flags files = filter (λ (f : FileMeta). nat_lt (component_number f.component) 5) files ++ flags ∷ filter (λ (f : FileMeta). nat_lt 5 (component_number f.component)) files
+
 -- a segment with new flags, in a file of a generation
 abbrev pub with_flags : SegmentState → ℕ → List Bool → SegmentState
 with_flags s generation alive = record {
   id = s.id;
   num_docs = s.num_docs;
   num_living = num_living alive;
-  files = filter (λ (f : FileMeta). not (component_number f.component == 5)) s.files ++ file_meta (Alive generation) (alive_bytes alive) ∷ [];
+  files = files_with_flags (file_meta (Alive generation) (alive_bytes alive)) s.files;
 }
 
 -- whether documents of a segment are deleted although it has no counts

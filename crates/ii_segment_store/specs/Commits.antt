@@ -9,7 +9,7 @@ use Rattle.ii_directory.specs.declared.name.Name.{Name}
 use Rattle.ii_directory.specs.declared.name.Name.TheVariants.{File, Meta, NewMeta, Segment}
 use Rattle.ii_directory.specs.declared.name.SegmentComponent.{SegmentComponent}
 use Rattle.ii_directory.specs.declared.name.Slot.{Slot}
-use Rattle.ii_directory.specs.declared.name.SegmentComponent.TheVariants.{Counts, FieldNorms, Positions, Postings, Terms}
+use Rattle.ii_directory.specs.declared.name.SegmentComponent.TheVariants.{Counts, FieldNorms, Positions, Postings, Store, Terms}
 use Rattle.ii_directory.specs.Directory.{Elapses, Files}
 use Rattle.ii_store.specs.Index.{Fails}
 use Rattle.ii_store.specs.IndexMeta.{IsValidMeta, MetaState, SegmentState, file_meta}
@@ -18,10 +18,10 @@ use Rattle.ii_segment_store.specs.declared.faults.CommitFault.{CommitFault}
 use Rattle.ii_segment_store.specs.declared.faults.CommitFault.TheVariants as faults
 use Rattle.ii_segment_store.specs.Contents.{IndexContents, SegmentContents, index_contents}
 
--- a file of counts, as `meta` lists it
-abbrev pub listed_counts : Option (List ℕ) → List FileMeta
-listed_counts None = []
-listed_counts (Some bytes) = file_meta Counts bytes ∷ []
+-- a file that a segment may not have, as `meta` lists it
+abbrev pub listed_if : SegmentComponent → Option (List ℕ) → List FileMeta
+listed_if component None = []
+listed_if component (Some bytes) = file_meta component bytes ∷ []
 
 -- a segment, as `meta` lists it
 abbrev pub listed_segment : ℕ → SegmentContents → SegmentState
@@ -29,7 +29,7 @@ listed_segment id s = record {
   id = id;
   num_docs = s.num_docs;
   num_living = s.num_docs;
-  files = file_meta Terms s.terms ∷ file_meta Postings s.postings ∷ file_meta Positions s.positions ∷ file_meta FieldNorms s.fieldnorms ∷ listed_counts s.counts;
+  files = file_meta Terms s.terms ∷ file_meta Postings s.postings ∷ file_meta Positions s.positions ∷ file_meta FieldNorms s.fieldnorms ∷ listed_if Counts s.counts ++ listed_if Store s.store;
 }
 
 -- the next list, with one segment more under the next id
@@ -66,13 +66,18 @@ HasList files = (m : MetaState) × (list_in (files Meta) ≡ Ok m)
 abbrev pub KeepsButSegment : ℕ → Files → Files → Type 0
 KeepsButSegment id old new = (name : Name) → ((component : SegmentComponent) → name ≡ Segment id component → ⊥) → new name ≡ old name
 
+-- The file of a component is there, if a segment has one.
+abbrev pub HasFileIf : ℕ → SegmentComponent → Option (List ℕ) → Files → Type 0
+HasFileIf id component found files = IfSome found (λ bytes. files (Segment id component) ≡ Some bytes)
+
 -- The files of a segment are there.
 pub record HasSegment (id : ℕ) (s : SegmentContents) (files : Files) : Type 0 where
   pub terms : files (Segment id Terms) ≡ Some s.terms
   pub postings : files (Segment id Postings) ≡ Some s.postings
   pub positions : files (Segment id Positions) ≡ Some s.positions
   pub fieldnorms : files (Segment id FieldNorms) ≡ Some s.fieldnorms
-  pub counts : IfSome s.counts (λ bytes. files (Segment id Counts) ≡ Some bytes)
+  pub counts : HasFileIf id Counts s.counts files
+  pub store : HasFileIf id Store s.store files
 
 -- all files are the same, but those of one segment and the next `meta`
 abbrev pub KeepsUncommitted : ℕ → Files → Files → Type 0

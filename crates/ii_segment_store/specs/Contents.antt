@@ -9,7 +9,7 @@ use Rattle.ii_store.specs.declared.faults.IndexFault.TheVariants.{DeletedDocumen
 use Rattle.ii_store.specs.declared.index_meta.FileMeta.{FileMeta}
 use Rattle.ii_directory.specs.declared.name.Name.TheVariants.{Meta, Segment}
 use Rattle.ii_directory.specs.declared.name.SegmentComponent.{SegmentComponent}
-use Rattle.ii_directory.specs.declared.name.SegmentComponent.TheVariants.{Counts, FieldNorms, Positions, Postings, Terms}
+use Rattle.ii_directory.specs.declared.name.SegmentComponent.TheVariants.{Counts, FieldNorms, Positions, Postings, Store, Terms}
 use Rattle.ii_directory.specs.Directory.{Files}
 use Rattle.ii_store.specs.Index.{◌>>=◌, Index, index_of, version_in}
 use Rattle.ii_store.specs.IndexMeta.{MetaState, SegmentState, meta_of}
@@ -27,6 +27,7 @@ pub record SegmentContents : Type 0 where
   pub positions : List ℕ
   pub fieldnorms : List ℕ
   pub counts : Option (List ℕ)
+  pub store : Option (List ℕ)
   pub alive : List Bool
 
 -- the schema of an index, and its segments in the order of their documents
@@ -43,6 +44,7 @@ contents_with f alive = record {
   positions = f.positions.items;
   fieldnorms = f.fieldnorms.items;
   counts = option_map (λ v. v.items) f.counts;
+  store = option_map (λ v. v.items) f.store;
   alive = alive;
 }
 
@@ -78,9 +80,9 @@ bytes_if_listed id (Some f) files = do
   bytes ← listed_bytes (record { id = id; file = f }) (files (Segment id f.component))
   Ok (Some bytes)
 
--- the bytes of a segment's file of counts, if it is listed
-abbrev pub counts_bytes : SegmentState → Files → Result (Option (List ℕ)) IndexFault
-counts_bytes s files = bytes_if_listed s.id (file_of Counts s.files) files
+-- the bytes of a segment's file of a component, if it is listed
+abbrev pub optional_bytes : SegmentState → SegmentComponent → Files → Result (Option (List ℕ)) IndexFault
+optional_bytes s component files = bytes_if_listed s.id (file_of component s.files) files
 
 -- the file of flags in a list of files, of whatever generation
 abbrev pub alive_file : List FileMeta → Option FileMeta
@@ -109,9 +111,10 @@ segment_in s files = do
   postings ← component_bytes s Postings files
   positions ← component_bytes s Positions files
   fieldnorms ← component_bytes s FieldNorms files
-  counts ← counts_bytes s files
+  counts ← optional_bytes s Counts files
+  store ← optional_bytes s Store files
   alive ← flags_in s files
-  Ok (record { num_docs = s.num_docs; terms = terms; postings = postings; positions = positions; fieldnorms = fieldnorms; counts = counts; alive = alive })
+  Ok (record { num_docs = s.num_docs; terms = terms; postings = postings; positions = positions; fieldnorms = fieldnorms; counts = counts; store = store; alive = alive })
 
 -- what segments hold, or the first fault
 unfoldable pub all_contents : List SegmentState → Files → Result (List SegmentContents) IndexFault
@@ -127,9 +130,9 @@ list_contents m files = do
   segments ← all_contents m.segments files
   Ok (record { schema = m.schema; segments = segments })
 
--- the segment of an index of version 1, without counts
+-- the segment of an index of version 1, without counts and stored documents
 abbrev pub only_segment : Index → SegmentContents
-only_segment i = record { num_docs = i.num_docs; terms = i.terms; postings = i.postings; positions = i.positions; fieldnorms = i.fieldnorms; counts = None; alive = replicate i.num_docs true }
+only_segment i = record { num_docs = i.num_docs; terms = i.terms; postings = i.postings; positions = i.positions; fieldnorms = i.fieldnorms; counts = None; store = None; alive = replicate i.num_docs true }
 
 -- an index of version 1, as one segment
 abbrev pub one_segment : Index → IndexContents

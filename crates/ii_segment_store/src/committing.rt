@@ -1,11 +1,12 @@
 //! Adds a segment to an index, so that a stop leaves the old index or the new one.
-ghost use Rattle.std.specs.Prelude.{◌≡◌, IfErr, IfOk, Ok, OnOk};
-ghost use Rattle.ii_directory.specs.declared.name.Name.TheVariants.{Meta};
-ghost use Rattle.ii_directory.specs.Directory.{Elapses};
+ghost use Rattle.std.specs.Prelude.{◌≡◌, ◌++◌, IfErr, IfOk, Ok, OnOk};
+ghost use Rattle.std.specs.Option.{option_map};
+ghost use Rattle.ii_directory.specs.declared.name.Name.TheVariants.{Meta, Segment};
+ghost use Rattle.ii_directory.specs.Directory.{Elapses, Elsewhere};
 ghost use Rattle.ii_store.specs.Index.{index_of, view};
 ghost use Rattle.ii_store.specs.IndexMeta.{IsValidMeta, meta_view, segment_view};
 ghost use Rattle.ii_store.specs.Segments.{list_in};
-ghost use Rattle.ii_segment_store.specs.Commits.{HasList, HasSegment, HaveIdsBelow, HoldsOldOr, IsCommitFault, IsCommitted, IsFresh, KeepsButSegment, LeavesOneIndex, MayBeCommitted, listed_segment, next_list};
+ghost use Rattle.ii_segment_store.specs.Commits.{HasFileIf, HasList, HasSegment, HaveIdsBelow, HoldsOldOr, IsCommitFault, IsCommitted, IsFresh, KeepsButSegment, LeavesOneIndex, MayBeCommitted, listed_if, listed_segment, next_list};
 ghost use Rattle.ii_segment_store.specs.Contents.{index_contents, list_contents, files_contents, with_segment};
 
 use crate::faults::CommitFault;
@@ -108,6 +109,7 @@ fn upgrade_from<D: Directory>(
         positions,
         fieldnorms,
         counts: None,
+        store: None,
     };
     let committed = commit_segment(alloc, directory, list, &segment);
     drop(segment);
@@ -178,15 +180,28 @@ fn listed_segment(
     files.push(FileMeta::new(SegmentComponent::Postings, segment.postings.as_slice()))?;
     files.push(FileMeta::new(SegmentComponent::Positions, segment.positions.as_slice()))?;
     files.push(FileMeta::new(SegmentComponent::FieldNorms, segment.fieldnorms.as_slice()))?;
-    if let Some(counts) = &segment.counts {
-        files.push(FileMeta::new(SegmentComponent::Counts, counts.as_slice()))?;
-    }
+    push_if_some(&mut files, SegmentComponent::Counts, &segment.counts)?;
+    push_if_some(&mut files, SegmentComponent::Store, &segment.store)?;
     Ok(SegmentMeta {
         id,
         num_docs: segment.num_docs,
         num_living: segment.num_docs,
         files,
     })
+}
+
+// Adds a file that a segment may not have.
+fn push_if_some(
+    files: &mut Vec<FileMeta>,
+    component: SegmentComponent,
+    bytes: &Option<Vec<u8>>,
+) -> Result<(), AllocError>
+    ensures { OnOk result (files.new.items ≡ files.old.items ++ listed_if component (option_map (λ v. v.items) bytes.now)) }
+{
+    match bytes {
+        Some(bytes) => Ok(files.push(FileMeta::new(component, bytes.as_slice()))?),
+        None => Ok(()),
+    }
 }
 
 // Writes the files of a segment, and puts a list in the place of the current one.
@@ -233,11 +248,24 @@ fn write_segment<D: Directory>(
         Name::Segment(id, SegmentComponent::FieldNorms),
         segment.fieldnorms.as_slice(),
     )?;
-    match &segment.counts {
-        Some(counts) => directory.write(
-            Name::Segment(id, SegmentComponent::Counts),
-            counts.as_slice(),
-        ),
+    write_if_some(directory, id, SegmentComponent::Counts, &segment.counts)?;
+    write_if_some(directory, id, SegmentComponent::Store, &segment.store)
+}
+
+// Writes a file that a segment may not have.
+fn write_if_some<D: Directory>(
+    directory: &mut D,
+    id: SegmentId,
+    component: SegmentComponent,
+    bytes: &Option<Vec<u8>>,
+) -> Result<(), DirectoryFault>
+    ensures known { D.is_known directory.old → OnOk result (D.is_known directory.new) }
+    ensures there { D.is_known directory.old → OnOk result (HasFileIf id component (option_map (λ v. v.items) bytes.now) (D.seen directory.new)) }
+    ensures keeps { D.is_known directory.old → OnOk result (Elsewhere (Segment id component) (D.seen directory.old) (D.seen directory.new)) }
+    ensures time { D.is_known directory.old → Elapses (D.moment directory.old) (D.moment directory.new) (D.left_since directory.old) (D.left_since directory.new) (Elsewhere (Segment id component) (D.seen directory.old)) }
+{
+    match bytes {
+        Some(bytes) => directory.write(Name::Segment(id, component), bytes.as_slice()),
         None => Ok(()),
     }
 }

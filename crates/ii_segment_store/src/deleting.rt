@@ -1,5 +1,5 @@
 //! Deletes documents, and adds a segment with them, so that a stop leaves the old index or the new one.
-ghost use Rattle.std.specs.Prelude.{◌≡◌, ◌<◌, ◌+◌, ◌^◌, ◌==◌, ◌∷◌, [], IfErr, IfOk, Ok, OnOk, Some, filter, get_or, length, map, not};
+ghost use Rattle.std.specs.Prelude.{◌≡◌, ◌<◌, ◌+◌, ◌^◌, ◌∷◌, ◌++◌, [], IfErr, IfOk, Ok, OnOk, Some, filter, get_or, length, map, nat_lt};
 ghost use Rattle.std.specs.Option.{option_map};
 ghost use Rattle.ii_alive.specs.AliveBytes.{alive_bytes};
 ghost use Rattle.ii_store.specs.declared.index_meta.FileMeta.{FileMeta};
@@ -9,7 +9,7 @@ ghost use Rattle.ii_directory.specs.Directory.{Elapses, Elsewhere, IsPut};
 ghost use Rattle.ii_store.specs.IndexMeta.{meta_view, segment_view};
 ghost use Rattle.ii_directory.specs.Names.{component_number};
 ghost use Rattle.ii_store.specs.Segments.{list_in};
-ghost use Rattle.ii_segment_store.specs.Changes.{AreChanged, FailsForFlags, IsChangeFault, IsChangedTo, IsDeleteFault, IsFlaggedList, IsFlagsFault, IsListFault, KeepsButFlags, KeepsOlder, changed_index, first_uncounted, index_without, is_uncounted, latest_file, latest_generation, with_flags, without};
+ghost use Rattle.ii_segment_store.specs.Changes.{AreChanged, FailsForFlags, IsChangeFault, IsChangedTo, IsDeleteFault, IsFlaggedList, IsFlagsFault, IsListFault, KeepsButFlags, KeepsOlder, changed_index, files_with_flags, first_uncounted, index_without, is_uncounted, latest_file, latest_generation, with_flags, without};
 ghost use Rattle.ii_segment_store.specs.Commits.{HoldsOldOr, LeavesOneIndex};
 ghost use Rattle.ii_segment_store.specs.Contents.{files_contents, index_contents, list_contents};
 
@@ -208,8 +208,8 @@ fn put_flags<D: Directory>(
 {
     let bytes = flags_bytes(alloc, alive)?;
     let component = SegmentComponent::Alive(generation);
-    let mut files = other_files(alloc, segment.files.as_slice())?;
-    files.push(FileMeta::new(component, bytes.as_slice()))?;
+    let flags = FileMeta::new(component, bytes.as_slice());
+    let files = files_with_flags(alloc, segment.files.as_slice(), flags)?;
     directory.write(Name::Segment(segment.id, component), bytes.as_slice())?;
     Ok(SegmentMeta {
         id: segment.id,
@@ -230,17 +230,43 @@ fn flags_bytes(alloc: Global, alive: &AliveBits) -> Result<Vec<u8>, DirectoryFau
     }
 }
 
-// Returns the files of a segment except its flags.
-fn other_files(alloc: Global, files: &[FileMeta]) -> Result<Vec<FileMeta>, AllocError>
-    ensures { IfOk result (λ v. v.items ≡ filter (λ (f : FileMeta). not (component_number f.component == 5)) files.now) }
+// Returns the files of a segment with other flags.
+fn files_with_flags(
+    alloc: Global,
+    files: &[FileMeta],
+    flags: FileMeta,
+) -> Result<Vec<FileMeta>, AllocError>
+    ensures { IfOk result (λ v. v.items ≡ files_with_flags flags files.now) }
 {
-    let mut others = Vec::new(alloc);
+    let mut listed = files_before_flags(alloc, files)?;
+    listed.push(flags)?;
+    push_files_after_flags(&mut listed, files)?;
+    Ok(listed)
+}
+
+// Returns the files of a segment whose components come before flags.
+fn files_before_flags(alloc: Global, files: &[FileMeta]) -> Result<Vec<FileMeta>, AllocError>
+    ensures { IfOk result (λ v. v.items ≡ filter (λ (f : FileMeta). nat_lt (component_number f.component) 5) files.now) }
+{
+    let mut before = Vec::new(alloc);
     for file in files {
-        if file.component.number() != 5 {
-            others.push(*file)?;
+        if file.component.number() < 5 {
+            before.push(*file)?;
         }
     }
-    Ok(others)
+    Ok(before)
+}
+
+// Adds the files of a segment whose components come after flags.
+fn push_files_after_flags(listed: &mut Vec<FileMeta>, files: &[FileMeta]) -> Result<(), AllocError>
+    ensures { OnOk result (listed.new.items ≡ listed.old.items ++ filter (λ (f : FileMeta). nat_lt 5 (component_number f.component)) files.now) }
+{
+    for file in files {
+        if file.component.number() > 5 {
+            listed.push(*file)?;
+        }
+    }
+    Ok(())
 }
 
 // Returns a copy of a segment.

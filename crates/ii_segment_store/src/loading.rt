@@ -5,7 +5,7 @@ ghost use Rattle.ii_store.specs.Faults.{of_directory};
 ghost use Rattle.ii_directory.specs.declared.faults.DirectoryFault.TheVariants.{OutOfMemory};
 ghost use Rattle.ii_store.specs.Index.{AnswersFromFiles, view};
 ghost use Rattle.ii_store.specs.IndexMeta.{segment_view, meta_view};
-ghost use Rattle.ii_segment_store.specs.Contents.{alive_file, all_contents, bytes_if_listed, component_bytes, contents_at, contents_view, contents_with, counts_bytes, file_of, fitting_flags, flags_in, flags_with, index_contents, list_contents, one_segment, segment_contents, segment_in};
+ghost use Rattle.ii_segment_store.specs.Contents.{alive_file, all_contents, bytes_if_listed, component_bytes, contents_at, contents_view, contents_with, file_of, fitting_flags, flags_in, flags_with, index_contents, list_contents, one_segment, optional_bytes, segment_contents, segment_in};
 ghost use Rattle.ii_alive.specs.AliveBytes.{alive_of};
 
 use crate::faults::{flags_fault, memory_fault};
@@ -101,6 +101,7 @@ fn one_segment(alloc: Global, index: StoredIndex) -> Result<StoredSegments, Stor
         positions,
         fieldnorms,
         counts: None,
+        store: None,
     };
     let mut segments = Vec::new(alloc);
     segments.push(StoredSegment { files, alive })?;
@@ -154,7 +155,8 @@ fn load_segment<D: Directory>(
     let postings = load_file(alloc, directory, segment, SegmentComponent::Postings)?;
     let positions = load_file(alloc, directory, segment, SegmentComponent::Positions)?;
     let fieldnorms = load_file(alloc, directory, segment, SegmentComponent::FieldNorms)?;
-    let counts = load_counts(alloc, directory, segment)?;
+    let counts = load_if_listed(alloc, directory, segment, SegmentComponent::Counts)?;
+    let store = load_if_listed(alloc, directory, segment, SegmentComponent::Store)?;
     let alive = load_flags(alloc, directory, segment)?;
     Ok(StoredSegment {
         files: SegmentFiles {
@@ -164,21 +166,23 @@ fn load_segment<D: Directory>(
             positions,
             fieldnorms,
             counts,
+            store,
         },
         alive,
     })
 }
 
-// Loads the file of counts of a segment, if it lists one.
+// Loads the file of a component of a segment, if it lists one.
 #[tactic(auto, unfolding(crate::specs::Contents::bytes_if_listed))]
-fn load_counts<D: Directory>(
+fn load_if_listed<D: Directory>(
     alloc: Global,
     directory: &D,
     segment: &SegmentMeta,
+    component: SegmentComponent,
 ) -> Result<Option<Vec<u8>>, StoreFault>
-    ensures { D.is_known directory.now → AnswersFromFiles (option_map (λ v. v.items)) result (counts_bytes (segment_view segment.now) (D.seen directory.now)) }
+    ensures { D.is_known directory.now → AnswersFromFiles (option_map (λ v. v.items)) result (optional_bytes (segment_view segment.now) component (D.seen directory.now)) }
 {
-    let Some(file) = file_of(segment.files.as_slice(), SegmentComponent::Counts) else {
+    let Some(file) = file_of(segment.files.as_slice(), component) else {
         return Ok(None);
     };
     match load_segment_file(alloc, directory, segment.id, &file) {

@@ -17,6 +17,8 @@ pub struct SegmentFiles {
     pub fieldnorms: Vec<u8>,
     /// The number of tokens of each document in each field, if it was recorded.
     pub counts: Option<Vec<u8>>,
+    /// The lines of the documents, in the format of `ii_doc_store`, if they were stored.
+    pub store: Option<Vec<u8>>,
 }
 
 /// A segment: its files, and which of its documents are alive.
@@ -35,7 +37,7 @@ pub struct StoredSegments {
 }
 
 impl SegmentFiles {
-    /// Returns the segment as an index with this schema, without its counts.
+    /// Returns the segment as an index with this schema, without its counts and stored documents.
     pub fn into_index(self, schema: Vec<u8>) -> StoredIndex
         ensures { view result ≡ as_index schema.items (files_contents self) }
     {

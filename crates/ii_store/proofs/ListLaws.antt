@@ -12,7 +12,7 @@ use Rattle.sha2.proofs.Facts256.{length-sha256}
 use Rattle.ii_store.specs.declared.faults.IndexFault.{IndexFault}
 use Rattle.ii_store.specs.declared.index_meta.FileMeta.{FileMeta}
 use Rattle.ii_directory.specs.declared.name.SegmentComponent.{SegmentComponent}
-use Rattle.ii_directory.specs.declared.name.SegmentComponent.TheVariants.{Alive, Counts, FieldNorms, Positions, Postings, Terms}
+use Rattle.ii_directory.specs.declared.name.SegmentComponent.TheVariants.{Alive, Counts, FieldNorms, Positions, Postings, Store, Terms}
 use Rattle.ii_store.specs.Index.{format, version_in}
 use Rattle.ii_store.specs.IndexMeta.{FileFits, IsValidMeta, MetaFits, MetaState, SegmentFits, SegmentState, body_bytes, bytes_at, checked_list, component_of, file_at, file_bytes, items_at, list_at, list_bytes, list_head, list_numbers, meta_bytes, meta_of, number_at, segment_at, segment_bytes, segment_head}
 use Rattle.ii_directory.specs.Names.{component_generation, component_number}
@@ -61,6 +61,7 @@ component_again Positions = refl
 component_again FieldNorms = refl
 component_again Counts = refl
 component_again (Alive generation) = refl
+component_again Store = refl
 
 number_small : (c : SegmentComponent) → component_number c < 2 ^ 16
 number_small Terms = omega arith
@@ -69,6 +70,7 @@ number_small Positions = omega arith
 number_small FieldNorms = omega arith
 number_small Counts = omega arith
 number_small (Alive generation) = omega arith
+number_small Store = omega arith
 
 -- four parts and what comes after them
 four : (a b c d rest : List ℕ) → (a ++ b ++ c ++ d) ++ rest ≡ a ++ (b ++ (c ++ (d ++ rest)))

@@ -6,11 +6,11 @@ use Rattle.ii_store.specs.declared.faults.IndexFault.TheVariants.{DamagedMeta}
 use Rattle.ii_store.specs.declared.index_meta.FileMeta.{FileMeta}
 use Rattle.ii_directory.specs.declared.name.Name.TheVariants.{Meta, NewMeta, Segment}
 use Rattle.ii_directory.specs.declared.name.SegmentComponent.{SegmentComponent}
-use Rattle.ii_directory.specs.declared.name.SegmentComponent.TheVariants.{Alive, Counts, Positions, Terms}
+use Rattle.ii_directory.specs.declared.name.SegmentComponent.TheVariants.{Alive, Counts, Positions, Store, Terms}
 use Rattle.ii_store.specs.Collect.{is_garbage}
 use Rattle.ii_store.specs.IndexMeta.{MetaState, SegmentState, component_of, is_consistent, is_segment, items_at, number_at, segment_at}
 
--- the components of the numbers 2, 5 and 6; only living documents have a generation
+-- the components of the numbers 2, 5, 6 and 7; only living documents have a generation
 
 abbrev damaged : Result SegmentComponent IndexFault
 damaged = Err DamagedMeta
@@ -26,13 +26,21 @@ component_5 : component_of 5 7 ≡ component (Alive 7)
 unfolding component_of
 component_5 = refl
 
-component_6 : component_of 6 0 ≡ damaged
+component_6 : component_of 6 0 ≡ component Store
 unfolding component_of
 component_6 = refl
+
+component_7 : component_of 7 0 ≡ damaged
+unfolding component_of
+component_7 = refl
 
 positions_of_a_generation : component_of 2 7 ≡ damaged
 unfolding component_of
 positions_of_a_generation = refl
+
+store_of_a_generation : component_of 6 7 ≡ damaged
+unfolding component_of
+store_of_a_generation = refl
 
 -- segment 1 of 3 documents, of which 2 are alive, without files; a byte comes after it
 
@@ -86,6 +94,16 @@ in_order : is_segment 2 (record { id = 1; num_docs = 3; num_living = 2; files = 
 unfolding is_segment
 in_order = refl
 
+-- stored documents come after living documents
+
+store_first : is_segment 2 (record { id = 1; num_docs = 3; num_living = 2; files = file Store ∷ file (Alive 1) ∷ [] }) ≡ false
+unfolding is_segment
+store_first = refl
+
+store_last : is_segment 2 (record { id = 1; num_docs = 3; num_living = 2; files = file Terms ∷ file (Alive 1) ∷ file Store ∷ [] }) ≡ true
+unfolding is_segment
+store_last = refl
+
 -- what a list of segment 1 with terms and living documents of generation 1 leaves to `collect`
 
 abbrev listed_1 : MetaState
@@ -99,6 +117,9 @@ takes_old_alive = refl
 
 takes_counts : is_garbage listed_1 (Segment 1 Counts) ≡ true
 takes_counts = refl
+
+takes_store : is_garbage listed_1 (Segment 1 Store) ≡ true
+takes_store = refl
 
 keeps_meta : is_garbage listed_1 Meta ≡ false
 keeps_meta = refl

@@ -139,6 +139,7 @@ fn component_at(number: u16, generation: Generation) -> Result<SegmentComponent,
         2 => Ok(SegmentComponent::Positions),
         3 => Ok(SegmentComponent::FieldNorms),
         4 => Ok(SegmentComponent::Counts),
+        6 => Ok(SegmentComponent::Store),
         _ => Err(damaged()),
     }
 }

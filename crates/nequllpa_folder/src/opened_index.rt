@@ -148,6 +148,7 @@ fn opened_segment(alloc: Global, schema: &[u8], segment: StoredSegment) -> Resul
         positions,
         fieldnorms,
         counts,
+        store: _,
     } = files;
     let index = StoredIndex {
         num_docs,

@@ -116,6 +116,7 @@ fn merge_files(
         positions: positions.finish(),
         fieldnorms: fieldnorms.finish(),
         counts,
+        store: None,
     })
 }
 

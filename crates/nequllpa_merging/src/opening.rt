@@ -78,6 +78,7 @@ fn open_segment(
         positions,
         fieldnorms,
         counts,
+        store: _,
     } = files;
     let files = TermFiles {
         terms,
