@@ -37,9 +37,9 @@ pub record StoreSourceState : Type 0 where
   pub store : StoreReaderState
   pub alive : List Bool
 
--- the model of a borrowed store
+-- the model of a store that is merged
 abbrev pub opened_store : StoreSource → StoreSourceState
-opened_store s = record { store = s.store.now; alive = s.alive.now }
+opened_store s = record { store = s.store; alive = s.alive.now }
 
 -- A store has a document for each flag.
 abbrev pub FitsFlags : StoreSourceState → Type 0

@@ -59,7 +59,7 @@ fn store_all<W: Write>(
     ensures fault { (initial : CountingWriterState) → HasStored initial writer.old [] → IfErr result (IsStoreMergeFault (map opened_store sources.now)) }
 {
     for place in 0..sources.len() {
-        if let Err(fault) = store_source(writer, place, sources[place]) {
+        if let Err(fault) = store_source(writer, place, &sources[place]) {
             return Err(fault);
         }
     }

@@ -15,18 +15,18 @@ use std::io::Write;
 pub(crate) fn store_source<W: Write>(
     writer: &mut StoreWriter<W>,
     place: usize,
-    source: StoreSource<'_>,
+    source: &StoreSource<'_>,
 ) -> Result<(), StoreMergeFault>
     requires open { writer.old.closed ≡ false }
-    requires fits { FitsFlags (opened_store source) }
-    ensures stored { OnOk result (StoresLiving (opened_store source.entry) writer.old writer.new) }
+    requires fits { FitsFlags (opened_store source.now) }
+    ensures stored { OnOk result (StoresLiving (opened_store source.now) writer.old writer.new) }
     ensures open { OnOk result (writer.new.closed ≡ false) }
-    ensures fault { (initial : CountingWriterState) (before : List (List ℕ)) → HasStored initial writer.old before → IfErr result (IsSourceFault (length before) place (opened_store source.entry)) }
+    ensures fault { (initial : CountingWriterState) (before : List (List ℕ)) → HasStored initial writer.old before → IfErr result (IsSourceFault (length before) place (opened_store source.now)) }
 {
     let mut kept = None;
     for doc in 0..source.alive.num_docs() {
         if source.alive.is_alive(doc) {
-            let block = match block_with(source.store, kept, doc) {
+            let block = match block_with(&source.store, kept, doc) {
                 Ok(block) => block,
                 Err(damage) => return Err(StoreMergeFault::Damaged(place, damage)),
             };

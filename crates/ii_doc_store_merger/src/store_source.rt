@@ -2,10 +2,16 @@ use ii_alive::AliveBits;
 use ii_doc_store::StoreReader;
 
 /// A store that is merged.
-#[derive(Clone, Copy)]
 pub struct StoreSource<'a> {
     /// The documents, living and dead.
-    pub store: &'a StoreReader,
+    pub store: StoreReader,
     /// Which documents are alive.
     pub alive: &'a AliveBits,
+}
+
+// Makes each drop a call.
+impl<'a> Drop for StoreSource<'a> {
+    fn drop(self) {
+        let StoreSource { store: _, alive: _ } = self;
+    }
 }

@@ -8,7 +8,7 @@ use Rattle.ii_doc_store_merger.proofs.source.store_source.Goals.{then-is_alive+i
 
 pub returns-in-Err-store_from-clause-fault : goal.returns-in-Err-store_from-clause-fault
 returns-in-Err-store_from-clause-fault g c = λ initial before stored.
-    let s = opened_store c.args.source in
+    let s = opened_store c.args.source.now in
     let doc = c.loop-doc.doc in
     let now = c.loop-doc.writer in
     let fault = c.in-Err-store_from.fault in
@@ -19,7 +19,7 @@ returns-in-Err-store_from-clause-fault g c = λ initial before stored.
 
 pub loop-doc-preserved : goal.loop-doc-preserved
 loop-doc-preserved g c =
-    let s = opened_store c.args.source in
+    let s = opened_store c.args.source.now in
     let doc = c.loop-doc.doc in
     let old = c.args.writer.now in
     let now = c.loop-doc.writer in

@@ -7,5 +7,5 @@ use Rattle.ii_doc_store_merger.proofs.source.store_source.Given as goal
 abbrev pub invariant-loop-doc : goal.invariant-loop-doc
 invariant-loop-doc g l = record {
   so_far : HasStoredTo (opened_store l.source) l.doc l.fn.writer l.writer;
-  kept : IfSome l.kept (IsBlockOf l.source.store.now.bytes l.source.store.now.checkpoints);
+  kept : IfSome l.kept (IsBlockOf l.source.store.bytes l.source.store.checkpoints);
 }
