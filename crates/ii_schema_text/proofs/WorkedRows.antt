@@ -8,7 +8,7 @@ use Rattle.ii_tokenizers.specs.declared.analyzer.Analyzer.TheVariants.{Ascii, De
 use Rattle.ii_tokenizers.specs.Tokenizers.{analyzer_named}
 use Rattle.ii_schema_text.specs.declared.faults.FieldKey.TheVariants as keys
 use Rattle.ii_schema_text.specs.Settings.{option_named, settings_in, type_named}
-use Rattle.ii_schema_text.specs.SchemaText.{default_in, entry_in, field_in, is_known_key, no_fields, other_unicode, table_schema, tokenizer_in, unicode_in, unknown_field_key, unknown_field_tokenizer, unknown_key, unknown_tokenizer, wrong_key}
+use Rattle.ii_schema_text.specs.SchemaText.{default_in, entry_in, field_in, is_known_key, no_fields, other_unicode, stores_source_in, table_schema, tokenizer_in, unicode_in, unknown_field_key, unknown_field_tokenizer, unknown_key, unknown_tokenizer, wrong_key, wrong_store_source}
 
 -- a field of texts alone has positions and norms
 text_field : table_schema (member (codes "field") (array (item (table (member (codes "name") (string (codes "a")) (member (codes "type") (string (codes "text")) no_members))) no_items)) no_members)
@@ -22,6 +22,7 @@ text_field : table_schema (member (codes "field") (array (item (table (member (c
         expands_dots = false;
       } ∷ [];
       tokenizers = Ascii ∷ [];
+      stores_source = false;
     })
 unfolding table_schema field_in entry_in settings_in type_named option_named is_known_key
 text_field = refl
@@ -63,6 +64,37 @@ stranger = refl
 none : table_schema no_members ≡ Err no_fields
 unfolding table_schema is_known_key
 none = refl
+
+-- lines are stored if the text says so
+stored : stores_source_in (Some (boolean true)) ≡ Ok true
+stored = refl
+
+not_stored : stores_source_in None ≡ Ok false
+not_stored = refl
+
+stored_as_a_text : stores_source_in (Some (string (codes "true"))) ≡ Err wrong_store_source
+stored_as_a_text = refl
+
+stored_field : table_schema (member (codes "field") (array (item (table (member (codes "name") (string (codes "a")) (member (codes "type") (string (codes "bool")) no_members))) no_items)) (member (codes "store_source") (boolean true) no_members))
+    ≡ Ok (record {
+      schema = record {
+        name = codes "a";
+        value_type = values.Bool;
+        option = Basic;
+        is_indexed = true;
+        has_fieldnorms = false;
+        expands_dots = false;
+      } ∷ [];
+      tokenizers = Ascii ∷ [];
+      stores_source = true;
+    })
+unfolding table_schema field_in entry_in settings_in type_named option_named is_known_key
+stored_field = refl
+
+-- the key is told before the fields
+stored_first : table_schema (member (codes "store_source") (integer (pos 1)) no_members) ≡ Err wrong_store_source
+unfolding table_schema is_known_key
+stored_first = refl
 
 -- a field's own tokenizer, that of the text, and that of a text that names none
 own : tokenizer_in 3 Default true (Some (string (codes "raw"))) ≡ Ok Raw

@@ -1,7 +1,7 @@
 -- The schema that a TOML text describes.
 use Rattle.std.specs.Prelude.{◌≡◌, Bool, true, false, ◌&&◌, ◌||◌, not, ◌^◌, ℕ, List, [], ◌∷◌, ◌++◌, bytes_eq, codes, if◌then◌else◌, length, nat_lt, Option, None, Some, ok_or, Result, Ok, Err, ⊤, string_bytes}
 use Rattle.std.specs.List.{list_any}
-use Rattle.toml.specs.Data.{Data, Items, Members, get, get_member, as_array, as_str, item, no_items, member, no_members, table}
+use Rattle.toml.specs.Data.{Data, Items, Members, get, get_member, as_array, as_bool, as_str, item, no_items, member, no_members, table}
 use Rattle.toml.specs.Parse.{parse_document}
 use Rattle.ii_base.specs.Schema.{SchemaEntry}
 use Rattle.ii_base.specs.declared.schema.index_record_option.IndexRecordOption.TheVariants.{Basic}
@@ -22,10 +22,11 @@ use Rattle.ii_schema_text.specs.declared.settings.Settings.{Settings}
 use Rattle.ii_schema_text.specs.Settings.{has_texts, is_json_type, named, settings_in}
 use Rattle.ii_schema_text.specs.Steps.{◌>>=◌}
 
--- A schema, and the tokenizer of each of its fields.
+-- A schema, the tokenizer of each of its fields, and whether the lines of documents are stored.
 pub record TextSchemaState : Type 0 where
   pub schema : List SchemaEntry
   pub tokenizers : List Analyzer
+  pub stores_source : Bool
 
 -- Why a text is not a valid schema.
 pub data Refusal : Type 0 where
@@ -33,6 +34,7 @@ pub data Refusal : Type 0 where
   unknown_key : List ℕ → Refusal
   wrong_tokenizer : Refusal
   unknown_tokenizer : List ℕ → Refusal
+  wrong_store_source : Refusal
   no_fields : Refusal
   too_many_fields : Refusal
   unknown_field_key : ℕ → List ℕ → Refusal
@@ -48,6 +50,7 @@ told_of_text (faults.NotToml e) = Some not_toml
 told_of_text (faults.UnknownKey key) = Some (unknown_key (string_bytes key))
 told_of_text faults.WrongTokenizer = Some wrong_tokenizer
 told_of_text (faults.UnknownTokenizer name) = Some (unknown_tokenizer (string_bytes name))
+told_of_text faults.WrongStoreSource = Some wrong_store_source
 told_of_text faults.NoFields = Some no_fields
 told_of_text faults.TooManyFields = Some too_many_fields
 told_of_text (faults.UnknownFieldKey place key) = Some (unknown_field_key place (string_bytes key))
@@ -68,7 +71,7 @@ AnswersFromText view (Err e) wanted = TellsOfText (told_of_text e) wanted
 
 -- whether a key is allowed in the text, or in a field's table
 unfoldable pub is_known_key : KnownKeys → List ℕ → Bool
-is_known_key OfText key = bytes_eq key (codes "field") || (bytes_eq key (codes "tokenizer") || bytes_eq key (codes "unicode"))
+is_known_key OfText key = bytes_eq key (codes "field") || (bytes_eq key (codes "tokenizer") || (bytes_eq key (codes "unicode") || bytes_eq key (codes "store_source")))
 is_known_key OfField key =
     bytes_eq key (codes "name") || (bytes_eq key (codes "type") || (bytes_eq key (codes "indexed")
     || (bytes_eq key (codes "record") || (bytes_eq key (codes "fieldnorms") || (bytes_eq key (codes "expand_dots") || bytes_eq key (codes "tokenizer"))))))
@@ -159,7 +162,7 @@ tokenizer_in place otherwise allowed (Some d) = if allowed then tokenizer_named 
 
 -- the fields, and one more
 abbrev pub with_field : TextSchemaState → SchemaEntry → Analyzer → TextSchemaState
-with_field s e tokenizer = record { schema = s.schema ++ e ∷ []; tokenizers = s.tokenizers ++ tokenizer ∷ [] }
+with_field s e tokenizer = record s { schema = s.schema ++ e ∷ []; tokenizers = s.tokenizers ++ tokenizer ∷ [] }
 
 -- fields and the one that a table describes
 unfoldable pub field_in : Analyzer → TextSchemaState → Data → Result TextSchemaState Refusal
@@ -173,9 +176,9 @@ abbrev pub fields_from : Analyzer → TextSchemaState → Items → Result TextS
 fields_from otherwise before no_items = Ok before
 fields_from otherwise before (item d ds) = field_in otherwise before d >>= λ s. fields_from otherwise s ds
 
--- no fields
-abbrev pub without_fields : TextSchemaState
-without_fields = record { schema = []; tokenizers = [] }
+-- no fields, of a text that stores lines or doesn't
+abbrev pub without_fields : Bool → TextSchemaState
+without_fields stores = record { schema = []; tokenizers = []; stores_source = stores }
 
 -- fails if there are 2^32 fields or more
 abbrev pub few : TextSchemaState → Result TextSchemaState Refusal
@@ -196,6 +199,11 @@ abbrev pub default_in : Option Data → Result Analyzer Refusal
 default_in None = Ok Ascii
 default_in (Some d) = default_named (as_str d)
 
+-- whether the lines of documents are stored: as a text says, or they aren't
+abbrev pub stores_source_in : Option Data → Result Bool Refusal
+stores_source_in None = Ok false
+stores_source_in (Some d) = ok_or (as_bool d) wrong_store_source
+
 -- fails if a tokenizer follows another version of Unicode than this one
 abbrev pub same_unicode : List Analyzer → Option (List ℕ) → Result (Unit {0}) Refusal
 same_unicode tokenizers None = Err wrong_unicode
@@ -206,13 +214,14 @@ abbrev pub unicode_in : List Analyzer → Option Data → Result (Unit {0}) Refu
 unicode_in tokenizers None = Ok tt
 unicode_in tokenizers (Some d) = same_unicode tokenizers (as_str d)
 
--- the schema that a table describes, with its tokenizers
+-- the schema that a table describes, with its tokenizers, and whether lines are stored
 unfoldable pub table_schema : Members → Result TextSchemaState Refusal
 table_schema ms = do
   _ ← knows_keys unknown_key (unknown_key_in OfText ms)
   otherwise ← default_in (get_member (codes "tokenizer") ms)
+  stores ← stores_source_in (get_member (codes "store_source") ms)
   fields ← ok_or (fields_in (get_member (codes "field") ms)) no_fields
-  read ← fields_from otherwise without_fields fields
+  read ← fields_from otherwise (without_fields stores) fields
   s ← few read
   _ ← unicode_in s.tokenizers (get_member (codes "unicode") ms)
   Ok s
@@ -221,7 +230,7 @@ table_schema ms = do
 abbrev pub text_table : List ℕ → Result Members Refusal
 text_table text = ok_or (parse_document text) not_toml
 
--- the schema that a text describes, with its tokenizers
+-- the schema that a text describes, with its tokenizers, and whether lines are stored
 unfoldable pub tokenized_schema : List ℕ → Result TextSchemaState Refusal
 tokenized_schema text = text_table text >>= table_schema
 

@@ -64,8 +64,8 @@ pub enum SchemaFault {
     /// The text isn't TOML.
     #[error("{0}")]
     NotToml(TomlError),
-    /// There is a key other than `field`, `tokenizer` and `unicode`.
-    #[error("unknown key {0}: a schema has tables [[field]], and the keys tokenizer and unicode")]
+    /// There is a key other than `field`, `tokenizer`, `unicode` and `store_source`.
+    #[error("unknown key {0}: a schema has tables [[field]], and the keys tokenizer, unicode and store_source")]
     UnknownKey(String),
     /// The key `tokenizer` of the schema is no text.
     #[error("tokenizer: one of default, raw, whitespace, ascii")]
@@ -73,6 +73,9 @@ pub enum SchemaFault {
     /// The key `tokenizer` of the schema names no known tokenizer.
     #[error("unknown tokenizer {0}: one of default, raw, whitespace, ascii")]
     UnknownTokenizer(String),
+    /// The key `store_source` is no boolean.
+    #[error("store_source: true or false")]
+    WrongStoreSource,
     /// There is no table `[[field]]`.
     #[error("no table [[field]]")]
     NoFields,

@@ -50,7 +50,10 @@ fn is_text_key(key: &str) -> bool
     if key == "tokenizer" {
         return true;
     }
-    key == "unicode"
+    if key == "unicode" {
+        return true;
+    }
+    key == "store_source"
 }
 
 // Returns whether a key is allowed in a field's table.

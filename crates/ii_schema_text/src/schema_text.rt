@@ -1,9 +1,9 @@
-ghost use Rattle.std.specs.Prelude.{◌≡◌, codes, List, option_map, string_bytes};
+ghost use Rattle.std.specs.Prelude.{◌≡◌, Bool, codes, List, option_map, string_bytes};
 ghost use Rattle.toml.specs.Data.{get_member, Members};
 ghost use Rattle.toml.specs.View.{items_view, table_view, view};
 ghost use Rattle.ii_base.specs.Schema.{SchemaEntry};
 ghost use Rattle.ii_tokenizers.specs.declared.analyzer.Analyzer.{Analyzer};
-ghost use Rattle.ii_schema_text.specs.SchemaText.{AnswersFromText, TextSchemaState, fields_from, fields_in, line_unless, new_schema_text, table_schema, text_schema, text_table, tokenized_schema, without_fields};
+ghost use Rattle.ii_schema_text.specs.SchemaText.{AnswersFromText, TextSchemaState, fields_from, fields_in, line_unless, new_schema_text, stores_source_in, table_schema, text_schema, text_table, tokenized_schema, without_fields};
 
 use crate::faults::SchemaFault;
 use crate::keys::KnownKeys;
@@ -14,7 +14,7 @@ use ii_tokenizers::Analyzer;
 use std::alloc::Global;
 use toml::{Table, Value};
 
-/// Reads a schema and its tokenizers from TOML: a table `[[field]]` for each field, in order, with these keys:
+/// Reads a schema, its tokenizers, and whether lines are stored, from TOML: a table `[[field]]` for each field, in order, with these keys:
 /// - `name`: a text that isn't empty and differs from the names before it,
 /// - `type`: `text`, `u64`, `i64`, `bool`, `bytes`, `ip_addr` or `json`,
 /// - `indexed`: whether it is indexed; the default is `true`,
@@ -26,15 +26,16 @@ use toml::{Table, Value};
 /// - `tokenizer`, for an indexed text or JSON field: `default`, `raw`, `whitespace` or `ascii` (`Analyzer`).
 ///
 /// Before the tables, `tokenizer` names the tokenizer of fields that name none, `ascii` if it is missing;
-/// `unicode` names the version of Unicode that the words of an index follow.
+/// `unicode` names the version of Unicode that the words of an index follow; `store_source` says whether the lines
+/// of documents are stored, `false` if it is missing.
 ///
 /// # Errors
 ///
 /// The first fault: `NotToml`; `UnknownKey` for the first key, in byte order, that isn't one of the text;
-/// `WrongTokenizer` or `UnknownTokenizer`; `NoFields`; then for each field `UnknownFieldKey`, or `WrongKey` for
-/// the first invalid key in the order of `FieldKey`, or `UnknownFieldTokenizer`; `TooManyFields`; `WrongUnicode`, or
-/// `OtherUnicode` for another version than this program's if a tokenizer depends on it. `OutOfMemory` if allocation
-/// fails.
+/// `WrongTokenizer` or `UnknownTokenizer`; `WrongStoreSource`; `NoFields`; then for each field `UnknownFieldKey`, or
+/// `WrongKey` for the first invalid key in the order of `FieldKey`, or `UnknownFieldTokenizer`; `TooManyFields`;
+/// `WrongUnicode`, or `OtherUnicode` for another version than this program's if a tokenizer depends on it.
+/// `OutOfMemory` if allocation fails.
 #[tactic(auto, unfolding(crate::specs::SchemaText::tokenized_schema))]
 pub fn read_text_schema(alloc: Global, text: &str) -> Result<TextSchema, SchemaFault>
     ensures { AnswersFromText (λ (s : TextSchemaState). s) result (tokenized_schema text.now) }
@@ -126,10 +127,11 @@ fn schema_of(alloc: Global, table: &Table) -> Result<TextSchema, SchemaFault>
         return Err(SchemaFault::UnknownKey(key));
     }
     let default = default_of(alloc, member(table, "tokenizer"))?;
+    let stores_source = stores_source_of(member(table, "store_source"))?;
     let Some(fields) = fields_of(table) else {
         return Err(SchemaFault::NoFields);
     };
-    let read = fields_from(alloc, default, fields)?;
+    let read = fields_from(alloc, default, stores_source, fields)?;
     let schema = read.into_schema()?;
     check_unicode(
         alloc,
@@ -137,6 +139,19 @@ fn schema_of(alloc: Global, table: &Table) -> Result<TextSchema, SchemaFault>
         member(table, "unicode"),
     )?;
     Ok(schema)
+}
+
+// Returns whether the lines of documents are stored, given the value of the key of the text.
+fn stores_source_of(value: Option<&Value>) -> Result<bool, SchemaFault>
+    ensures { AnswersFromText (λ (stores : Bool). stores) result (stores_source_in (option_map (λ v. view v.now) value.entry)) }
+{
+    let Some(value) = value else {
+        return Ok(false);
+    };
+    match value.as_bool() {
+        Some(stores_source) => Ok(stores_source),
+        None => Err(SchemaFault::WrongStoreSource),
+    }
 }
 
 // Returns the value of a key.
@@ -160,11 +175,12 @@ fn fields_of(table: &Table) -> Option<&Vec<Value>>
 fn fields_from(
     alloc: Global,
     default: Analyzer,
+    stores_source: bool,
     fields: &Vec<Value>,
 ) -> Result<ReadFields, SchemaFault>
-    ensures { AnswersFromText (λ (s : TextSchemaState). s) result (fields_from default without_fields (items_view fields.now.items)) }
+    ensures { AnswersFromText (λ (s : TextSchemaState). s) result (fields_from default (without_fields stores_source) (items_view fields.now.items)) }
 {
-    let mut read = ReadFields::new(alloc);
+    let mut read = ReadFields::new(alloc, stores_source);
     for field in fields {
         read.read(alloc, default, field)?;
     }

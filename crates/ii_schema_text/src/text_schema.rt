@@ -12,12 +12,13 @@ use std::alloc::Global;
 use std::marker::Model;
 use toml::Value;
 
-/// A schema, and the tokenizer of each of its fields.
+/// A schema, the tokenizer of each of its fields, and whether the lines of documents are stored.
 ///
-/// Its model is the entries of the schema, and the tokenizers.
+/// Its model is the entries of the schema, the tokenizers, and that.
 pub struct TextSchema {
     schema: Schema,
     tokenizers: FieldTokenizers,
+    stores_source: bool,
 }
 
 // Makes each drop a call.
@@ -26,6 +27,7 @@ impl Drop for TextSchema {
         let TextSchema {
             schema: _,
             tokenizers: _,
+            stores_source: _,
         } = self;
     }
 }
@@ -35,7 +37,7 @@ impl Model for TextSchema {
 
     ghost Value = { TextSchemaState };
 
-    ghost view = { λ s. record { schema = s.schema; tokenizers = s.tokenizers } };
+    ghost view = { λ s. record { schema = s.schema; tokenizers = s.tokenizers; stores_source = s.stores_source } };
 }
 
 impl TextSchema {
@@ -53,12 +55,23 @@ impl TextSchema {
         &self.tokenizers
     }
 
+    /// Returns whether the lines of documents are stored.
+    pub fn stores_source(&self) -> bool
+        ensures { result ≡ self.now.stores_source }
+    {
+        self.stores_source
+    }
+
     /// Returns the schema and the tokenizers of its fields.
     pub fn into_parts(self) -> (Schema, FieldTokenizers)
         ensures schema { result.0 ≡ self.schema }
         ensures tokenizers { result.1 ≡ self.tokenizers }
     {
-        let TextSchema { schema, tokenizers } = self;
+        let TextSchema {
+            schema,
+            tokenizers,
+            stores_source: _,
+        } = self;
         (schema, tokenizers)
     }
 }
@@ -67,6 +80,7 @@ impl TextSchema {
 pub(crate) struct ReadFields {
     entries: Vec<FieldEntry>,
     tokenizers: FieldTokenizers,
+    stores_source: bool,
 }
 
 // Makes each drop a call.
@@ -75,6 +89,7 @@ impl Drop for ReadFields {
         let ReadFields {
             entries: _,
             tokenizers: _,
+            stores_source: _,
         } = self;
     }
 }
@@ -84,17 +99,18 @@ impl Model for ReadFields {
 
     ghost Value = { TextSchemaState };
 
-    ghost view = { λ s. record { schema = s.entries.items; tokenizers = s.tokenizers } };
+    ghost view = { λ s. record { schema = s.entries.items; tokenizers = s.tokenizers; stores_source = s.stores_source } };
 }
 
 impl ReadFields {
-    // Creates an empty list.
-    pub(crate) fn new(alloc: Global) -> ReadFields
-        ensures { result ≡ without_fields }
+    // Creates an empty list, of a text that stores lines or doesn't.
+    pub(crate) fn new(alloc: Global, stores_source: bool) -> ReadFields
+        ensures { result ≡ without_fields stores_source }
     {
         ReadFields {
             entries: Vec::new(alloc),
             tokenizers: FieldTokenizers::new(alloc),
+            stores_source,
         }
     }
 
@@ -124,6 +140,7 @@ impl ReadFields {
         let ReadFields {
             entries,
             tokenizers,
+            stores_source,
         } = self;
         if entries.len() >= 1 << 32 {
             return Err(SchemaFault::TooManyFields);
@@ -131,6 +148,7 @@ impl ReadFields {
         Ok(TextSchema {
             schema: Schema::new(entries),
             tokenizers,
+            stores_source,
         })
     }
 }

@@ -1,8 +1,8 @@
 -- What an index holds after documents were deleted.
-use Rattle.std.proofs.Common.{◌≡◌, ◌≢◌, inr, ⊎_elim, ℕ, ◌<◌, ◌≤◌, ◌==◌, Bool, true, false, not, List, [], ◌∷◌, ◌++◌, length, replicate, Option, None, Some, Result, Ok, Err, refl, sym, ap, subst, ◌∙◌, arith, if◌then◌else◌}
-use Rattle.std.specs.Prelude.{filter, slice_set}
+use Rattle.std.proofs.Common.{◌≡◌, inr, ⊎_elim, ℕ, ◌<◌, ◌≤◌, ◌==◌, Bool, true, false, List, [], ◌∷◌, length, replicate, Option, None, Some, Result, Ok, Err, refl, sym, ap, subst, ◌∙◌, arith, if◌then◌else◌}
+use Rattle.std.specs.Prelude.{slice_set}
 use Rattle.std.specs.List.{AllByRecursion}
-use Rattle.std.proofs.lemmas.Bool.{eq-eqb, eqb-true, ne_eqb}
+use Rattle.std.proofs.lemmas.Bool.{eq-eqb}
 use Rattle.std.proofs.lemmas.List.{length-replicate, length-set}
 use Rattle.ii_alive.specs.Alive.{num_living}
 use Rattle.ii_alive.specs.AliveBytes.{alive_bytes, alive_of}
@@ -16,7 +16,7 @@ use Rattle.ii_directory.specs.declared.name.SegmentComponent.TheVariants.{Alive,
 use Rattle.ii_directory.specs.Directory.{Elsewhere, Files, IsPut}
 use Rattle.ii_store.specs.Index.{◌>>=◌}
 use Rattle.ii_store.specs.IndexMeta.{SegmentState, file_meta}
-use Rattle.ii_directory.specs.Names.{component_generation, component_number, name_generation, same_component}
+use Rattle.ii_directory.specs.Names.{component_generation, component_number, name_generation}
 use Rattle.ii_store.specs.Segments.{listed_bytes}
 use Rattle.ii_segment_store.specs.Changes.{IsChangedTo, IsFlagged, KeepsButFlags, KeepsOlder, files_with_flags, latest_file, result_without, with_flags, without}
 use Rattle.ii_segment_store.specs.Contents.{SegmentContents, alive_file, component_bytes, file_of, fitting_flags, flags_in, flags_with, optional_bytes, segment_in}

@@ -2,6 +2,7 @@ mod LoadLaws
 mod PutLaws
 mod CommitLaws
 mod FlagLaws
+mod OrderLaws
 mod ClearLaws
 mod WorkedRows
 pub mod ChangeLaws

@@ -5,13 +5,13 @@ use Rattle.ii_store.specs.declared.faults.IndexFault.{IndexFault}
 use Rattle.ii_store.specs.declared.faults.IndexFault.TheVariants.{DeletedDocuments, MissingFile, NoIndex}
 use Rattle.ii_store.specs.declared.index_meta.FileMeta.{FileMeta}
 use Rattle.ii_directory.specs.declared.name.SegmentComponent.{SegmentComponent}
-use Rattle.ii_directory.specs.declared.name.SegmentComponent.TheVariants.{Alive, FieldNorms, Positions, Postings, Terms}
+use Rattle.ii_directory.specs.declared.name.SegmentComponent.TheVariants.{Alive, Counts, FieldNorms, Positions, Postings, Store, Terms}
 use Rattle.ii_directory.specs.Directory.{Files}
 use Rattle.ii_store.specs.IndexMeta.{MetaState, SegmentState}
-use Rattle.ii_segment_store.specs.Changes.{first_uncounted, latest_file, segments_without, without}
+use Rattle.ii_segment_store.specs.Changes.{files_with_flags, first_uncounted, latest_file, segments_without, without}
 use Rattle.ii_segment_store.specs.Commits.{emptied, listed_segment, next_list}
 use Rattle.ii_store.specs.Segments.{listed_bytes}
-use Rattle.ii_segment_store.specs.Contents.{IndexContents, SegmentContents, alive_file, bytes_of_component, file_of, fitting_flags, flags_in, flags_with, segment_in, with_segment}
+use Rattle.ii_segment_store.specs.Contents.{IndexContents, SegmentContents, alive_file, bytes_if_listed, bytes_of_component, file_of, fitting_flags, flags_in, flags_with, optional_bytes, segment_in, with_segment}
 
 abbrev no_files : Files
 no_files name = None
@@ -29,6 +29,14 @@ no_file = None
 
 unlisted_norms : file_of FieldNorms (file Terms ∷ file Postings ∷ []) ≡ no_file
 unlisted_norms = refl
+
+-- other flags come after the counts, and before stored documents
+
+new_flags : files_with_flags (file (Alive 3)) (file Terms ∷ file Counts ∷ file (Alive 2) ∷ file Store ∷ []) ≡ file Terms ∷ file Counts ∷ file (Alive 3) ∷ file Store ∷ []
+new_flags = refl
+
+first_flags : files_with_flags (file (Alive 3)) (file Terms ∷ file Store ∷ []) ≡ file Terms ∷ file (Alive 3) ∷ file Store ∷ []
+first_flags = refl
 
 -- a segment with a deleted document but without flags, one whose list has no terms, and one whose file of terms isn't there
 
@@ -71,6 +79,9 @@ no_file_of_terms : segment_in (segment 2 (file Terms ∷ [])) no_files ≡ refus
 unfolding segment_in bytes_of_component listed_bytes
 no_file_of_terms = refl
 
+abbrev bytes_or : Option (List ℕ) → Result (Option (List ℕ)) IndexFault
+bytes_or found = Ok found
+
 -- a segment more: the ids and generations rise by one, and it comes last
 
 abbrev words : ℕ → SegmentContents
@@ -84,6 +95,27 @@ third = refl
 
 lists_terms : (listed_segment 3 (words 5)).num_living ≡ 5
 lists_terms = refl
+
+-- stored documents are the last file of a segment, and those of a segment without counts come after the norms
+
+abbrev listed_components : SegmentContents → List SegmentComponent
+listed_components s = map (λ (f : FileMeta). f.component) (listed_segment 3 s).files
+
+lists_store : listed_components (record (words 5) { counts = Some []; store = Some (7 ∷ []) }) ≡ Terms ∷ Postings ∷ Positions ∷ FieldNorms ∷ Counts ∷ Store ∷ []
+lists_store = refl
+
+lists_store_alone : listed_components (record (words 5) { store = Some [] }) ≡ Terms ∷ Postings ∷ Positions ∷ FieldNorms ∷ Store ∷ []
+lists_store_alone = refl
+
+-- a file of stored documents that isn't listed, and one that isn't there
+
+not_stored : optional_bytes (segment 2 (file Terms ∷ [])) Store no_files ≡ bytes_or None
+unfolding bytes_if_listed
+not_stored = refl
+
+no_store : optional_bytes (segment 2 (file Store ∷ [])) Store no_files ≡ Err (MissingFile 7 Store)
+unfolding bytes_if_listed listed_bytes
+no_store = refl
 
 abbrev index : List SegmentContents → IndexContents
 index segments = record { schema = 9 ∷ []; segments = segments }

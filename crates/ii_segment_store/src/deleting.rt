@@ -1,12 +1,13 @@
 //! Deletes documents, and adds a segment with them, so that a stop leaves the old index or the new one.
-ghost use Rattle.std.specs.Prelude.{◌≡◌, ◌<◌, ◌+◌, ◌^◌, ◌∷◌, ◌++◌, [], IfErr, IfOk, Ok, OnOk, Some, filter, get_or, length, map, nat_lt};
+ghost use Rattle.std.specs.Prelude.{◌≡◌, ◌<◌, ◌≤◌, ◌+◌, ◌^◌, ◌∷◌, ◌++◌, [], Bool, IfErr, IfOk, List, Ok, OnOk, Some, filter, get_or, length, map, nat_lt, true, ℕ};
 ghost use Rattle.std.specs.Option.{option_map};
 ghost use Rattle.ii_alive.specs.AliveBytes.{alive_bytes};
 ghost use Rattle.ii_store.specs.declared.index_meta.FileMeta.{FileMeta};
 ghost use Rattle.ii_directory.specs.declared.name.Name.TheVariants.{Meta, Segment};
 ghost use Rattle.ii_directory.specs.declared.name.SegmentComponent.TheVariants.{Alive};
 ghost use Rattle.ii_directory.specs.Directory.{Elapses, Elsewhere, IsPut};
-ghost use Rattle.ii_store.specs.IndexMeta.{meta_view, segment_view};
+ghost use Rattle.ii_alive.specs.Alive.{num_living};
+ghost use Rattle.ii_store.specs.IndexMeta.{SegmentState, is_segment, meta_view, segment_view};
 ghost use Rattle.ii_directory.specs.Names.{component_number};
 ghost use Rattle.ii_store.specs.Segments.{list_in};
 ghost use Rattle.ii_segment_store.specs.Changes.{AreChanged, FailsForFlags, IsChangeFault, IsChangedTo, IsDeleteFault, IsFlaggedList, IsFlagsFault, IsListFault, KeepsButFlags, KeepsOlder, changed_index, files_with_flags, first_uncounted, index_without, is_uncounted, latest_file, latest_generation, with_flags, without};
@@ -350,3 +351,9 @@ fn latest_file(files: &[FileMeta]) -> Generation
     }
     latest
 }
+
+/// Law: a segment that gets other flags is as valid as it was, whatever files it has. So `commit_changes` refuses no
+/// list for the order of its files.
+pub fn flagged_segments_stay_valid()
+    ensures { (next : ℕ) (s : SegmentState) (generation : ℕ) (alive : List Bool) → is_segment next s ≡ true → num_living alive ≤ s.num_docs → is_segment next (with_flags s generation alive) ≡ true }
+{}

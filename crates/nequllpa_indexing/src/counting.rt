@@ -1,5 +1,5 @@
 //! Indexes documents, and counts their tokens.
-ghost use Rattle.std.specs.Prelude.{◌≡◌, ◌≤◌, [], Err, IfErr, IfOk, IsSomeAnd, List, Some, false, map};
+ghost use Rattle.std.specs.Prelude.{◌≡◌, ◌≤◌, [], Err, IfErr, IfOk, IsSomeAnd, List, None, Some, false, map};
 ghost use Rattle.ii_base.specs.declared.doc_id.TheConstants.{TERMINATED};
 ghost use Rattle.ii_definitions.specs.Fields.{option_of};
 ghost use Rattle.ii_definitions.specs.Files.{HoldTokens};
@@ -87,6 +87,7 @@ fn segment_files(num_docs: DocId, files: IndexWriters<Vec<u8>>, counts: Vec<u8>)
     ensures positions { Some result.positions.items ≡ files.positions.contents }
     ensures fieldnorms { Some result.fieldnorms.items ≡ files.fieldnorms.contents }
     ensures counts { result.counts ≡ Some counts }
+    ensures store { result.store ≡ None }
 {
     let IndexWriters {
         terms,
@@ -101,5 +102,6 @@ fn segment_files(num_docs: DocId, files: IndexWriters<Vec<u8>>, counts: Vec<u8>)
         positions: positions.finish(),
         fieldnorms: fieldnorms.finish(),
         counts: Some(counts),
+        store: None,
     }
 }
