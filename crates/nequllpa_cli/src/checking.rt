@@ -7,7 +7,7 @@ use ii_store::{
     Directory, DirectoryFault, Folder, IndexFault, IndexMeta, Kind, Name, SalvagedFile,
     SalvagedIndex, SegmentComponent, SegmentMeta, StoreFault, StoredIndex, salvage,
 };
-use nequllpa_folder::{Checked, check, counts_damage, schema_of};
+use nequllpa_folder::{Checked, DamagedBlock, check, counts_damage, schema_of, store_damages};
 use std::io::{self, BufWriter, Write};
 use std::process::ExitCode;
 
@@ -193,6 +193,9 @@ fn check_others(
             return Ok(Err(status));
         }
     }
+    if let Err(status) = check_store(rt, path, segment, sum)? {
+        return Ok(Err(status));
+    }
     if let Some(file) = alive_file(segment.files.as_slice()) {
         if let Err(fault) = left_of_file(rt, path, segment, file.component, sum)? {
             return Ok(Err(refuse_path(rt, path, fault)?));
@@ -221,6 +224,47 @@ fn check_counts(
         }
         Err(fault) => Ok(Err(refuse_path(rt, path, fault)?)),
     }
+}
+
+// Prints a line for each damaged block of the stored lines of a segment, if it lists some. Returns the status if that
+// isn't possible.
+fn check_store(
+    rt: &HostRuntime,
+    path: &str,
+    segment: &SegmentMeta,
+    sum: &mut Sum,
+) -> anyhow::Result<Result<(), u8>> {
+    let Some(file) = file_of(segment.files.as_slice(), SegmentComponent::Store) else {
+        return Ok(Ok(()));
+    };
+    let bytes = match left_of_file(rt, path, segment, file.component, sum)? {
+        Ok(bytes) => bytes,
+        Err(fault) => return Ok(Err(refuse_path(rt, path, fault)?)),
+    };
+    match store_damages(rt.alloc(), bytes) {
+        Ok(damages) => {
+            print_damages(rt, segment, &damages, sum)?;
+            Ok(Ok(()))
+        }
+        Err(fault) => Ok(Err(refuse_path(rt, path, fault)?)),
+    }
+}
+
+// Prints a line for each damaged block of stored lines.
+fn print_damages(
+    rt: &HostRuntime,
+    segment: &SegmentMeta,
+    damages: &[DamagedBlock],
+    sum: &mut Sum,
+) -> anyhow::Result<()> {
+    let id = segment.id;
+    for found in damages {
+        sum.checked.damages = sum.checked.damages.saturating_add(1);
+        let damage = found.damage;
+        let first = found.first_doc;
+        println!(rt; "segment {id}: the file of stored documents: {damage}, document {first}")?;
+    }
+    Ok(())
 }
 
 // Prints a line if the flags of a segment aren't those of its documents.

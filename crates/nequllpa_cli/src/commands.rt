@@ -162,6 +162,9 @@ fn print_files(rt: &HostRuntime, index: &StoredSegments) -> anyhow::Result<()> {
             SegmentComponent::Counts
         )?;
     }
+    if total.store > 0 {
+        println!(rt; "{:>12} bytes of {}", total.store, SegmentComponent::Store)?;
+    }
     if total.living < total.documents {
         let deleted = total.documents.saturating_sub(total.living);
         println!(rt; "{deleted:>12} deleted documents that still take room")?;
@@ -180,6 +183,7 @@ struct Total {
     positions: u64,
     fieldnorms: u64,
     counts: u64,
+    store: u64,
 }
 
 impl Total {
@@ -190,6 +194,9 @@ impl Total {
         let segment = &stored.files;
         if let Some(counts) = &segment.counts {
             self.counts = self.counts.saturating_add(counts.len() as u64);
+        }
+        if let Some(store) = &segment.store {
+            self.store = self.store.saturating_add(store.len() as u64);
         }
         self.documents = self.documents.saturating_add(u64::from(segment.num_docs));
         self.terms = self.terms.saturating_add(segment.terms.len() as u64);

@@ -5,6 +5,7 @@ mod adding;
 mod checking;
 mod commands;
 mod deleting;
+mod getting;
 mod indexing;
 mod keyed_lines;
 mod merging;
@@ -21,6 +22,7 @@ use commands::{
     PROGRAM, REFUSED, answer_fields, answer_postings, answer_stats, answer_terms, refuse,
 };
 use deleting::answer_delete;
+use getting::answer_get;
 use indexing::answer_index;
 use merging::answer_merge;
 use searching::answer_search;
@@ -82,6 +84,7 @@ fn answer_command(rt: &HostRuntime, matches: &ArgMatches<'_>) -> anyhow::Result<
         "merge" => answer_merge(rt, path),
         "upgrade" => answer_upgrade(rt, path),
         "search" => answer_search(rt, path, given),
+        "get" => answer_get(rt, path, given),
         "terms" => answer_terms(rt, path, given),
         "postings" => answer_postings(rt, path, given),
         "fields" => answer_fields(rt, path),

@@ -1,12 +1,13 @@
 //! The command `search`.
 use crate::commands::{REFUSED, ended, field_named, number_given, opened_at, refuse};
+use crate::getting::NOT_STORED;
 use crate::query_texts::{refuse_query, tell_left_out};
 use clap::ArgMatches;
 use ii_base::{Field, ValueType};
 use ii_query_parser::Query;
 use nequllpa_folder::{
-    BestListing, CountFormat, Listing, OpenedIndex, id_field_of_all, write_best, write_count,
-    write_listing,
+    BestListing, CountFormat, Listing, OpenedIndex, are_stored, id_field_of_all, write_best,
+    write_count, write_listing,
 };
 use std::io::{self, BufWriter, Write};
 use std::process::ExitCode;
@@ -47,6 +48,9 @@ fn search(
         let status = refuse(rt, "--top stands without --limit, --count and --positions")?;
         return Ok(ExitCode::from(status));
     }
+    if let Err(status) = source_allowed(rt, opened, given)? {
+        return Ok(ExitCode::from(status));
+    }
     if given.get_flag("count") {
         let format = if as_json {
             CountFormat::Json
@@ -67,6 +71,7 @@ fn search(
         as_json,
         with_positions: given.get_flag("positions"),
         ids,
+        with_source: given.get_flag("source"),
     };
     print_found(rt, path, opened, &query, how)
 }
@@ -74,6 +79,25 @@ fn search(
 // Returns whether an option is given that --top doesn't go with.
 fn has_other_choice(given: &ArgMatches<'_>) -> bool {
     given.get_str("limit").is_some() || given.get_flag("count") || given.get_flag("positions")
+}
+
+// Returns the status if --source is given, and stands with an option that it doesn't go with, or lines aren't stored.
+fn source_allowed(
+    rt: &HostRuntime,
+    opened: &OpenedIndex,
+    given: &ArgMatches<'_>,
+) -> anyhow::Result<Result<(), u8>> {
+    if !given.get_flag("source") {
+        return Ok(Ok(()));
+    }
+    if given.get_flag("count") || given.get_flag("positions") || given.get_flag("ids") {
+        let status = refuse(rt, "--source stands without --count, --positions and --ids")?;
+        return Ok(Err(status));
+    }
+    if !are_stored(opened) {
+        return Ok(Err(refuse(rt, NOT_STORED)?));
+    }
+    Ok(Ok(()))
 }
 
 // Prints the best of the matching documents, as many as are given.
@@ -93,6 +117,7 @@ fn search_best(
         limit,
         as_json: given.get_flag("json"),
         ids,
+        with_source: given.get_flag("source"),
     };
     print_best(rt, path, opened, query, how)
 }

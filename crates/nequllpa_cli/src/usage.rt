@@ -42,7 +42,7 @@ static FOLDER: Word = Word {
     help: "The folder of the index",
 };
 
-static USAGES: [Usage; 11] = [
+static USAGES: [Usage; 12] = [
     Usage {
         name: "index",
         about: "Indexes JSON lines: the index replaces the one that the folder had. Takes 3 to 5 bytes of memory for each byte of input, up to 16 for numbers that all differ",
@@ -161,9 +161,25 @@ static USAGES: [Usage; 11] = [
                 help: "Prints the value of the field id in place of the number of a document, - if it has none; refused for texts of several words",
             },
             Word {
+                name: "source",
+                given: Given::Flag,
+                help: "Prints the stored line of a document in place of its number, if the schema says store_source = true; stands without --count, --positions and --ids",
+            },
+            Word {
                 name: "json",
                 given: Given::Flag,
-                help: "Prints a JSON object for each document: doc, its number; with --ids id; with --positions terms, each with field, term and positions; with --count one object with count",
+                help: "Prints a JSON object for each document: doc, its number; with --ids id; with --source source, its line; with --positions terms, each with field, term and positions; with --count one object with count",
+            },
+        ],
+    },
+    Usage {
+        name: "get",
+        about: "Prints the stored lines of documents by their numbers; status 1 where there is no such document, where its block is damaged, or where lines are not stored",
+        words: &[
+            Word {
+                name: "DOC",
+                given: Given::Words,
+                help: "Numbers of documents, as the command search prints them",
             },
         ],
     },
@@ -216,7 +232,7 @@ static USAGES: [Usage; 11] = [
     },
     Usage {
         name: "check",
-        about: "Checks that each file is as it was saved, walks every list of every term, and compares the norms with the counts; prints for each damage the file, the field, the term, the part and the range of its bytes; status 1 if something is damaged",
+        about: "Checks that each file is as it was saved, walks every list of every term, compares the norms with the counts, and reads all stored lines; prints for each damage the file, the field, the term, the part and the range of its bytes; status 1 if something is damaged",
         words: &[],
     },
     Usage {

@@ -12,7 +12,7 @@ use Rattle.ii_reader.specs.OpenIndex.{OpenIndexState, index_of_files}
 use Rattle.ii_schema_text.specs.SchemaText.{TellsOfText, text_schema, tokenized_schema, told_of_text}
 use Rattle.ii_store.specs.Index.{Index}
 use Rattle.nequllpa_folder.specs.declared.faults.OpenFault.{OpenFault}
-use Rattle.nequllpa_folder.specs.declared.faults.OpenFault.TheVariants.{Files, Schema, SchemaBytes}
+use Rattle.nequllpa_folder.specs.declared.faults.OpenFault.TheVariants.{Documents, Files, Schema, SchemaBytes}
 
 -- The files of an index hold tokens of the fields of a schema, and their norms.
 pub record HoldsTokens (entries : List SchemaEntry) (i : Index) (ts : List IndexToken) : Type 0 where
@@ -28,15 +28,18 @@ abbrev pub IsSchemaRefusal : List ℕ → OpenFault → Type 0
 IsSchemaRefusal bytes SchemaBytes = IsUtf8 bytes → ⊥
 IsSchemaRefusal bytes (Schema fault) = TellsOfText (told_of_text fault) (text_schema bytes)
 IsSchemaRefusal bytes (Files fault) = ⊥
+IsSchemaRefusal bytes (Documents damage) = ⊥
 
 -- Why bytes are no schema with tokenizers: they aren't UTF-8, or their text is no schema.
 abbrev pub IsTextSchemaRefusal : List ℕ → OpenFault → Type 0
 IsTextSchemaRefusal bytes SchemaBytes = IsUtf8 bytes → ⊥
 IsTextSchemaRefusal bytes (Schema fault) = TellsOfText (told_of_text fault) (tokenized_schema bytes)
 IsTextSchemaRefusal bytes (Files fault) = ⊥
+IsTextSchemaRefusal bytes (Documents damage) = ⊥
 
 -- Why an index doesn't open: its schema is invalid, or its files don't open with it.
 abbrev pub IsOpenRefusal : Index → OpenFault → Type 0
 IsOpenRefusal i SchemaBytes = IsSchemaRefusal i.schema SchemaBytes
 IsOpenRefusal i (Schema fault) = IsSchemaRefusal i.schema (Schema fault)
 IsOpenRefusal i (Files fault) = (entries : List SchemaEntry) × (text_schema i.schema ≡ Ok entries) × IsRefusal (readers_of i entries) fault
+IsOpenRefusal i (Documents damage) = ⊥

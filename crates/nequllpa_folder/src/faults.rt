@@ -2,6 +2,7 @@ ghost use Rattle.std.specs.Prelude.{◌↔◌, IsTrue};
 ghost use Rattle.nequllpa_folder.specs.Faults.{LacksMemoryToAnswer, LacksMemoryToOpen};
 
 use ii_base::Fault;
+use ii_doc_store::StoreDamage;
 use ii_schema_text::SchemaFault;
 use std::alloc::{AllocError, AllocFailed};
 use std::io;
@@ -16,6 +17,23 @@ pub enum AnswerFault {
     /// Writing the output failed.
     #[error("the output failed: {0:?}")]
     Output(io::ErrorKind),
+    /// A stored document can't be read.
+    #[error("{0}")]
+    Document(DocumentFault),
+}
+
+/// Why a stored document can't be read.
+#[derive(Clone, Copy, Debug, PartialEq, Eq, Error)]
+pub enum DocumentFault {
+    /// The index has no document with the number.
+    #[error("no such document")]
+    NoDocument,
+    /// The segment at this place, from 0, has no stored documents.
+    #[error("segment {0}: its documents are not stored")]
+    NotStored(usize),
+    /// The stored documents of the segment at this place, from 0, are damaged.
+    #[error("segment {0}: {1}")]
+    Damaged(usize, StoreDamage),
 }
 
 /// Why the bytes of an index can't be opened, although they are those that were saved.
@@ -30,6 +48,9 @@ pub enum OpenFault {
     /// The files don't open.
     #[error("{0}")]
     Files(Fault),
+    /// The file of stored documents doesn't open.
+    #[error("{0}")]
+    Documents(StoreDamage),
 }
 
 impl AnswerFault {
@@ -39,7 +60,7 @@ impl AnswerFault {
     {
         match self {
             AnswerFault::Index(fault) => fault.is_memory(),
-            AnswerFault::Output(_) => false,
+            AnswerFault::Output(_) | AnswerFault::Document(_) => false,
         }
     }
 }
@@ -53,6 +74,7 @@ impl OpenFault {
             OpenFault::SchemaBytes => false,
             OpenFault::Schema(fault) => matches!(fault, SchemaFault::OutOfMemory),
             OpenFault::Files(fault) => fault.is_memory(),
+            OpenFault::Documents(_) => false,
         }
     }
 }
@@ -90,5 +112,11 @@ impl<T: Drop> From<AllocFailed<T>> for AnswerFault {
 impl From<io::Error> for AnswerFault {
     fn from(e: io::Error) -> Self {
         AnswerFault::Output(e.kind())
+    }
+}
+
+impl From<DocumentFault> for AnswerFault {
+    fn from(fault: DocumentFault) -> Self {
+        AnswerFault::Document(fault)
     }
 }

@@ -4,6 +4,7 @@
 
 pub mod checking;
 pub mod deleting;
+pub mod documents;
 pub mod faults;
 pub mod finding;
 pub mod ids;
@@ -14,10 +15,12 @@ pub mod opened;
 pub mod opened_index;
 pub mod ranking;
 pub mod stats;
+pub mod stored_lines;
 
 pub use checking::{Checked, check, counts_damage};
 pub use deleting::{docs_to_delete, docs_with_term};
-pub use faults::{AnswerFault, OpenFault};
+pub use documents::{SegmentStore, are_stored, document, segment_stores};
+pub use faults::{AnswerFault, DocumentFault, OpenFault};
 pub use finding::{FoundPlaces, TermPositions, find_places, first_docs, wanted_terms};
 pub use ids::{NoIds, id_field, id_field_of_all};
 pub use ii_term_text::{push_key, term_of};
@@ -30,3 +33,4 @@ pub use opened::{Opened, schema_of, text_schema_of};
 pub use opened_index::{Bases, OpenedIndex, reader_of};
 pub use ranking::{BestListing, write_best};
 pub use stats::write_stats;
+pub use stored_lines::{DamagedBlock, StoredLines, StoredLinesFault, load_lines, store_damages};

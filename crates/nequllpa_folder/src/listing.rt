@@ -2,6 +2,7 @@
 ghost use Rattle.std.specs.Prelude.{◌≡◌, ◌<◌, length, true};
 ghost use Rattle.ii_query_parser.specs.Queries.{has_fields};
 
+use crate::documents::StoredDocs;
 use crate::faults::AnswerFault;
 use crate::finding::{FoundPlaces, TermPositions, find_places, first_docs, wanted_terms};
 use crate::ids::{Ids, ids_of};
@@ -27,6 +28,8 @@ pub struct Listing {
     pub with_positions: bool,
     /// The field whose value is written instead of a document's number.
     pub ids: Option<Field>,
+    /// Whether the stored document is written instead of its number.
+    pub with_source: bool,
 }
 
 /// Writes the documents that match a query, one per line. Returns whether any document matches, even if the
@@ -35,7 +38,8 @@ pub struct Listing {
 /// A line of words has the document's number, or instead its id, `-` if it has none. The terms that occur in
 /// the document follow, each after a tab: field, colon, term and positions. A JSON line is an object with
 /// `doc`; with `id` (a string or null) if ids are requested; and with `terms` if positions are, each with
-/// `field`, `term` and `positions`.
+/// `field`, `term` and `positions`. If stored documents are requested, a line of words is the document alone, and
+/// a JSON line has it as `source`; the first that can't be read ends the listing.
 pub fn write_listing<W: Write>(
     alloc: Global,
     out: &mut W,
@@ -59,6 +63,8 @@ pub fn write_listing<W: Write>(
 // The documents that were found in a segment.
 #[derive(Drop)]
 struct SegmentRows {
+    // the place of the segment
+    segment: usize,
     found: FoundPlaces,
     ids: Ids,
     // the number of each document in the index
@@ -75,7 +81,7 @@ fn rows_of(
     let mut rows = Vec::new(alloc);
     let mut bases = Bases::new();
     let mut left = how.limit;
-    for segment in opened.segments() {
+    for (place, segment) in opened.segments().iter().enumerate() {
         let base = bases.pass(segment);
         if left == 0 {
             continue;
@@ -88,7 +94,7 @@ fn rows_of(
             continue;
         }
         left = left.saturating_sub(u32::try_from(found.docs.len()).unwrap_or(u32::MAX));
-        rows.push(rows_in(alloc, segment, how, found, base)?)?;
+        rows.push(rows_in(alloc, (place, segment), how, found, base)?)?;
     }
     Ok(rows)
 }
@@ -96,14 +102,16 @@ fn rows_of(
 // Returns the found documents of a segment, with their ids if requested.
 fn rows_in(
     alloc: Global,
-    segment: &Opened,
+    placed: (usize, &Opened),
     how: &Listing,
     found: FoundPlaces,
     base: u64,
 ) -> Result<SegmentRows, AnswerFault> {
+    let (place, segment) = placed;
     let numbers = numbers_of(alloc, segment, &found.docs, base)?;
     match ids_in(alloc, segment, how, &found.docs) {
         Ok(ids) => Ok(SegmentRows {
+            segment: place,
             found,
             ids,
             numbers,
@@ -166,7 +174,11 @@ fn write_all_rows<W: Write>(
     let mut written = Ok(());
     for segment in rows {
         if written.is_ok() {
-            written = write_rows(alloc, out, how, segment, &texts);
+            written = if how.with_source {
+                write_sources(out, opened, how, segment)
+            } else {
+                write_rows(alloc, out, how, segment, &texts)
+            };
         }
     }
     drop(texts);
@@ -211,6 +223,48 @@ fn write_rows<W: Write>(
             row.write_words(out, texts, &rows.found.places, how)?;
         }
     }
+    Ok(())
+}
+
+// Writes the stored document of each found document of a segment.
+fn write_sources<W: Write>(
+    out: &mut W,
+    opened: &OpenedIndex,
+    how: &Listing,
+    rows: &SegmentRows,
+) -> Result<(), AnswerFault> {
+    let Some(segment) = opened.segments().get(rows.segment) else {
+        return Ok(());
+    };
+    let mut stored = StoredDocs::new(segment.store(), rows.segment);
+    let mut written = Ok(());
+    for (doc, number) in rows.found.docs.iter().zip(&rows.numbers) {
+        if written.is_ok() {
+            written = match stored.get(*doc) {
+                Ok(document) => write_source(out, how.as_json, *number, document),
+                Err(fault) => Err(AnswerFault::Document(fault)),
+            };
+        }
+    }
+    drop(stored);
+    written
+}
+
+// Writes a stored document, as a line or as a member of a JSON object.
+fn write_source<W: Write>(
+    out: &mut W,
+    as_json: bool,
+    number: u64,
+    document: &[u8],
+) -> Result<(), AnswerFault> {
+    if as_json {
+        write!(out, "{{\"doc\":{number},\"source\":")?;
+    }
+    out.write_all(document)?;
+    if as_json {
+        write!(out, "}}")?;
+    }
+    writeln!(out)?;
     Ok(())
 }
 

@@ -1,9 +1,10 @@
 //! An open index.
-ghost use Rattle.std.specs.Prelude.{◌≡◌, ◌<◌, ℕ, IfErr, IfOk, IfSome, List, None, Ok, Some, if◌then◌else◌, length, slice_get};
+ghost use Rattle.std.specs.Prelude.{◌≡◌, ◌<◌, ℕ, IfErr, IfOk, IfSome, IsSomeAnd, List, None, Ok, Some, if◌then◌else◌, length, slice_get};
 ghost use Rattle.std.specs.Option.{option_map};
 ghost use Rattle.ii_alive.specs.Alive.{num_living, rank};
 ghost use Rattle.ii_io.specs.Composite.{composite};
 ghost use Rattle.ii_segments.specs.Segments.{is_living};
+ghost use Rattle.ii_doc_store.specs.StoreReader.{index_of};
 ghost use Rattle.ii_base.specs.Schema.{SchemaEntry};
 ghost use Rattle.ii_definitions.specs.Fields.{option_of};
 ghost use Rattle.ii_definitions.specs.Files.{HoldTokens};
@@ -21,20 +22,22 @@ use bytes::Bytes;
 use ii_alive::AliveBits;
 use ii_base::{DocId, Fault, Field, FieldEntry, Part, Schema};
 use ii_counts::{CountReader, CountReaders};
+use ii_doc_store::{StoreOpenFault, StoreReader};
 use ii_query_parser::field_named;
 use ii_reader::{InvertedIndexReader, OpenIndex, open_index_with_norms};
 use ii_schema_text::{TextSchema, read_schema, read_text_schema};
 use ii_store::StoredIndex;
 use std::alloc::Global;
 
-/// An open index: its schema, a reader for each field, which of its documents are alive, and how many tokens each
-/// document has, if that was recorded.
+/// An open index: its schema, a reader for each field, which of its documents are alive, how many tokens each
+/// document has, if that was recorded, and its stored documents, if it has some.
 pub struct Opened {
     schema: Schema,
     index: OpenIndex,
     num_docs: u32,
     alive: AliveBits,
     counts: Option<CountReaders>,
+    store: Option<StoreReader>,
     ghost many: { length index.readers ≡ length schema },
 }
 
@@ -47,6 +50,7 @@ impl Drop for Opened {
             num_docs: _,
             alive: _,
             counts: _,
+            store: _,
         } = self;
     }
 }
@@ -62,6 +66,7 @@ impl Opened {
     pub fn open(alloc: Global, stored: StoredIndex, alive: AliveBits) -> Result<Opened, OpenFault>
         ensures alive { IfOk result (λ o. o.alive ≡ alive) }
         ensures none { IfOk result (λ o. o.counts ≡ None) }
+        ensures unstored { IfOk result (λ o. o.store ≡ None) }
         ensures docs { IfOk result (λ o. o.num_docs ≡ stored.num_docs) }
         ensures schema { IfOk result (λ o. text_schema stored.schema.items ≡ Ok o.schema) }
         ensures readers { IfOk result (λ o. readers_of (view stored) o.schema ≡ Ok o.index) }
@@ -94,6 +99,7 @@ impl Opened {
                 num_docs,
                 alive,
                 counts: None,
+                store: None,
             }),
             Err(fault) => {
                 drop(schema);
@@ -106,6 +112,7 @@ impl Opened {
     pub fn with_counts(self, alloc: Global, bytes: Vec<u8>) -> Result<Opened, Fault>
         ensures counts { IfOk result (λ o. option_map Some o.counts ≡ Some (composite bytes.items)) }
         ensures same { IfOk result (λ o. (o.schema ≡ self.schema) × (o.index ≡ self.index) × (o.num_docs ≡ self.num_docs) × (o.alive ≡ self.alive)) }
+        ensures store { IfOk result (λ o. o.store ≡ self.store) }
     {
         let counts = CountReaders::open(alloc, Bytes::from_vec(bytes)?)?;
         let Opened {
@@ -114,6 +121,7 @@ impl Opened {
             num_docs,
             alive,
             counts: _,
+            store,
         } = self;
         Ok(Opened {
             schema,
@@ -121,7 +129,45 @@ impl Opened {
             num_docs,
             alive,
             counts: Some(counts),
+            store,
         })
+    }
+
+    /// Adds a file of stored documents. Returns `Documents` if its footer or its index is damaged.
+    pub fn with_store(self, alloc: Global, bytes: Vec<u8>) -> Result<Opened, OpenFault>
+        ensures store { IfOk result (λ o. IsSomeAnd o.store (λ r. (r.bytes ≡ bytes.items) × (index_of bytes.items ≡ Ok r.checkpoints))) }
+        ensures same { IfOk result (λ o. (o.schema ≡ self.schema) × (o.index ≡ self.index) × (o.num_docs ≡ self.num_docs) × (o.alive ≡ self.alive) × (o.counts ≡ self.counts)) }
+    {
+        let store = match StoreReader::open(alloc, Bytes::from_vec(bytes)?) {
+            Ok(store) => store,
+            Err(fault) => return Err(documents_fault(fault)),
+        };
+        let Opened {
+            schema,
+            index,
+            num_docs,
+            alive,
+            counts,
+            store: _,
+        } = self;
+        Ok(Opened {
+            schema,
+            index,
+            num_docs,
+            alive,
+            counts,
+            store: Some(store),
+        })
+    }
+
+    /// Returns the stored documents, living and dead, if there are some.
+    pub fn store(&self) -> Option<&StoreReader>
+        ensures { option_map (λ r. r.now) result ≡ self.now.store }
+    {
+        match &self.store {
+            Some(store) => Some(store),
+            None => None,
+        }
     }
 
     /// Returns which documents are alive.
@@ -215,6 +261,14 @@ impl Opened {
         ensures inside { IfSome result (λ field. field < length self.now.schema) }
     {
         field_named(&self.schema, name)
+    }
+}
+
+// Returns why stored documents don't open.
+fn documents_fault(fault: StoreOpenFault) -> OpenFault {
+    match fault {
+        StoreOpenFault::Damaged(damage) => OpenFault::Documents(damage),
+        StoreOpenFault::OutOfMemory => OpenFault::Files(Fault::OutOfMemory),
     }
 }
 

@@ -1,5 +1,5 @@
 //! An open index of several segments.
-ghost use Rattle.std.specs.Prelude.{◌≡◌, ◌<◌, IfOk, IfSome, Ok, Some, length};
+ghost use Rattle.std.specs.Prelude.{◌≡◌, ◌<◌, IfOk, IfSome, None, Ok, Some, length};
 ghost use Rattle.std.specs.Option.{option_map};
 ghost use Rattle.ii_io.specs.Composite.{composite};
 ghost use Rattle.std.specs.List.{AllZip};
@@ -148,7 +148,7 @@ fn opened_segment(alloc: Global, schema: &[u8], segment: StoredSegment) -> Resul
         positions,
         fieldnorms,
         counts,
-        store: _,
+        store,
     } = files;
     let index = StoredIndex {
         num_docs,
@@ -162,17 +162,29 @@ fn opened_segment(alloc: Global, schema: &[u8], segment: StoredSegment) -> Resul
         Ok(opened) => opened,
         Err(fault) => return Err(fault),
     };
-    match counts {
-        Some(bytes) => with_counts(alloc, opened, bytes),
+    let opened = match with_counts(alloc, opened, counts) {
+        Ok(opened) => opened,
+        Err(fault) => return Err(fault),
+    };
+    match store {
+        Some(bytes) => opened.with_store(alloc, bytes),
         None => Ok(opened),
     }
 }
 
-// Adds a file of counts to an open segment.
-fn with_counts(alloc: Global, opened: Opened, bytes: Vec<u8>) -> Result<Opened, OpenFault>
-    ensures counts { IfOk result (λ o. option_map Some o.counts ≡ Some (composite bytes.items)) }
-    ensures same { IfOk result (λ o. (o.schema ≡ opened.schema) × (o.index ≡ opened.index) × (o.num_docs ≡ opened.num_docs) × (o.alive ≡ opened.alive)) }
+// Adds a file of counts to an open segment that has none, if there is one.
+fn with_counts(
+    alloc: Global,
+    opened: Opened,
+    counts: Option<Vec<u8>>,
+) -> Result<Opened, OpenFault>
+    requires none { opened.counts ≡ None }
+    ensures counts { IfOk result (λ o. option_map Some o.counts ≡ option_map (λ v. composite v.items) counts) }
+    ensures same { IfOk result (λ o. (o.schema ≡ opened.schema) × (o.index ≡ opened.index) × (o.num_docs ≡ opened.num_docs) × (o.alive ≡ opened.alive) × (o.store ≡ opened.store)) }
 {
+    let Some(bytes) = counts else {
+        return Ok(opened);
+    };
     match opened.with_counts(alloc, bytes) {
         Ok(opened) => Ok(opened),
         Err(fault) => Err(OpenFault::Files(fault)),

@@ -4,6 +4,7 @@ ghost use Rattle.ii_segment_search.specs.Searcher.{HaveFields, total_living};
 ghost use Rattle.ii_ranking.specs.Segments.{segment_of};
 
 use crate::deleting::docs_with_term;
+use crate::documents::{document, segment_stores};
 use crate::faults::AnswerFault;
 use crate::finding::wanted_terms;
 use crate::ids::ids_of;
@@ -27,6 +28,8 @@ pub struct BestListing {
     pub as_json: bool,
     /// The field whose value is written instead of a document's number.
     pub ids: Option<Field>,
+    /// Whether the stored document is written instead of its number.
+    pub with_source: bool,
 }
 
 /// Writes the best documents that match a query, one per line, the best first. Returns whether any document matches,
@@ -34,7 +37,8 @@ pub struct BestListing {
 ///
 /// A line of words has the document's number, or instead its id, `-` if it has none, and after a tab its score with
 /// four decimals. A JSON line is an object with `doc`; with `id` (a string or null) if ids are requested; with
-/// `score`, and `units`, which is the score in units of 2^-38.
+/// `score`, and `units`, which is the score in units of 2^-38. If stored documents are requested, a line of words has
+/// the document in place of its number, and a JSON line has it as `source`, at its end.
 pub fn write_best<W: Write>(
     alloc: Global,
     out: &mut W,
@@ -61,7 +65,11 @@ pub fn write_best<W: Write>(
             return Err(fault);
         }
     };
-    let written = write_rows(alloc, out, &how, &best, &ids);
+    let written = if how.with_source {
+        write_sources(alloc, out, opened, &how, &best)
+    } else {
+        write_rows(alloc, out, &how, &best, &ids)
+    };
     drop(ids);
     drop(best);
     match written {
@@ -264,6 +272,52 @@ fn doc_of_number(segment: &Opened, base: u32, number: DocId) -> Option<DocId> {
         return None;
     }
     Some(segment.alive().select(rank))
+}
+
+// Writes the stored document and the score of each of the best documents.
+fn write_sources<W: Write>(
+    alloc: Global,
+    out: &mut W,
+    opened: &OpenedIndex,
+    how: &BestListing,
+    best: &[(Score, DocId)],
+) -> Result<(), AnswerFault> {
+    let stores = segment_stores(alloc, opened)?;
+    let mut written = Ok(());
+    for pair in best {
+        if written.is_ok() {
+            written = match document(&stores, u64::from(pair.1)) {
+                Ok(document) => write_source(out, how, pair.0, pair.1, document),
+                Err(fault) => Err(AnswerFault::Document(fault)),
+            };
+        }
+    }
+    drop(stores);
+    written
+}
+
+// Writes a stored document with its score.
+fn write_source<W: Write>(
+    out: &mut W,
+    how: &BestListing,
+    score: Score,
+    doc: DocId,
+    document: &[u8],
+) -> Result<(), AnswerFault> {
+    let parts = (u128::from(score) * 10_000 + (1 << 37)) >> 38;
+    let (whole, part) = (parts / 10_000, parts % 10_000);
+    if how.as_json {
+        write!(
+            out,
+            "{{\"doc\":{doc},\"score\":{whole}.{part:04},\"units\":{score},\"source\":"
+        )?;
+        out.write_all(document)?;
+        writeln!(out, "}}")?;
+        return Ok(());
+    }
+    out.write_all(document)?;
+    writeln!(out, "\t{whole}.{part:04}")?;
+    Ok(())
 }
 
 // Writes a line for each of the best documents.

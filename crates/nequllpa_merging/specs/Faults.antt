@@ -3,7 +3,7 @@ use Rattle.std.specs.Prelude.{⊤}
 use Rattle.ii_io.specs.declared.faults.Fault.{Fault}
 use Rattle.ii_io.specs.declared.faults.Fault.TheVariants as faults
 use Rattle.nequllpa_merging.specs.declared.faults.MergeFault.{MergeFault}
-use Rattle.nequllpa_merging.specs.declared.faults.MergeFault.TheVariants.{Merge, Segment, TooManyDocuments, TooManyFields}
+use Rattle.nequllpa_merging.specs.declared.faults.MergeFault.TheVariants.{LongDocument, Merge, Segment, Store, TooManyDocuments, TooManyFields}
 
 -- A fault of an index is damage.
 abbrev pub IsPartDamage : Fault → Type 0
@@ -16,9 +16,11 @@ IsPartDamage (faults.UnsupportedLeaf kind) = ⊥
 IsPartDamage faults.DecreasingPosition = ⊥
 IsPartDamage (faults.Limit name) = ⊥
 
--- A fault of a merge is damage: of a segment, or of its lists.
+-- A fault of a merge is damage: of a segment, of its stored documents, or of its lists.
 abbrev pub IsDamage : MergeFault → Type 0
 IsDamage (Segment place part) = ⊤
+IsDamage (Store place damage) = ⊤
+IsDamage (LongDocument place) = ⊥
 IsDamage TooManyDocuments = ⊥
 IsDamage TooManyFields = ⊥
 IsDamage (Merge fault) = IsPartDamage fault

@@ -13,17 +13,19 @@ use Rattle.ii_segments.specs.HoldCounts.{HoldCounts}
 use Rattle.ii_segments.specs.Segments.{AreSegmentTokens, Segment, living_counts}
 use Rattle.nequllpa_merging.specs.MergedSegments.{counts_source, merge_source}
 use Rattle.nequllpa_merging.specs.OpenedSegments.{OpenedSegmentState}
+use Rattle.nequllpa_merging.specs.StoredDocuments.{HoldsSomeDocuments}
 
 -- A file of counts holds the counts of a segment's tokens; without one, none of its documents was deleted.
 abbrev pub HasCountsOf : List SchemaEntry → Option (List ℕ) → Segment → Type 0
 HasCountsOf entries None s = num_living s.alive ≡ length s.alive
 HasCountsOf entries (Some bytes) s = HoldCounts entries (length s.alive) bytes s.tokens
 
--- The files of a segment hold its tokens, norms and counts, and its flags are those of its documents.
+-- The files of a segment hold its tokens, norms and counts, and a document for each flag if any are stored. Its flags are those of its documents.
 pub record HoldsSegment (entries : List SchemaEntry) (c : SegmentContents) (s : Segment) : Type 0 where
   pub lists : HoldTokens (option_of entries) c.terms c.postings c.positions s.tokens
   pub norms : HoldNorms entries (length s.alive) c.fieldnorms s.tokens
   pub counts : HasCountsOf entries c.counts s
+  pub store : HoldsSomeDocuments c.store (length s.alive)
   pub alive : c.alive ≡ s.alive
   pub are : AreSegmentTokens entries s
 

@@ -4,3 +4,4 @@ pub mod MergedSegments
 pub mod OpenedSegments
 pub mod MergePolicy
 pub mod Joins
+pub mod StoredDocuments

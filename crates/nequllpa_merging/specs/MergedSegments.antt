@@ -16,8 +16,9 @@ use Rattle.ii_merger.specs.MergedIndex.{AreMergedParts, MergeSourceState, Merged
 use Rattle.ii_merger.specs.MergedNorms.{HaveNorms, merged_norm_bytes}
 use Rattle.ii_segment_store.specs.Contents.{SegmentContents}
 use Rattle.nequllpa_merging.specs.OpenedSegments.{IsFirstDamaged, OpenedSegmentState, OpensFrom}
+use Rattle.nequllpa_merging.specs.StoredDocuments.{HasMergedStore, IsStoresFault, stored_file}
 use Rattle.nequllpa_merging.specs.declared.faults.MergeFault.{MergeFault}
-use Rattle.nequllpa_merging.specs.declared.faults.MergeFault.TheVariants.{Merge, Segment, TooManyDocuments, TooManyFields}
+use Rattle.nequllpa_merging.specs.declared.faults.MergeFault.TheVariants.{LongDocument, Merge, Segment, Store, TooManyDocuments, TooManyFields}
 
 -- the lists and norms of an open segment, as they are merged
 abbrev pub merge_source : OpenedSegmentState → MergeSourceState
@@ -60,7 +61,7 @@ abbrev pub HasMergedCounts : ℕ → Option (List CountsSourceState) → Option 
 HasMergedCounts n None counts = counts ≡ None
 HasMergedCounts n (Some sources) counts = IsSomeAnd counts (HoldRows (merged_rows n sources))
 
--- The files of a segment are those that open segments are merged into.
+-- The files of a segment, but for stored documents, are those that open segments are merged into.
 pub record AreMergedFiles (entries : List SchemaEntry) (os : List OpenedSegmentState) (f : SegmentContents) : Type 0 where
   pub num_docs : f.num_docs ≡ all_living (map merge_source os)
   pub parts : List MergedPart
@@ -77,6 +78,7 @@ pub record IsMergedFrom (entries : List SchemaEntry) (cs : List SegmentContents)
   pub opened : List OpenedSegmentState
   pub opens : AllZip (OpensFrom entries) cs opened
   pub files : AreMergedFiles entries opened f
+  pub store : HasMergedStore (map stored_file cs) f.store
 
 -- A field has 2^64 tokens or more.
 pub record HasTooManyTokens (entries : List SchemaEntry) (os : List OpenedSegmentState) : Type 0 where
@@ -104,6 +106,8 @@ IsOpenMergeFault entries os fault =
 -- Why open segments aren't merged.
 abbrev pub IsOpenedFault : MergeFault → List SchemaEntry → List OpenedSegmentState → Type 0
 IsOpenedFault (Segment place part) entries os = ⊥
+IsOpenedFault (Store place damage) entries os = ⊥
+IsOpenedFault (LongDocument place) entries os = ⊥
 IsOpenedFault TooManyDocuments entries os = TERMINATED < all_living (map merge_source os)
 IsOpenedFault TooManyFields entries os = 2 ^ 32 - 1 ≤ length entries
 IsOpenedFault (Merge fault) entries os = IsOpenMergeFault entries os fault
@@ -117,10 +121,12 @@ pub record IsOpenedRefusal (fault : MergeFault) (entries : List SchemaEntry) (cs
 -- Why segments don't open.
 abbrev pub IsOpeningFault : MergeFault → List SchemaEntry → List SegmentContents → Type 0
 IsOpeningFault (Segment place part) entries cs = IsFirstDamaged entries cs place part
+IsOpeningFault (Store place damage) entries cs = ⊥
+IsOpeningFault (LongDocument place) entries cs = ⊥
 IsOpeningFault TooManyDocuments entries cs = ⊥
 IsOpeningFault TooManyFields entries cs = ⊥
 IsOpeningFault (Merge fault) entries cs = fault ≡ OutOfMemory
 
--- Why segments aren't merged.
+-- Why segments aren't merged: stored documents come last.
 abbrev pub IsMergingFault : List SchemaEntry → List SegmentContents → MergeFault → Type 0
-IsMergingFault entries cs fault = IsOpeningFault fault entries cs ⊎ IsOpenedRefusal fault entries cs
+IsMergingFault entries cs fault = IsOpeningFault fault entries cs ⊎ IsOpenedRefusal fault entries cs ⊎ IsStoresFault (map stored_file cs) fault

@@ -4,6 +4,7 @@ ghost use Rattle.nequllpa_merging.specs.Faults.{IsDamage};
 ghost use Rattle.nequllpa_merging.specs.declared.faults.MergeFault.TheVariants as faults;
 
 use ii_base::{Fault, Part};
+use ii_doc_store::StoreDamage;
 use ii_segment_store::CommitFault;
 use ii_store::StoreFault;
 use std::alloc::{AllocError, AllocFailed};
@@ -16,6 +17,12 @@ pub enum MergeFault {
     /// also if it isn't known how many tokens its living documents have.
     #[error("segment {0}: damaged: {1}")]
     Segment(usize, Part),
+    /// The stored documents of the segment at this place, from 0, are damaged: a block, or the index.
+    #[error("segment {0}: {1}")]
+    Store(usize, StoreDamage),
+    /// A stored document of the segment at this place, from 0, has 2^31 bytes or more.
+    #[error("segment {0}: limit passed: bytes of a document")]
+    LongDocument(usize),
     /// The segments have 2^31 living documents or more.
     #[error("more than 2147483647 documents")]
     TooManyDocuments,
@@ -49,7 +56,9 @@ impl MergeFault {
     {
         matches!(
             self,
-            MergeFault::Segment(_, _) | MergeFault::Merge(Fault::Damaged(_))
+            MergeFault::Segment(_, _)
+                | MergeFault::Store(_, _)
+                | MergeFault::Merge(Fault::Damaged(_))
         )
     }
 }

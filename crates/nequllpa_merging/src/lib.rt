@@ -7,6 +7,7 @@ pub mod merge_policy;
 pub mod merging;
 mod opening;
 mod sources;
+mod stores;
 mod totals;
 
 pub use faults::{JoinFault, MergeFault};

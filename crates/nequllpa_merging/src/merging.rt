@@ -1,8 +1,9 @@
 //! Merges the segments of an index.
 ghost use Rattle.std.specs.Prelude.{◌≡◌, ◌<◌, ◌≤◌, ◌-◌, ◌⊎◌, ◌^◌, IfErr, IfOk, List, length, map};
-ghost use Rattle.std.specs.List.{AllByRecursion};
+ghost use Rattle.std.specs.List.{AllByRecursion, AllZip};
 ghost use Rattle.std.specs.Option.{option_map};
 ghost use Rattle.ii_base.specs.declared.doc_id.TheConstants.{TERMINATED};
+ghost use Rattle.ii_doc_store_merger.specs.StoreSources.{SegmentDocuments};
 ghost use Rattle.ii_merger.specs.MergedFiles.{WroteMerged};
 ghost use Rattle.ii_merger.specs.MergedIndex.{all_living};
 ghost use Rattle.ii_indexing.specs.IndexFiles.{WroteIndex};
@@ -13,10 +14,12 @@ ghost use Rattle.nequllpa_merging.specs.Faults.{IsDamage, IsPartDamage};
 ghost use Rattle.nequllpa_merging.specs.HeldSegments.{HasCountsOf, HoldSegments, HoldsSegment, IsOpenedFor, OpenedHold};
 ghost use Rattle.nequllpa_merging.specs.MergedSegments.{AreMergedFiles, HasMergedCounts, HasTooManyTokens, IsCountsFault, IsListsFault, IsMergedFrom, IsMergingFault, IsOpenMergeFault, IsOpenedFault, counts_sources, merge_source, merging};
 ghost use Rattle.nequllpa_merging.specs.OpenedSegments.{opened_view};
+ghost use Rattle.nequllpa_merging.specs.StoredDocuments.{HoldsStored, merged_documents, stored_file};
 
 use crate::faults::MergeFault;
 use crate::opening::{OpenedSegment, open_segments};
 use crate::sources::{counts_sources, merge_sources};
+use crate::stores::{merge_all_stores, with_store};
 use crate::totals::{all_totals, num_living};
 use ii_base::{DocId, Fault, LimitName, Schema};
 use ii_counts_merger::{MergedCounts, merge_counts};
@@ -26,7 +29,7 @@ use ii_segments::{counts_of_segments, merged_is_segment};
 use std::alloc::Global;
 
 /// Returns the files of one segment of the living documents of several segments, numbered one segment after the
-/// other. It has a file of counts if each of the segments has one.
+/// other. It has a file of counts if each of the segments has one, and stored documents if each has some.
 ///
 /// # Errors
 ///
@@ -34,6 +37,9 @@ use std::alloc::Global;
 /// * `TooManyFields` if the schema has 2^32 - 1 fields, `TooManyDocuments` if 2^31 documents are alive or more.
 /// * `Merge` with `Damaged` for the first list that no index has (`merge` of `ii_merger`), with a limit of the
 ///   merged files, or with `OutOfMemory` if an allocation fails.
+/// * Where all else can be merged: `Store` with the place of the first segment whose index of stored documents is
+///   damaged or, if none is, of the first one with a damaged block that has living documents, and the first such
+///   block; `LongDocument` with the place of a segment that has a stored document of 2^31 bytes or more.
 pub fn merge_segments(
     alloc: Global,
     schema: &Schema,
@@ -41,6 +47,7 @@ pub fn merge_segments(
 ) -> Result<SegmentFiles, MergeFault>
     ensures merged { IfOk result (λ f. IsMergedFrom schema.now (map segment_contents segments.items) (files_contents f)) }
     ensures holds { (ss : List Segment) → HoldSegments schema.now (map segment_contents segments.items) ss → IfOk result (λ f. HoldsSegment schema.now (files_contents f) (merged ss)) }
+    ensures documents { (ds : List SegmentDocuments) → AllZip HoldsStored (map stored_file (map segment_contents segments.items)) ds → IfOk result (λ f. HoldsStored (stored_file (files_contents f)) (merged_documents ds)) }
 
     // Which errors it returns, and when.
     ensures fault { IfErr result (IsMergingFault schema.now (map segment_contents segments.items)) }
@@ -50,10 +57,17 @@ pub fn merge_segments(
         Ok(opened) => opened,
         Err(fault) => return Err(fault),
     };
-    merge_opened(alloc, schema, opened.as_slice())
+    let files = match merge_opened(alloc, schema, opened.as_slice()) {
+        Ok(files) => files,
+        Err(fault) => return Err(fault),
+    };
+    match merge_all_stores(alloc, opened.as_slice()) {
+        Ok(store) => Ok(with_store(files, store)),
+        Err(fault) => Err(fault),
+    }
 }
 
-// Merges open segments.
+// Merges open segments, but for their stored documents.
 fn merge_opened(
     alloc: Global,
     schema: &Schema,
@@ -78,7 +92,7 @@ fn merge_opened(
     }
 }
 
-// Merges all files of open segments.
+// Merges all files of open segments, but for those of stored documents.
 fn merge_files(
     alloc: Global,
     schema: &Schema,

@@ -3,11 +3,13 @@ ghost use Rattle.std.specs.Prelude.{◌≡◌, IfErr, IfOk, Ok, length, map};
 ghost use Rattle.std.specs.List.{AllZip};
 ghost use Rattle.std.specs.Option.{option_map};
 ghost use Rattle.ii_io.specs.declared.faults.Part.{Part};
+ghost use Rattle.ii_io.specs.Faults.{OnlyMemory};
 ghost use Rattle.ii_reader.specs.InvertedIndexReader.{IsRefusal};
 ghost use Rattle.ii_reader.specs.OpenIndex.{index_of_files};
 ghost use Rattle.ii_segment_store.specs.Contents.{segment_contents};
 ghost use Rattle.nequllpa_merging.specs.MergedSegments.{IsOpeningFault};
 ghost use Rattle.nequllpa_merging.specs.OpenedSegments.{OpensFrom, bodies_of_counts, living_totals, opened_from, opened_view};
+ghost use Rattle.nequllpa_merging.specs.StoredDocuments.{stored_file, stored_view};
 
 use crate::faults::MergeFault;
 use crate::totals::living_totals;
@@ -25,6 +27,8 @@ pub(crate) struct OpenedSegment {
     pub(crate) index: OpenIndex,
     pub(crate) alive: AliveBits,
     pub(crate) counts: Option<CountReaders>,
+    // The file of stored documents, which isn't open.
+    pub(crate) store: Option<Bytes>,
     // For each field, how many tokens the living documents have.
     pub(crate) num_tokens: Vec<u64>,
 }
@@ -36,6 +40,7 @@ pub(crate) fn open_segments(
     segments: Vec<StoredSegment>,
 ) -> Result<Vec<OpenedSegment>, MergeFault>
     ensures opens { IfOk result (λ v. AllZip (OpensFrom schema.now) (map segment_contents segments.items) (map opened_view v.items)) }
+    ensures stored { IfOk result (λ v. map stored_view v.items ≡ map stored_file (map segment_contents segments.items)) }
     ensures fault { IfErr result (λ e. IsOpeningFault e schema.now (map segment_contents segments.items)) }
 {
     let mut opened = Vec::new(alloc);
@@ -68,6 +73,7 @@ fn open_segment(
     segment: StoredSegment,
 ) -> Result<OpenedSegment, Fault>
     ensures ok { IfOk result (λ o. opened_from schema.now (segment_contents segment) ≡ Ok (opened_view o)) }
+    ensures stored { IfOk result (λ o. stored_view o ≡ stored_file (segment_contents segment)) }
     ensures err { IfErr result (IsRefusal (opened_from schema.now (segment_contents segment))) }
 {
     let StoredSegment { files, alive } = segment;
@@ -78,7 +84,7 @@ fn open_segment(
         positions,
         fieldnorms,
         counts,
-        store: _,
+        store,
     } = files;
     let files = TermFiles {
         terms,
@@ -94,7 +100,11 @@ fn open_segment(
         Ok(counts) => counts,
         Err(fault) => return Err(fault),
     };
-    with_totals(alloc, schema, index, alive, counts)
+    let store = match shared(store) {
+        Ok(store) => store,
+        Err(fault) => return Err(fault),
+    };
+    with_totals(alloc, schema, index, alive, counts, store)
 }
 
 // Adds the numbers of tokens to what was opened.
@@ -104,10 +114,12 @@ fn with_totals(
     index: OpenIndex,
     alive: AliveBits,
     counts: Option<CountReaders>,
+    store: Option<Bytes>,
 ) -> Result<OpenedSegment, Fault>
     requires many { length index.readers ≡ length schema.now }
     ensures totals { IfOk result (λ o. living_totals (length schema.now) index counts alive ≡ Ok o.num_tokens.items) }
     ensures same { IfOk result (λ o. (o.index ≡ index) × (o.counts ≡ counts) × (o.alive ≡ alive)) }
+    ensures stored { IfOk result (λ o. o.store ≡ store) }
     ensures err { IfErr result (IsRefusal (living_totals (length schema.now) index counts alive)) }
 {
     match living_totals(alloc, schema, &index, &counts, &alive) {
@@ -115,13 +127,25 @@ fn with_totals(
             index,
             alive,
             counts,
+            store,
             num_tokens,
         }),
         Err(fault) => Err(fault),
     }
 }
 
-// The files of a segment but for that of counts.
+// Returns bytes that can be shared, if there are some.
+fn shared(bytes: Option<Vec<u8>>) -> Result<Option<Bytes>, Fault>
+    ensures ok { IfOk result (λ found. found ≡ option_map (λ v. v.items) bytes) }
+    ensures only { OnlyMemory result }
+{
+    match bytes {
+        Some(bytes) => Ok(Some(Bytes::from_vec(bytes)?)),
+        None => Ok(None),
+    }
+}
+
+// The files of a segment but for those of counts and stored documents.
 struct TermFiles {
     terms: Vec<u8>,
     postings: Vec<u8>,

@@ -1,0 +1,2 @@
+mod MergeLemmas
+mod ReadLemmas

@@ -1,0 +1,158 @@
+-- Stores of documents that are merged: the living documents of each, one store after the other.
+use Rattle.std.specs.Prelude.{◌≡◌, ℕ, ◌+◌, ◌-◌, ◌^◌, ◌≤◌, ◌⊎◌, ⊤, Bool, true, IsSomeAnd, List, [], ◌∷◌, ◌++◌, get_or, length, map, slice_get, take, Some, Result, Ok, Err}
+use Rattle.std.specs.List.{AllByRecursion, AllZip, flat_map}
+use Rattle.ii_io.specs.declared.faults.Fault.{Fault}
+use Rattle.ii_io.specs.declared.faults.Fault.TheVariants.{Limit, OutOfMemory}
+use Rattle.ii_io.specs.declared.faults.LimitName.TheVariants.{Offset}
+use Rattle.ii_io.specs.CountingWriter.{CountingWriterState}
+use Rattle.ii_alive.specs.Alive.{num_living}
+use Rattle.ii_doc_store.specs.declared.faults.StoreDamage.{StoreDamage}
+use Rattle.ii_doc_store.specs.StoreFormat.{store_bytes}
+use Rattle.ii_doc_store.specs.StoreReader.{HoldsDocuments, StoreReaderState, document_of, index_of, num_docs}
+use Rattle.ii_doc_store.specs.StoreWriter.{HasStored, StoreWriterState}
+use Rattle.ii_segments.specs.Segments.{is_living, living_docs}
+use Rattle.ii_doc_store_merger.specs.declared.faults.StoreMergeFault.{StoreMergeFault}
+use Rattle.ii_doc_store_merger.specs.declared.faults.StoreMergeFault.TheVariants.{Damaged, DocumentLen, NumDocs, Output}
+use Rattle.ii_doc_store_merger.specs.declared.store_source.StoreSource.{StoreSource}
+
+-- ---- documents
+
+-- The documents of a segment: whether each one is alive, and the bytes of all of them.
+pub record SegmentDocuments : Type 0 where
+  pub alive : List Bool
+  pub documents : List (List ℕ)
+
+-- the living documents of a segment, in order
+abbrev pub living_documents : SegmentDocuments → List (List ℕ)
+living_documents d = map (λ (doc : ℕ). get_or d.documents doc []) (living_docs d.alive)
+
+-- the documents of an index of segments: the living ones, one segment after the other
+abbrev pub documents_of_segments : List SegmentDocuments → List (List ℕ)
+documents_of_segments ds = flat_map living_documents ds
+
+-- ---- stores
+
+-- a store, and which of its documents are alive
+pub record StoreSourceState : Type 0 where
+  pub store : StoreReaderState
+  pub alive : List Bool
+
+-- the model of a store that is merged
+abbrev pub opened_store : StoreSource → StoreSourceState
+opened_store s = record { store = s.store; alive = s.alive.now }
+
+-- A store has a document for each flag.
+abbrev pub FitsFlags : StoreSourceState → Type 0
+FitsFlags s = num_docs s.store.checkpoints ≡ length s.alive
+
+-- A store has these documents, and the flags are theirs.
+pub record SourceHolds (s : StoreSourceState) (d : SegmentDocuments) : Type 0 where
+  pub store : HoldsDocuments s.store.bytes d.documents
+  pub index : index_of s.store.bytes ≡ Ok s.store.checkpoints
+  pub alive : s.alive ≡ d.alive
+
+-- a document before others, or the first damage
+abbrev pub with_first : Result (List ℕ) StoreDamage → Result (List (List ℕ)) StoreDamage → Result (List (List ℕ)) StoreDamage
+with_first (Err damage) others = Err damage
+with_first (Ok document) (Err damage) = Err damage
+with_first (Ok document) (Ok documents) = Ok (document ∷ documents)
+
+-- all documents that were read, or the first damage
+abbrev pub all_read : List (Result (List ℕ) StoreDamage) → Result (List (List ℕ)) StoreDamage
+all_read [] = Ok []
+all_read (document ∷ others) = with_first document (all_read others)
+
+-- the living documents of a store, or its first damaged block that has some
+abbrev pub documents_of_source : StoreSourceState → Result (List (List ℕ)) StoreDamage
+documents_of_source s = all_read (map (document_of s.store.bytes s.store.checkpoints) (living_docs s.alive))
+
+-- A store gives its living documents.
+abbrev pub IsSound : StoreSourceState → Type 0
+IsSound s = (documents : List (List ℕ)) × (documents_of_source s ≡ Ok documents)
+
+-- These are the living documents of stores, one store after the other.
+pub record AreMergedDocuments (ss : List StoreSourceState) (documents : List (List ℕ)) : Type 0 where
+  pub each : List (List (List ℕ))
+  pub read : AllZip (λ (s : StoreSourceState) (ds : List (List ℕ)). documents_of_source s ≡ Ok ds) ss each
+  pub joined : documents ≡ flat_map (λ (ds : List (List ℕ)). ds) each
+
+-- Bytes are the store of the living documents of stores.
+pub record IsMergedStore (ss : List StoreSourceState) (bytes : List ℕ) : Type 0 where
+  pub documents : List (List ℕ)
+  pub are : AreMergedDocuments ss documents
+  pub is : bytes ≡ store_bytes documents
+  pub holds : HoldsDocuments bytes documents
+
+-- ---- faults
+
+-- how many documents of stores are alive
+abbrev pub num_living_of : List StoreSourceState → ℕ
+num_living_of [] = 0
+num_living_of (s ∷ ss) = num_living s.alive + num_living_of ss
+
+-- The store at a place has this damage, and those before it give their living documents.
+pub record IsFirstDamagedStore (ss : List StoreSourceState) (place : ℕ) (damage : StoreDamage) : Type 0 where
+  pub store : StoreSourceState
+  pub found : slice_get ss place ≡ Some store
+  pub damaged : documents_of_source store ≡ Err damage
+  pub before : AllByRecursion IsSound (take place ss)
+
+-- A store has a living document that is too long for a store.
+pub record HasLongDocument (s : StoreSourceState) : Type 0 where
+  pub doc : ℕ
+  pub document : List ℕ
+  pub living : is_living s.alive doc ≡ true
+  pub found : document_of s.store.bytes s.store.checkpoints doc ≡ Ok document
+  pub long : 2 ^ 31 ≤ length document
+
+-- A file can't be written to memory.
+abbrev pub IsOutputFault : Fault → Type 0
+IsOutputFault fault = (fault ≡ OutOfMemory) ⊎ (fault ≡ Limit Offset)
+
+-- Why stores aren't merged.
+abbrev pub IsStoreMergeFault : List StoreSourceState → StoreMergeFault → Type 0
+IsStoreMergeFault ss (Output fault) = IsOutputFault fault
+IsStoreMergeFault ss (Damaged place damage) = IsFirstDamagedStore ss place damage
+IsStoreMergeFault ss (DocumentLen place) = IsSomeAnd (slice_get ss place) HasLongDocument
+IsStoreMergeFault ss NumDocs = 2 ^ 31 ≤ num_living_of ss
+
+-- A fault is damage of a store.
+abbrev pub IsStoreDamage : StoreMergeFault → Type 0
+IsStoreDamage (Output fault) = ⊥
+IsStoreDamage (Damaged place damage) = ⊤
+IsStoreDamage (DocumentLen place) = ⊥
+IsStoreDamage NumDocs = ⊥
+
+-- ---- what calls store
+
+-- Documents were stored after all others.
+abbrev pub StoresDocuments : List (List ℕ) → StoreWriterState → StoreWriterState → Type 0
+StoresDocuments documents old new = (initial : CountingWriterState) (before : List (List ℕ)) → HasStored initial old before → HasStored initial new (before ++ documents)
+
+-- The living documents of a store were stored.
+pub record StoresLiving (s : StoreSourceState) (old new : StoreWriterState) : Type 0 where
+  pub documents : List (List ℕ)
+  pub read : documents_of_source s ≡ Ok documents
+  pub count : length documents ≡ num_living s.alive
+  pub stored : StoresDocuments documents old new
+
+-- The living documents of stores were stored.
+pub record StoresAll (ss : List StoreSourceState) (old new : StoreWriterState) : Type 0 where
+  pub documents : List (List ℕ)
+  pub are : AreMergedDocuments ss documents
+  pub count : length documents ≡ num_living_of ss
+  pub stored : StoresDocuments documents old new
+
+-- Why a document of a block can't be stored where there are so many documents.
+abbrev pub IsDocumentFault : ℕ → ℕ → Result (List ℕ) StoreDamage → StoreMergeFault → Type 0
+IsDocumentFault count place found (Output fault) = IsOutputFault fault
+IsDocumentFault count place found (Damaged p damage) = (p ≡ place) × (found ≡ Err damage)
+IsDocumentFault count place found (DocumentLen p) = (p ≡ place) × (document : List ℕ) × (found ≡ Ok document) × (2 ^ 31 ≤ length document)
+IsDocumentFault count place found NumDocs = 2 ^ 31 - 1 ≤ count
+
+-- Why the documents of a store at a place can't be stored where there are so many documents.
+abbrev pub IsSourceFault : ℕ → ℕ → StoreSourceState → StoreMergeFault → Type 0
+IsSourceFault count place s (Output fault) = IsOutputFault fault
+IsSourceFault count place s (Damaged p damage) = (p ≡ place) × (documents_of_source s ≡ Err damage)
+IsSourceFault count place s (DocumentLen p) = (p ≡ place) × HasLongDocument s
+IsSourceFault count place s NumDocs = 2 ^ 31 ≤ count + num_living s.alive

@@ -1,0 +1,97 @@
+-- The stored documents of segments, and the file that they are merged into.
+use Rattle.std.specs.Prelude.{◌≡◌, ℕ, ◌≤◌, ◌^◌, ◌⊎◌, ◌==◌, Bool, true, IfSome, IsSomeAnd, is_none, List, length, replicate, slice_get, take, Option, None, Some, Result, Ok, Err, if◌then◌else◌}
+use Rattle.std.specs.List.{AllByRecursion, AllZip, list_any}
+use Rattle.std.specs.Option.{option_map}
+use Rattle.ii_io.specs.declared.faults.Fault.TheVariants.{OutOfMemory}
+use Rattle.ii_doc_store.specs.declared.checkpoint.Checkpoint.{Checkpoint}
+use Rattle.ii_doc_store.specs.declared.faults.StoreDamage.{StoreDamage}
+use Rattle.ii_doc_store.specs.declared.faults.StoreDamage.TheVariants.{Index}
+use Rattle.ii_doc_store.specs.StoreReader.{HoldsDocuments, index_of, num_docs}
+use Rattle.ii_doc_store_merger.specs.StoreSources.{HasLongDocument, IsFirstDamagedStore, IsMergedStore, IsOutputFault, SegmentDocuments, StoreSourceState, documents_of_segments, num_living_of}
+use Rattle.ii_segment_store.specs.Contents.{SegmentContents}
+use Rattle.nequllpa_merging.specs.declared.faults.MergeFault.{MergeFault}
+use Rattle.nequllpa_merging.specs.declared.faults.MergeFault.TheVariants.{LongDocument, Merge, Segment, Store, TooManyDocuments, TooManyFields}
+use Rattle.nequllpa_merging.specs.declared.opening.OpenedSegment.{OpenedSegment}
+
+-- the bytes of the file of a segment's stored documents, if there is one, and whether each document is alive
+pub record StoredFile : Type 0 where
+  pub bytes : Option (List ℕ)
+  pub alive : List Bool
+
+-- the file of a segment
+abbrev pub stored_file : SegmentContents → StoredFile
+stored_file c = record { bytes = c.store; alive = c.alive }
+
+-- the file of an open segment
+abbrev pub stored_view : OpenedSegment → StoredFile
+stored_view o = record { bytes = o.store; alive = o.alive }
+
+-- a store, if its index is sound and it has a document for each flag
+abbrev pub fitting_store : List ℕ → List Bool → Result (List Checkpoint) StoreDamage → Result StoreSourceState StoreDamage
+fitting_store bytes alive (Err damage) = Err damage
+fitting_store bytes alive (Ok checkpoints) = if num_docs checkpoints == length alive then Ok (record { store = record { bytes = bytes; checkpoints = checkpoints }; alive = alive }) else Err Index
+
+-- the store in a file, if there is a file, or the damage of its index
+abbrev pub store_in : StoredFile → Option (Result StoreSourceState StoreDamage)
+store_in f = option_map (λ (bytes : List ℕ). fitting_store bytes f.alive (index_of bytes)) f.bytes
+
+-- A file opens as this store.
+abbrev pub OpensStore : StoredFile → StoreSourceState → Type 0
+OpensStore f s = store_in f ≡ Some (Ok s)
+
+-- A file opens.
+abbrev pub HasStore : StoredFile → Type 0
+HasStore f = (s : StoreSourceState) × OpensStore f s
+
+-- Stores were opened: one for each file, or none since a file is missing.
+abbrev pub AreOpenStores : List StoredFile → Option (List StoreSourceState) → Type 0
+AreOpenStores fs None = list_any (λ (f : StoredFile). is_none f.bytes) fs ≡ true
+AreOpenStores fs (Some ss) = AllZip OpensStore fs ss
+
+-- The file that stored documents are merged into: there is one if each segment has one.
+abbrev pub HasMergedStore : List StoredFile → Option (List ℕ) → Type 0
+HasMergedStore fs None = list_any (λ (f : StoredFile). is_none f.bytes) fs ≡ true
+HasMergedStore fs (Some bytes) = (ss : List StoreSourceState) × AllZip OpensStore fs ss × IsMergedStore ss bytes
+
+-- The file at a place has a damaged index, and those before it open.
+pub record IsFirstDamagedIndex (fs : List StoredFile) (place : ℕ) (damage : StoreDamage) : Type 0 where
+  pub file : StoredFile
+  pub found : slice_get fs place ≡ Some file
+  pub damaged : store_in file ≡ Some (Err damage)
+  pub before : AllByRecursion HasStore (take place fs)
+
+-- Why stores aren't opened.
+abbrev pub IsOpenStoresFault : List StoredFile → MergeFault → Type 0
+IsOpenStoresFault fs (Segment place part) = ⊥
+IsOpenStoresFault fs (Store place damage) = IsFirstDamagedIndex fs place damage
+IsOpenStoresFault fs (LongDocument place) = ⊥
+IsOpenStoresFault fs TooManyDocuments = ⊥
+IsOpenStoresFault fs TooManyFields = ⊥
+IsOpenStoresFault fs (Merge fault) = fault ≡ OutOfMemory
+
+-- All files open, and this is so of their stores.
+abbrev pub AllOpen : List StoredFile → (List StoreSourceState → Type 0) → Type 0
+AllOpen fs P = (ss : List StoreSourceState) × AllZip OpensStore fs ss × P ss
+
+-- Why stored documents aren't merged: indexes are read before blocks.
+abbrev pub IsStoresFault : List StoredFile → MergeFault → Type 0
+IsStoresFault fs (Segment place part) = ⊥
+IsStoresFault fs (Store place damage) = IsFirstDamagedIndex fs place damage ⊎ AllOpen fs (λ ss. IsFirstDamagedStore ss place damage)
+IsStoresFault fs (LongDocument place) = AllOpen fs (λ ss. IsSomeAnd (slice_get ss place) HasLongDocument)
+IsStoresFault fs TooManyDocuments = AllOpen fs (λ ss. 2 ^ 31 ≤ num_living_of ss)
+IsStoresFault fs TooManyFields = ⊥
+IsStoresFault fs (Merge fault) = IsOutputFault fault
+
+-- A file, if there is one, is a store of as many documents as there are flags.
+abbrev pub HoldsSomeDocuments : Option (List ℕ) → ℕ → Type 0
+HoldsSomeDocuments file count = IfSome file (λ bytes. (documents : List (List ℕ)) × HoldsDocuments bytes documents × (length documents ≡ count))
+
+-- A file is the store of these documents.
+pub record HoldsStored (f : StoredFile) (d : SegmentDocuments) : Type 0 where
+  pub store : IsSomeAnd f.bytes (λ bytes. HoldsDocuments bytes d.documents)
+  pub alive : f.alive ≡ d.alive
+  pub count : length d.documents ≡ length d.alive
+
+-- the documents that those of segments are merged into: the living ones, which are all alive
+abbrev pub merged_documents : List SegmentDocuments → SegmentDocuments
+merged_documents ds = record { alive = replicate (length (documents_of_segments ds)) true; documents = documents_of_segments ds }
