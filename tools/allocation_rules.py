@@ -38,8 +38,13 @@ PLACES = {
     'ii_directory/src/memory_files.rt': {'stop_in_put'},  # a copy of the bytes was refused
     'ii_term_text/src/terms.rt': {'bytes_term', 'is_memory'},  # the kit's `hex` couldn't grow
     'nequllpa_folder/src/faults.rt': {'is_memory', 'from'},
+    'nequllpa_folder/src/opened.rt': {'documents_fault'},  # stored documents couldn't be opened for it
+    'nequllpa_folder/src/stored_lines.rt': {
+        'from', 'memory',
+        'store_damages'},  # the same
     'nequllpa_indexing/src/faults.rt': {'is_memory'},
     'nequllpa_merging/src/faults.rt': {'from'},
+    'nequllpa_merging/src/stores.rt': {'store_fault'},  # stores couldn't be opened or merged for it
     'nequllpa_cli/src/keyed_lines.rt': {
         'add_to',  # a copy of a key, or a list of keys, was refused
         'no_memory'},  # the same of a line and its key

@@ -15,10 +15,11 @@ import programs
 # The end of each command's standard output according to README; None where it isn't compared.
 PRINTS = {
     "echo 'ids 0 2 10' | ./iiq": '808288\n0 2 10\n',
-    r"""printf '[[field]]\nname = "body"\ntype = "text"\n' > schema.toml""": '',
+    r"""printf 'store_source = true\n[[field]]\nname = "body"\ntype = "text"\n' > schema.toml""": '',
     r"""printf '{"body": "the old sea"}\n{"body": "the sea, the old sea"}\n' > lines.jsonl""": '',
     './nequllpa index sea --schema schema.toml lines.jsonl': '2 documents indexed\n',
     """./nequllpa search sea '"the sea" NOT bird'""": '1\n',
+    """./nequllpa search sea '"the sea" NOT bird' --source""": '{"body": "the sea, the old sea"}\n',
     # BM25 of `old`: 2.2 * ln(1.2) * 1 / (1 + 1.2 * (0.25 + 0.75 * 3 / 4)) = 0.2031; the prefix counts 1.
     "./nequllpa search sea 'old se*' --top 1": '0\t1.2031\n',
     './nequllpa check sea': '0 damages\n',
