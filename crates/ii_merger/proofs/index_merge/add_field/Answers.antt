@@ -2,7 +2,8 @@ use Rattle.std.proofs.Common.{◌∙◌, List, length, map, sym, ap, subst, arit
 use Rattle.ii_merger.specs.MergeSources.{FieldSourceState, source_of, living_in_sources}
 use Rattle.ii_merger.specs.MergedIndex.{all_living, opened_segment, norms_of_field}
 use Rattle.ii_merger.specs.MergedTerm.{CoversBelow}
-use Rattle.ii_merger.specs.SourcesHold.{SourcesHold}
+use Rattle.ii_merger.specs.SourcesHold.{SourcesHold, WroteField}
+use Rattle.ii_segments.specs.Segments.{index_tokens}
 use Rattle.ii_merger.proofs.IndexMergeLemmas.{fields_hold, lacks_field, norms_cover, same_living}
 use Rattle.ii_merger.proofs.index_merge.add_field.Goals as goal
 use Rattle.std.specs.Prelude.{◌⊎◌, IfErr, OnOk}
@@ -30,7 +31,8 @@ merge_field-requires-clause-covered g c =
 pub returns-clause-holds : goal.returns-clause-holds
 returns-clause-holds g c ss hold counted some =
     let same = ap (map source_of) c.as_slice.ensures.value ∙ c.in-Ok.ensures.ok in
-    c.merge_field.ensures.holds ss (subst (λ (fs : List FieldSourceState). SourcesHold c.args.schema.now c.args.field fs ss) (sym same) (fields_hold c.args.schema.now c.args.field (map opened_segment c.args.sources.now) ss c.requires.known hold)) counted some
+    subst (λ (n : Option Norms). OnOk c.merge_field.result (WroteField c.args.schema.now c.args.serializer.now.bodies c.merge_field.new.serializer.bodies c.args.field n (index_tokens ss))) c.in-Ok-get_field.ensures.found
+    (c.merge_field.ensures.holds ss (subst (λ (fs : List FieldSourceState). SourcesHold c.args.schema.now c.args.field fs ss) (sym same) (fields_hold c.args.schema.now c.args.field (map opened_segment c.args.sources.now) ss c.requires.known hold)) counted some)
 
 pub returns-clause-wrote : goal.returns-clause-wrote
 returns-clause-wrote g c some =
