@@ -1,190 +1,183 @@
 #!/usr/bin/env python3
-"""Compares the best documents that `nequllpa search --top` prints, and their scores, with a plain reading of random
-lines: each document that matches is scored by BM25 in integers, and all are sorted. Lines are added in parts, deleted by
-words, and merged."""
-import json
-import os
+"""Compares the best documents that `nequllpa search --top` prints, and their scores, with a definition of the score that knows of
+no segments (`ranking_meaning.py`): over one segment and several, with deleted documents and after a merge. The queries have words,
+phrases, prefixes and ranges in fields of all kinds, of one field and of none, joined by AND, OR, NOT and a minus.
+
+    ranking.py            50 folders with 200 queries each, as the gate runs it
+    ranking.py N FIRST    N folders from the seed FIRST"""
 import random
-import subprocess
 import sys
 import tempfile
 import time
 
 sys.dont_write_bytecode = True
-HERE = os.path.dirname(os.path.abspath(__file__))
-sys.path.insert(0, os.path.join(os.path.dirname(os.path.dirname(HERE)), 'tools'))
-import programs
+import player
+from ranking_meaning import Ranking, show
+from segments_meaning import FIELD, WORDS, i64_key, some_doc, some_key, u64_key
 
-PROGRAM = 'nequllpa_cli'
-SEED = 20261128
-ROUNDS = 25
-QUERIES = 40
-WORDS = ['the', 'old', 'sea', 'man', 'a', 'of', 'storm', 'bird']
-FIELDS = ['body', 'title']
-ONE = 1 << 38
+FOLDERS = 50
+QUERIES = 200
+TEXTS = [FIELD[name] for name in ('body', 'tag', 'flag')]
 
 
-class Failed(Exception):
-    """A result that differs from the expected one."""
+def key_range(field, name, low, high, key_of, chosen):
+    """Returns a query for the keys between two values, of which one may be missing, and its text."""
+    below, above = chosen.choice(['inclusive', 'exclusive', 'none']), chosen.choice(['inclusive', 'exclusive', 'none'])
+    least, most = key_of(low), key_of(high)
+
+    def takes(key):
+        return (below == 'none' or key > least or below == 'inclusive' and key == least) and (above == 'none' or key < most or above == 'inclusive' and key == most)
+
+    first, last = '*' if below == 'none' else low, '*' if above == 'none' else high
+    text = f'{name}:{"{" if below == "exclusive" else "["}{first} TO {last}{"}" if above == "exclusive" else "]"}'
+    if above == 'none' and below != 'none' and chosen.random() < 0.5:
+        text = f'{name}:>{"=" if below == "inclusive" else ""}{low}'
+    return ('range', field, takes), text
 
 
-def log2_fixed(x):
-    """The logarithm by base 2, in 2^-26, by 26 squarings whose results are cut to 32 bits."""
-    exponent = x.bit_length() - 1
-    mantissa = (x << 31) >> exponent
-    for _ in range(26):
-        square = mantissa * mantissa
-        high = square >= 1 << 63
-        exponent, mantissa = 2 * exponent + high, square >> (32 if high else 31)
-    return exponent
+def some_range(chosen):
+    """Returns a query for a range of words or numbers, and its text."""
+    if chosen.random() < 0.2:
+        name = chosen.choice(list(FIELD))
+        return ('range', FIELD[name], lambda key: True), f'{name}:*'
+    if chosen.random() < 0.5:
+        low, high = chosen.randint(0, 3), chosen.randint(0, 4)
+        return key_range(FIELD['n'], 'n', low, high, u64_key, chosen)
+    field = chosen.choice(['body', 'tag', 'flag'])
+    low, high = chosen.choice(WORDS), chosen.choice(WORDS)
+    return key_range(FIELD[field], field, low, high, str.encode, chosen)
 
 
-class Reading:
-    """The living documents: for each field the words of each, in order."""
-
-    def __init__(self):
-        self.docs = []
-
-    def having(self, term):
-        field, word = term
-        return sum(word in doc[field] for doc in self.docs)
-
-    def score(self, terms, count, doc):
-        """What a document scores in which a term, or a phrase of terms, occurs so many times."""
-        field, many = terms[0][0], len(self.docs)
-        idfs = sum(max(0, log2_fixed(2 * many + 2) - log2_fixed(2 * self.having(term) + 1)) for term in terms)
-        weight = min((1 << 32) - 1, max(1, idfs * 1637374460 >> 34))
-        tokens = max(1, sum(len(other[field]) for other in self.docs))
-        # texts have fewer than 40 words, so a norm is the number of words
-        length = min((1 << 36) - 1, ((3 * tokens + 9 * len(doc[field]) * many) << 20) // (10 * tokens))
-        share = (1 << 28) * (count << 20) // ((count << 20) + length)
-        return weight * share >> 12
-
-    def score_of(self, query, doc):
-        """What a document scores by a query, or None."""
-        kind, *parts = query
-        if kind == 'term':
-            count = doc[parts[0][0]].count(parts[0][1])
-            return self.score(parts, count, doc) if count else None
-        if kind == 'phrase':
-            words, wanted = doc[parts[0][0]], [word for _, word in parts]
-            count = sum(words[place:place + len(wanted)] == wanted for place in range(len(words)))
-            return self.score(parts, count, doc) if count else None
-        if kind == 'prefix':
-            return ONE if any(word.startswith(parts[1]) for word in doc[parts[0]]) else None
-        scores = [self.score_of(part, doc) for part in parts]
-        if kind == 'not':
-            return scores[0] if scores[1] is None else None
-        if kind == 'and':
-            return None if None in scores else sum(scores)
-        scores = [score for score in scores if score is not None]
-        return sum(scores) if scores else None
-
-    def best(self, query, limit):
-        scored = [(self.score_of(query, doc), number) for number, doc in enumerate(self.docs)]
-        ranked = sorted((-score, number) for score, number in scored if score is not None)
-        return [(number, -score) for score, number in ranked[:limit]]
+def some_prefix(chosen):
+    """Returns a query for the words with a prefix, of a field, of a path or of all texts, and its text."""
+    prefix = chosen.choice(['a', 'c', 'd', 't', 'th', 's', 'x1', 'sun', 'y'])
+    begins = lambda start: lambda key: key.startswith(start)
+    how = chosen.random()
+    if how < 0.2:
+        return ('or', *(('range', field, begins(prefix.encode())) for field in TEXTS)), f'{prefix}*'
+    if how < 0.4:
+        return ('range', FIELD['j'], begins(b'p\0s' + prefix.encode())), f'j.p:{prefix}*'
+    name = chosen.choice(['body', 'body', 'tag', 'flag'])
+    return ('range', FIELD[name], begins(prefix.encode())), f'{name}:{prefix}*'
 
 
-def text_of(query):
-    """The text of a query."""
-    kind, *parts = query
-    if kind == 'term':
-        return f'{parts[0][0]}:{parts[0][1]}'
-    if kind == 'phrase':
-        return f'{parts[0][0]}:"{" ".join(word for _, word in parts)}"'
-    if kind == 'prefix':
-        return f'{parts[0]}:{parts[1]}*'
-    return '(' + {'and': ' AND ', 'or': ' OR ', 'not': ' NOT '}[kind].join(text_of(part) for part in parts) + ')'
+def some_phrase(chosen):
+    """Returns a query for a phrase of a field, of a path or of all texts, and its text."""
+    words = chosen.choices(WORDS, k=chosen.choice([2, 2, 3]))
+    keys, text = [word.encode() for word in words], '"' + ' '.join(words) + '"'
+    how = chosen.random()
+    if how < 0.2:
+        return ('or', *(('phrase', field, keys) for field in TEXTS)), text
+    if how < 0.35:
+        return ('phrase', FIELD['j'], [b'p\0s' + key for key in keys]), f'j.p:{text}'
+    return ('phrase', FIELD['body'], keys), f'body:{text}'
 
 
-def random_query(chosen, depth):
-    field = chosen.choice(FIELDS)
-    kind = chosen.choice(['term', 'term', 'phrase', 'prefix'] if depth == 0 else ['term', 'phrase', 'and', 'or', 'or', 'not'])
-    if kind == 'term':
-        return 'term', (field, chosen.choice(WORDS))
-    if kind == 'phrase':
-        return 'phrase', *((field, word) for word in chosen.choices(WORDS, k=chosen.choice([2, 2, 3])))
-    if kind == 'prefix':
-        return 'prefix', field, chosen.choice(['o', 's', 'st', 'a'])
-    return kind, *(random_query(chosen, depth - 1) for _ in range(2 if kind == 'not' else chosen.choice([2, 3])))
+def some_part(chosen):
+    """Returns a query without parts, and its text."""
+    how = chosen.random()
+    if how < 0.15:
+        return some_range(chosen)
+    if how < 0.3:
+        return some_prefix(chosen)
+    if how < 0.5:
+        return some_phrase(chosen)
+    if how < 0.65:
+        word = chosen.choice(WORDS + ['none'])
+        return ('or', *(('term', field, word.encode()) for field in TEXTS)), word
+    query = ('term', *some_key(chosen, [FIELD[name] for name in ('body', 'tag', 'flag', 'n', 'j')]))
+    return query, player.text_of(query)
 
 
-class User:
-    """Runs the program in a room."""
-
-    def __init__(self, program, room):
-        self.program, self.room = program, room
-
-    def run(self, *words, status=(0,), given=b''):
-        done = subprocess.run([self.program, *words], input=given, stdout=subprocess.PIPE, stderr=subprocess.PIPE, cwd=self.room, timeout=110)
-        if done.returncode not in status:
-            raise Failed(f'{words}: status {done.returncode}, {done.stdout[-200:]!r}, {done.stderr[-300:]!r}')
-        return done.stdout.decode()
+def some_query(chosen, depth):
+    """Returns a query and its text."""
+    if depth == 0 or chosen.random() < 0.25:
+        return some_part(chosen)
+    kind = chosen.choice(['and', 'or', 'or', 'not'])
+    parts = [some_query(chosen, depth - 1) for _ in range(chosen.choice([2, 2, 3]))]
+    queries, texts = [query for query, _ in parts], [text for _, text in parts]
+    between = chosen.choice({'and': [' AND '], 'or': [' OR ', ' '], 'not': [' NOT ', ' -', ' AND NOT ', ' AND -']}[kind])
+    return (kind, *queries), f'({between.join(texts)})'
 
 
-def four_decimals(score):
-    parts = (score * 10000 + (1 << 37)) >> 38
-    return f'{parts // 10000}.{parts % 10000:04}'
+def some_docs(chosen, number, most):
+    """Returns documents from a number on: some have the same words, some are long."""
+    kinds = [some_doc(chosen, 0) for _ in range(chosen.randint(1, most))]
+    docs = []
+    for _ in range(chosen.randint(1, most)):
+        doc = {**chosen.choice(kinds), 'id': f'd{number + len(docs)}'}
+        if chosen.random() < 0.05:
+            doc['body'] = ' '.join(chosen.choices(WORDS, weights=[9, 5, 4, 3, 3, 2, 1, 1], k=chosen.choice([41, 100, 300])))
+        docs.append(doc)
+    return docs
 
 
-def compares(user, chosen, reading):
-    """Compares the best documents of a random query."""
-    query, limit = random_query(chosen, chosen.randrange(3)), chosen.choice([1, 3, 10, 1000])
-    wanted = reading.best(query, limit)
-    text = text_of(query)
-    told = user.run('search', 'index', text, '--top', str(limit), '--json', status=(0, 1)).splitlines()
-    got = [(row['doc'], row['units']) for row in map(json.loads, told)]
-    if got != wanted:
-        raise Failed(f'{text} --top {limit}: {got[:5]}, wanted {wanted[:5]}')
-    told = user.run('search', 'index', text, '--top', str(limit), status=(0, 1)).splitlines()
-    if told != [f'{number}\t{four_decimals(score)}' for number, score in wanted]:
-        raise Failed(f'{text} --top {limit}: {told[:5]}')
-    told = user.run('search', 'index', text, '--top', str(limit), '--ids', status=(0, 1)).splitlines()
-    if told != [f'{reading.docs[number]["id"]}\t{four_decimals(score)}' for number, score in wanted]:
-        raise Failed(f'{text} --top {limit} --ids: {told[:5]}')
+def compares(user, chosen, ranking):
+    """Compares the best documents of a random query, in one of the ways to print them."""
+    query, text = some_query(chosen, chosen.randrange(4))
+    found = ranking.best(query)
+    limit = chosen.choice([0, 1, 1, 2, 3, 10, len(found), len(found) + 1, 1000])
+    options = ['--top', str(limit), *chosen.choice([[], ['--ids'], ['--json'], ['--json'], ['--json', '--ids']])]
+    out = ''
+    for doc, units in found[:limit]:
+        name = ranking.meaning.docs[doc]['id'].encode().hex()
+        if '--json' in options:
+            out += f'{{"doc":{doc}' + (f',"id":"{name}"' if '--ids' in options else '') + f',"score":{show(units)},"units":{units}}}\n'
+        else:
+            out += f'{name if "--ids" in options else doc}\t{show(units)}\n'
+    user.wants(['search', user.folder, text, *options], 0 if found else 1, out)
+    return len(found) > 1 and len({units for _, units in found}) < len(found)
 
 
-def one_folder(program, room, chosen):
-    user, reading = User(program, room), Reading()
-    with open(os.path.join(room, 'schema.toml'), 'w', encoding='utf-8') as file:
-        file.write('[[field]]\nname = "id"\ntype = "text"\ntokenizer = "raw"\n' + ''.join(f'[[field]]\nname = "{name}"\ntype = "text"\n' for name in FIELDS))
-    number = 0
-    for part in range(chosen.choice([1, 2, 3])):
-        lines = []
-        for _ in range(chosen.randrange(1, 60)):
-            doc = {name: chosen.choices(WORDS, weights=[9, 5, 4, 3, 3, 2, 1, 1], k=chosen.randrange(0, 12)) for name in FIELDS}
-            doc['id'] = f'n{number}'
-            number += 1
-            reading.docs.append(doc)
-            lines.append(json.dumps({'id': doc['id'], **{name: ' '.join(doc[name]) for name in FIELDS}}) + '\n')
-        given = ''.join(lines).encode()
-        user.run(*(['index', 'index', '--schema', 'schema.toml'] if part == 0 else ['add', 'index', '--no-merge']), given=given)
-    for _ in range(QUERIES // 2):
-        compares(user, chosen, reading)
-    field, word = chosen.choice(FIELDS), chosen.choice(['storm', 'bird', 'of'])
-    user.run('delete', 'index', field, word)
-    reading.docs = [doc for doc in reading.docs if word not in doc[field]]
-    for _ in range(QUERIES // 2):
-        compares(user, chosen, reading)
-    user.run('merge', 'index')
-    compares(user, chosen, reading)
+def one_folder(task):
+    """Ranks the documents of a folder: as they are added in parts, some deleted, and all segments merged. Returns how many queries
+    there were, of how many some scores were equal, how often the program ran, and what differs."""
+    program, seed, queries = task
+    chosen = random.Random(seed)
+    most = 300 if seed % 10 == 0 else chosen.choice([3, 20, 60])
+    asked = equal = 0
+    with tempfile.TemporaryDirectory() as room:
+        user = player.Player(program, room, chosen)
+        user.merging = ['--no-merge']
+        steps = ['add'] * chosen.randint(1, 3) + ['delete'] * chosen.randint(0, 3)
+        chosen.shuffle(steps)
+        number = 0
+        try:
+            for place, step in enumerate(['add', *steps, 'merge']):
+                if step == 'add':
+                    docs = some_docs(chosen, number, most)
+                    number += len(docs)
+                    for doc in docs:
+                        user.play(('add', doc))
+                elif step == 'delete':
+                    user.play(('delete', *some_key(chosen, list(FIELD.values()))))
+                else:
+                    user.play(('merge',))
+                user.play(('commit',))
+                ranking = Ranking(user.docs)
+                # of the queries as many after each step
+                for _ in range(queries // (len(steps) + 2) + (place < queries % (len(steps) + 2))):
+                    equal += compares(user, chosen, ranking)
+                    asked += 1
+        except player.Failed as why:
+            return asked, equal, user.runs, f'ranking in folder {seed}: {why}'
+    return asked, equal, user.runs, None
 
 
 def main():
-    if 'NEQULLPA' not in os.environ and not programs.build(PROGRAM):
+    many, first = (int(sys.argv[1]), int(sys.argv[2])) if len(sys.argv) > 2 else (FOLDERS, 0)
+    program, begun = player.program_path(), time.time()
+    if program is None:
         print('tests/folder: the program was not built')
         return 1
-    program, begin = os.environ.get('NEQULLPA', programs.program_of(PROGRAM)), time.time()
-    for number in range(ROUNDS):
-        with tempfile.TemporaryDirectory() as room:
-            try:
-                one_folder(program, room, random.Random(SEED + number))
-            except Failed as why:
-                print(f'tests/folder: ranking in folder {number}: {why}')
-                return 1
-    print(f'tests/folder: {ROUNDS} folders ranked by {ROUNDS * (QUERIES + 1)} queries, each in three ways, in {time.time() - begin:.0f} s')
-    return 0
+    asked = equal = runs = wrong = 0
+    for queries, same, ran, why in player.side_by_side(one_folder, [(program, seed, QUERIES) for seed in range(first, first + many)]):
+        asked, equal, runs = asked + queries, equal + same, runs + ran
+        if why is not None:
+            wrong += 1
+            print(f'tests/folder: {why}', flush=True)
+    print(f'tests/folder: {many} folders ranked by {asked} queries, of which {equal} have equal scores, {runs} runs of nequllpa, in {time.time() - begun:.0f} s; {wrong} differ')
+    return 1 if wrong else 0
 
 
 sys.exit(main())
