@@ -57,14 +57,14 @@ each_gave {A} give n [] xs is i x at =
     not_both o none some = cc
 each_gave {A} give n (e ∷ es) xs is i x at =
     joined (give (n, e)) (all_or_first (map give (enumerate_from (n + 1) es))) xs (λ y ys. Gave give n (e ∷ es) i x)
-    (λ y ys first others whole. by i y ys first others (ap (λ (zs : List A). slice_get zs i) (sym whole) ∙ at)) (Gave give n (e ∷ es) i x) (λ y ys gave. gave) is
+    (λ y ys first others whole. by i y ys first (λ k here. each_gave give (n + 1) es ys others k x here) (ap (λ (zs : List A). slice_get zs i) (sym whole) ∙ at)) (Gave give n (e ∷ es) i x) (λ y ys gave. gave) is
   where
-    by : (k : ℕ) (y : A) (ys : List A) → give (n, e) ≡ Ok y → all_or_first (map give (enumerate_from (n + 1) es)) ≡ Ok ys → slice_get (y ∷ ys) k ≡ Some x → Gave give n (e ∷ es) k x
+    by : (k : ℕ) (y : A) (ys : List A) → give (n, e) ≡ Ok y → ((j : ℕ) → slice_get ys j ≡ Some x → Gave give (n + 1) es j x) → slice_get (y ∷ ys) k ≡ Some x → Gave give n (e ∷ es) k x
     by zero y ys first others here =
         let same : n ≡ n + 0 = omega arith in
         record { entry = e; at = refl; gave = subst (λ (m : ℕ). give (m, e) ≡ Ok x) same (first ∙ ap fine (some-same here)) }
     by (suc k) y ys first others here =
-        let rest = each_gave give (n + 1) es ys others k x here in
+        let rest = others k here in
         let same : n + 1 + k ≡ n + suc k = omega arith in
         record { entry = rest.entry; at = rest.at; gave = subst (λ (m : ℕ). give (m, rest.entry) ≡ Ok x) same rest.gave }
 
@@ -117,7 +117,8 @@ opens_true_bounds entries terms postings positions fieldnorms index h is = by (c
           each = λ field reader ids key info at normed found.
               let gave = each_gave (λ (f : ℕ × SchemaEntry). reader_of_field bodies f.0 f.1.option) 0 entries readers read field reader at in
               let option : gave.entry.option ≡ option_of entries field = rw gave.at refl in
-              let own : reader_of_field bodies field gave.entry.option ≡ Ok reader = gave.gave in
+              let none_more : 0 + field ≡ field = omega arith in
+              let own : reader_of_field bodies field gave.entry.option ≡ Ok reader = subst (λ (k : ℕ). reader_of_field bodies k gave.entry.option ≡ Ok reader) none_more gave.gave in
               reader_bound gave.entry.option (norms_of_ids ids) (body_of field a) (body_of field b) (body_of field c) reader key info
               (λ t p t_at p_at. subst (λ (o : IndexRecordOption). HasTrueTerms o (norms_of_ids ids) t p) (sym option) ((h.bodies a b norms t_is p_is n_is).fields field t p ids t_at p_at normed)) own found;
         })
@@ -129,6 +130,12 @@ opens_true_bounds entries terms postings positions fieldnorms index h is = by (c
     by (Some a) (Some b) (Some c) None t_is p_is n_is made = absurd (cc)
     by (Some a) (Some b) (Some c) (Some norms) t_is p_is n_is made = readers_bound a b c norms t_is p_is n_is (field_readers (record { terms = a; postings = b; positions = c }) entries) refl made
 
+-- The reader that became a trusted one.
+record Own (readers : List InvertedIndexReaderState) (field : ℕ) (trusted : InvertedIndexReaderState) : Type 0 where
+  reader : InvertedIndexReaderState
+  at : slice_get readers field ≡ Some reader
+  is : trusted_reader reader ≡ trusted
+
 -- a trusted index has the same bounds
 pub trusted_bounds : (index : OpenIndexState) → IndexHasTrueBounds index → IndexHasTrueBounds (trusted_index index)
 trusted_bounds index h = record {
@@ -138,11 +145,6 @@ trusted_bounds index h = record {
       subst (λ (r : InvertedIndexReaderState). HasTrueBounds (norms_of_ids ids) r.option info.doc_freq (bytes_in r.postings info.postings_range)) own.is (h.each field own.reader ids key info own.at normed there);
 }
   where
-    record Own (readers : List InvertedIndexReaderState) (field : ℕ) (trusted : InvertedIndexReaderState) : Type 0 where
-      reader : InvertedIndexReaderState
-      at : slice_get readers field ≡ Some reader
-      is : trusted_reader reader ≡ trusted
-
     trusted_at : (readers : List InvertedIndexReaderState) (field : ℕ) (trusted : InvertedIndexReaderState) → slice_get (map trusted_reader readers) field ≡ Some trusted → Own readers field trusted
     trusted_at [] field trusted at = absurd (no_reader field at)
       where
