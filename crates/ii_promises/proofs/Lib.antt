@@ -16,6 +16,7 @@ mod OrderlyLaws
 mod PlainLaws
 pub mod RankingLaws
 mod ReadsLaws
+pub mod BlockLaws
 pub mod DecodesLaws
 pub mod SearchingLaws
 pub mod TextLaws
