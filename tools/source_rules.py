@@ -1,8 +1,8 @@
 """The search for a second decoder.
 
-A clause bounds what a cursor decodes by the counter of its decoder. The counter can't see another decoder, so a body
-that decodes by one of its own, copies one, or starts its list again would meet every clause. This search closes that
-gap for the crates that read lists: COUNTED says, for each way around the counter, which functions may use it; no move
+A clause bounds what a cursor decodes by the counter of its decoder, and says which blocks by a log. Neither can see
+another decoder, so a body that decodes by one of its own, copies one, or starts its list again would meet every
+clause. This search closes that gap for the crates that read lists: COUNTED says, for each way around the counter, which functions may use it; no move
 of a cursor is among them. `tests/rules/program.py` plants each way, and the search must report it.
 
 `allocation_rules.py` searches for fabricated allocation failures."""
@@ -14,7 +14,7 @@ import programs
 
 # What only the named functions of a crate may contain; no move of a cursor is among them. A rule applies to the
 # crates that it lists. The prover counts the decodes and reads of the calls that take a counter. This table says
-# which functions create counters and decoders, and which read without such a call.
+# which functions create counters, logs and decoders, which add to a log, and which read without such a call.
 COUNTED = (
     ('a decoder', r'\bBlockDecoder\s*>?\s*::', {
         'ii_codes': {'default'},
@@ -52,6 +52,12 @@ COUNTED = (
         'ii_reader': set(),
         'ii_layout': set(),
         'ii_check': set()}),
+    ('a new log of decoded blocks', r'\b(DecodedBlocks|BlockLog)\s*>?\s*::|(?<!-> )(?<!impl )(?<!for )(?<!struct )(?<!let )\b(DecodedBlocks|BlockLog)\s*\{', {
+        'ii_reader': {'empty_by', 'clear_by', 'fill'},
+        'ii_check': {'validate_positions', 'are_positions', 'none', 'new', 'same', 'with_block'}}),
+    ('a log that a block is added to', r'\.\s*with_block\(|\bdecoded_blocks\s*(\.\s*(docs|freqs)\s*)?=(?!=)', {
+        'ii_reader': {'clear_by', 'fill'},
+        'ii_check': {'load_block', 'first_block', 'validate_positions', 'are_positions'}}),
     ('a new counter', r'\bGhostCounter\s*>?\s*(::|\{)|\bCheckedBlocks\s*>?\s*::', {
         'ii_codes': {'with_val'},
         'ii_reader': {'empty_by', 'clear_by', 'fill'},
@@ -142,7 +148,7 @@ def violations(crate, function, text):
 
 def one_counted_decoder():
     """Checks that no move of a cursor uses a decoder other than its own, reads what isn't counted, creates a counter
-    or starts its skip list again."""
+    or a log, or starts its skip list again."""
     count = 0
     for crate in ('ii_codes', 'ii_reader', 'ii_layout', 'ii_check'):
         for source in sources_of(crate):

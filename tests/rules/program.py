@@ -43,6 +43,8 @@ UNCOUNTED = {
     'a cursor, a reader or a decoder built from its fields': 'let other = SkipReader { doc_freq, place };',
     'the complete validation': 'let found = check_postings(doc_freq, bytes, recorded, requested);',
     'a replaced value': 'std::mem::swap(&mut self.skip, &mut other);',
+    'a new log of decoded blocks': 'self.decoded_blocks = DecodedBlocks::none();',
+    'a log that a block is added to': 'self.decoded_blocks.docs = self.decoded_blocks.docs.with_block(skip, decoder);',
     'a new counter': 'let counter = GhostCounter::new();',
     'a counter that is incremented or copied': 'self.decodes.next();',
     'an unpacked block': 'unpack_from(bytes, num_bits, &mut values);',

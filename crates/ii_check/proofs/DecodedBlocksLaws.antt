@@ -41,19 +41,6 @@ ascend_on first middle last (b ∷ bs) cs low high ascend later =
     let to = ascend.1 in
     (from, omega arith, ascend_on (b + 1) middle last bs cs (omega arith) high ascend.2 later)
 
--- there are no more of them than numbers
-pub ascend_few : (first last : ℕ) (bs : List ℕ) → AscendWithin first last bs → length bs + first ≤ last + 1 ⊎ (bs ≡ [])
-ascend_few first last [] ascend = inr refl
-ascend_few first last (b ∷ bs) ascend = by (ascend_few (b + 1) last bs ascend.2)
-  where
-    by : (length bs + (b + 1) ≤ last + 1) ⊎ (bs ≡ []) → (length (b ∷ bs) + first ≤ last + 1) ⊎ (b ∷ bs ≡ [])
-    by (inl few) = let from = ascend.0 in inl (omega arith)
-    by (inr none) =
-        let from = ascend.0 in
-        let to = ascend.1 in
-        let size = ap length none in
-        inl (omega arith)
-
 -- no block is there twice
 pub ascend_bounds : (first last : ℕ) (bs : List ℕ) (i : ℕ) → AscendWithin first last bs → i < length bs → (first ≤ get_or bs i 0) × (get_or bs i 0 ≤ last)
 ascend_bounds first last [] i ascend inside = absurd (omega arith)
@@ -102,6 +89,11 @@ decoded_on old new decodes decodes' blocks blocks' forward was later many =
 pub all_append : (P : ℕ → Type 0) (bs cs : List ℕ) → AllByRecursion P bs → AllByRecursion P cs → AllByRecursion P (bs ++ cs)
 all_append P [] cs first second = second
 all_append P (b ∷ bs) cs first second = (first.0, all_append P bs cs first.1 second)
+
+pub all_at : (P : ℕ → Type 0) (bs : List ℕ) (i : ℕ) → AllByRecursion P bs → i < length bs → P (get_or bs i 0)
+all_at P [] i all inside = absurd (omega arith)
+all_at P (b ∷ bs) zero all inside = all.0
+all_at P (b ∷ bs) (suc i) all inside = all_at P bs i all.1 (omega arith)
 
 -- the same of blocks that are allowed
 pub allowed_on : (P : ℕ → Type 0) (i j k : ℕ) (bs cs ds : List ℕ) → i ≤ j → j ≤ k → DecodesAllowed P i j bs cs → DecodesAllowed P j k cs ds → DecodesAllowed P i k bs ds

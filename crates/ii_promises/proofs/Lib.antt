@@ -17,6 +17,7 @@ mod OrderlyLaws
 mod PlainLaws
 pub mod RankingLaws
 mod ReadsLaws
+pub mod BlockLaws
 pub mod DecodesLaws
 pub mod SearchingLaws
 pub mod TextLaws

@@ -7,8 +7,8 @@ use Rattle.ii_base.specs.Entries.{Entry}
 use Rattle.ii_check.specs.CheckedPostings.{excludes}
 use Rattle.ii_reader.specs.Bounds.{freq_bound}
 use Rattle.ii_reader.specs.SegmentPostings.{SegmentPostingsState}
-use Rattle.ii_search.specs.TopByCount.{before_block, blocks_for_top, by_count, least_count, needed, placed, top}
-use Rattle.ii_promises.specs.HopelessBlocks.{hopeful_blocks, is_hopeless}
+use Rattle.ii_search.specs.TopByCount.{AllowsTop, before_block, blocks_for_top, by_count, least_count, needed, placed, top}
+use Rattle.ii_promises.specs.HopelessBlocks.{hopeful_blocks, is_hopeless, is_hopeless_block}
 
 -- A count in a row is below one.
 abbrev IsBelow : ℕ → ℕ × ℕ → Type 0
@@ -131,3 +131,15 @@ few_needed n s to = sum_less _ _ (s.block + 1) (to - s.block) (λ b. each b (is_
         let q = and_parts _ _ p.1 in
         rw (test, hopeless n (freq_bound s.bounds b) (before_block s b) p.0 q.0 q.1) (omega arith)
     each b false test = rw test (at_most (excludes (needed n (top n (before_block s b))) (freq_bound s.bounds b)))
+
+-- a block that may have one of the first n isn't hopeless
+pub not_hopeless : (n : ℕ) (s : SegmentPostingsState) (block : ℕ) → AllowsTop n s block → is_hopeless_block n s block ≡ false
+not_hopeless n s block allowed = by (is_hopeless_block n s block) refl
+  where
+    by : (t : Bool) → is_hopeless_block n s block ≡ t → t ≡ false
+    by true test =
+        let p = and_parts _ _ test in
+        let q = and_parts _ _ p.1 in
+        let wrong = hopeless n (freq_bound s.bounds block) (before_block s block) p.0 q.0 q.1 in
+        absurd (cc)
+    by false test = refl

@@ -8,6 +8,10 @@ use Rattle.ii_reader.specs.SegmentPostings.{SegmentPostingsState}
 abbrev pub is_hopeless : ℕ → ℕ → List Entry → Bool
 is_hopeless n bound es = nat_lt 0 bound && (nat_lt bound 4294967295 && nat_le n (length (filter (λ (e : Entry). nat_le bound e.term_freq) es)))
 
+-- whether a block of a cursor is hopeless by the remaining documents before it
+abbrev pub is_hopeless_block : ℕ → SegmentPostingsState → ℕ → Bool
+is_hopeless_block n s block = is_hopeless n (slice_index_or s.bounds block (0, 0)).1 (take (128 * block + length s.rest - s.doc_freq) s.rest)
+
 -- how many blocks after a cursor's block, up to another, aren't hopeless by the remaining documents before them
 abbrev pub hopeful_blocks : ℕ → SegmentPostingsState → ℕ → ℕ
-hopeful_blocks n s to = sum_by (λ b. if is_hopeless n (slice_index_or s.bounds b (0, 0)).1 (take (128 * b + length s.rest - s.doc_freq) s.rest) then 0 else 1) (range_with_len (s.block + 1) (to - s.block))
+hopeful_blocks n s to = sum_by (λ b. if is_hopeless_block n s b then 0 else 1) (range_with_len (s.block + 1) (to - s.block))

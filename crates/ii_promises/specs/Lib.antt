@@ -1,4 +1,5 @@
 pub mod Decodes
+pub mod DecodedBlocks
 pub mod DeepValues
 pub mod OrderlyCalls
 pub mod PlainCalls

@@ -2,6 +2,7 @@
 ghost use Rattle.std.specs.Prelude.{◌≡◌, ◌+◌, ◌*◌, ◌/◌, ◌<◌, ◌≤◌, [], ℕ, drop, length, min, slice_index, take, Ok, Err, None, IfOk, IfErr, OnOk, OnErr};
 ghost use Rattle.ii_io.specs.Parts.{part_of};
 ghost use Rattle.ii_layout.specs.TermList.{docs_and_freqs};
+ghost use Rattle.ii_promises.specs.DecodedBlocks.{DecodesNewBlock, HasDecodedOnce};
 
 use bytes::Bytes;
 use nequllpa::{BlockSegmentPostings, DocId, IndexRecordOption, LayoutFault};
@@ -27,6 +28,17 @@ pub fn any_bytes_open_as_their_documents(
     BlockSegmentPostings::open(doc_freq, bytes, recorded, requested)
 }
 
+/// No block of documents or of term frequencies has been decoded twice: each is listed once, and there are
+/// as many as were counted. All are at most the current one.
+pub fn no_block_is_decoded_twice(cursor: &BlockSegmentPostings) -> &[DocId]
+    ensures docs { HasDecodedOnce cursor.now.block cursor.now.doc_blocks }
+    ensures counts { HasDecodedOnce cursor.now.block cursor.now.freq_blocks }
+    ensures all_docs { length cursor.now.doc_blocks ≡ cursor.now.doc_decodes }
+    ensures all_counts { length cursor.now.freq_blocks ≡ cursor.now.freq_decodes }
+{
+    cursor.docs()
+}
+
 /// Block b holds at most 128 documents, from index 128 * b on. Documents and term frequencies have
 /// been decoded at most once for each block up to the current one. Skip entries have been read at
 /// most once for each full block of these.
@@ -47,6 +59,7 @@ pub fn advance_decodes_one_block(cursor: &mut BlockSegmentPostings)
     ensures list { (cursor.new.docs ≡ cursor.old.docs) × (cursor.new.freqs ≡ cursor.old.freqs) }
     ensures docs { cursor.new.doc_decodes ≤ cursor.old.doc_decodes + 1 }
     ensures counts { cursor.new.freq_decodes ≤ cursor.old.freq_decodes + 1 }
+    ensures blocks { DecodesNewBlock cursor.old.block cursor.new.block cursor.old.doc_blocks cursor.new.doc_blocks × DecodesNewBlock cursor.old.block cursor.new.block cursor.old.freq_blocks cursor.new.freq_blocks }
     // Totals at the new block.
     ensures all_docs { cursor.new.doc_decodes ≤ cursor.new.block + 1 }
     ensures all_counts { cursor.new.freq_decodes ≤ cursor.new.block + 1 }
@@ -67,6 +80,7 @@ pub fn seek_decodes_one_block(cursor: &mut BlockSegmentPostings, target: DocId) 
     // What it decodes.
     ensures docs { cursor.new.doc_decodes ≤ cursor.old.doc_decodes + 1 }
     ensures counts { cursor.new.freq_decodes ≤ cursor.old.freq_decodes + 1 }
+    ensures blocks { DecodesNewBlock cursor.old.block cursor.new.block cursor.old.doc_blocks cursor.new.doc_blocks × DecodesNewBlock cursor.old.block cursor.new.block cursor.old.freq_blocks cursor.new.freq_blocks }
     ensures stays { cursor.new.block ≡ cursor.old.block → (cursor.new.doc_decodes ≤ cursor.old.doc_decodes) × (cursor.new.freq_decodes ≤ cursor.old.freq_decodes) }
     // Totals at the new block.
     ensures all_docs { cursor.new.doc_decodes ≤ cursor.new.block + 1 }

@@ -1,5 +1,5 @@
 // Bounds of blocks, and what a seek by term frequency decodes.
-ghost use Rattle.std.specs.Prelude.{◌≡◌, ◌+◌, ◌-◌, ◌*◌, ◌/◌, ◌<◌, ◌≤◌, ◌⊎◌, ◌&&◌, ◌==◌, ◌++◌, ℕ, List, drop, filter, length, not, nat_le, nat_lt, slice_get, slice_index, take, true, if◌then◌else◌, IfOk, IfSome, IsTrue, Some};
+ghost use Rattle.std.specs.Prelude.{◌≡◌, ◌+◌, ◌-◌, ◌*◌, ◌/◌, ◌<◌, ◌≤◌, ◌⊎◌, ◌&&◌, ◌==◌, ◌++◌, ℕ, List, drop, filter, length, not, nat_le, nat_lt, slice_get, slice_index, take, true, false, if◌then◌else◌, IfOk, IfSome, IsTrue, Some};
 ghost use Rattle.std.specs.List.{list_all, range_with_len, slice_index_or, sum_by};
 ghost use Rattle.ii_definitions.specs.IndexCalls.{MayAllBeIndexed};
 ghost use Rattle.ii_docset.specs.Cursor.{IsTarget, doc_at};
@@ -9,6 +9,7 @@ ghost use Rattle.ii_fieldnorm.specs.Readers.{id_of_doc};
 ghost use Rattle.ii_layout.specs.Documents.{skip_entry};
 ghost use Rattle.ii_layout.specs.SkipList.{SkipList, skip_list};
 ghost use Rattle.ii_layout.specs.Written.{AreFreqs, written_postings};
+ghost use Rattle.ii_promises.specs.DecodedBlocks.{DecodesEachOnce};
 ghost use Rattle.nequllpa.specs.TrueBounds.{IndexHasTrueBounds};
 
 use ii_layout::written::bounds_what_is_written;
@@ -27,12 +28,18 @@ pub fn counts_stay_within_bounds(blocks: &BlockSegmentPostings) -> Option<(u8, u
 }
 
 /// A seek by term frequency moves to the first document that isn't below `target` and has a term
-/// frequency of at least `least`. It decodes at most as many blocks as have a bound that allows
-/// `least`, of those passed or reached.
+/// frequency of at least `least`. It decodes only blocks that have a bound that allows `least`, of those
+/// passed or reached, and none of them twice.
 pub fn counts_are_sought(cursor: &mut SegmentPostings, target: DocId, least: u32) -> DocId
     requires { IsTarget target cursor.old.rest }
     ensures first { result ≡ doc_at (filter (λ (e : Entry). nat_le target e.doc && nat_le least e.term_freq) cursor.old.rest) }
     ensures stands { result ≡ doc_at cursor.new.rest }
+    ensures each_docs { DecodesEachOnce cursor.old.block cursor.new.block cursor.old.doc_blocks cursor.new.doc_blocks }
+    ensures each_counts { DecodesEachOnce cursor.old.block cursor.new.block cursor.old.freq_blocks cursor.new.freq_blocks }
+    ensures only_docs { (i : ℕ) → length cursor.old.doc_blocks ≤ i → i < length cursor.new.doc_blocks
+        → (not ((slice_index_or cursor.old.bounds (slice_index cursor.new.doc_blocks i) (0, 0)).1 == 0) && nat_lt (slice_index_or cursor.old.bounds (slice_index cursor.new.doc_blocks i) (0, 0)).1 least) ≡ false }
+    ensures only_counts { (i : ℕ) → length cursor.old.freq_blocks ≤ i → i < length cursor.new.freq_blocks
+        → (not ((slice_index_or cursor.old.bounds (slice_index cursor.new.freq_blocks i) (0, 0)).1 == 0) && nat_lt (slice_index_or cursor.old.bounds (slice_index cursor.new.freq_blocks i) (0, 0)).1 least) ≡ false }
     ensures decodes { cursor.new.doc_decodes ≤ cursor.old.doc_decodes
         + sum_by (λ b. if not ((slice_index_or cursor.old.bounds b (0, 0)).1 == 0) && nat_lt (slice_index_or cursor.old.bounds b (0, 0)).1 least then 0 else 1)
         (range_with_len (cursor.old.block + 1) (cursor.new.block - cursor.old.block)) }

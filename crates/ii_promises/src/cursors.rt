@@ -1,5 +1,5 @@
 // A cursor over a term: its answers, and how often it decodes.
-ghost use Rattle.std.specs.Prelude.{◌≡◌, ◌+◌, ◌*◌, ◌/◌, ◌^◌, ◌<◌, ◌≤◌, ◌++◌, ◌↔◌, ◌⊎◌, [], drop, length, map, min, not, take, Ok, Err, IfOk, IfErr, IsOk, IsTrue, OnOk, OnErr};
+ghost use Rattle.std.specs.Prelude.{◌≡◌, ◌+◌, ◌*◌, ◌/◌, ◌^◌, ◌<◌, ◌≤◌, ◌++◌, ◌∷◌, ◌↔◌, ◌⊎◌, [], drop, length, map, min, not, take, Ok, Err, IfOk, IfErr, IsOk, IsTrue, OnOk, OnErr, if◌then◌else◌};
 ghost use Rattle.std.specs.List.{All};
 ghost use Rattle.ii_io.specs.Faults.{OnlyMemory};
 ghost use Rattle.ii_io.specs.Parts.{part_of};
@@ -9,6 +9,7 @@ ghost use Rattle.ii_docset.specs.Cursor.{IsCurrent, IsDangerAnswer, IsTarget, do
 ghost use Rattle.ii_layout.specs.TermList.{term_list};
 ghost use Rattle.ii_check.specs.CheckedPostings.{is_read};
 ghost use Rattle.ii_reader.specs.LoadedPostings.{num_positions};
+ghost use Rattle.ii_promises.specs.DecodedBlocks.{DecodesEachOnce, DecodesNewBlock, HasDecodedOnce};
 
 use bytes::Bytes;
 use nequllpa::{
@@ -94,8 +95,36 @@ pub fn decodes_are_few(cursor: &SegmentPostings) -> DocId
     cursor.doc()
 }
 
+/// No block of documents or of term frequencies has been decoded twice: each is listed once, and there are
+/// as many as were counted. All are at most the current one.
+pub fn no_block_is_decoded_twice(cursor: &SegmentPostings) -> DocId
+    ensures docs { HasDecodedOnce cursor.now.block cursor.now.doc_blocks }
+    ensures counts { HasDecodedOnce cursor.now.block cursor.now.freq_blocks }
+    ensures all_docs { length cursor.now.doc_blocks ≡ cursor.now.doc_decodes }
+    ensures all_counts { length cursor.now.freq_blocks ≡ cursor.now.freq_decodes }
+    ensures doc { result ≡ doc_at cursor.now.rest }
+{
+    cursor.doc()
+}
+
+/// A cursor that was just opened has decoded the first block of its documents, and that of its term
+/// frequencies if they are read, and no others.
+pub fn opening_decodes_the_first_block(
+    doc_freq: u32,
+    postings: Bytes,
+    positions: Option<Bytes>,
+    recorded: IndexRecordOption,
+    requested: IndexRecordOption,
+) -> Result<SegmentPostings, LayoutFault>
+    ensures none { doc_freq ≡ 0 → IfOk result (λ cursor. (cursor.doc_blocks ≡ []) × (cursor.freq_blocks ≡ [])) }
+    ensures docs { 0 < doc_freq → IfOk result (λ cursor. cursor.doc_blocks ≡ 0 ∷ []) }
+    ensures counts { 0 < doc_freq → IfOk result (λ cursor. cursor.freq_blocks ≡ (if is_read cursor.freq_reading then 0 ∷ [] else [])) }
+{
+    SegmentPostings::open(doc_freq, postings, positions, recorded, requested)
+}
+
 /// `advance` passes one document and at most one block. It decodes at most one block of documents and
-/// one of term frequencies, and no positions.
+/// one of term frequencies: the new one, if the cursor moved to it. It decodes no positions.
 pub fn advance_decodes_one_block(cursor: &mut SegmentPostings) -> DocId
     ensures doc { result ≡ doc_at cursor.new.rest }
     ensures rest { cursor.new.rest ≡ drop 1 cursor.old.rest }
@@ -104,6 +133,7 @@ pub fn advance_decodes_one_block(cursor: &mut SegmentPostings) -> DocId
     // What it decodes.
     ensures docs { cursor.new.doc_decodes ≤ cursor.old.doc_decodes + 1 }
     ensures counts { cursor.new.freq_decodes ≤ cursor.old.freq_decodes + 1 }
+    ensures blocks { DecodesNewBlock cursor.old.block cursor.new.block cursor.old.doc_blocks cursor.new.doc_blocks × DecodesNewBlock cursor.old.block cursor.new.block cursor.old.freq_blocks cursor.new.freq_blocks }
     ensures positions { cursor.new.position_decodes ≡ cursor.old.position_decodes }
     ensures validation { cursor.new.checked ≡ cursor.old.checked }
     // Totals at the new block.
@@ -114,8 +144,9 @@ pub fn advance_decodes_one_block(cursor: &mut SegmentPostings) -> DocId
     cursor.advance()
 }
 
-/// `seek` passes the documents below the target. It decodes at most one block of documents and one of
-/// term frequencies, and no positions, however many blocks it passes.
+/// `seek` passes the documents below the target. However many blocks it passes, it decodes at most one
+/// block of documents and one of term frequencies: the new one, if the cursor moved to it. It decodes no
+/// positions.
 pub fn seek_decodes_one_block(cursor: &mut SegmentPostings, target: DocId) -> DocId
     requires { IsTarget target cursor.old.rest }
     ensures doc { result ≡ doc_at cursor.new.rest }
@@ -124,6 +155,7 @@ pub fn seek_decodes_one_block(cursor: &mut SegmentPostings, target: DocId) -> Do
     // What it decodes.
     ensures docs { cursor.new.doc_decodes ≤ cursor.old.doc_decodes + 1 }
     ensures counts { cursor.new.freq_decodes ≤ cursor.old.freq_decodes + 1 }
+    ensures blocks { DecodesNewBlock cursor.old.block cursor.new.block cursor.old.doc_blocks cursor.new.doc_blocks × DecodesNewBlock cursor.old.block cursor.new.block cursor.old.freq_blocks cursor.new.freq_blocks }
     ensures positions { cursor.new.position_decodes ≡ cursor.old.position_decodes }
     ensures validation { cursor.new.checked ≡ cursor.old.checked }
     // Totals at the new block.
@@ -182,14 +214,16 @@ pub fn positions_with_offset_decode_few_blocks(
     cursor.positions_with_offset(offset, output)
 }
 
-/// Asking for one document decodes no positions. It decodes documents and term frequencies at most
-/// once for each block that the cursor passes.
+/// Asking for one document decodes no positions. It decodes only blocks after the old one, up to the new
+/// one, and none of them twice.
 pub fn asking_for_a_document_decodes_no_positions(
     cursor: &mut SegmentPostings,
     target: DocId,
 ) -> SeekDangerResult
     requires { target ≤ 2147483647 }
     ensures answer { IsDangerAnswer result target cursor.new.rest }
+    ensures each_docs { DecodesEachOnce cursor.old.block cursor.new.block cursor.old.doc_blocks cursor.new.doc_blocks }
+    ensures each_counts { DecodesEachOnce cursor.old.block cursor.new.block cursor.old.freq_blocks cursor.new.freq_blocks }
     ensures docs { cursor.new.doc_decodes + cursor.old.block ≤ cursor.old.doc_decodes + cursor.new.block }
     ensures counts { cursor.new.freq_decodes + cursor.old.block ≤ cursor.old.freq_decodes + cursor.new.block }
     ensures positions { cursor.new.position_decodes ≡ cursor.old.position_decodes }
@@ -197,13 +231,16 @@ pub fn asking_for_a_document_decodes_no_positions(
     cursor.seek_danger(target)
 }
 
-/// Reading the next 64 documents decodes no positions.
+/// Reading the next 64 documents decodes no positions, only blocks after the old one, up to the new one,
+/// and none of them twice.
 pub fn filling_decodes_no_positions(
     cursor: &mut SegmentPostings,
     buffer: &mut [DocId; COLLECT_BLOCK_BUFFER_LEN],
 ) -> usize
     ensures many { result ≡ min 64 (length cursor.old.rest) }
     ensures rest { cursor.new.rest ≡ drop 64 cursor.old.rest }
+    ensures each_docs { DecodesEachOnce cursor.old.block cursor.new.block cursor.old.doc_blocks cursor.new.doc_blocks }
+    ensures each_counts { DecodesEachOnce cursor.old.block cursor.new.block cursor.old.freq_blocks cursor.new.freq_blocks }
     ensures docs { cursor.new.doc_decodes + cursor.old.block ≤ cursor.old.doc_decodes + cursor.new.block }
     ensures counts { cursor.new.freq_decodes + cursor.old.block ≤ cursor.old.freq_decodes + cursor.new.block }
     ensures positions { cursor.new.position_decodes ≡ cursor.old.position_decodes }
@@ -211,9 +248,12 @@ pub fn filling_decodes_no_positions(
     cursor.fill_buffer(buffer)
 }
 
-/// Counting the remaining documents decodes no positions.
+/// Counting the remaining documents decodes no positions, only blocks after the old one, up to the new
+/// one, and none of them twice.
 pub fn counting_decodes_no_positions(cursor: &mut SegmentPostings) -> u32
     ensures many { result ≡ length cursor.old.rest }
+    ensures each_docs { DecodesEachOnce cursor.old.block cursor.new.block cursor.old.doc_blocks cursor.new.doc_blocks }
+    ensures each_counts { DecodesEachOnce cursor.old.block cursor.new.block cursor.old.freq_blocks cursor.new.freq_blocks }
     ensures docs { cursor.new.doc_decodes + cursor.old.block ≤ cursor.old.doc_decodes + cursor.new.block }
     ensures counts { cursor.new.freq_decodes + cursor.old.block ≤ cursor.old.freq_decodes + cursor.new.block }
     ensures positions { cursor.new.position_decodes ≡ cursor.old.position_decodes }
@@ -304,7 +344,8 @@ pub fn cursors_of_any_kind_hint_alike(alloc: Global, cursor: SegmentPostings) ->
 }
 
 /// A lawful run of calls gets the answers that the list gives. The cursor only moves forward. It
-/// decodes documents and term frequencies at most once for each block that it passes. The calls for
+/// decodes only blocks of documents and term frequencies after the old one, up to the new one, and none of
+/// them twice. The calls for
 /// positions together decode at most two blocks of positions for each such call, and one for each 128
 /// of the total term frequency of their documents. Other calls decode no positions.
 pub fn calls_are_answered_as_over_the_list(
@@ -320,6 +361,8 @@ pub fn calls_are_answered_as_over_the_list(
 
     // Where the cursor goes, and what it decodes.
     ensures forward { cursor.old.block ≤ cursor.new.block }
+    ensures each_docs { DecodesEachOnce cursor.old.block cursor.new.block cursor.old.doc_blocks cursor.new.doc_blocks }
+    ensures each_counts { DecodesEachOnce cursor.old.block cursor.new.block cursor.old.freq_blocks cursor.new.freq_blocks }
     ensures docs { cursor.new.doc_decodes + cursor.old.block ≤ cursor.old.doc_decodes + cursor.new.block }
     ensures counts { cursor.new.freq_decodes + cursor.old.block ≤ cursor.old.freq_decodes + cursor.new.block }
     ensures positions { cursor.new.position_decodes ≤ cursor.old.position_decodes + counts_asked calls.now (not (is_read cursor.old.freq_reading)) cursor.old.rest / 128 + 2 * num_asked calls.now }
@@ -349,6 +392,7 @@ pub fn first_positions_are_copied<P: Postings>(cursor: &mut P, output: &mut [u32
 /// A clone is the same cursor. Only an allocation can fail.
 pub fn clones_are_the_same(cursor: &SegmentPostings) -> Result<SegmentPostings, Fault>
     ensures same { IfOk result (λ copy. (copy.rest ≡ cursor.now.rest) × (copy.doc_decodes ≡ cursor.now.doc_decodes)) }
+    ensures blocks { IfOk result (λ copy. (copy.doc_blocks ≡ cursor.now.doc_blocks) × (copy.freq_blocks ≡ cursor.now.freq_blocks)) }
     ensures only { IfErr result (λ fault. fault ≡ Fault.OutOfMemory) }
 {
     cursor.clone()

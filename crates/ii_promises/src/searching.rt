@@ -1,5 +1,5 @@
 // What queries find.
-ghost use Rattle.std.specs.Prelude.{◌≡◌, ◌+◌, ◌<◌, ◌≤◌, ◌⊎◌, ◌&&◌, ◌==◌, ℕ, [], List, true, length, map, min, nat_eq, None, IfErr, IfOk, OnOk};
+ghost use Rattle.std.specs.Prelude.{◌≡◌, ◌+◌, ◌<◌, ◌≤◌, ◌⊎◌, ◌&&◌, ◌==◌, ℕ, [], List, true, false, length, map, min, nat_eq, slice_index, None, IfErr, IfOk, OnOk};
 ghost use Rattle.std.specs.List.{AllByRecursion, Contains, list_any, starts_with};
 ghost use Rattle.ii_base.specs.Entries.{Entry};
 ghost use Rattle.ii_docset.specs.Cursor.{IsAscending, IsTarget};
@@ -16,7 +16,8 @@ ghost use Rattle.ii_base.specs.Schema.{SchemaEntry};
 ghost use Rattle.ii_reader.specs.OpenIndex.{IndexHolds};
 ghost use Rattle.ii_indexing.specs.RamFiles.{IsRamFault};
 ghost use Rattle.ii_promises.specs.Decodes.{HaveDecodedFew};
-ghost use Rattle.ii_promises.specs.HopelessBlocks.{hopeful_blocks};
+ghost use Rattle.ii_promises.specs.DecodedBlocks.{DecodesEachOnce};
+ghost use Rattle.ii_promises.specs.HopelessBlocks.{hopeful_blocks, is_hopeless_block};
 
 use bytes::Bytes;
 use nequllpa::{
@@ -198,13 +199,17 @@ pub fn most_frequent_documents_are_found(
     Ok(best)
 }
 
-/// So, besides the current block, each block is decoded at most once, and none if `n` of the remaining documents before
+/// So only blocks after the current one are decoded, each at most once, and none if `n` of the remaining documents before
 /// it have counts that its bound doesn't exceed.
 pub fn hopeless_blocks_are_not_decoded(
     alloc: Global,
     cursor: &mut SegmentPostings,
     n: usize,
 ) -> Result<Vec<(DocId, u32)>, Fault>
+    ensures each_docs { DecodesEachOnce cursor.old.block cursor.new.block cursor.old.doc_blocks cursor.new.doc_blocks }
+    ensures each_counts { DecodesEachOnce cursor.old.block cursor.new.block cursor.old.freq_blocks cursor.new.freq_blocks }
+    ensures hopeful_docs { (i : ℕ) → length cursor.old.doc_blocks ≤ i → i < length cursor.new.doc_blocks → is_hopeless_block n cursor.old (slice_index cursor.new.doc_blocks i) ≡ false }
+    ensures hopeful_counts { (i : ℕ) → length cursor.old.freq_blocks ≤ i → i < length cursor.new.freq_blocks → is_hopeless_block n cursor.old (slice_index cursor.new.freq_blocks i) ≡ false }
     ensures once { cursor.new.doc_decodes + cursor.old.block ≤ cursor.old.doc_decodes + cursor.new.block }
     ensures docs { cursor.new.doc_decodes ≤ cursor.old.doc_decodes + hopeful_blocks n cursor.old cursor.new.block }
     ensures freqs { cursor.new.freq_decodes ≤ cursor.old.freq_decodes + hopeful_blocks n cursor.old cursor.new.block }
