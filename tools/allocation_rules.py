@@ -41,7 +41,8 @@ PLACES = {
     'nequllpa_folder/src/opened.rt': {'documents_fault'},  # stored documents couldn't be opened for it
     'nequllpa_folder/src/stored_lines.rt': {
         'from', 'memory',
-        'store_damages'},  # the same
+        'store_of', 'store_damages'},  # the same
+    'nequllpa_indexing/src/documents.rt': {'push_line'},  # the list of calls couldn't grow
     'nequllpa_indexing/src/faults.rt': {'is_memory'},
     'nequllpa_merging/src/faults.rt': {'from'},
     'nequllpa_merging/src/stores.rt': {'store_fault'},  # stores couldn't be opened or merged for it
