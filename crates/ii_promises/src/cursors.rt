@@ -301,11 +301,12 @@ pub fn lent_cursors_seek_as_lazily(cursor: &mut SegmentPostings, target: DocId) 
 }
 
 /// `seek_once` through a borrowed cursor decodes at most one block of documents and one of term
-/// frequencies, however many blocks it passes.
+/// frequencies, however many blocks it passes: the new one, if the cursor moved to it.
 pub fn lent_cursors_seek_once(cursor: &mut SegmentPostings, target: DocId) -> DocId
     requires { IsTarget target cursor.old.rest }
     ensures doc { result ≡ doc_at cursor.new.rest }
     ensures rest { cursor.new.rest ≡ from_doc target cursor.old.rest }
+    ensures blocks { DecodesNewBlock cursor.old.block cursor.new.block cursor.old.doc_blocks cursor.new.doc_blocks × DecodesNewBlock cursor.old.block cursor.new.block cursor.old.freq_blocks cursor.new.freq_blocks }
     ensures docs { cursor.new.doc_decodes ≤ cursor.old.doc_decodes + 1 }
     ensures counts { cursor.new.freq_decodes ≤ cursor.old.freq_decodes + 1 }
     ensures positions { cursor.new.position_decodes ≡ cursor.old.position_decodes }
@@ -319,6 +320,7 @@ pub fn boxed_cursors_seek_once(cursor: &mut Box<SegmentPostings>, target: DocId)
     requires { IsTarget target cursor.old.value.rest }
     ensures doc { result ≡ doc_at cursor.new.value.rest }
     ensures rest { cursor.new.value.rest ≡ from_doc target cursor.old.value.rest }
+    ensures blocks { DecodesNewBlock cursor.old.value.block cursor.new.value.block cursor.old.value.doc_blocks cursor.new.value.doc_blocks × DecodesNewBlock cursor.old.value.block cursor.new.value.block cursor.old.value.freq_blocks cursor.new.value.freq_blocks }
     ensures docs { cursor.new.value.doc_decodes ≤ cursor.old.value.doc_decodes + 1 }
     ensures counts { cursor.new.value.freq_decodes ≤ cursor.old.value.freq_decodes + 1 }
     ensures positions { cursor.new.value.position_decodes ≡ cursor.old.value.position_decodes }
