@@ -27,22 +27,23 @@ class Disk:
         self.flushed, self.changes = dict(self.names), []
 
     def call(self, letter, path, other=None):
-        """Takes a call of the system: open for writing, write, sync, rename or unlink. Others change no file."""
-        name = os.path.basename(path)
-        if letter == 'o':
+        """Takes a call of the system: open for writing, write, sync, rename or unlink. Others, and those that concern no file of the
+        folder, change nothing here."""
+        above, name = os.path.split(path)
+        if letter == 's' and name == self.folder:
+            self.flushed, self.changes = dict(self.names), []
+        elif os.path.basename(above) != self.folder:
+            return
+        elif letter == 'o':
             file = self.names.setdefault(name, File(None, False))
             file.is_flushed = False
             self.changes.append((name, file))
-        elif letter == 'w':
-            self.names[name].is_flushed = False
-        elif letter == 's' and name == self.folder:
-            self.flushed, self.changes = dict(self.names), []
-        elif letter == 's':
-            self.names[name].is_flushed = True
+        elif letter in 'ws':
+            self.names[name].is_flushed = letter == 's'
         elif letter == 'r':
             file = self.names.pop(name)
             self.names[os.path.basename(other)] = file
-            self.changes += [(name, None, os.path.basename(other), file)]
+            self.changes.append((name, None, os.path.basename(other), file))
         elif letter == 'u' and name in self.names:
             self.names.pop(name)
             self.changes.append((name, None))

@@ -1,8 +1,10 @@
 """Plays sessions of `segments_meaning.py` with the built program, and compares what its commands print with the meaning.
 
 Every command commits at once. So a player keeps the operations since the last commit, plays them at the commit in their order,
-and forgets them at a rollback. Two questions have no command, and are asked otherwise: `check` compares the norms with the lists,
-and a reader that stays open is a process."""
+and forgets them at a rollback. What has no command is left out: to flush documents without a commit, to merge some segments
+(`merge` merges all of them, and in half of the sessions `add` merges the last ones), to ask for norms (`check` compares them with
+the lists), and to keep a reader open (a process reads the index once). Bytes have no text in a query: `postings` and `delete` take
+them."""
 import json
 import multiprocessing
 import os
