@@ -1,2 +1,2 @@
-mod MergeLemmas
-mod ReadLemmas
+pub mod MergeLemmas
+pub mod ReadLemmas

@@ -175,13 +175,11 @@ static USAGES: [Usage; 12] = [
     Usage {
         name: "get",
         about: "Prints the stored lines of documents by their numbers; status 1 where there is no such document, where its block is damaged, or where lines are not stored",
-        words: &[
-            Word {
-                name: "DOC",
-                given: Given::Words,
-                help: "Numbers of documents, as the command search prints them",
-            },
-        ],
+        words: &[Word {
+            name: "DOC",
+            given: Given::Words,
+            help: "Numbers of documents, as the command search prints them",
+        }],
     },
     Usage {
         name: "terms",

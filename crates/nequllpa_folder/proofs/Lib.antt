@@ -1,3 +1,4 @@
+mod DocumentLemmas
 mod FindingLemmas
 mod IdsLemmas
 mod QueryLemmas

@@ -45,10 +45,7 @@ pub fn segment_stores<'a>(
 /// * `NoDocument` if there are no more documents than the number.
 /// * `NotStored` with the place of the segment that has the document, if the segment has no stored documents.
 /// * `Damaged` with the place of the segment and the damaged block.
-pub fn document<'a>(
-    segments: &[SegmentStore<'a>],
-    number: u64,
-) -> Result<&'a [u8], DocumentFault>
+pub fn document<'a>(segments: &[SegmentStore<'a>], number: u64) -> Result<&'a [u8], DocumentFault>
     ensures value { MatchResult result (λ document. document_from 0 (map stored_segment segments.now) number ≡ Ok document.now)
         (λ fault. document_from 0 (map stored_segment segments.now) number ≡ Err fault) }
     ensures stored { (ds : List SegmentDocuments) → AllZip HoldsDocumentsOf (map stored_segment segments.now) ds → number < length (documents_of_segments ds)

@@ -173,11 +173,7 @@ fn opened_segment(alloc: Global, schema: &[u8], segment: StoredSegment) -> Resul
 }
 
 // Adds a file of counts to an open segment that has none, if there is one.
-fn with_counts(
-    alloc: Global,
-    opened: Opened,
-    counts: Option<Vec<u8>>,
-) -> Result<Opened, OpenFault>
+fn with_counts(alloc: Global, opened: Opened, counts: Option<Vec<u8>>) -> Result<Opened, OpenFault>
     requires none { opened.counts ≡ None }
     ensures counts { IfOk result (λ o. option_map Some o.counts ≡ option_map (λ v. composite v.items) counts) }
     ensures same { IfOk result (λ o. (o.schema ≡ opened.schema) × (o.index ≡ opened.index) × (o.num_docs ≡ opened.num_docs) × (o.alive ≡ opened.alive) × (o.store ≡ opened.store)) }

@@ -5,3 +5,5 @@ pub mod OpenLemmas
 mod ResultLemmas
 mod PolicyLaws
 mod JoinLemmas
+mod MergedLemmas
+mod StoreLemmas

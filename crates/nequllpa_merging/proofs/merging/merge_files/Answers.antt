@@ -20,6 +20,7 @@ returns-clause-holds c ss hold =
       lists = lists_hold entries n c.in-Ok-merge_lists.files ts wrote c.finish.result.items c.finish-2.result.items c.finish-3.result.items c.finish.ensures c.finish-2.ensures c.finish-3.ensures;
       norms = subst (λ (k : ℕ). HoldNorms entries k c.finish-4.result.items ts) (sym (length-replicate n true)) norms;
       counts = c.in-Ok.ensures.holds ss hold;
+      store = tt;
       alive = ap (λ (k : ℕ). replicate k true) (c.requires.docs ∙ docs_held entries os ss hold);
       are = c.merged_is_segment.ensures entries ss (all_tokens_are entries os ss hold);
     }

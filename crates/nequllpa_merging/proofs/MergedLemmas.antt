@@ -1,0 +1,93 @@
+-- The merged files with stored documents.
+use Rattle.std.proofs.Common.{◌≡◌, ℕ, ◌+◌, Bool, true, List, [], ◌∷◌, ◌++◌, length, map, replicate, Option, Result, Ok, Err, inl, inr, refl, sym, ap, subst, ◌∙◌}
+use Rattle.std.specs.Prelude.{IfOk}
+use Rattle.std.specs.List.{AllZip}
+use Rattle.std.proofs.lemmas.List.{length-replicate, map-append}
+use Rattle.ii_io.specs.declared.faults.Fault.{Fault}
+use Rattle.ii_base.specs.Schema.{SchemaEntry}
+use Rattle.ii_alive.specs.Alive.{num_living}
+use Rattle.ii_doc_store_merger.specs.StoreSources.{SegmentDocuments, documents_of_segments}
+use Rattle.ii_merger.specs.MergedIndex.{all_living}
+use Rattle.ii_segment_store.specs.Contents.{SegmentContents, segment_contents}
+use Rattle.ii_segment_store.specs.declared.stored_segments.StoredSegment.{StoredSegment}
+use Rattle.ii_segments.specs.Segments.{Segment, merged, num_docs_of}
+use Rattle.nequllpa_merging.specs.Faults.{IsDamage, IsPartDamage}
+use Rattle.nequllpa_merging.specs.HeldSegments.{HoldSegments, HoldsSegment}
+use Rattle.nequllpa_merging.specs.MergedSegments.{AreMergedFiles, merge_source}
+use Rattle.nequllpa_merging.specs.OpenedSegments.{OpenedSegmentState, opened_view}
+use Rattle.nequllpa_merging.specs.StoredDocuments.{HasMergedStore, HoldsSomeDocuments, HoldsStored, IsStoresFault, StoredFile, merged_documents, stored_file, stored_view}
+use Rattle.nequllpa_merging.specs.declared.faults.MergeFault.{MergeFault}
+use Rattle.nequllpa_merging.specs.declared.faults.MergeFault.TheVariants as merges
+use Rattle.nequllpa_merging.specs.declared.opening.OpenedSegment.{OpenedSegment}
+use Rattle.nequllpa_merging.proofs.StoreLemmas.{HoldsCount, documents_count, living_in, some_merged, stored_merged, stores_undamaged}
+
+-- one more segment keeps its file
+pub stored_goes_on : (taken : List StoredSegment) (made new : List OpenedSegment) (x : StoredSegment) (y : OpenedSegment) → new ≡ made ++ y ∷ [] → stored_view y ≡ stored_file (segment_contents x) → map stored_view made ≡ map stored_file (map segment_contents taken)
+    → map stored_view new ≡ map stored_file (map segment_contents (taken ++ x ∷ []))
+stored_goes_on taken made new x y pushed is so_far =
+    ap (map stored_view) pushed ∙ map-append stored_view made (y ∷ []) ∙ ap (λ (fs : List StoredFile). fs ++ stored_view y ∷ []) so_far ∙ ap (λ (f : StoredFile). map stored_file (map segment_contents taken) ++ f ∷ []) is
+    ∙ sym (ap (map stored_file) (map-append segment_contents taken (x ∷ [])) ∙ map-append stored_file (map segment_contents taken) (segment_contents x ∷ []))
+
+pub stored_result : (c : SegmentContents) (store : Option (List ℕ)) (alive : List Bool) (result : Result OpenedSegment Fault) → store ≡ c.store → IfOk result (λ o. o.store ≡ store) → IfOk result (λ o. o.alive ≡ c.alive) → IfOk result (λ o. stored_view o ≡ stored_file c)
+stored_result c store alive (Err e) same file flags = tt
+stored_result c store alive (Ok o) same file flags = ap (λ (b : Option (List ℕ)). record { bytes = b; alive = o.alive }) (file ∙ same) ∙ ap (λ (a : List Bool). record { bytes = c.store; alive = a }) flags
+
+-- files with stored documents
+pub merged_with : (entries : List SchemaEntry) (os : List OpenedSegmentState) (f : SegmentContents) (store : Option (List ℕ)) → AreMergedFiles entries os f → AreMergedFiles entries os (record f { store = store })
+merged_with entries os f store h = record {
+  num_docs = h.num_docs;
+  parts = h.parts;
+  are = h.are;
+  terms = h.terms;
+  postings = h.postings;
+  positions = h.positions;
+  have_norms = h.have_norms;
+  fieldnorms = h.fieldnorms;
+  counts = h.counts;
+}
+
+holds_with : (entries : List SchemaEntry) (f : SegmentContents) (store : Option (List ℕ)) (s : Segment) → HoldsSegment entries f s → HoldsSomeDocuments store (length s.alive) → HoldsSegment entries (record f { store = store }) s
+holds_with entries f store s h some = record { lists = h.lists; norms = h.norms; counts = h.counts; store = some; alive = h.alive; are = h.are }
+
+counted : (entries : List SchemaEntry) (cs : List SegmentContents) (ss : List Segment) → HoldSegments entries cs ss → AllZip HoldsCount (map stored_file cs) (map (λ (s : Segment). length s.alive) ss)
+counted entries [] [] hold = tt
+counted entries [] (s ∷ ss) hold = absurd hold
+counted entries (c ∷ cs) [] hold = absurd hold
+counted entries (c ∷ cs) (s ∷ ss) hold = ((hold.0.store, ap length hold.0.alive), counted entries cs ss hold.1)
+
+living_same : (entries : List SchemaEntry) (cs : List SegmentContents) (ss : List Segment) → HoldSegments entries cs ss → living_in (map stored_file cs) ≡ num_docs_of ss
+living_same entries [] [] hold = refl
+living_same entries [] (s ∷ ss) hold = absurd hold
+living_same entries (c ∷ cs) [] hold = absurd hold
+living_same entries (c ∷ cs) (s ∷ ss) hold = ap (λ (alive : List Bool). num_living alive + living_in (map stored_file cs)) hold.0.alive ∙ ap (λ (n : ℕ). num_living s.alive + n) (living_same entries cs ss hold.1)
+
+pub segment_with : (entries : List SchemaEntry) (cs : List SegmentContents) (ss : List Segment) (f : SegmentContents) (store : Option (List ℕ)) → HoldSegments entries cs ss → HoldsSegment entries f (merged ss) → HasMergedStore (map stored_file cs) store
+    → HoldsSegment entries (record f { store = store }) (merged ss)
+segment_with entries cs ss f store hold held is =
+    let some = some_merged (map stored_file cs) (map (λ (s : Segment). length s.alive) ss) store (counted entries cs ss hold) is in
+    holds_with entries f store (merged ss) held
+    (subst (HoldsSomeDocuments store) (living_same entries cs ss hold ∙ sym (length-replicate (num_docs_of ss) true)) some)
+
+living_opened : (xs : List OpenedSegment) → all_living (map merge_source (map opened_view xs)) ≡ living_in (map stored_view xs)
+living_opened [] = refl
+living_opened (x ∷ xs) = ap (λ (n : ℕ). num_living x.alive + n) (living_opened xs)
+
+pub documents_with : (xs : List OpenedSegment) (fs : List StoredFile) (ds : List SegmentDocuments) (n : ℕ) (store : Option (List ℕ)) → map stored_view xs ≡ fs → n ≡ all_living (map merge_source (map opened_view xs)) → AllZip HoldsStored fs ds → HasMergedStore fs store
+    → HoldsStored (record { bytes = store; alive = replicate n true }) (merged_documents ds)
+documents_with xs fs ds n store same docs hold is =
+    let many : n ≡ length (documents_of_segments ds) = docs ∙ living_opened xs ∙ ap living_in same ∙ sym (documents_count fs ds hold) in
+    record {
+      store = stored_merged fs ds store hold is;
+      alive = ap (λ (k : ℕ). replicate k true) many;
+      count = sym (length-replicate (length (documents_of_segments ds)) true);
+    }
+
+-- stored documents aren't called damaged
+pub stored_undamaged : (entries : List SchemaEntry) (cs : List SegmentContents) (ss : List Segment) (fault : MergeFault) → HoldSegments entries cs ss → IsStoresFault (map stored_file cs) fault → IsDamage fault → ⊥
+stored_undamaged entries cs ss (merges.Segment place part) hold cause damage = cause
+stored_undamaged entries cs ss (merges.Store place stored) hold cause damage = stores_undamaged (map stored_file cs) (map (λ (s : Segment). length s.alive) ss) place stored (counted entries cs ss hold) cause
+stored_undamaged entries cs ss (merges.LongDocument place) hold cause damage = damage
+stored_undamaged entries cs ss merges.TooManyDocuments hold cause damage = damage
+stored_undamaged entries cs ss merges.TooManyFields hold cause damage = damage
+stored_undamaged entries cs ss (merges.Merge fault) hold (inl memory) damage = subst IsPartDamage memory damage
+stored_undamaged entries cs ss (merges.Merge fault) hold (inr limit) damage = subst IsPartDamage limit damage

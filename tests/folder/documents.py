@@ -1,0 +1,245 @@
+#!/usr/bin/env python3
+"""Indexes lines that are stored, and compares `search --source` and `get` with a plain reading of the lines: after adding,
+replacing, deleting and merging, in random folders, and where bytes of the file of stored lines are changed. An index
+without stored lines answers as before, and says that they aren't stored."""
+import json
+import os
+import random
+import shutil
+import struct
+import subprocess
+import sys
+import tempfile
+import time
+
+sys.dont_write_bytecode = True
+HERE = os.path.dirname(os.path.abspath(__file__))
+sys.path[:0] = [HERE, os.path.join(os.path.dirname(os.path.dirname(HERE)), 'tools')]
+import programs
+
+PROGRAM = 'nequllpa_cli'
+SEED = 20261128
+FOLDERS = 200
+CHANGES = 300
+NOT_STORED = 'the lines of this index are not stored'
+SCHEMA = 'store_source = true\n[[field]]\nname = "id"\ntype = "u64"\n[[field]]\nname = "body"\ntype = "text"\n'
+PIECES = ['sea', 'old', 'man', 'boat', 'line', 'fish', 'na\u00efve', '\u8001\u4eba', '\\u00e9', '\\"', '\\\\', 'x' * 300]
+
+
+class Failed(Exception):
+    """A result that differs from the expected one."""
+
+
+class User:
+    """Runs the program in a room."""
+
+    def __init__(self, program, room):
+        self.program, self.room, self.runs = program, room, 0
+
+    def run(self, *words, given=b''):
+        self.runs += 1
+        return subprocess.run([self.program, *map(str, words)], input=given, stdout=subprocess.PIPE, stderr=subprocess.PIPE, cwd=self.room, timeout=110)
+
+    def wants(self, words, status, out=None, err='', given=b''):
+        """Checks the status, the output if it is given, and that standard error contains `err`."""
+        done = self.run(*words, given=given)
+        if done.returncode != status or (out is not None and done.stdout != out) or err not in done.stderr.decode():
+            raise Failed(f'{words}: status {done.returncode}, {done.stdout[-300:]!r}, {done.stderr[-300:]!r}; wanted {status}, {out!r}, {err!r}')
+        return done.stdout
+
+    def path(self, *names):
+        return os.path.join(self.room, *names)
+
+    def write(self, name, text):
+        with open(self.path(name), 'w', encoding='utf-8') as file:
+            file.write(text)
+
+
+class Lines:
+    """The living lines of an index, read plainly: each with its number, its words, and its bytes."""
+
+    def __init__(self):
+        self.lines = []
+
+    def add(self, given):
+        self.lines += given
+
+    def replace(self, given):
+        """Replaces lines by their ids; of new lines with the same id the last one counts."""
+        last = {line_id: place for place, (line_id, _, _) in enumerate(given)}
+        self.lines = [line for line in self.lines if line[0] not in last]
+        self.lines += [line for place, line in enumerate(given) if last[line[0]] == place]
+
+    def delete(self, line_id):
+        self.lines = [line for line in self.lines if line[0] != line_id]
+
+    def with_word(self, word):
+        return [(number, text) for number, (_, words, text) in enumerate(self.lines) if word in words]
+
+
+def random_line(chosen, line_id):
+    """Returns a line: its id, its words, and its text, which may have white space around and in it."""
+    words = chosen.choices(PIECES, k=chosen.randrange(6))
+    text = ' '.join(words)
+    inner = f'{{"id":{chosen.choice(["", " "])}{line_id},{chosen.choice(["", "  "])}"body":"{text}"}}'
+    return line_id, [word for word in words if word.isalpha() and word.isascii()], inner.encode()
+
+
+def spaced(chosen, lines):
+    """Returns the bytes of lines, some with white space around them."""
+    return b''.join(chosen.choice([b'', b' ', b'\t']) + text + chosen.choice([b'', b' ', b'\r']) + b'\n' for _, _, text in lines)
+
+
+def look(user, folder, plain, chosen, word='sea'):
+    """Compares what is printed of documents with a plain reading."""
+    found = plain.with_word(word)
+    status = 0 if found else 1
+    user.wants(['search', folder, word, '--source'], status, b''.join(text + b'\n' for _, text in found))
+    user.wants(['search', folder, word, '--source', '--json'], status, b''.join(b'{"doc":%d,"source":%s}\n' % (number, text) for number, text in found))
+    if plain.lines:
+        asked = chosen.choices(range(len(plain.lines)), k=5)
+        user.wants(['get', folder, *asked], 0, b''.join(plain.lines[number][2] + b'\n' for number in asked))
+    user.wants(['get', folder, len(plain.lines)], 1, b'', f'no document {len(plain.lines)}')
+
+
+def commands_keep_lines(user):
+    """Runs each command that changes an index, and looks at the lines."""
+    chosen, plain = random.Random(SEED), Lines()
+    user.write('schema.toml', SCHEMA)
+    first = [random_line(chosen, number) for number in range(400)]
+    plain.add(first)
+    user.wants(['index', 'one', '--schema', 'schema.toml'], 0, given=spaced(chosen, first))
+    look(user, 'one', plain, chosen)
+    more = [random_line(chosen, 1000 + number) for number in range(30)]
+    plain.add(more)
+    user.wants(['add', 'one', '--no-merge'], 0, given=spaced(chosen, more))
+    look(user, 'one', plain, chosen, 'old')
+    for line_id in (0, 7, 399, 1003):
+        plain.delete(line_id)
+        user.wants(['delete', 'one', 'id', line_id], 0)
+    look(user, 'one', plain, chosen, 'man')
+    other = [random_line(chosen, number) for number in (5, 1001, 1001, 2000)]
+    plain.replace(other)
+    user.wants(['add', 'one', '--replace-by', 'id'], 0, given=spaced(chosen, other))
+    look(user, 'one', plain, chosen, 'fish')
+    user.wants(['merge', 'one'], 0)
+    look(user, 'one', plain, chosen, 'line')
+    everything = list(range(len(plain.lines)))
+    user.wants(['get', 'one', *everything], 0, b''.join(text + b'\n' for _, _, text in plain.lines))
+    user.wants(['check', 'one'], 0)
+    told = user.wants(['stats', 'one'], 0).decode()
+    size = sum(os.path.getsize(user.path('one', name)) for name in os.listdir(user.path('one')) if name.endswith('.store'))
+    if f'{size:>12} bytes of stored documents' not in told:
+        raise Failed(f'stats doesn\'t tell the {size} bytes of the stored documents: {told[:600]}')
+    best = user.wants(['search', 'one', 'sea', '--top', '5', '--source', '--json'], 0).decode().splitlines()
+    ranked = user.wants(['search', 'one', 'sea', '--top', '5', '--json'], 0).decode().splitlines()
+    for with_line, without in zip(best, ranked, strict=True):
+        row, number = json.loads(with_line), json.loads(without)
+        if row.pop('source') != json.loads(plain.lines[number['doc']][2]) or row != number:
+            raise Failed(f'--top with --source: {with_line}, {without}')
+    plainly = user.wants(['search', 'one', 'sea', '--top', '5', '--source'], 0).decode().splitlines()
+    if [row.rsplit('\t', 1)[0] for row in plainly] != [plain.lines[json.loads(row)['doc']][2].decode() for row in ranked]:
+        raise Failed(f'--top with --source: {plainly}')
+    user.wants(['search', 'one', 'sea', '--source', '--limit', '3'], 0, b''.join(text + b'\n' for _, text in plain.with_word('sea')[:3]))
+    for option in ('--count', '--positions', '--ids'):
+        user.wants(['search', 'one', 'sea', '--source', option], 2, b'', '--source stands without')
+    user.wants(['get', 'one'], 2, b'', 'needs the number')
+    user.wants(['get', 'one', 'x'], 2, b'', 'expected the number')
+    user.wants(['get', 'one', 3, 999999, 4], 1, plain.lines[3][2] + b'\n' + plain.lines[4][2] + b'\n', 'no document 999999')
+
+
+def other_indexes_answer(user):
+    """Indexes whose lines aren't stored, also one of version 1, answer as before."""
+    user.write('plain.toml', SCHEMA.replace('store_source = true\n', ''))
+    user.wants(['index', 'two', '--schema', 'plain.toml'], 0, given=b'{"id":1,"body":"sea"}\n')
+    user.wants(['search', 'two', 'sea'], 0, b'0\n')
+    user.wants(['search', 'two', 'sea', '--source'], 2, b'', NOT_STORED)
+    user.wants(['get', 'two', 0], 1, b'', NOT_STORED)
+    user.wants(['get', 'nowhere', 0], 1)
+
+
+def random_folders(user):
+    """In random folders, each line comes back."""
+    chosen = random.Random(SEED + 1)
+    for _ in range(FOLDERS):
+        plain, folder = Lines(), 'small'
+        shutil.rmtree(user.path(folder), ignore_errors=True)
+        for turn in range(chosen.randrange(1, 4)):
+            lines = [random_line(chosen, 100 * turn + number) for number in range(chosen.randrange(1, 9))]
+            plain.add(lines)
+            words = ['index', folder, '--schema', 'schema.toml'] if turn == 0 else ['add', folder, *chosen.choice([[], ['--no-merge']])]
+            user.wants(words, 0, given=spaced(chosen, lines))
+        if chosen.randrange(2) and plain.lines:
+            line_id = chosen.choice(plain.lines)[0]
+            plain.delete(line_id)
+            user.wants(['delete', folder, 'id', line_id], 0)
+        if chosen.randrange(3) == 0:
+            user.wants(['merge', folder], 0)
+        user.wants(['get', folder, *range(len(plain.lines))], 0 if plain.lines else 2, b''.join(text + b'\n' for _, _, text in plain.lines))
+
+
+def store_of(user, folder):
+    """Returns the path of the one file of stored lines, and where each block ends in it, with its documents."""
+    names = [name for name in os.listdir(user.path(folder)) if name.endswith('.store')]
+    path = user.path(folder, names[0])
+    with open(path, 'rb') as file:
+        whole = file.read()
+    count = struct.unpack('<Q', whole[-48:-40])[0]
+    index = whole[len(whole) - 48 - 44 * count:-48]
+    return path, whole, [struct.unpack('<IQ', index[44 * block:44 * block + 12]) for block in range(count)]
+
+
+def damage_is_named(user):
+    """Changes a byte at many places: `check` names the block, `get` gives the documents of other blocks."""
+    chosen = random.Random(SEED + 2)
+    lines = [random_line(chosen, number) for number in range(1200)]
+    shutil.rmtree(user.path('hurt'), ignore_errors=True)
+    user.wants(['index', 'hurt', '--schema', 'schema.toml'], 0, given=spaced(chosen, lines))
+    path, whole, blocks = store_of(user, 'hurt')
+    if len(blocks) < 5:
+        raise Failed(f'only {len(blocks)} blocks')
+    ends = [0] + [end for _, end in blocks]
+    docs = [0] + [doc for doc, _ in blocks]
+    places = sorted(chosen.sample(range(ends[-1]), CHANGES - 40)) + chosen.sample(range(ends[-1], len(whole)), 40)
+    for turn, place in enumerate(places):
+        changed = bytearray(whole)
+        changed[place] ^= 1 << chosen.randrange(8)
+        with open(path, 'wb') as file:
+            file.write(changed)
+        hurt = next((block for block in range(len(blocks)) if ends[block] <= place < ends[block + 1]), None)
+        if turn % 8 == 0 or hurt is None:
+            told = user.wants(['check', 'hurt'], 1).decode()
+            name = 'of the documents' if hurt is None else f'block {hurt} of the documents'
+            if 'the file of stored documents' not in told or name not in told:
+                raise Failed(f'check, byte {place} of {len(whole)}: {told}')
+        if hurt is None:
+            user.wants(['get', 'hurt', 0], 1, None)
+            continue
+        inside = chosen.randrange(docs[hurt], docs[hurt + 1])
+        other = chosen.choice([doc for block in range(len(blocks)) if block != hurt for doc in (docs[block], docs[block + 1] - 1)])
+        user.wants(['get', 'hurt', inside, other], 1, lines[other][2] + b'\n', f'block {hurt} of the documents')
+    with open(path, 'wb') as file:
+        file.write(whole)
+    user.wants(['check', 'hurt'], 0)
+
+
+def main():
+    if 'NEQULLPA' not in os.environ and not programs.build(PROGRAM):
+        print('tests/folder: the program was not built')
+        return 1
+    program, start = os.environ.get('NEQULLPA', programs.program_of(PROGRAM)), time.monotonic()
+    try:
+        with tempfile.TemporaryDirectory() as room:
+            user = User(os.path.abspath(program), room)
+            commands_keep_lines(user)
+            other_indexes_answer(user)
+            random_folders(user)
+            damage_is_named(user)
+    except Failed as failure:
+        print(f'tests/folder: {failure}')
+        return 1
+    print(f'tests/folder: stored lines come back, in {FOLDERS} folders, and damage is named at {CHANGES} places; {user.runs} runs, {time.monotonic() - start:.0f} s')
+    return 0
+
+
+sys.exit(main())
