@@ -27,6 +27,7 @@ use Rattle.ii_documents.specs.Steps.{◌>>=◌}
 -- Why a line is not a document.
 pub data Refusal : Type 0 where
   too_many_documents : Refusal
+  too_long : Refusal
   not_json : Refusal
   not_an_object : Refusal
   unknown_key : List ℕ → Refusal
@@ -36,6 +37,7 @@ pub data Refusal : Type 0 where
 abbrev pub told_of_line : LineFault → Option Refusal
 told_of_line faults.OutOfMemory = None
 told_of_line faults.TooManyDocuments = Some too_many_documents
+told_of_line faults.TooLong = Some too_long
 told_of_line (faults.NotJson e) = Some not_json
 told_of_line faults.NotAnObject = Some not_an_object
 told_of_line (faults.UnknownKey key) = Some (unknown_key (string_bytes key))

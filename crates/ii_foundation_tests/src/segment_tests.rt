@@ -12,7 +12,7 @@ use std::fs;
 use std::test::Fail;
 
 // Names, and their texts.
-static NAMES: [(Name, &'static str); 9] = [
+static NAMES: [(Name, &'static str); 10] = [
     (Name::Meta, "meta"),
     (Name::NewMeta, "meta.new"),
     (Name::File(Slot::Second, Kind::FieldNorms), "fieldnorm.1"),
@@ -40,10 +40,14 @@ static NAMES: [(Name, &'static str); 9] = [
         Name::Segment(255, SegmentComponent::Alive(16)),
         "00000000000000ff.0000000000000010.alive",
     ),
+    (
+        Name::Segment(10, SegmentComponent::Store),
+        "000000000000000a.store",
+    ),
 ];
 
 // Texts of no name.
-static NO_NAMES: [&'static str; 8] = [
+static NO_NAMES: [&'static str; 9] = [
     "",
     "lock",
     "meta.old",
@@ -52,6 +56,7 @@ static NO_NAMES: [&'static str; 8] = [
     "1a.term",
     "000000000000001a.terms",
     "00000000000000ff.10.alive",
+    "000000000000000a.stores",
 ];
 
 // Returns whether a name has this text, and is read back from it.
@@ -82,9 +87,22 @@ static LIST: [u8; 153] = [
     182, 68,
 ];
 
+// A list of a segment with flags of generation 1, the byte 1, and stored documents, the byte 9.
+static STORED_LIST: [u8; 185] = [
+    110, 101, 113, 117, 108, 108, 112, 97, 2, 0, 0, 0, 1, 0, 0, 0, 0, 0, 0, 0, 3, 0, 0, 0, 0, 0, 0,
+    0, 1, 0, 0, 0, 115, 1, 0, 1, 0, 0, 0, 0, 0, 0, 0, 1, 0, 0, 0, 1, 0, 0, 0, 2, 0, 5, 0, 1, 0, 0,
+    0, 0, 0, 0, 0, 1, 0, 0, 0, 0, 0, 0, 0, 75, 245, 18, 47, 52, 69, 84, 197, 59, 222, 46, 187, 140,
+    210, 183, 227, 209, 96, 10, 214, 49, 195, 133, 165, 215, 204, 226, 60, 119, 133, 69, 154, 6, 0,
+    0, 0, 0, 0, 0, 0, 0, 0, 1, 0, 0, 0, 0, 0, 0, 0, 43, 76, 52, 47, 84, 51, 235, 229, 145, 161,
+    218, 119, 224, 19, 209, 183, 36, 117, 86, 45, 72, 87, 141, 202, 139, 132, 186, 198, 101, 28,
+    60, 185, 245, 59, 200, 231, 24, 34, 229, 137, 92, 46, 147, 214, 230, 16, 33, 65, 22, 8, 215,
+    215, 100, 10, 126, 195, 212, 163, 97, 176, 86, 166, 73, 226,
+];
+
 // Lists that are refused: an id twice, one that isn't below the next, more living documents than documents,
-// files out of order, an unknown component, terms with a generation, 2^31 documents, 2^31 living ones.
-static REFUSED: [&'static [u8]; 8] = [
+// files out of order, an unknown component, terms with a generation, 2^31 documents, 2^31 living ones, stored
+// documents before flags, stored documents with a generation.
+static REFUSED: [&'static [u8]; 10] = [
     &[
         110, 101, 113, 117, 108, 108, 112, 97, 2, 0, 0, 0, 1, 0, 0, 0, 0, 0, 0, 0, 3, 0, 0, 0, 0,
         0, 0, 0, 1, 0, 0, 0, 115, 2, 0, 1, 0, 0, 0, 0, 0, 0, 0, 1, 0, 0, 0, 1, 0, 0, 0, 0, 0, 1, 0,
@@ -117,11 +135,11 @@ static REFUSED: [&'static [u8]; 8] = [
     ],
     &[
         110, 101, 113, 117, 108, 108, 112, 97, 2, 0, 0, 0, 1, 0, 0, 0, 0, 0, 0, 0, 3, 0, 0, 0, 0,
-        0, 0, 0, 1, 0, 0, 0, 115, 1, 0, 1, 0, 0, 0, 0, 0, 0, 0, 1, 0, 0, 0, 1, 0, 0, 0, 1, 0, 6, 0,
+        0, 0, 0, 1, 0, 0, 0, 115, 1, 0, 1, 0, 0, 0, 0, 0, 0, 0, 1, 0, 0, 0, 1, 0, 0, 0, 1, 0, 7, 0,
         0, 0, 0, 0, 0, 0, 0, 0, 0, 0, 0, 0, 0, 0, 0, 0, 227, 176, 196, 66, 152, 252, 28, 20, 154,
         251, 244, 200, 153, 111, 185, 36, 39, 174, 65, 228, 100, 155, 147, 76, 164, 149, 153, 27,
-        120, 82, 184, 85, 31, 64, 73, 210, 113, 202, 58, 84, 238, 60, 109, 139, 199, 188, 140, 28,
-        133, 97, 1, 8, 6, 211, 178, 36, 213, 26, 58, 211, 192, 63, 187, 64,
+        120, 82, 184, 85, 253, 217, 47, 213, 103, 195, 173, 7, 15, 174, 233, 146, 254, 69, 212, 66,
+        217, 254, 235, 39, 222, 16, 238, 159, 96, 117, 192, 0, 138, 207, 215, 202,
     ],
     &[
         110, 101, 113, 117, 108, 108, 112, 97, 2, 0, 0, 0, 1, 0, 0, 0, 0, 0, 0, 0, 3, 0, 0, 0, 0,
@@ -143,6 +161,24 @@ static REFUSED: [&'static [u8]; 8] = [
         127, 0, 0, 2, 0, 0, 0, 0, 0, 0, 0, 1, 0, 0, 0, 1, 0, 0, 0, 0, 0, 11, 176, 249, 130, 31, 10,
         163, 54, 12, 11, 122, 131, 12, 49, 115, 250, 15, 167, 12, 46, 177, 218, 148, 64, 3, 105,
         178, 156, 52, 251, 48, 105,
+    ],
+    &[
+        110, 101, 113, 117, 108, 108, 112, 97, 2, 0, 0, 0, 1, 0, 0, 0, 0, 0, 0, 0, 3, 0, 0, 0, 0,
+        0, 0, 0, 1, 0, 0, 0, 115, 1, 0, 1, 0, 0, 0, 0, 0, 0, 0, 1, 0, 0, 0, 1, 0, 0, 0, 2, 0, 6, 0,
+        0, 0, 0, 0, 0, 0, 0, 0, 1, 0, 0, 0, 0, 0, 0, 0, 43, 76, 52, 47, 84, 51, 235, 229, 145, 161,
+        218, 119, 224, 19, 209, 183, 36, 117, 86, 45, 72, 87, 141, 202, 139, 132, 186, 198, 101,
+        28, 60, 185, 5, 0, 1, 0, 0, 0, 0, 0, 0, 0, 1, 0, 0, 0, 0, 0, 0, 0, 75, 245, 18, 47, 52, 69,
+        84, 197, 59, 222, 46, 187, 140, 210, 183, 227, 209, 96, 10, 214, 49, 195, 133, 165, 215,
+        204, 226, 60, 119, 133, 69, 154, 169, 171, 65, 232, 230, 173, 197, 75, 111, 123, 254, 200,
+        61, 194, 227, 4, 157, 235, 139, 143, 60, 161, 231, 32, 139, 129, 92, 105, 187, 88, 146, 96,
+    ],
+    &[
+        110, 101, 113, 117, 108, 108, 112, 97, 2, 0, 0, 0, 1, 0, 0, 0, 0, 0, 0, 0, 3, 0, 0, 0, 0,
+        0, 0, 0, 1, 0, 0, 0, 115, 1, 0, 1, 0, 0, 0, 0, 0, 0, 0, 1, 0, 0, 0, 1, 0, 0, 0, 1, 0, 6, 0,
+        1, 0, 0, 0, 0, 0, 0, 0, 1, 0, 0, 0, 0, 0, 0, 0, 43, 76, 52, 47, 84, 51, 235, 229, 145, 161,
+        218, 119, 224, 19, 209, 183, 36, 117, 86, 45, 72, 87, 141, 202, 139, 132, 186, 198, 101,
+        28, 60, 185, 79, 82, 125, 249, 174, 126, 124, 228, 161, 242, 186, 253, 56, 76, 97, 201, 11,
+        153, 212, 248, 17, 175, 33, 146, 211, 238, 253, 163, 151, 164, 248, 236,
     ],
 ];
 
@@ -175,6 +211,19 @@ fn a_list_is_read_and_written(rt: HostRuntime) -> Result<(), Fail> {
     assert!(rt; (first.id, first.num_docs, first.num_living) == (1, 3, 2));
     assert!(rt; first.files.len() == 1);
     assert!(rt; first.files[0] == FileMeta::new(SegmentComponent::Terms, &[1]));
+    Ok(())
+}
+
+#[test]
+fn a_list_with_stored_documents_is_read_and_written(rt: HostRuntime) -> Result<(), Fail> {
+    let written = encoded(rt.alloc(), &STORED_LIST).ok().ok_or("refused")?;
+    assert!(rt; written.as_slice() == STORED_LIST.as_slice());
+    let list = decode(rt.alloc(), &STORED_LIST).ok().ok_or("refused")?;
+    assert!(rt; list.segments.len() == 1);
+    let files = list.segments[0].files.as_slice();
+    assert!(rt; files.len() == 2);
+    assert!(rt; files[0] == FileMeta::new(SegmentComponent::Alive(1), &[1]));
+    assert!(rt; files[1] == FileMeta::new(SegmentComponent::Store, &[9]));
     Ok(())
 }
 

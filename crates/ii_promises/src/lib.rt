@@ -19,5 +19,6 @@ pub mod queries;
 pub mod ranking;
 pub mod searching;
 pub mod segments;
+pub mod stored_lines;
 pub mod texts;
 pub mod writing;

@@ -1,6 +1,6 @@
 //! The commands `add` and `upgrade`.
 use crate::commands::{PROGRAM, REFUSED, refuse, refuse_path, tell_no_index};
-use crate::indexing::{Intake, begun, take_inputs, target_of, tell_long_words};
+use crate::indexing::{Intake, begun, documents_for, take_inputs, target_of, tell_long_words};
 use crate::keyed_lines::KeyedLines;
 use crate::merging::settle;
 use crate::replacing::replace_keys;
@@ -15,7 +15,6 @@ use ii_store::collect::collect;
 use ii_store::segments::load_meta;
 use ii_store::{Folder, IndexFault, StoreFault};
 use nequllpa_folder::text_schema_of;
-use nequllpa_indexing::Documents;
 use std::process::ExitCode;
 
 /// Indexes JSON lines as a new segment of an index.
@@ -39,13 +38,12 @@ fn added(rt: &HostRuntime, path: &str, given: &ArgMatches<'_>) -> anyhow::Result
         Ok(schema) => schema,
         Err(status) => return Ok(ExitCode::from(status)),
     };
-    let (schema, tokenizers) = schema.into_parts();
-    let keyed = match keyed_by(rt, given, &schema)? {
+    let keyed = match keyed_by(rt, given, schema.schema())? {
         Ok(keyed) => keyed,
         Err(status) => return Ok(ExitCode::from(status)),
     };
     let replaces = keyed.is_some();
-    let documents = Documents::new(rt.alloc(), schema);
+    let (documents, tokenizers) = documents_for(rt.alloc(), schema);
     let mut intake = begun(rt, given, documents, tokenizers, keyed)?;
     if let Err(status) = take_inputs(rt, given, &mut intake)? {
         return Ok(ExitCode::from(status));

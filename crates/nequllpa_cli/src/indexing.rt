@@ -1,4 +1,6 @@
 //! The command `index`.
+ghost use Rattle.std.specs.Prelude.{◌≡◌, [], None, Some, if◌then◌else◌};
+
 use crate::commands::{NO, PROGRAM, REFUSED, refuse, refuse_file, refuse_path};
 use crate::keyed_lines::{KeyedLines, LineRefusal};
 use crate::orphans::refuse_orphan;
@@ -72,13 +74,26 @@ pub fn answer_index(
         Ok(target) => target,
         Err(status) => return Ok(ExitCode::from(status)),
     };
-    let (schema, tokenizers) = schema.into_parts();
-    let documents = Documents::new(rt.alloc(), schema);
+    let (documents, tokenizers) = documents_for(rt.alloc(), schema);
     let mut intake = begun(rt, given, documents, tokenizers, None)?;
     if let Err(status) = take_inputs(rt, given, &mut intake)? {
         return Ok(ExitCode::from(status));
     }
     save_index(rt, target, intake, text.into_bytes())
+}
+
+/// Returns an empty list of documents, whose lines are stored if the schema's text says so, and the tokenizers of
+/// their fields.
+pub fn documents_for(alloc: Global, schema: TextSchema) -> (Documents, FieldTokenizers)
+    ensures documents { result.0 ≡ record { schema = schema.schema; num_docs = 0; calls = []; lines = if schema.stores_source then Some [] else None } }
+    ensures tokenizers { result.1 ≡ schema.tokenizers }
+{
+    let stores_source = schema.stores_source();
+    let (schema, tokenizers) = schema.into_parts();
+    if stores_source {
+        return (Documents::storing(alloc, schema), tokenizers);
+    }
+    (Documents::new(alloc, schema), tokenizers)
 }
 
 /// The folder in which an index is saved, with its lock if it exists.

@@ -1,14 +1,18 @@
 -- Documents in order.
-use Rattle.std.proofs.Common.{◌≡◌, ◌+◌, ◌-◌, ◌<◌, ◌≤◌, ◌++◌, ℕ, true, List, [], ◌∷◌, Ok, arith, get_or, length, map, refl, subst, sym, append-nil, append_assoc, nat_lt}
+use Rattle.std.proofs.Common.{◌≡◌, ◌+◌, ◌-◌, ◌<◌, ◌≤◌, ◌++◌, ◌^◌, ℕ, true, List, [], ◌∷◌, Option, None, Some, Ok, arith, get_or, length, refl, subst, sym, append-nil, append_assoc, nat_lt}
+use Rattle.std.proofs.lemmas.Bool.{ltb-true}
+use Rattle.std.proofs.lemmas.List.{length-append}
 use Rattle.std.proofs.lemmas.List.Sorted.{IsNonDecreasingBy-push}
 use Rattle.std.proofs.lemmas.List.Elements.{All-from_recursion}
 use Rattle.std.specs.List.{AllByRecursion}
 use Rattle.std.specs.List.Sorted.{IsNonDecreasingBy}
 use Rattle.ii_base.specs.Schema.{SchemaEntry}
 use Rattle.ii_base.specs.declared.doc_id.TheConstants.{TERMINATED}
-use Rattle.ii_definitions.specs.IndexCalls.{MayAllBeIndexed, MayBeIndexed, call_of, doc_of}
+use Rattle.ii_definitions.specs.IndexCalls.{MayAllBeIndexed, MayBeIndexed, doc_of}
+use Rattle.ii_definitions.specs.Tokens.{Call}
 use Rattle.ii_definitions.specs.declared.index_call.IndexCall.{IndexCall}
-use Rattle.nequllpa_indexing.specs.Documents.{next_calls}
+use Rattle.nequllpa_indexing.specs.Documents.{DocumentsState, may_be_stored, next_calls, with_line}
+use Rattle.nequllpa_indexing.specs.StoredLines.{AreLinesOf, AreShort}
 use Rattle.ii_documents.specs.JsonLines.{IsOf, line_calls}
 
 -- a call that may be made may be made where there are more documents
@@ -41,6 +45,14 @@ may_more es n old new may of =
     record { each = each_more es n old new each of; ordered = ordered_more es n old new each may.ordered of }
 
 -- the calls of one document more
-pub adds_line : (es : List SchemaEntry) (n : ℕ) (old new all : List IndexCall) (line : List ℕ) → nat_lt n TERMINATED ≡ true → all ≡ old ++ new → line_calls es n line ≡ Ok (map (call_of es) new)
-    → next_calls (record { schema = es; num_docs = n; calls = map (call_of es) old }) line ≡ Ok (map (call_of es) new)
-adds_line es n old new all line room is said = rw (room, said) refl
+pub adds_line : (s : DocumentsState) (cs : List Call) (line : List ℕ) → nat_lt s.num_docs TERMINATED ≡ true → may_be_stored s.lines line ≡ true → line_calls s.schema s.num_docs line ≡ Ok cs → next_calls s line ≡ Ok cs
+adds_line s cs line room short said = rw (room, short, said) refl
+
+-- one line more
+short_more : (lines : List (List ℕ)) (line : List ℕ) → AreShort lines → length line < 2 ^ 31 → AreShort (lines ++ line ∷ [])
+short_more [] line all short = (short, tt)
+short_more (l ∷ ls) line all short = (all.0, short_more ls line all.1 short)
+
+pub lines_more : (n : ℕ) (lines : Option (List (List ℕ))) (line : List ℕ) → AreLinesOf n lines → may_be_stored lines line ≡ true → AreLinesOf (n + 1) (with_line lines line)
+lines_more n None line are short = tt
+lines_more n (Some ls) line are short = (omega (arith, length-append ls (line ∷ []), are.0), short_more ls line are.1 (ltb-true (length line) (2 ^ 31) short))

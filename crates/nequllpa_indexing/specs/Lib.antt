@@ -2,3 +2,4 @@ pub mod Counted
 pub mod Documents
 pub mod FieldTokens
 pub mod Inputs
+pub mod StoredLines

@@ -1,5 +1,5 @@
 //! Indexes documents, and counts their tokens.
-ghost use Rattle.std.specs.Prelude.{◌≡◌, ◌≤◌, [], Err, IfErr, IfOk, IsSomeAnd, List, None, Some, false, map};
+ghost use Rattle.std.specs.Prelude.{◌≡◌, ◌≤◌, ◌⊎◌, [], Err, IfErr, IfOk, IsSomeAnd, List, None, Some, false, map, option_map};
 ghost use Rattle.ii_base.specs.declared.doc_id.TheConstants.{TERMINATED};
 ghost use Rattle.ii_definitions.specs.Fields.{option_of};
 ghost use Rattle.ii_definitions.specs.Files.{HoldTokens};
@@ -11,7 +11,9 @@ ghost use Rattle.ii_json.specs.LeafVisit.{IsRefusedBy};
 ghost use Rattle.ii_segments.specs.HoldCounts.{HasManyTokens, HoldCounts};
 ghost use Rattle.nequllpa_indexing.specs.Counted.{HasCounts, IsSegmentFault};
 ghost use Rattle.nequllpa_indexing.specs.FieldTokens.{calls_fault_by, pieces_by, tokens_by};
+ghost use Rattle.nequllpa_indexing.specs.StoredLines.{AreLinesOf, IsLinesFault, StoresLines, lines_view};
 
+use crate::lines::lines_file;
 use ii_base::{DocId, Fault, LimitName, Schema};
 use ii_counts::CountsWriter;
 use ii_indexing::{IndexCall, IndexWriters, Indexer};
@@ -47,8 +49,8 @@ pub(crate) fn index_counted<F: FieldAnalyzers>(
     Ok((indexer, counts))
 }
 
-// Writes the files of an index and of its counts to memory.
-pub(crate) fn finish_counted(
+// Writes the files of an index and of its counts to memory, without the lines.
+fn finish_counted(
     alloc: Global,
     num_docs: DocId,
     indexer: Indexer,
@@ -79,7 +81,43 @@ pub(crate) fn finish_counted(
     }
 }
 
-// Returns the files of a segment.
+// Writes the files of an index, of its counts, and of the lines, if they are stored, to memory.
+pub(crate) fn finish_stored(
+    alloc: Global,
+    num_docs: DocId,
+    indexer: Indexer,
+    counts: CountsWriter,
+    lines: Option<Vec<String>>,
+) -> Result<SegmentFiles, Fault>
+    requires running { indexer.failed ≡ false }
+    requires docs { indexer.num_docs ≡ num_docs }
+    requires few { num_docs ≤ TERMINATED }
+    requires lines { AreLinesOf num_docs (lines_view lines) }
+    ensures docs { IfOk result (λ f. f.num_docs ≡ num_docs) }
+    ensures holds { (ps : List Piece) → Stores indexer ps → IfOk result (λ f. HoldTokens (option_of indexer.schema) f.terms.items f.postings.items f.positions.items (tokens_after [] ps)) }
+    ensures norms { (ps : List Piece) → Stores indexer ps → IfOk result (λ f. HoldNorms indexer.schema num_docs f.fieldnorms.items (tokens_after [] ps)) }
+    ensures counts { (ps : List Piece) → HasCounts indexer.schema (tokens_after [] ps) counts → IfOk result (λ f. IsSomeAnd f.counts (λ v. HoldCounts indexer.schema num_docs v.items (tokens_after [] ps))) }
+    ensures lines { IfOk result (λ f. StoresLines (lines_view lines) (option_map (λ v. v.items) f.store)) }
+
+    // Errors.
+    ensures many { (ps : List Piece) → HasCounts indexer.schema (tokens_after [] ps) counts → HasManyTokens indexer.schema (tokens_after [] ps) → result ≡ Err (Fault.Limit LimitName.Tokens) }
+    ensures fault { (ps : List Piece) → Stores indexer ps → HasCounts indexer.schema (tokens_after [] ps) counts
+        → IfErr result (λ e. IsSegmentFault indexer.schema num_docs (tokens_after [] ps) e ⊎ IsLinesFault (lines_view lines) e) }
+{
+    let mut files = match finish_counted(alloc, num_docs, indexer, counts) {
+        Ok(files) => files,
+        Err(fault) => return Err(fault),
+    };
+    match lines_file(alloc, num_docs, lines) {
+        Ok(store) => {
+            files.store = store;
+            Ok(files)
+        }
+        Err(fault) => Err(fault),
+    }
+}
+
+// Returns the files of a segment, without the lines.
 fn segment_files(num_docs: DocId, files: IndexWriters<Vec<u8>>, counts: Vec<u8>) -> SegmentFiles
     ensures docs { result.num_docs ≡ num_docs }
     ensures terms { Some result.terms.items ≡ files.terms.contents }

@@ -1,5 +1,5 @@
 //! Documents to be indexed.
-ghost use Rattle.std.specs.Prelude.{◌≡◌, ◌⊎◌, [], Err, IfErr, IfOk, IfSome, IsSomeAnd, None, OnErr, OnOk, false};
+ghost use Rattle.std.specs.Prelude.{◌≡◌, ◌⊎◌, [], Err, IfErr, IfOk, IfSome, IsSomeAnd, None, OnErr, OnOk, Some, false, option_map};
 ghost use Rattle.ii_io.specs.Faults.{OnlyMemory};
 ghost use Rattle.ii_definitions.specs.Fields.{option_of};
 ghost use Rattle.ii_definitions.specs.Files.{HoldTokens};
@@ -13,9 +13,11 @@ ghost use Rattle.nequllpa_indexing.specs.FieldTokens.{calls_fault_by, pieces_by,
 ghost use Rattle.ii_indexing.specs.IndexFiles.{CountsIndexFailures, FilesGrow, IsIndexFault, WroteIndex};
 ghost use Rattle.ii_indexing.specs.Refusals.{calls_fault};
 ghost use Rattle.nequllpa_indexing.specs.Documents.{AddsLine, DocumentsState, WereCalls, next_calls};
+ghost use Rattle.nequllpa_indexing.specs.StoredLines.{IsLinesFault, StoresLines};
 ghost use Rattle.ii_documents.specs.JsonLines.{TellsOfLine, told_of_line};
 
-use crate::counting::{finish_counted, index_counted};
+use crate::counting::{finish_stored, index_counted};
+use crate::lines::{may_be_stored, pop_line, push_line};
 use crate::long_words::count_long_words;
 use ii_base::{Fault, LimitName, Schema, TextAnalyzer};
 use ii_counts::CountsWriter;
@@ -28,13 +30,14 @@ use std::alloc::Global;
 use std::io::Write;
 use std::marker::Model;
 
-/// Documents to be indexed, as the index calls of their lines.
+/// Documents to be indexed, as the index calls of their lines, and the lines themselves if they are stored.
 ///
-/// Its model is the schema, the number of documents, and the calls.
+/// Its model is the schema, the number of documents, the calls, and the lines.
 pub struct Documents {
     schema: Schema,
     num_docs: DocId,
     calls: Vec<IndexCall>,
+    lines: Option<Vec<String>>,
 }
 
 // Makes each drop a call.
@@ -44,6 +47,7 @@ impl Drop for Documents {
             schema: _,
             num_docs: _,
             calls: _,
+            lines: _,
         } = self;
     }
 }
@@ -53,6 +57,7 @@ impl Model for Documents {
     ghost use Rattle.ii_base.specs.declared.doc_id.TheConstants.{TERMINATED};
     ghost use Rattle.ii_definitions.specs.IndexCalls.{MayAllBeIndexed, call_of};
     ghost use Rattle.nequllpa_indexing.specs.Documents.{DocumentsState};
+    ghost use Rattle.nequllpa_indexing.specs.StoredLines.{AreLinesOf, lines_view};
 
     ghost Value = { DocumentsState };
 
@@ -60,20 +65,34 @@ impl Model for Documents {
       schema = d.schema;
       num_docs = d.num_docs;
       calls = map (call_of d.schema) d.calls.items;
+      lines = lines_view d.lines;
     } };
 
-    ghost invariant = { λ d. (d.num_docs ≤ TERMINATED) × MayAllBeIndexed d.schema d.num_docs d.calls.items };
+    ghost invariant = { λ d. (d.num_docs ≤ TERMINATED) × MayAllBeIndexed d.schema d.num_docs d.calls.items × AreLinesOf d.num_docs (lines_view d.lines) };
 }
 
 impl Documents {
-    /// Creates an empty list of documents, with the fields of a schema.
+    /// Creates an empty list of documents, with the fields of a schema. Lines aren't stored.
     pub fn new(alloc: Global, schema: Schema) -> Documents
-        ensures { result ≡ record { schema = schema; num_docs = 0; calls = [] } }
+        ensures { result ≡ record { schema = schema; num_docs = 0; calls = []; lines = None } }
     {
         Documents {
             schema,
             num_docs: 0,
             calls: Vec::new(alloc),
+            lines: None,
+        }
+    }
+
+    /// Creates an empty list of documents, with the fields of a schema. Each line is stored.
+    pub fn storing(alloc: Global, schema: Schema) -> Documents
+        ensures { result ≡ record { schema = schema; num_docs = 0; calls = []; lines = Some [] } }
+    {
+        Documents {
+            schema,
+            num_docs: 0,
+            calls: Vec::new(alloc),
+            lines: Some(Vec::new(alloc)),
         }
     }
 
@@ -93,10 +112,10 @@ impl Documents {
         self.num_docs
     }
 
-    /// Adds the document of a line of JSON (`line_calls`).
+    /// Adds the document of a line of JSON (`line_calls`), and the line if lines are stored.
     ///
-    /// Returns `TooManyDocuments` if there are `TERMINATED` documents, else the fault of the line, or
-    /// `OutOfMemory` if an allocation fails. The documents are then unchanged.
+    /// Returns `TooManyDocuments` if there are `TERMINATED` documents; `TooLong` for 2^31 bytes or more, if lines are
+    /// stored; else the fault of the line, or `OutOfMemory` if an allocation fails. The documents are then unchanged.
     pub fn push_line(&mut self, alloc: Global, line: &str) -> Result<(), LineFault>
         ensures ok { OnOk result (AddsLine self.old self.new line.now) }
         ensures err { OnErr result (self.new ≡ self.old) }
@@ -105,8 +124,15 @@ impl Documents {
         if self.num_docs >= TERMINATED {
             return Err(LineFault::TooManyDocuments);
         }
+        if !may_be_stored(&self.lines, line) {
+            return Err(LineFault::TooLong);
+        }
         let mut calls = line_calls(alloc, &self.schema, self.num_docs, line)?;
-        self.calls.append(&mut calls)?;
+        push_line(alloc, &mut self.lines, line)?;
+        if self.calls.append(&mut calls).is_err() {
+            pop_line(&mut self.lines);
+            return Err(LineFault::OutOfMemory);
+        }
         self.num_docs += 1;
         Ok(())
     }
@@ -138,13 +164,14 @@ impl Documents {
             schema,
             num_docs,
             calls,
+            lines: _,
         } = self;
         index_counted(alloc, schema, num_docs, calls, analyzers)
     }
 
     /// Writes the files of an index of the documents, with all texts split by `analyzer`, and returns the
     /// writers. If the calls have a fault, the writers are unchanged. See `write_index` for the
-    /// faults.
+    /// faults. Lines aren't written.
     pub fn write<A: TextAnalyzer, W: Write>(
         self,
         alloc: Global,
@@ -163,17 +190,20 @@ impl Documents {
             schema,
             num_docs,
             calls,
+            lines: _,
         } = self;
         write_index(alloc, schema, num_docs, calls, analyzer, writers)
     }
 
     /// Builds the files of a segment of the documents, with the texts of each field split by its analyzer. They
-    /// hold exactly the tokens of the documents' calls, their norms, and how many tokens each document has in each field.
+    /// hold exactly the tokens of the documents' calls, their norms, how many tokens each document has in each field,
+    /// and the lines if they are stored.
     ///
     /// # Errors
     ///
     /// The first fault of the calls (`Indexer::index`). Otherwise `Limit(Tokens)` if a document has 2^32 - 1
-    /// tokens in a field, or more; a limit of the written files (`Indexer::finish`); or `OutOfMemory`.
+    /// tokens in a field, or more; a limit of the written files (`Indexer::finish`); `Limit(Offset)` if the file of
+    /// lines would have 2^64 bytes or more; or `OutOfMemory`.
     pub fn into_segment<F: FieldAnalyzers>(
         self,
         alloc: Global,
@@ -183,17 +213,20 @@ impl Documents {
         ensures holds { IfOk result (λ f. HoldTokens (option_of self.schema) f.terms.items f.postings.items f.positions.items (tokens_by (F.words analyzers.now) self.calls)) }
         ensures norms { IfOk result (λ f. HoldNorms self.schema self.num_docs f.fieldnorms.items (tokens_by (F.words analyzers.now) self.calls)) }
         ensures counts { IfOk result (λ f. IsSomeAnd f.counts (λ v. HoldCounts self.schema self.num_docs v.items (tokens_by (F.words analyzers.now) self.calls))) }
+        ensures lines { IfOk result (λ f. StoresLines self.lines (option_map (λ v. v.items) f.store)) }
 
         // Errors.
         ensures refused { IfSome (calls_fault_by (F.words analyzers.now) (option_of self.schema) [] self.calls) (λ fault. (result ≡ Err fault) ⊎ (result ≡ Err Fault.OutOfMemory)) }
         ensures many { calls_fault_by (F.words analyzers.now) (option_of self.schema) [] self.calls ≡ None → HasManyTokens self.schema (tokens_by (F.words analyzers.now) self.calls)
             → (result ≡ Err (Fault.Limit LimitName.Tokens)) ⊎ (result ≡ Err Fault.OutOfMemory) }
         ensures fault { calls_fault_by (F.words analyzers.now) (option_of self.schema) [] self.calls ≡ None
-            → IfErr result (IsSegmentFault self.schema self.num_docs (tokens_by (F.words analyzers.now) self.calls)) }
+            → IfErr result (λ e. IsSegmentFault self.schema self.num_docs (tokens_by (F.words analyzers.now) self.calls) e ⊎ IsLinesFault self.lines e) }
     {
-        let num_docs = self.num_docs;
-        match self.indexed(alloc, analyzers) {
-            Ok(indexed) => finish_counted(alloc, num_docs, indexed.0, indexed.1),
+        let mut documents = self;
+        let num_docs = documents.num_docs;
+        let lines = documents.lines.take();
+        match documents.indexed(alloc, analyzers) {
+            Ok(indexed) => finish_stored(alloc, num_docs, indexed.0, indexed.1, lines),
             Err(fault) => Err(fault),
         }
     }

@@ -4,6 +4,7 @@
 mod counting;
 pub mod documents;
 pub mod faults;
+mod lines;
 pub mod long_words;
 pub mod storing;
 
