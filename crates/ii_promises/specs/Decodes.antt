@@ -1,14 +1,15 @@
 -- What the cursors of a query have decoded, in numbers.
 use Rattle.std.specs.Prelude.{ℕ, ◌+◌, ◌*◌, ◌/◌, ◌≤◌, length}
+use Rattle.ii_check.specs.DecodedBlocks.{AscendWithin}
 use Rattle.std.specs.List.{AllByRecursion, sum_by}
 use Rattle.ii_base.specs.Entries.{Entry}
 use Rattle.ii_query.specs.declared.term_or_phrase.TermOrPhrase.{TermOrPhrase}
 use Rattle.ii_query.specs.declared.term_or_phrase.TermOrPhrase.TheVariants.{Term, Phrase}
 use Rattle.ii_reader.specs.SegmentPostings.{SegmentPostingsState}
 
--- At most `block` + 1 blocks of documents were decoded, and at most as many of term frequencies.
+-- Only blocks up to the current one were decoded, none of them twice: at most `block` + 1 of documents, and of term frequencies.
 abbrev pub HasDecodedFew : SegmentPostingsState → Type 0
-HasDecodedFew s = (s.doc_decodes ≤ s.block + 1) × (s.freq_decodes ≤ s.block + 1)
+HasDecodedFew s = (s.doc_decodes ≤ s.block + 1) × (s.freq_decodes ≤ s.block + 1) × AscendWithin 0 s.block s.doc_blocks × AscendWithin 0 s.block s.freq_blocks
 
 -- `HasDecodedFew` holds for the cursor of a term, and for each cursor of a phrase.
 abbrev pub HaveDecodedFew : TermOrPhrase SegmentPostingsState → Type 0
