@@ -14,8 +14,8 @@ ghost use Rattle.nequllpa.specs.TrueBounds.{IndexHasTrueBounds};
 
 use ii_layout::written::bounds_what_is_written;
 use nequllpa::{
-    BlockSegmentPostings, DocId, Fault, FieldNormReader, IndexCall, IndexRecordOption, OpenIndex, Schema,
-    SegmentPostings, Term, TextAnalyzer, index_in_ram,
+    BlockSegmentPostings, DocId, Fault, FieldNormReader, IndexCall, IndexRecordOption, OpenIndex,
+    Schema, SegmentPostings, Term, TextAnalyzer, index_in_ram,
 };
 use std::alloc::Global;
 
