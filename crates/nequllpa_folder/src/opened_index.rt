@@ -1,5 +1,5 @@
 //! An open index of several segments.
-ghost use Rattle.std.specs.Prelude.{◌≡◌, ◌<◌, IfOk, IfSome, None, Ok, Some, length};
+ghost use Rattle.std.specs.Prelude.{◌≡◌, ◌<◌, IfOk, IfSome, IsOkAnd, None, Ok, Some, length};
 ghost use Rattle.std.specs.Option.{option_map};
 ghost use Rattle.ii_io.specs.Composite.{composite};
 ghost use Rattle.std.specs.List.{AllZip};
@@ -43,7 +43,7 @@ impl OpenedIndex {
     #[tactic(auto, using(ii_schema_text::proofs::SchemaLaws::schema_alone))]
     pub fn open(alloc: Global, stored: StoredSegments) -> Result<OpenedIndex, OpenFault>
         ensures schema { IfOk result (λ o. text_schema stored.schema.items ≡ Ok o.schema) }
-        ensures tokenizers { IfOk result (λ o. tokenized_schema stored.schema.items ≡ Ok (record { schema = o.schema; tokenizers = o.tokenizers })) }
+        ensures tokenizers { IfOk result (λ o. IsOkAnd (tokenized_schema stored.schema.items) (λ s. (s.schema ≡ o.schema) × (s.tokenizers ≡ o.tokenizers))) }
         ensures segments { IfOk result (λ o. AllZip (OpensAs stored.schema.items) stored.segments.items o.segments.items) }
     {
         let StoredSegments { schema, segments } = stored;
