@@ -18,12 +18,10 @@ use ii_store::StoredIndex;
 use ii_tokenizers::FieldTokenizers;
 use std::alloc::Global;
 
-/// An open index: its schema, the tokenizers of its fields, whether lines are stored, and its open segments in the order
-/// of their documents.
+/// An open index: its schema, the tokenizers of its fields, and its open segments in the order of their documents.
 pub struct OpenedIndex {
     schema: Schema,
     tokenizers: FieldTokenizers,
-    stores_source: bool,
     segments: Vec<Opened>,
 }
 
@@ -33,7 +31,6 @@ impl Drop for OpenedIndex {
         let OpenedIndex {
             schema: _,
             tokenizers: _,
-            stores_source: _,
             segments: _,
         } = self;
     }
@@ -57,12 +54,10 @@ impl OpenedIndex {
         };
         match text_schema_of(alloc, schema.as_slice()) {
             Ok(schema) => {
-                let stores_source = schema.stores_source();
                 let (schema, tokenizers) = schema.into_parts();
                 Ok(OpenedIndex {
                     schema,
                     tokenizers,
-                    stores_source,
                     segments,
                 })
             }
