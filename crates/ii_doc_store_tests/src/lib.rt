@@ -3,7 +3,6 @@
 
 pub mod client;
 #[cfg(test)]
-mod merge_tests;
 #[cfg(test)]
 mod tests;
 
