@@ -1,0 +1,4 @@
+mod FragmentLemmas
+mod MarkLemmas
+mod WindowLemmas
+mod WorkedRows

@@ -1,0 +1,10 @@
+//! Snippets: the part of a text around the words that a query wants, with these marked.
+#![tactic(auto)]
+
+pub mod fragments;
+pub mod marks;
+pub mod windows;
+
+pub use fragments::{Snippet, SnippetPiece};
+pub use marks::MarkStyle;
+pub use windows::{SnippetToken, shown_tokens};
