@@ -1,4 +1,7 @@
 mod FragmentLemmas
 mod MarkLemmas
+mod PlaceLemmas
+mod TokenLemmas
+mod WantedLemmas
 mod WindowLemmas
 mod WorkedRows

@@ -1,3 +1,4 @@
 pub mod Fragments
 pub mod Marks
+pub mod Wanted
 pub mod Windows

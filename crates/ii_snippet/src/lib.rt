@@ -3,8 +3,10 @@
 
 pub mod fragments;
 pub mod marks;
+pub mod wanted;
 pub mod windows;
 
 pub use fragments::{Snippet, SnippetPiece};
 pub use marks::MarkStyle;
+pub use wanted::{WantedWord, snippet_tokens, wanted_words};
 pub use windows::{SnippetToken, shown_tokens};
