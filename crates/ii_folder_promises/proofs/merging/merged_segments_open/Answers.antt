@@ -6,8 +6,8 @@ use Rattle.ii_indexing.specs.IndexFiles.{WroteIndex}
 use Rattle.ii_merger.specs.MergedFiles.{num_tokens_by_field}
 use Rattle.ii_merger.specs.MergedIndex.{MergeSourcesHold, opened_segment}
 use Rattle.nequllpa.proofs.RamLaws.{GivesAll, in_ram}
-use Rattle.ii_promises.proofs.MergingLaws.{opened_holds, opened_undamaged}
-use Rattle.ii_promises.proofs.merging.merged_segments_open.Goals as goal
+use Rattle.ii_folder_promises.proofs.MergingLaws.{opened_holds, opened_undamaged}
+use Rattle.ii_folder_promises.proofs.merging.merged_segments_open.Goals as goal
 
 gives : (c : goal.After-open_in_ram) (ss : List Segment) → MergeSourcesHold c.args.schema.now (map opened_segment c.args.sources.now) ss → c.args.num_tokens.now ≡ num_tokens_by_field (length c.args.schema.now) (index_tokens ss)
     → GivesAll c.args.schema.now (num_docs_of ss) (index_tokens ss) c.open_in_ram.result

@@ -5,9 +5,9 @@ use Rattle.ii_query_parser.specs.Queries.{matches}
 use Rattle.ii_ranking.specs.Statistics.{statistics_of}
 use Rattle.ii_ranking.specs.TokenScores.{token_score}
 use Rattle.ii_ranking.proofs.MatchLaws.{matches_score}
-use Rattle.ii_promises.proofs.RankingLaws.{gives_greatest, gives_many, gives_scored, refused_best}
-use Rattle.ii_promises.proofs.TokenOrderLaws.{tokens_ordered}
-use Rattle.ii_promises.proofs.ranking.the_best_score_by_their_tokens.Goals as goal
+use Rattle.ii_folder_promises.proofs.RankingLaws.{gives_greatest, gives_many, gives_scored, refused_best}
+use Rattle.ii_folder_promises.proofs.TokenOrderLaws.{tokens_ordered}
+use Rattle.ii_folder_promises.proofs.ranking.the_best_score_by_their_tokens.Goals as goal
 
 pub returns-in-Ok-clause-scores : goal.returns-in-Ok-clause-scores
 returns-in-Ok-clause-scores g c =

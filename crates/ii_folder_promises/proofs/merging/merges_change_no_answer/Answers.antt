@@ -1,5 +1,5 @@
-use Rattle.ii_promises.proofs.MergingLaws.{same_found}
-use Rattle.ii_promises.proofs.merging.merges_change_no_answer.Goals as goal
+use Rattle.ii_folder_promises.proofs.MergingLaws.{same_found}
+use Rattle.ii_folder_promises.proofs.merging.merges_change_no_answer.Goals as goal
 
 pub returns-in-Ok-search : goal.returns-in-Ok-search
 returns-in-Ok-search c = record {

@@ -1,5 +1,5 @@
 -- What a search returns over segments, and over merged ones.
-use Rattle.std.proofs.Common.{◌≡◌, List, Result, Ok, Err, ◌∙◌, ℕ, subst, sym}
+use Rattle.std.proofs.Common.{◌≡◌, List, Result, Ok, Err, ◌∙◌, ℕ, true, ap, subst, sym}
 use Rattle.std.specs.Prelude.{IfErr, IfOk, filter}
 use Rattle.std.specs.List.{range_with_len}
 use Rattle.ii_io.specs.declared.faults.Fault.{Fault}
@@ -7,7 +7,9 @@ use Rattle.ii_io.specs.declared.faults.Fault.TheVariants.{OutOfMemory, Damaged}
 use Rattle.ii_base.specs.Entries.{docs_of}
 use Rattle.ii_query.specs.Combined.{QueryCursorState}
 use Rattle.ii_query_parser.specs.declared.query.Query.{Query}
-use Rattle.ii_query_parser.specs.Queries.{matches}
+use Rattle.ii_docset.specs.Intersection.{has_doc}
+use Rattle.ii_search.specs.Found.{GivesMatches}
+use Rattle.ii_query_parser.specs.Queries.{has_fields, matches}
 use Rattle.ii_living_docs.specs.Chain.{ChainState, chained}
 use Rattle.ii_living_docs.specs.LivingDocs.{LivingParts}
 use Rattle.ii_segments.specs.Segments.{Segment, index_tokens, num_docs_of}
@@ -48,3 +50,11 @@ same_found {S} {T} query ss ts before after a b a_is b_is first second tokens do
     let found_first : AreFound query ss (chained living_rest a.cursors a.current) = subst (λ (r : Result (ChainState (LivingParts (QueryCursorState S))) Fault). GivesFound query ss r) a_is first in
     let found_second : AreFound query ts (chained living_rest b.cursors b.current) = subst (λ (r : Result (ChainState (LivingParts (QueryCursorState T))) Fault). GivesFound query ts r) b_is second in
     found_second ∙ (λ j. filter (matches query (tokens j)) (range_with_len 0 (docs j))) ∙ sym found_first
+
+-- what is found in one index, and the fields that it has
+pub merged_found : {T : Type 0} (query : Query) (ts : List IndexToken) (answer : Result (QueryCursorState T) Fault) → GivesMatches query ts answer → IfOk answer (λ cursor. (doc : ℕ) → has_doc cursor.rest doc ≡ matches query ts doc)
+merged_found query ts (Ok cursor) gives = gives.exact
+merged_found query ts (Err fault) gives = tt
+
+pub merged_fields : (m n : ℕ) (query : Query) → m ≡ n → has_fields n query ≡ true → has_fields m query ≡ true
+merged_fields m n query same fields = ap (λ (k : ℕ). has_fields k query) same ∙ fields

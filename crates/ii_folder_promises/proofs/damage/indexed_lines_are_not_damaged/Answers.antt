@@ -4,8 +4,8 @@ use Rattle.ii_definitions.specs.Files.{HoldTokens}
 use Rattle.ii_definitions.specs.IndexCalls.{MayAllBeIndexed, call_of}
 use Rattle.ii_definitions.specs.Norms.{HoldNorms}
 use Rattle.nequllpa_indexing.specs.FieldTokens.{tokens_by}
-use Rattle.ii_promises.proofs.FitLaws.{calls_fit_by}
-use Rattle.ii_promises.proofs.damage.indexed_lines_are_not_damaged.Goals as goal
+use Rattle.ii_folder_promises.proofs.FitLaws.{calls_fit_by}
+use Rattle.ii_folder_promises.proofs.damage.indexed_lines_are_not_damaged.Goals as goal
 
 pub returns-in-Ok : goal.returns-in-Ok
 returns-in-Ok g c =

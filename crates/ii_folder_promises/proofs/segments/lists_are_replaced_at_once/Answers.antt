@@ -1,6 +1,6 @@
 use Rattle.std.proofs.Common.{inl}
 use Rattle.ii_store.proofs.CommitLaws.{same_segments}
-use Rattle.ii_promises.proofs.segments.lists_are_replaced_at_once.Goals as goal
+use Rattle.ii_folder_promises.proofs.segments.lists_are_replaced_at_once.Goals as goal
 
 pub returns-in_err-may_commit-clause-stopped : goal.returns-in_err-may_commit-clause-stopped
 returns-in_err-may_commit-clause-stopped g c = λ files left.

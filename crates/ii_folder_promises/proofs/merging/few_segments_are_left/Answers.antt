@@ -1,6 +1,6 @@
 use Rattle.std.proofs.Common.{◌≤◌, ℕ, length, subst, sym, arith}
 use Rattle.nequllpa_merging.specs.MergePolicy.{first_outgrown, joined_from}
-use Rattle.ii_promises.proofs.merging.few_segments_are_left.Goals as goal
+use Rattle.ii_folder_promises.proofs.merging.few_segments_are_left.Goals as goal
 
 pub returns : goal.returns
 returns c = λ few.

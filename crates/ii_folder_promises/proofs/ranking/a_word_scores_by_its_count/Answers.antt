@@ -5,9 +5,9 @@ use Rattle.ii_definitions.specs.IndexCalls.{call_of}
 use Rattle.ii_definitions.specs.Tokens.{tokens_of}
 use Rattle.ii_query_parser.proofs.QueryLemmas.{term_fields, term_positions}
 use Rattle.ii_ranking.specs.Statistics.{statistics_of}
-use Rattle.ii_promises.proofs.TokenOrderLaws.{tokens_ordered}
-use Rattle.ii_promises.proofs.WordScoreLaws.{words_scored}
-use Rattle.ii_promises.proofs.ranking.a_word_scores_by_its_count.Goals as goal
+use Rattle.ii_folder_promises.proofs.TokenOrderLaws.{tokens_ordered}
+use Rattle.ii_folder_promises.proofs.WordScoreLaws.{words_scored}
+use Rattle.ii_folder_promises.proofs.ranking.a_word_scores_by_its_count.Goals as goal
 
 pub the_best_score_by_their_tokens-found-requires-clause-fields : goal.the_best_score_by_their_tokens-found-requires-clause-fields
 the_best_score_by_their_tokens-found-requires-clause-fields g c = term_fields (length c.args.schema) c.args.word ∙ lt-ltb c.args.word.field (length c.args.schema) c.requires.field

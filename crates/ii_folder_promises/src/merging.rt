@@ -90,7 +90,7 @@ pub fn merged_segments_open(
 }
 
 /// So a query finds the same documents in merged segments: exactly those of the living documents that match.
-#[tactic(auto, using(crate::proofs::SearchingLaws::matches_are_found, crate::proofs::SearchingLaws::same_fields))]
+#[tactic(auto, using(crate::proofs::MergingLaws::merged_found, crate::proofs::MergingLaws::merged_fields))]
 pub fn merged_segments_find_what_matches(
     alloc: Global,
     schema: &Schema,

@@ -1,0 +1,11 @@
+//! What an index in a folder promises, its segments and their merges, ranking, and the text of its keys, as a client
+//! can prove it: like `ii_promises`, one short function for each sentence.
+#![tactic(auto)]
+
+pub mod damage;
+pub mod folder;
+pub mod keys;
+pub mod merging;
+pub mod ranking;
+pub mod segments;
+pub mod stored_lines;
