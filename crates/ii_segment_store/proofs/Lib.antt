@@ -1,4 +1,6 @@
 mod LoadLaws
+mod KeptLaws
+mod WantedLaws
 mod PutLaws
 mod CommitLaws
 mod FlagLaws

@@ -11,6 +11,9 @@ use Rattle.ii_store.specs.IndexMeta.{MetaState, SegmentState}
 use Rattle.ii_segment_store.specs.Changes.{files_with_flags, first_uncounted, latest_file, segments_without, without}
 use Rattle.ii_segment_store.specs.Commits.{emptied, listed_segment, next_list}
 use Rattle.ii_store.specs.Segments.{listed_bytes}
+use Rattle.ii_segment_store.specs.declared.wanted_files.WantedFiles.{WantedFiles}
+use Rattle.ii_segment_store.specs.declared.wanted_files.WantedFiles.TheVariants.{All, WithoutCountsAndStore, WithoutStore}
+use Rattle.ii_segment_store.specs.WantedFiles.{wanted_segment}
 use Rattle.ii_segment_store.specs.Contents.{IndexContents, SegmentContents, alive_file, bytes_if_listed, bytes_of_component, file_of, fitting_flags, flags_in, flags_with, optional_bytes, segment_in, with_segment}
 
 abbrev no_files : Files
@@ -42,6 +45,20 @@ first_flags = refl
 
 abbrev segment : ℕ → List FileMeta → SegmentState
 segment living files = record { id = 7; num_docs = 2; num_living = living; files = files }
+
+-- what is loaded of a segment without its stored documents, and without its counts
+
+abbrev loaded_by : WantedFiles → List SegmentComponent
+loaded_by wanted = map (λ (f : FileMeta). f.component) (wanted_segment wanted (segment 2 (file Terms ∷ file Counts ∷ file (Alive 7) ∷ file Store ∷ []))).files
+
+loads_all : loaded_by All ≡ Terms ∷ Counts ∷ Alive 7 ∷ Store ∷ []
+loads_all = refl
+
+loads_no_store : loaded_by WithoutStore ≡ Terms ∷ Counts ∷ Alive 7 ∷ []
+loads_no_store = refl
+
+loads_neither : loaded_by WithoutCountsAndStore ≡ Terms ∷ Alive 7 ∷ []
+loads_neither = refl
 
 abbrev refused : IndexFault → Result SegmentContents IndexFault
 refused fault = Err fault

@@ -2,3 +2,4 @@ pub mod Contents
 pub mod Commits
 pub mod Changes
 pub mod Joins
+pub mod WantedFiles

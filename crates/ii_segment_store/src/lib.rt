@@ -10,12 +10,14 @@ pub mod joining;
 pub mod loading;
 pub mod replacing;
 pub mod stored_segments;
+pub mod wanted_files;
 
 pub use clearing::remove_slots;
 pub use committing::{append_segment, upgrade};
 pub use deleting::commit_changes;
 pub use faults::CommitFault;
 pub use joining::{load_last, replace_last};
-pub use loading::{load_latest, load_segments};
+pub use loading::{load_latest, load_latest_with, load_segments, load_segments_with};
 pub use replacing::replace_index;
 pub use stored_segments::{SegmentFiles, StoredSegment, StoredSegments};
+pub use wanted_files::WantedFiles;

@@ -5,11 +5,13 @@ ghost use Rattle.ii_store.specs.Faults.{of_directory};
 ghost use Rattle.ii_directory.specs.declared.faults.DirectoryFault.TheVariants.{OutOfMemory};
 ghost use Rattle.ii_store.specs.Index.{AnswersFromFiles, view};
 ghost use Rattle.ii_store.specs.IndexMeta.{segment_view, meta_view};
-ghost use Rattle.ii_segment_store.specs.Contents.{alive_file, all_contents, bytes_if_listed, component_bytes, contents_at, contents_view, contents_with, file_of, fitting_flags, flags_in, flags_with, index_contents, list_contents, one_segment, optional_bytes, segment_contents, segment_in};
+ghost use Rattle.ii_segment_store.specs.Contents.{alive_file, all_contents, bytes_if_listed, component_bytes, contents_view, contents_with, file_of, fitting_flags, flags_in, flags_with, index_contents, list_contents, one_segment, optional_bytes, segment_contents, segment_in};
+ghost use Rattle.ii_segment_store.specs.WantedFiles.{wanted_at, wanted_contents};
 ghost use Rattle.ii_alive.specs.AliveBytes.{alive_of};
 
 use crate::faults::{flags_fault, memory_fault};
 use crate::stored_segments::{SegmentFiles, StoredSegment, StoredSegments};
+use crate::wanted_files::WantedFiles;
 use ii_alive::AliveBits;
 use ii_store::index_meta_reader::decode;
 use ii_store::meta::{VERSION, version_of};
@@ -30,17 +32,29 @@ const MOST_RETRIES: u32 = 10;
 /// Otherwise returns the first fault of a file, segment by segment: missing, wrong length or wrong checksum;
 /// or `DeletedDocuments` if the flags aren't those of a segment's documents, or not as many are alive as `meta`
 /// says.
-#[tactic(auto, unfolding(crate::specs::Contents::index_contents, crate::specs::Contents::contents_in))]
 pub fn load_segments<D: Directory>(
     alloc: Global,
     directory: &D,
 ) -> Result<StoredSegments, StoreFault>
     ensures { D.is_known directory.now → AnswersFromFiles contents_view result (index_contents (D.seen directory.now)) }
 {
+    load_segments_with(alloc, directory, WantedFiles::All)
+}
+
+/// Loads the wanted files of the index of a directory as `load_segments` does: as if its segments listed no others.
+/// A file that isn't wanted isn't read, so it changes nothing if it is missing or damaged.
+#[tactic(auto, unfolding(crate::specs::WantedFiles::wanted_contents, crate::specs::WantedFiles::wanted_in))]
+pub fn load_segments_with<D: Directory>(
+    alloc: Global,
+    directory: &D,
+    wanted: WantedFiles,
+) -> Result<StoredSegments, StoreFault>
+    ensures { D.is_known directory.now → AnswersFromFiles contents_view result (wanted_contents wanted (D.seen directory.now)) }
+{
     let Some(meta) = directory.read(alloc, Name::Meta)? else {
         return Err(StoreFault::Index(IndexFault::NoIndex));
     };
-    load_by(alloc, directory, meta.as_slice())
+    load_by(alloc, directory, meta.as_slice(), wanted)
 }
 
 /// Loads the index of a directory as `load_segments` does. If another program replaces the index meanwhile, so
@@ -48,9 +62,21 @@ pub fn load_segments<D: Directory>(
 pub fn load_latest<D: Directory>(alloc: Global, directory: &D) -> Result<StoredSegments, StoreFault>
     ensures { D.is_known directory.now → AnswersFromFiles contents_view result (index_contents (D.seen directory.now)) }
 {
+    load_latest_with(alloc, directory, WantedFiles::All)
+}
+
+/// Loads the wanted files of the index of a directory as `load_segments_with` does, and the new index as `load_latest`
+/// does.
+pub fn load_latest_with<D: Directory>(
+    alloc: Global,
+    directory: &D,
+    wanted: WantedFiles,
+) -> Result<StoredSegments, StoreFault>
+    ensures { D.is_known directory.now → AnswersFromFiles contents_view result (wanted_contents wanted (D.seen directory.now)) }
+{
     for _ in 0..MOST_RETRIES {
         let before = directory.read(alloc, Name::Meta)?;
-        let fault = match load_segments(alloc, directory) {
+        let fault = match load_segments_with(alloc, directory, wanted) {
             Ok(segments) => return Ok(segments),
             Err(fault) => fault,
         };
@@ -59,17 +85,18 @@ pub fn load_latest<D: Directory>(alloc: Global, directory: &D) -> Result<StoredS
             return Err(fault);
         }
     }
-    load_segments(alloc, directory)
+    load_segments_with(alloc, directory, wanted)
 }
 
-// Loads the index that a `meta` file describes.
-#[tactic(auto, unfolding(crate::specs::Contents::contents_at))]
+// Loads the wanted files of the index that a `meta` file describes.
+#[tactic(auto, unfolding(crate::specs::WantedFiles::wanted_at))]
 fn load_by<D: Directory>(
     alloc: Global,
     directory: &D,
     meta: &[u8],
+    wanted: WantedFiles,
 ) -> Result<StoredSegments, StoreFault>
-    ensures { D.is_known directory.now → AnswersFromFiles contents_view result (contents_at meta.now (D.seen directory.now)) }
+    ensures { D.is_known directory.now → AnswersFromFiles contents_view result (wanted_at wanted meta.now (D.seen directory.now)) }
 {
     let version = version_of(meta)?;
     if version == VERSION {
@@ -77,6 +104,7 @@ fn load_by<D: Directory>(
         return Ok(one_segment(alloc, index)?);
     }
     let list = decode(alloc, meta)?;
+    let list = wanted.in_list(list);
     load_list(alloc, directory, list)
 }
 
