@@ -2,6 +2,8 @@ pub mod CombinationLemmas
 pub mod CountLaws
 pub mod EntryLemmas
 pub mod EntryTokens
+pub mod LocalScores
+pub mod OneIndexLaws
 pub mod MatchLaws
 pub mod PartLemmas
 pub mod PhraseCountLaws

@@ -1,4 +1,5 @@
 //! Laws of all indexes and queries.
+ghost use Rattle.ii_ranking.specs.OneIndex.{ScoresAreLocal, SegmentsScoreAsOne};
 ghost use Rattle.ii_ranking.specs.TokenCounts.{MatchesScore, PhrasesScoreByStarts, TermsScoreByCounts};
 ghost use Rattle.ii_ranking.specs.TokenScores.{ScoresAreOfTokens};
 
@@ -14,4 +15,12 @@ pub fn scores_count_tokens()
     ensures terms { TermsScoreByCounts }
     ensures phrases { PhrasesScoreByStarts }
     ensures matches { MatchesScore }
+{}
+
+/// Law of segments that hold tokens: by the tokens of all segments, each living document scores what it scores by
+/// those of its own segment. So the documents of segments that have a score, each with it, are exactly those of one
+/// index of all their living documents.
+pub fn segments_score_as_one()
+    ensures local { ScoresAreLocal }
+    ensures same { SegmentsScoreAsOne }
 {}

@@ -34,7 +34,7 @@ and_none false = refl
 
 -- ---- a test of a document's tokens, which only asks whether a token is of the document
 module _ (test : Bool → IndexToken → Bool) (none : (t : IndexToken) → test false t ≡ false) (stays : (b : Bool) (t : IndexToken) (doc : ℕ) → test b (record t { doc = doc }) ≡ test b t) where
-  abbrev of_doc : ℕ → IndexToken → Bool
+  abbrev pub of_doc : ℕ → IndexToken → Bool
   of_doc doc t = test (t.doc == doc) t
 
   any_apart : (doc : ℕ) (ts : List IndexToken) → AllByRecursion (λ (t : IndexToken). t.doc ≢ doc) ts → list_any (of_doc doc) ts ≡ false
@@ -63,7 +63,7 @@ module _ (test : Bool → IndexToken → Bool) (none : (t : IndexToken) → test
           rw dead (others ∙ sym (ap (λ (b : Bool). test b t || list_any (of_doc doc) ts) other ∙ ap (λ (b : Bool). b || list_any (of_doc doc) ts) (none t)))
 
   -- the test of a living document in an index, and in its segment
-  any_local : (before after : List Segment) (s : Segment) (doc : ℕ) → is_living s.alive doc ≡ true
+  pub any_local : (before after : List Segment) (s : Segment) (doc : ℕ) → is_living s.alive doc ≡ true
       → list_any (of_doc (num_docs_of before + rank s.alive doc)) (index_tokens (before ++ s ∷ after)) ≡ list_any (of_doc doc) s.tokens
   any_local before after s doc lives =
       let base = num_docs_of before in
@@ -91,7 +91,7 @@ module _ (entries : List SchemaEntry) (field : ℕ) (key : List ℕ) where
   abbrev text : Bool
   text = is_key_of_text_in entries field key
 
-  text_of_some : (p : IndexToken → Bool) → ((t : IndexToken) → p t ≡ true → is_at field key t ≡ true) → (ts : List IndexToken) → AllByRecursion (IsTyped entries) ts
+  pub text_of_some : (p : IndexToken → Bool) → ((t : IndexToken) → p t ≡ true → is_at field key t ≡ true) → (ts : List IndexToken) → AllByRecursion (IsTyped entries) ts
       → list_any p ts ≡ true → are_of_texts (tokens_at field key ts) ≡ text
   text_of_some p at [] typed some = absurd (cc)
   text_of_some p at (t ∷ ts) typed some = by (is_at field key t) (p t) refl refl (text_of_some p at ts typed.1)
@@ -131,10 +131,10 @@ module _ (entries : List SchemaEntry) (before after : List Segment) (s : Segment
     term_local : (term : TermState) → list_any (is_token_of term number) all ≡ list_any (is_token_of term doc) s.tokens
     term_local term = any_local (λ b t. b && is_at term.field term.value t) (λ t. refl) (λ b t d. refl) before after s doc lives
 
-    range_local : (range : TermRange) → list_any (is_token_in range number) all ≡ list_any (is_token_in range doc) s.tokens
+    pub range_local : (range : TermRange) → list_any (is_token_in range number) all ≡ list_any (is_token_in range doc) s.tokens
     range_local range = any_local (λ b t. b && (t.field == range.prefix.field) && in_range range t.key) (λ t. refl) (λ b t d. refl) before after s doc lives
 
-    position_local : (term : TermState) (position : ℕ) → stands_at all number term position ≡ stands_at s.tokens doc term position
+    pub position_local : (term : TermState) (position : ℕ) → stands_at all number term position ≡ stands_at s.tokens doc term position
     position_local term position =
         let test : Bool → IndexToken → Bool = λ b t. b && is_at term.field term.value t && (t.position == position) in
         let at : (d : ℕ) (t : IndexToken) → (is_token_of term d t && (t.position == position)) ≡ true → is_at term.field term.value t ≡ true =
@@ -143,7 +143,7 @@ module _ (entries : List SchemaEntry) (before after : List Segment) (s : Segment
         ∙ ap (λ (b : Bool). is_key_of_text_in entries term.field term.value && b) (any_local test (λ t. refl) (λ b t d. refl) before after s doc lives)
         ∙ sym (text_any entries term.field term.value (λ t. is_token_of term doc t && (t.position == position)) (at doc) s.tokens own_typed)
 
-    follow_local : (others : List PhraseTerm) (start : ℕ) → follow all number others start ≡ follow s.tokens doc others start
+    pub follow_local : (others : List PhraseTerm) (start : ℕ) → follow all number others start ≡ follow s.tokens doc others start
     follow_local others start =
         all_same (λ (o : PhraseTerm). stands_at all number o.term (start + o.distance)) (λ (o : PhraseTerm). stands_at s.tokens doc o.term (start + o.distance)) others
         (λ o. position_local o.term (start + o.distance))
@@ -161,7 +161,7 @@ module _ (entries : List SchemaEntry) (before after : List Segment) (s : Segment
         ∙ ap (λ (b : Bool). is_key_of_text_in entries first.field first.value && b) (any_local test (λ t. refl) (λ b t d. refl) before after s doc lives)
         ∙ sym (text_any entries first.field first.value (λ t. is_token_of first doc t && follow s.tokens doc others t.position) (at doc) s.tokens own_typed)
 
-    bound_local : (n m : ℕ) → num_docs_of (before ++ s ∷ after) ≤ n → length s.alive ≤ n → nat_le n (min m TERMINATED) ≡ true → nat_lt number (min m TERMINATED) ≡ nat_lt doc (min m TERMINATED)
+    pub bound_local : (n m : ℕ) → num_docs_of (before ++ s ∷ after) ≤ n → length s.alive ≤ n → nat_le n (min m TERMINATED) ≡ true → nat_lt number (min m TERMINATED) ≡ nat_lt doc (min m TERMINATED)
     bound_local n m docs own covers =
         let limit = min m TERMINATED in
         let enough : n ≤ limit = leb-true n limit covers in
@@ -196,7 +196,7 @@ module _ (entries : List SchemaEntry) (before after : List Segment) (s : Segment
           ap (λ (b : Bool). b || any_matches qs all number) (tree_local n q docs own parts.0)
           ∙ ap (λ (b : Bool). tree_matches q s.tokens doc || b) (some_local n qs docs own parts.1)
 
-typed_own : (entries : List SchemaEntry) (before after : List Segment) (s : Segment) → AllByRecursion (AreSegmentTokens entries) (before ++ s ∷ after) → AllByRecursion (IsTyped entries) s.tokens
+pub typed_own : (entries : List SchemaEntry) (before after : List Segment) (s : Segment) → AllByRecursion (AreSegmentTokens entries) (before ++ s ∷ after) → AllByRecursion (IsTyped entries) s.tokens
 typed_own entries [] after s are = are.0.typed
 typed_own entries (b ∷ before) after s are = typed_own entries before after s are.1
 
