@@ -5,3 +5,4 @@ pub mod RankingLaws
 mod TokenOrderLaws
 mod WordScoreLaws
 mod SegmentLaws
+mod SegmentRankingLaws

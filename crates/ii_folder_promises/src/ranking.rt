@@ -1,5 +1,5 @@
 // The best documents of a query.
-ghost use Rattle.std.specs.Prelude.{◌≡◌, ◌<◌, ◌≤◌, ◌⊎◌, ◌&&◌, ◌==◌, ◌∷◌, ℕ, [], IfErr, IfOk, None, Some, bytes_eq, count_by, filter, get_or, length, map, min, true};
+ghost use Rattle.std.specs.Prelude.{◌≡◌, ◌<◌, ◌≤◌, ◌^◌, ◌⊎◌, ◌&&◌, ◌==◌, ◌∷◌, ℕ, List, [], IfErr, IfOk, None, Some, bytes_eq, count_by, filter, get_or, length, map, min, true};
 ghost use Rattle.std.specs.List.{All, Contains, range_with_len};
 ghost use Rattle.ii_base.specs.Options.{has_freq};
 ghost use Rattle.ii_base.specs.declared.schema.value_type.ValueType.TheVariants.{Str};
@@ -15,9 +15,13 @@ ghost use Rattle.ii_indexing.specs.Refusals.{calls_fault};
 ghost use Rattle.ii_query_parser.specs.Queries.{has_fields, keeps_positions, matches};
 ghost use Rattle.ii_ranking.specs.Statistics.{statistics_of};
 ghost use Rattle.ii_ranking.specs.TokenScores.{token_score};
-ghost use Rattle.ii_segments.specs.Segments.{type_of_field};
+ghost use Rattle.ii_base.specs.Schema.{SchemaEntry};
+ghost use Rattle.ii_ranking.specs.Segments.{segment_of};
+ghost use Rattle.ii_segment_search.specs.Searcher.{HaveFields, MayAsk, Reaches, SegmentsHold, total_living};
+ghost use Rattle.ii_segments.specs.Segments.{Segment, index_tokens, num_docs_of, type_of_field};
 
-use ii_ranking::{GatheredStatistics, Score, TopDocs, search};
+use ii_ranking::laws::segments_score_as_one;
+use ii_ranking::{GatheredStatistics, RankedSegment, Score, TopDocs, search, search_segments};
 use nequllpa::{
     DocId, Fault, IndexCall, OpenIndex, Query, Schema, Term, TextAnalyzer, index_in_ram,
 };
@@ -104,4 +108,30 @@ pub fn a_word_scores_by_its_count<A: TextAnalyzer>(
     );
     drop(query);
     found
+}
+
+/// The best documents of segments that hold tokens are those of one index of all their living documents: each is
+/// returned with the score that the tokens of all segments give; as many are returned as match, but at most `limit`;
+/// and no document that isn't returned has a greater score than one that is.
+pub fn segments_are_ranked_as_one_index(
+    alloc: Global,
+    segments: &[RankedSegment<'_>],
+    statistics: &GatheredStatistics,
+    query: &Query,
+    limit: usize,
+) -> Result<Vec<(Score, DocId)>, Fault>
+    requires fields { HaveFields query.now (map segment_of segments.now) }
+    requires few { total_living (map segment_of segments.now) < 2 ^ 32 }
+    ensures scores { (schema : List SchemaEntry) (ss : List Segment) → SegmentsHold schema (map segment_of segments.now) ss → MayAsk schema query.now → Reaches query.now ss
+        → IfOk result (λ best. All (λ (b : ℕ × ℕ). (b.1 < num_docs_of ss) × (token_score schema (index_tokens ss) (statistics_of statistics.now) query.now b.1 ≡ Some b.0)) best.items) }
+    ensures many { (schema : List SchemaEntry) (ss : List Segment) → SegmentsHold schema (map segment_of segments.now) ss → MayAsk schema query.now → Reaches query.now ss
+        → IfOk result (λ best. length best.items ≡ min limit (length (filter (matches query.now (index_tokens ss)) (range_with_len 0 (num_docs_of ss))))) }
+    ensures greatest { (schema : List SchemaEntry) (ss : List Segment) → SegmentsHold schema (map segment_of segments.now) ss → MayAsk schema query.now → Reaches query.now ss
+        → IfOk result (λ best. (doc score : ℕ) → doc < num_docs_of ss → token_score schema (index_tokens ss) (statistics_of statistics.now) query.now doc ≡ Some score
+        → Contains best.items (score, doc) ⊎ All (λ (b : ℕ × ℕ). score ≤ b.0) best.items) }
+    ensures fault { (schema : List SchemaEntry) (ss : List Segment) → SegmentsHold schema (map segment_of segments.now) ss → MayAsk schema query.now → IfErr result (λ e. e ≡ Fault.OutOfMemory) }
+{
+    segments_score_as_one();
+    let docs = TopDocs::with_limit(limit);
+    search_segments(alloc, segments, statistics, query, &docs)
 }
