@@ -1,5 +1,5 @@
 -- The best documents of segments, by the tokens of all of them.
-use Rattle.std.proofs.Common.{◌≡◌, ℕ, true, List, Vec, Global, Result, Ok, Err, IfErr, subst}
+use Rattle.std.proofs.Common.{◌≡◌, ℕ, true, List, [], ◌∷◌, Vec, Global, Result, Ok, Err, IfErr, subst}
 use Rattle.std.specs.List.{AllByRecursion}
 use Rattle.ii_io.specs.declared.faults.Fault.{Fault}
 use Rattle.ii_io.specs.declared.faults.Fault.TheVariants.{OutOfMemory}
