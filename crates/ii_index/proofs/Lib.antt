@@ -1,0 +1,5 @@
+mod TokenLaws
+mod SegmentLemmas
+mod OpenLemmas
+mod IndexLemmas
+mod WriterLemmas
