@@ -1,6 +1,6 @@
 -- What an index holds after it was created, and after documents were added.
-use Rattle.std.proofs.Common.{◌≡◌, ◌∙◌, ◌+◌, ◌<◌, ℕ, Bool, true, false, List, [], ◌∷◌, ◌++◌, Result, Ok, ap, append-nil, arith, inl, inr, map, refl, subst, sym}
-use Rattle.std.specs.Prelude.{◌⊎◌, length, replicate}
+use Rattle.std.proofs.Common.{◌≡◌, ◌∙◌, ◌+◌, ◌<◌, ℕ, Bool, true, List, [], ◌∷◌, ◌++◌, Ok, ap, append-nil, arith, inl, inr, map, refl, subst, sym}
+use Rattle.std.specs.Prelude.{◌⊎◌, replicate}
 use Rattle.std.specs.List.{AllByRecursion, AllZip}
 use Rattle.std.proofs.lemmas.List.{length-replicate}
 use Rattle.ii_alive.proofs.RankLemmas.{all_living}
@@ -10,7 +10,7 @@ use Rattle.ii_definitions.specs.IndexCalls.{call_of}
 use Rattle.ii_definitions.specs.Tokens.{IndexToken}
 use Rattle.ii_directory.specs.Directory.{Files, Same}
 use Rattle.ii_segment_store.specs.Commits.{HoldsOldOr, index_of_segment}
-use Rattle.ii_segment_store.specs.Contents.{IndexContents, SegmentContents, index_contents, with_segment}
+use Rattle.ii_segment_store.specs.Contents.{SegmentContents, index_contents, with_segment}
 use Rattle.ii_segments.specs.Segments.{Segment, index_tokens, num_docs_of}
 use Rattle.ii_segments.proofs.MergeLaws.{all_alive, from_append}
 use Rattle.ii_index.specs.Searching.{OpensIndex, SearcherState}
@@ -19,8 +19,8 @@ use Rattle.ii_index.proofs.OpenLemmas.{index_open}
 use Rattle.ii_index.proofs.TokenLaws.{are_segment_tokens}
 use Rattle.nequllpa_indexing.specs.Documents.{DocumentsState, WereCalls}
 use Rattle.nequllpa_indexing.specs.FieldTokens.{tokens_by}
-use Rattle.nequllpa_merging.specs.HeldSegments.{HoldSegments, HoldsSegment}
-use Rattle.nequllpa_merging.specs.Joins.{HoldsIndex, HoldsSameIndex}
+use Rattle.nequllpa_merging.specs.HeldSegments.{HoldsSegment}
+use Rattle.nequllpa_merging.specs.Joins.{HoldsSameIndex}
 
 zip_more : {A B : Type 0} (R : A → B → Type 0) (xs : List A) (ys : List B) (x : A) (y : B) → AllZip R xs ys → R x y → AllZip R (xs ++ x ∷ []) (ys ++ y ∷ [])
 zip_more R [] [] x y zip holds = (holds, tt)

@@ -1,6 +1,6 @@
 -- Segments that are opened one after the other, and what they hold.
 use Rattle.std.proofs.Common.{◌≡◌, ◌∙◌, ℕ, true, List, [], ◌∷◌, ◌++◌, Result, Ok, length, map, ap, append-nil, append_assoc, refl, subst, sym}
-use Rattle.std.specs.List.{AllByRecursion, AllZip}
+use Rattle.std.specs.List.{AllZip}
 use Rattle.ii_base.specs.Schema.{SchemaEntry}
 use Rattle.ii_definitions.specs.Fields.{option_of}
 use Rattle.ii_definitions.specs.Files.{HoldTokens}
@@ -9,14 +9,14 @@ use Rattle.ii_definitions.specs.Tokens.{IndexToken}
 use Rattle.ii_reader.specs.OpenIndex.{IndexHolds, OpenIndexState, index_of_files}
 use Rattle.ii_query_parser.specs.declared.query.Query.{Query}
 use Rattle.ii_query_parser.specs.Queries.{has_fields}
-use Rattle.ii_segment_search.specs.Searcher.{HaveFields, OpenSegmentState, SegmentHolds, SegmentsHold}
+use Rattle.ii_segment_search.specs.Searcher.{HaveFields, OpenSegmentState, SegmentsHold}
 use Rattle.ii_directory.specs.Directory.{Files}
 use Rattle.ii_segment_store.specs.Contents.{IndexContents, SegmentContents, index_contents, segment_contents}
 use Rattle.ii_segment_store.specs.declared.stored_segments.StoredSegment.{StoredSegment}
 use Rattle.ii_segments.specs.Segments.{Segment}
 use Rattle.ii_store.specs.declared.faults.IndexFault.{IndexFault}
 use Rattle.ii_index.specs.Searching.{HaveReaders, OpenSegments, OpensIndex, OpensSegment, SearcherState}
-use Rattle.nequllpa_merging.specs.HeldSegments.{HoldSegments, HoldsSegment}
+use Rattle.nequllpa_merging.specs.HeldSegments.{HoldSegments}
 use Rattle.nequllpa_merging.specs.Joins.{HoldsIndex}
 
 module _ (entries : List SchemaEntry) where

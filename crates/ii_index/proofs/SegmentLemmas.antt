@@ -1,5 +1,5 @@
 -- The files that are built of documents hold the segment of these.
-use Rattle.std.proofs.Common.{◌≡◌, ◌∙◌, ℕ, Bool, true, List, Option, None, Some, length, map, refl, subst, sym, ap}
+use Rattle.std.proofs.Common.{◌≡◌, ℕ, Bool, true, List, Option, None, Some, length, subst, sym, ap}
 use Rattle.std.specs.Prelude.{IsSomeAnd, Vec, option_map, replicate}
 use Rattle.std.proofs.lemmas.List.{length-replicate}
 use Rattle.std.specs.declared.alloc.Global.{Global}
@@ -7,9 +7,8 @@ use Rattle.ii_base.specs.Schema.{SchemaEntry}
 use Rattle.ii_base.specs.Words.{Word}
 use Rattle.ii_definitions.specs.Fields.{option_of}
 use Rattle.ii_definitions.specs.Files.{HoldTokens}
-use Rattle.ii_definitions.specs.IndexCalls.{call_of}
 use Rattle.ii_definitions.specs.Norms.{HoldNorms}
-use Rattle.ii_definitions.specs.Tokens.{Call, IndexToken}
+use Rattle.ii_definitions.specs.Tokens.{Call}
 use Rattle.ii_segment_store.specs.Contents.{files_contents}
 use Rattle.ii_segment_store.specs.declared.stored_segments.SegmentFiles.{SegmentFiles}
 use Rattle.ii_segments.specs.HoldCounts.{HoldCounts}

@@ -1,5 +1,5 @@
 -- The tokens of documents are those of a segment.
-use Rattle.std.proofs.Common.{◌≡◌, ◌∙◌, ℕ, zero, suc, ◌<◌, ◌≤◌, Bool, true, false, List, [], ◌∷◌, ◌++◌, Option, None, Some, append-nil, get_or, length, map, refl, subst, sym, ap, arith}
+use Rattle.std.proofs.Common.{◌≡◌, ◌∙◌, ℕ, zero, suc, ◌<◌, ◌≤◌, Bool, true, false, List, [], ◌∷◌, ◌++◌, Option, None, Some, append-nil, get_or, length, map, refl, subst, sym, arith}
 use Rattle.std.specs.Prelude.{IfSome, slice_get, unwrap_or}
 use Rattle.std.specs.List.{AllByRecursion, flat_map}
 use Rattle.std.specs.List.Sorted.{IsNonDecreasingBy}
@@ -18,7 +18,7 @@ use Rattle.ii_definitions.specs.Tokens.{Call, Content, IndexToken, Piece, begin_
 use Rattle.ii_definitions.specs.declared.index_call.IndexCall.{IndexCall}
 use Rattle.ii_definitions.proofs.ListLaws.{all_after, all_before, all_both, all_weaker}
 use Rattle.ii_definitions.proofs.PieceLaws.{tokens_after-append}
-use Rattle.ii_segments.specs.Segments.{AreSegmentTokens, Segment, is_key_of_text_in}
+use Rattle.ii_segments.specs.Segments.{AreSegmentTokens, is_key_of_text_in}
 use Rattle.ii_segments.proofs.OrderLemmas.{Ascend, order_from_ascend}
 use Rattle.nequllpa_indexing.specs.FieldTokens.{pieces_by, tokens_by}
 

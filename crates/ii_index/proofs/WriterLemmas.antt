@@ -1,5 +1,5 @@
 -- The documents of a writer.
-use Rattle.std.proofs.Common.{◌≡◌, ◌∙◌, ◌+◌, ℕ, Bool, true, false, List, [], ◌∷◌, ◌++◌, Option, None, Some, ap, arith, length, length-append, refl, subst, sym}
+use Rattle.std.proofs.Common.{◌≡◌, ◌+◌, ℕ, Bool, true, false, List, [], ◌∷◌, Option, None, Some, ap, arith, length-append, refl, subst, sym}
 use Rattle.std.specs.Prelude.{if◌then◌else◌}
 use Rattle.ii_schema_text.specs.SchemaText.{TextSchemaState}
 use Rattle.ii_index.specs.Segments.{HaveLines, no_documents}

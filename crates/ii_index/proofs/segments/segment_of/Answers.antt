@@ -1,5 +1,5 @@
 use Rattle.ii_tokenizers.specs.Tokenizers.{analyzed_in}
-use Rattle.ii_index.proofs.SegmentLemmas.{AreFilesOf, files_hold}
+use Rattle.ii_index.proofs.SegmentLemmas.{files_hold}
 use Rattle.ii_index.proofs.segments.segment_of.Goals as goal
 
 pub returns-in-Ok : goal.returns-in-Ok
