@@ -1,7 +1,12 @@
 -- The documents of a writer.
-use Rattle.std.proofs.Common.{◌≡◌, ◌+◌, ℕ, Bool, true, false, List, [], ◌∷◌, Option, None, Some, ap, arith, length-append, refl, subst, sym}
+use Rattle.std.proofs.Common.{◌≡◌, ◌+◌, ℕ, Bool, true, false, List, [], ◌∷◌, Option, None, Some, Result, Ok, ap, arith, length-append, refl, subst, sym}
 use Rattle.std.specs.Prelude.{if◌then◌else◌}
 use Rattle.ii_schema_text.specs.SchemaText.{TextSchemaState}
+use Rattle.ii_store.specs.declared.faults.IndexFault.{IndexFault}
+use Rattle.ii_store.specs.IndexMeta.{MetaState}
+use Rattle.ii_index.specs.declared.faults.IndexError.{IndexError}
+use Rattle.ii_index.specs.declared.faults.IndexError.TheVariants as faults
+use Rattle.ii_index.specs.Index.{IsOpenFault, IsSchemaFault}
 use Rattle.ii_index.specs.Segments.{HaveLines, no_documents}
 use Rattle.nequllpa_indexing.specs.Documents.{AddsLine, DocumentsState, with_line}
 
@@ -28,3 +33,15 @@ added_has_line old new line adds have = subst (λ (d : DocumentsState). HaveLine
 -- and is of the same fields
 pub added_has_schema : (old new : DocumentsState) (line : List ℕ) → AddsLine old new line → new.schema ≡ old.schema
 added_has_schema old new line adds = ap (λ (d : DocumentsState). d.schema) adds.2
+
+-- what a list has is no schema
+pub open_fault : (list : Result MetaState IndexFault) (m : MetaState) (e : IndexError) → list ≡ Ok m → IsSchemaFault m.schema e → IsOpenFault list e
+open_fault list m faults.IndexAlreadyExists is why = why
+open_fault list m faults.SchemaBytes is why = (m, is, why)
+open_fault list m (faults.Schema fault) is why = (m, is, why)
+open_fault list m (faults.Store fault) is why = absurd why
+open_fault list m (faults.Commit fault) is why = why
+open_fault list m (faults.Merge fault) is why = why
+open_fault list m (faults.Segment place fault) is why = why
+open_fault list m faults.TooManyDocuments is why = why
+open_fault list m (faults.Documents fault) is why = why

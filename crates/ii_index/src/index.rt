@@ -3,7 +3,7 @@ ghost use Rattle.std.specs.Prelude.{◌≡◌, ◌⊎◌, ◌+◌, ◌<◌, ◌�
 ghost use Rattle.ii_definitions.specs.Tokens.{IndexToken};
 ghost use Rattle.ii_directory.specs.Directory.{Files};
 ghost use Rattle.ii_directory.specs.declared.name.Name.TheVariants.{Meta};
-ghost use Rattle.ii_index.specs.Index.{IsIndexSchema, IsNewSchema, new_schema};
+ghost use Rattle.ii_index.specs.Index.{IsIndexSchema, IsNewSchema, IsOpenFault, IsSchemaFault, new_schema};
 ghost use Rattle.ii_index.specs.Searching.{OpensIndex};
 ghost use Rattle.ii_index.specs.Segments.{HaveLines, HoldsIndexOf, SegmentsHoldIndexOf, no_documents, segment_of, with_documents};
 ghost use Rattle.ii_io.specs.Faults.{OnlyMemory};
@@ -90,6 +90,7 @@ impl<D: Directory + Drop> Index<D> {
     pub fn open(alloc: Global, directory: D) -> Result<Index<D>, IndexError>
         ensures same { IfOk result (λ index. index.directory ≡ directory) }
         ensures schema { D.is_known directory → IfOk result (λ index. IsIndexSchema (list_in (D.seen directory Meta)) index.schema) }
+        ensures fault { D.is_known directory → IfErr result (IsOpenFault (list_in (D.seen directory Meta))) }
     {
         let list = match load_meta(alloc, &directory) {
             Ok(list) => list,
@@ -313,7 +314,8 @@ fn new_schema(alloc: Global, text: &str) -> Result<(Vec<u8>, TextSchema), Schema
 
 // Reads the schema of an index.
 fn stored_schema(alloc: Global, bytes: &[u8]) -> Result<TextSchema, IndexError>
-    ensures { IfOk result (λ s. tokenized_schema bytes.now ≡ Ok s) }
+    ensures schema { IfOk result (λ s. tokenized_schema bytes.now ≡ Ok s) }
+    ensures fault { IfErr result (IsSchemaFault bytes.now) }
 {
     let Ok(text) = std::str::from_utf8(bytes) else {
         return Err(IndexError::SchemaBytes);

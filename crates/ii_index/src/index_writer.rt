@@ -110,6 +110,7 @@ impl<D: Directory + Drop> IndexWriter<D> {
         ensures known { D.is_known self.old.index.directory → OnOk result (D.is_known self.new.index.directory) }
         ensures schema { self.new.index.schema ≡ self.old.index.schema }
         ensures none { OnOk result (self.new.pending ≡ no_documents self.old.index.schema) }
+        ensures err { OnErr result ((self.new.pending ≡ self.old.pending) ⊎ (self.new.pending ≡ no_documents self.old.index.schema)) }
         ensures added { D.is_known self.old.index.directory → (n : ℕ) (ts : List IndexToken) → HoldsIndexOf self.old.index.schema.schema (D.seen self.old.index.directory) n ts
             → OnOk result (HoldsIndexOf self.old.index.schema.schema (D.seen self.new.index.directory) (n + self.old.pending.num_docs) (with_documents (analyzed_in self.old.index.schema.tokenizers) self.old.pending n ts)) }
         ensures leaves_one { D.is_known self.old.index.directory → (n : ℕ) (ts : List IndexToken) → HoldsIndexOf self.old.index.schema.schema (D.seen self.old.index.directory) n ts → (files : Files) → D.left_since self.new.index.directory (D.moment self.old.index.directory) files
