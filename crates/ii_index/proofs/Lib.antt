@@ -1,3 +1,4 @@
+mod FaultLemmas
 mod TokenLaws
 mod SegmentLemmas
 mod OpenLemmas

@@ -1,5 +1,6 @@
 -- Segments that are opened one after the other, and what they hold.
-use Rattle.std.proofs.Common.{◌≡◌, ◌∙◌, ℕ, true, List, [], ◌∷◌, ◌++◌, Result, Ok, length, map, ap, append-nil, append_assoc, refl, subst, sym}
+use Rattle.std.proofs.Common.{◌≡◌, ◌∙◌, ℕ, true, List, [], ◌∷◌, ◌++◌, Result, Ok, Some, length, map, ap, append-nil, append_assoc, refl, subst, sym}
+use Rattle.std.specs.Prelude.{slice_get}
 use Rattle.std.specs.List.{AllZip}
 use Rattle.ii_base.specs.Schema.{SchemaEntry}
 use Rattle.ii_definitions.specs.Fields.{option_of}
@@ -65,6 +66,18 @@ module _ (entries : List SchemaEntry) where
   opening_ends all taken rest opened none so_far =
       let e : taken ≡ all = sym (append-nil taken) ∙ ap (λ (r : List StoredSegment). taken ++ r) (sym none) ∙ so_far.whole in
       of_contents all opened (subst (λ (xs : List StoredSegment). AllZip OpensStored xs opened) e so_far.zip)
+
+  -- the next segment is at the place that is the number of those that were opened
+  at_place : (taken : List StoredSegment) (opened : List OpenSegmentState) (x : StoredSegment) (rest : List StoredSegment) → AllZip OpensStored taken opened → slice_get (map segment_contents (taken ++ x ∷ rest)) (length opened) ≡ Some (segment_contents x)
+  at_place [] [] x rest zip = refl
+  at_place [] (o ∷ os) x rest zip = absurd zip
+  at_place (t ∷ ts) [] x rest zip = absurd zip
+  at_place (t ∷ ts) (o ∷ os) x rest zip = at_place ts os x rest zip.1
+
+  pub next_segment : (all taken before rest : List StoredSegment) (opened : List OpenSegmentState) (x : StoredSegment) → before ≡ x ∷ rest → AreOpening all taken before opened → slice_get (map segment_contents all) (length opened) ≡ Some (segment_contents x)
+  next_segment all taken before rest opened x step so_far =
+      let whole : all ≡ taken ++ x ∷ rest = sym so_far.whole ∙ ap (λ (r : List StoredSegment). taken ++ r) step in
+      ap (λ (xs : List StoredSegment). slice_get (map segment_contents xs) (length opened)) whole ∙ at_place taken opened x rest so_far.zip
 
   -- open segments have a reader for each field
   pub have_readers : (cs : List SegmentContents) (os : List OpenSegmentState) → OpenSegments entries cs os → HaveReaders (length entries) os

@@ -3,6 +3,7 @@ ghost use Rattle.std.specs.Prelude.{◌≡◌, ◌⊎◌, ◌+◌, ◌<◌, ◌�
 ghost use Rattle.ii_definitions.specs.Tokens.{IndexToken};
 ghost use Rattle.ii_directory.specs.Directory.{Files};
 ghost use Rattle.ii_directory.specs.declared.name.Name.TheVariants.{Meta};
+ghost use Rattle.ii_index.specs.Faults.{IsAddError, IsCreateError, IsDirectoryFault, IsDocumentsFault, IsReadError};
 ghost use Rattle.ii_index.specs.Index.{IsIndexSchema, IsNewSchema, IsOpenFault, IsSchemaFault, new_schema};
 ghost use Rattle.ii_index.specs.Searching.{OpensIndex};
 ghost use Rattle.ii_index.specs.Segments.{HaveLines, HoldsIndexOf, SegmentsHoldIndexOf, no_documents, segment_of, with_documents};
@@ -73,6 +74,7 @@ impl<D: Directory + Drop> Index<D> {
         ensures new { D.is_known directory → IfOk result (λ index. D.seen directory Meta ≡ None) }
         ensures schema { IfOk result (λ index. IsNewSchema schema.now index.schema) }
         ensures empty { D.is_known directory → IfOk result (λ index. HoldsIndexOf index.schema.schema (D.seen index.directory) 0 []) }
+        ensures fault { D.is_known directory → IfErr result (λ e. IsCreateError e schema.now (D.seen directory)) }
     {
         match has_index(alloc, &directory) {
             Ok(false) => create_in(alloc, directory, schema),
@@ -167,6 +169,7 @@ impl<D: Directory + Drop> Index<D> {
         ensures opens { D.is_known self.now.directory → IfOk result (OpensIndex self.now.schema.schema (index_contents (D.seen self.now.directory))) }
         ensures fields { IfOk result (λ r. r.num_fields ≡ length self.now.schema.schema) }
         ensures holds { D.is_known self.now.directory → (n : ℕ) (ts : List IndexToken) → HoldsIndexOf self.now.schema.schema (D.seen self.now.directory) n ts → IfOk result (λ r. SegmentsHoldIndexOf self.now.schema.schema r.segments n ts) }
+        ensures fault { D.is_known self.now.directory → IfErr result (λ e. IsReadError e self.now.schema.schema (D.seen self.now.directory)) }
     {
         match load_searcher(alloc, &self.directory, self.schema.schema()) {
             Ok(searcher) => Ok(IndexReader::new(searcher)),
@@ -205,6 +208,7 @@ impl<D: Directory + Drop> Index<D> {
             → OnOk result (HoldsIndexOf self.old.schema.schema (D.seen self.new.directory) (n + documents.num_docs) (with_documents (analyzed_in self.old.schema.tokenizers) documents n ts)) }
         ensures leaves_one { D.is_known self.old.directory → (n : ℕ) (ts : List IndexToken) → HoldsIndexOf self.old.schema.schema (D.seen self.old.directory) n ts → (files : Files) → D.left_since self.new.directory (D.moment self.old.directory) files
             → HoldsIndexOf self.old.schema.schema files n ts ⊎ HoldsIndexOf self.old.schema.schema files (n + documents.num_docs) (with_documents (analyzed_in self.old.schema.tokenizers) documents n ts) }
+        ensures fault { D.is_known self.old.directory → IfErr result (λ e. IsAddError e self.old.schema documents (D.seen self.old.directory)) }
     {
         add_documents(alloc, &mut self.directory, &self.schema, documents)
     }
@@ -235,6 +239,7 @@ fn add_documents<D: Directory>(
         → OnOk result (HoldsIndexOf schema.now.schema (D.seen directory.new) (n + documents.num_docs) (with_documents (analyzed_in schema.now.tokenizers) documents n ts)) }
     ensures leaves_one { D.is_known directory.old → (n : ℕ) (ts : List IndexToken) → HoldsIndexOf schema.now.schema (D.seen directory.old) n ts → (files : Files) → D.left_since directory.new (D.moment directory.old) files
         → HoldsIndexOf schema.now.schema files n ts ⊎ HoldsIndexOf schema.now.schema files (n + documents.num_docs) (with_documents (analyzed_in schema.now.tokenizers) documents n ts) }
+    ensures fault { D.is_known directory.old → IfErr result (λ e. IsAddError e schema.now documents (D.seen directory.old)) }
 {
     if documents.num_docs() == 0 {
         return Ok(());
@@ -269,7 +274,8 @@ fn merge_documents<D: Directory>(
 
 // Returns whether a directory has a `meta`.
 fn has_index<D: Directory>(alloc: Global, directory: &D) -> Result<bool, StoreFault>
-    ensures { D.is_known directory.now → IfOk result (λ has. IsTrue has ↔ IsSome (D.seen directory.now Meta)) }
+    ensures has { D.is_known directory.now → IfOk result (λ has. IsTrue has ↔ IsSome (D.seen directory.now Meta)) }
+    ensures fault { IfErr result IsDirectoryFault }
 {
     match directory.read(alloc, Name::Meta) {
         Ok(Some(_)) => Ok(true),
@@ -287,6 +293,7 @@ fn create_in<D: Directory + Drop>(
     ensures known { D.is_known directory → IfOk result (λ index. D.is_known index.directory) }
     ensures schema { IfOk result (λ index. IsNewSchema schema.now index.schema) }
     ensures empty { D.is_known directory → IfOk result (λ index. HoldsIndexOf index.schema.schema (D.seen index.directory) 0 []) }
+    ensures fault { D.is_known directory → IfErr result (λ e. IsCreateError e schema.now (D.seen directory)) }
 {
     let (text, schema) = match new_schema(alloc, schema) {
         Ok(both) => both,
@@ -328,7 +335,8 @@ fn stored_schema(alloc: Global, bytes: &[u8]) -> Result<TextSchema, IndexError>
 
 // Returns the files of a segment without documents.
 fn empty_segment(alloc: Global, schema: &TextSchema) -> Result<SegmentFiles, Fault>
-    ensures { IfOk result (λ f. HoldsSegment schema.now.schema (files_contents f) (segment_of (analyzed_in schema.now.tokenizers) (no_documents schema.now))) }
+    ensures holds { IfOk result (λ f. HoldsSegment schema.now.schema (files_contents f) (segment_of (analyzed_in schema.now.tokenizers) (no_documents schema.now))) }
+    ensures fault { IfErr result (λ e. (e ≡ Fault.OutOfMemory) ⊎ IsDocumentsFault (analyzed_in schema.now.tokenizers) (no_documents schema.now) e) }
 {
     let documents = match documents_for(alloc, schema) {
         Ok(documents) => documents,
@@ -346,6 +354,7 @@ fn load_searcher<D: Directory>(
     ensures opens { D.is_known directory.now → IfOk result (OpensIndex schema.now (index_contents (D.seen directory.now))) }
     ensures fields { IfOk result (λ s. s.num_fields ≡ length schema.now) }
     ensures holds { D.is_known directory.now → (n : ℕ) (ts : List IndexToken) → HoldsIndexOf schema.now (D.seen directory.now) n ts → IfOk result (λ s. SegmentsHoldIndexOf schema.now s.segments n ts) }
+    ensures fault { D.is_known directory.now → IfErr result (λ e. IsReadError e schema.now (D.seen directory.now)) }
 {
     let stored = match load_latest(alloc, directory) {
         Ok(stored) => stored,

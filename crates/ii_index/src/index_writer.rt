@@ -3,6 +3,7 @@ ghost use Rattle.std.specs.Prelude.{◌≡◌, ◌⊎◌, ◌+◌, ℕ, IfErr, L
 ghost use Rattle.ii_definitions.specs.Tokens.{IndexToken};
 ghost use Rattle.ii_directory.specs.Directory.{Files};
 ghost use Rattle.ii_documents.specs.JsonLines.{TellsOfLine, told_of_line};
+ghost use Rattle.ii_index.specs.Faults.{IsAddError};
 ghost use Rattle.ii_index.specs.Segments.{HoldsIndexOf, no_documents, with_documents};
 ghost use Rattle.ii_io.specs.Faults.{OnlyMemory};
 ghost use Rattle.ii_tokenizers.specs.Tokenizers.{analyzed_in};
@@ -99,8 +100,7 @@ impl<D: Directory + Drop> IndexWriter<D> {
     /// Adds the documents that are pending to the index, as a segment, unless there are none.
     ///
     /// Wherever this is stopped, the directory holds the old index or the one with these documents. After an error
-    /// open the directory again, unless it is `Documents`, after which the index is unchanged. No documents are
-    /// pending then, unless an allocation failed before the first of them was indexed.
+    /// open the directory again. The documents are then still pending, or none are.
     ///
     /// # Errors
     ///
@@ -115,16 +115,14 @@ impl<D: Directory + Drop> IndexWriter<D> {
             → OnOk result (HoldsIndexOf self.old.index.schema.schema (D.seen self.new.index.directory) (n + self.old.pending.num_docs) (with_documents (analyzed_in self.old.index.schema.tokenizers) self.old.pending n ts)) }
         ensures leaves_one { D.is_known self.old.index.directory → (n : ℕ) (ts : List IndexToken) → HoldsIndexOf self.old.index.schema.schema (D.seen self.old.index.directory) n ts → (files : Files) → D.left_since self.new.index.directory (D.moment self.old.index.directory) files
             → HoldsIndexOf self.old.index.schema.schema files n ts ⊎ HoldsIndexOf self.old.index.schema.schema files (n + self.old.pending.num_docs) (with_documents (analyzed_in self.old.index.schema.tokenizers) self.old.pending n ts) }
+        ensures fault { D.is_known self.old.index.directory → IfErr result (λ e. IsAddError e self.old.index.schema self.old.pending (D.seen self.old.index.directory)) }
     {
         let fresh = match self.index.no_documents(alloc) {
             Ok(fresh) => fresh,
             Err(fault) => return Err(IndexError::Documents(fault)),
         };
         let documents = replace(&mut self.documents, fresh);
-        match self.index.add(alloc, documents) {
-            Ok(()) => Ok(()),
-            Err(fault) => Err(fault),
-        }
+        self.index.add(alloc, documents)
     }
 
     /// Drops the documents that weren't committed. Returns `OutOfMemory` if an allocation fails; they are then still

@@ -4,6 +4,7 @@ ghost use Rattle.ii_definitions.specs.Fields.{option_of};
 ghost use Rattle.ii_definitions.specs.Files.{HoldTokens};
 ghost use Rattle.ii_definitions.specs.Norms.{HoldNorms};
 ghost use Rattle.ii_definitions.specs.Tokens.{IndexToken};
+ghost use Rattle.ii_index.specs.Faults.{IsOpenSegmentsError};
 ghost use Rattle.ii_index.specs.Searching.{OpenSegments, OpensSegment};
 ghost use Rattle.ii_reader.specs.InvertedIndexReader.{IsRefusal};
 ghost use Rattle.ii_reader.specs.OpenIndex.{IndexHolds, index_of_files};
@@ -26,6 +27,7 @@ pub(crate) fn open_searcher(
 ) -> Result<Searcher, IndexError>
     ensures opens { IfOk result (λ s. OpenSegments schema.now (map segment_contents segments.items) s.segments) }
     ensures fields { IfOk result (λ s. s.num_fields ≡ length schema.now) }
+    ensures fault { IfErr result (λ e. IsOpenSegmentsError e schema.now (map segment_contents segments.items)) }
 {
     let opened = match open_segments(alloc, schema, segments) {
         Ok(opened) => opened,
@@ -43,7 +45,8 @@ fn open_segments(
     schema: &Schema,
     segments: Vec<StoredSegment>,
 ) -> Result<Vec<OpenSegment>, IndexError>
-    ensures { IfOk result (λ opened. OpenSegments schema.now (map segment_contents segments.items) opened.items) }
+    ensures opens { IfOk result (λ opened. OpenSegments schema.now (map segment_contents segments.items) opened.items) }
+    ensures fault { IfErr result (λ e. IsOpenSegmentsError e schema.now (map segment_contents segments.items)) }
 {
     let mut opened = Vec::new(alloc);
     for segment in segments {

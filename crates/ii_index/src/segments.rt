@@ -1,5 +1,6 @@
 //! Documents as the files of a segment.
-ghost use Rattle.std.specs.Prelude.{◌≡◌, IfOk};
+ghost use Rattle.std.specs.Prelude.{◌≡◌, IfErr, IfOk};
+ghost use Rattle.ii_index.specs.Faults.{IsDocumentsFault};
 ghost use Rattle.ii_index.specs.Segments.{HaveLines, no_documents, segment_of};
 ghost use Rattle.ii_io.specs.Faults.{OnlyMemory};
 ghost use Rattle.ii_segment_store.specs.Contents.{files_contents};
@@ -35,7 +36,8 @@ pub(crate) fn segment_of(
     tokenizers: &FieldTokenizers,
 ) -> Result<SegmentFiles, Fault>
     requires { HaveLines documents.num_docs documents.lines }
-    ensures { IfOk result (λ f. HoldsSegment documents.schema (files_contents f) (segment_of (analyzed_in tokenizers.now) documents)) }
+    ensures holds { IfOk result (λ f. HoldsSegment documents.schema (files_contents f) (segment_of (analyzed_in tokenizers.now) documents)) }
+    ensures fault { IfErr result (IsDocumentsFault (analyzed_in tokenizers.now) documents) }
 {
     // that its calls may be indexed, for the proof
     let _num_docs = documents.num_docs();

@@ -9,4 +9,4 @@ pub returns-in-Ok-replace_index-clause-empty : goal.returns-in-Ok-replace_index-
 returns-in-Ok-replace_index-clause-empty g c = λ known.
     let schema = c.in-Ok.both.1 in
     created schema.schema (analyzed_in schema.tokenizers) (no_documents schema) (g.D.Directory.seen c.replace_index.new.directory) c.in-Ok.both.0.items (files_contents c.in-Ok-empty_segment.segment)
-    refl refl (c.in-Ok-replace_index.ensures.replaced known) c.in-Ok-empty_segment.ensures
+    refl refl (c.in-Ok-replace_index.ensures.replaced known) c.in-Ok-empty_segment.ensures.holds
