@@ -1,0 +1,29 @@
+//! Creates an index of three documents in memory, and searches it.
+#![tactic(auto)]
+
+use ii_index::{DocSet, Field, Index, MemoryDirectory, TERMINATED};
+
+const SCHEMA: &str = "[[field]]\nname = \"body\"\ntype = \"text\"\n";
+
+fn main(rt: HostRuntime) -> anyhow::Result<()> {
+    let index = Index::create(rt.alloc(), MemoryDirectory::create(rt.alloc()), SCHEMA)?;
+    let mut writer = index.writer(rt.alloc())?;
+    writer.add_document(rt.alloc(), "{\"body\": \"the old man and the sea\"}")?;
+    writer.add_document(rt.alloc(), "{\"body\": \"a bird in the hand\"}")?;
+    writer.add_document(rt.alloc(), "{\"body\": \"the sea, the old sea\"}")?;
+    writer.commit(rt.alloc())?;
+    let index = writer.into_index();
+    let reader = index.reader(rt.alloc())?;
+    let body = [Field::from_field_id(0)];
+    let query = index.parse_query(rt.alloc(), &body, "\"old sea\" OR bird")?;
+    let searcher = reader.searcher();
+    let mut found = searcher.search(rt.alloc(), &query)?;
+    for _ in 0..searcher.num_docs() {
+        if found.doc() >= TERMINATED {
+            return Ok(());
+        }
+        println!(rt; "document {}", found.doc())?;
+        found.advance();
+    }
+    Ok(())
+}

@@ -1,0 +1,145 @@
+-- What an index holds after it was created, and after documents were added.
+use Rattle.std.proofs.Common.{◌≡◌, ◌∙◌, ◌+◌, ◌<◌, ℕ, Bool, true, List, [], ◌∷◌, ◌++◌, Ok, ap, append-nil, arith, inl, inr, map, refl, subst, sym}
+use Rattle.std.specs.Prelude.{◌⊎◌, replicate}
+use Rattle.std.specs.List.{AllByRecursion, AllZip}
+use Rattle.std.proofs.lemmas.List.{length-replicate}
+use Rattle.ii_alive.proofs.RankLemmas.{all_living}
+use Rattle.ii_base.specs.Schema.{SchemaEntry}
+use Rattle.ii_base.specs.Words.{Word}
+use Rattle.ii_definitions.specs.IndexCalls.{call_of}
+use Rattle.ii_definitions.specs.Tokens.{IndexToken}
+use Rattle.ii_directory.specs.Directory.{Files, Same}
+use Rattle.ii_segment_store.specs.Commits.{HoldsOldOr, index_of_segment}
+use Rattle.ii_segment_store.specs.Contents.{SegmentContents, index_contents, with_segment}
+use Rattle.ii_segments.specs.Segments.{Segment, index_tokens, num_docs_of}
+use Rattle.ii_segments.proofs.MergeLaws.{all_alive, from_append}
+use Rattle.ii_index.specs.Searching.{OpensIndex, SearcherState}
+use Rattle.ii_index.specs.Segments.{HaveTokens, HoldsIndexOf, SegmentsHoldIndexOf, after, segment_of, with_documents}
+use Rattle.ii_index.proofs.OpenLemmas.{index_open}
+use Rattle.ii_index.proofs.TokenLaws.{are_segment_tokens}
+use Rattle.nequllpa_indexing.specs.Documents.{DocumentsState, WereCalls}
+use Rattle.nequllpa_indexing.specs.FieldTokens.{tokens_by}
+use Rattle.nequllpa_merging.specs.HeldSegments.{HoldsSegment}
+use Rattle.nequllpa_merging.specs.Joins.{HoldsSameIndex}
+
+zip_more : {A B : Type 0} (R : A → B → Type 0) (xs : List A) (ys : List B) (x : A) (y : B) → AllZip R xs ys → R x y → AllZip R (xs ++ x ∷ []) (ys ++ y ∷ [])
+zip_more R [] [] x y zip holds = (holds, tt)
+zip_more R [] (b ∷ ys) x y zip holds = absurd zip
+zip_more R (a ∷ xs) [] x y zip holds = absurd zip
+zip_more R (a ∷ xs) (b ∷ ys) x y zip holds = (zip.0, zip_more R xs ys x y zip.1 holds)
+
+module _ (words : ℕ → List ℕ → List Word) (d : DocumentsState) where
+  abbrev tokens : List IndexToken
+  tokens = tokens_by words d.calls
+
+  abbrev flags : List Bool
+  flags = replicate d.num_docs true
+
+  -- documents come after those of other segments
+  have_more : (n : ℕ) (ts : List IndexToken) (ss : List Segment) → AllByRecursion (λ (t : IndexToken). t.doc < d.num_docs) tokens → HaveTokens n ts ss → HaveTokens (n + d.num_docs) (with_documents words d n ts) (ss ++ segment_of words d ∷ [])
+  have_more n ts ss below have = record {
+    num_docs = omega (arith, docs_more ss, all_living d.num_docs, have.num_docs);
+    tokens =
+        from_append 0 ss (segment_of words d ∷ [])
+        ∙ ap (λ (us : List IndexToken). index_tokens ss ++ us) (append-nil _ ∙ all_alive (0 + num_docs_of ss) d.num_docs tokens below)
+        ∙ ap (λ (us : List IndexToken). us ++ map (after (0 + num_docs_of ss)) tokens) have.tokens
+        ∙ ap (λ (m : ℕ). ts ++ map (after m) tokens) first;
+  }
+    where
+      first : 0 + num_docs_of ss ≡ n
+      first = omega (arith, have.num_docs)
+
+      docs_more : (us : List Segment) → num_docs_of (us ++ segment_of words d ∷ []) ≡ num_docs_of us + num_docs_of (segment_of words d ∷ [])
+      docs_more [] = omega arith
+      docs_more (u ∷ us) = omega (arith, docs_more us)
+
+-- the same contents hold the same index
+pub same_holds : (entries : List SchemaEntry) (old new : Files) (n : ℕ) (ts : List IndexToken) → index_contents new ≡ index_contents old → HoldsIndexOf entries old n ts → HoldsIndexOf entries new n ts
+same_holds entries old new n ts same h = record {
+  segments = h.segments;
+  holds = record { contents = h.holds.contents; read = same ∙ h.holds.read; hold = h.holds.hold };
+  have = h.have;
+}
+
+-- files with the same bytes are the same
+same_files : (old new : Files) → Same old new → new ≡ old
+same_files old new same = λ i name. same name i
+
+-- the same files hold the same index
+pub same_files_hold : (entries : List SchemaEntry) (old new : Files) (n : ℕ) (ts : List IndexToken) → Same old new → HoldsIndexOf entries old n ts → HoldsIndexOf entries new n ts
+same_files_hold entries old new n ts same h = same_holds entries old new n ts (ap index_contents (same_files old new same)) h
+
+-- an index of one segment without documents
+pub created : (entries : List SchemaEntry) (words : ℕ → List ℕ → List Word) (d : DocumentsState) (files : Files) (text : List ℕ) (c : SegmentContents) → d.num_docs ≡ 0 → d.calls ≡ [] → index_contents files ≡ Ok (index_of_segment text c) → HoldsSegment entries c (segment_of words d)
+    → HoldsIndexOf entries files 0 []
+created entries words d files text c none no_calls read holds =
+    let have = have_more words d 0 [] [] holds_below (record { num_docs = refl; tokens = refl }) in
+    record {
+      segments = segment_of words d ∷ [];
+      holds = record { contents = index_of_segment text c; read = read; hold = (holds, tt) };
+      have = record {
+        num_docs = have.num_docs ∙ omega (arith, none);
+        tokens = have.tokens ∙ ap (map (after 0)) no_tokens;
+      };
+    }
+  where
+    no_tokens : tokens_by words d.calls ≡ []
+    no_tokens = ap (tokens_by words) no_calls
+
+    holds_below : AllByRecursion (λ (t : IndexToken). t.doc < d.num_docs) (tokens_by words d.calls)
+    holds_below = subst (AllByRecursion (λ (t : IndexToken). t.doc < d.num_docs)) (sym no_tokens) tt
+
+-- no documents have no tokens
+none_below : (ts : List IndexToken) (n : ℕ) → n ≡ 0 → AllByRecursion (λ (t : IndexToken). t.doc < n) ts → ts ≡ []
+none_below [] n none below = refl
+none_below (t ∷ ts) n none below = absurd (omega (arith, none, below.0))
+
+module _ (entries : List SchemaEntry) (words : ℕ → List ℕ → List Word) (d : DocumentsState) (n : ℕ) (ts : List IndexToken) where
+  -- no documents were added
+  pub none_added : (files : Files) → d.num_docs ≡ 0 → WereCalls d.schema d.num_docs d.calls → HoldsIndexOf entries files n ts → HoldsIndexOf entries files (n + d.num_docs) (with_documents words d n ts)
+  none_added files none were h =
+      let made = tokens_by words (map (call_of d.schema) were.made) in
+      let own = are_segment_tokens d.schema d.num_docs words (replicate d.num_docs true) were.made (length-replicate d.num_docs true) were.may in
+      let below = subst (λ (m : ℕ). AllByRecursion (λ (t : IndexToken). t.doc < m) made) (length-replicate d.num_docs true) own.below in
+      let none_left : tokens_by words d.calls ≡ [] = ap (tokens_by words) were.are ∙ none_below made d.num_docs none below in
+      record {
+        segments = h.segments;
+        holds = h.holds;
+        have = record {
+          num_docs = omega (arith, h.have.num_docs, none);
+          tokens = h.have.tokens ∙ sym (ap (λ (us : List IndexToken). ts ++ map (after n) us) none_left ∙ append-nil ts);
+        };
+      }
+
+  -- a segment was added
+  pub segment_added : (old new : Files) (c : SegmentContents) → index_contents new ≡ with_segment c (index_contents old) → HoldsSegment entries c (segment_of words d) → HoldsIndexOf entries old n ts
+      → HoldsIndexOf entries new (n + d.num_docs) (with_documents words d n ts)
+  segment_added old new c written holds h =
+      let below = subst (λ (m : ℕ). AllByRecursion (λ (t : IndexToken). t.doc < m) (tokens_by words d.calls)) (length-replicate d.num_docs true) holds.are.below in
+      record {
+        segments = h.segments ++ segment_of words d ∷ [];
+        holds = record {
+          contents = record { schema = h.holds.contents.schema; segments = h.holds.contents.segments ++ c ∷ [] };
+          read = written ∙ ap (with_segment c) h.holds.read;
+          hold = zip_more (HoldsSegment entries) h.holds.contents.segments h.segments c (segment_of words d) h.holds.hold holds;
+        };
+        have = have_more words d n ts h.segments below h.have;
+      }
+
+  -- a segment was added, or not
+  pub added_or_not : (old new : Files) (c : SegmentContents) → HoldsOldOr (with_segment c (index_contents old)) old new → HoldsSegment entries c (segment_of words d) → HoldsIndexOf entries old n ts
+      → HoldsIndexOf entries new n ts ⊎ HoldsIndexOf entries new (n + d.num_docs) (with_documents words d n ts)
+  added_or_not old new c (inl same) holds h = inl (same_holds entries old new n ts same h)
+  added_or_not old new c (inr written) holds h = inr (segment_added old new c written holds h)
+
+-- merged segments have the same documents
+pub merged_holds : (entries : List SchemaEntry) (files : Files) (n : ℕ) (ts : List IndexToken) (ss : List Segment) → HaveTokens n ts ss → HoldsSameIndex entries files ss → HoldsIndexOf entries files n ts
+merged_holds entries files n ts ss have h = record {
+  segments = h.segments;
+  holds = h.holds;
+  have = record { num_docs = h.num_docs ∙ have.num_docs; tokens = h.tokens ∙ have.tokens };
+}
+
+-- what is read of an index holds its documents
+pub index_open_of : (entries : List SchemaEntry) (files : Files) (n : ℕ) (ts : List IndexToken) (s : SearcherState) → OpensIndex entries (index_contents files) s → HoldsIndexOf entries files n ts → SegmentsHoldIndexOf entries s.segments n ts
+index_open_of entries files n ts s opens h = record { segments = h.segments; hold = index_open entries files h.segments s opens h.holds; have = h.have }

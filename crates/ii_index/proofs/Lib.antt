@@ -1,0 +1,6 @@
+mod FaultLemmas
+mod TokenLaws
+mod SegmentLemmas
+mod OpenLemmas
+mod IndexLemmas
+mod WriterLemmas

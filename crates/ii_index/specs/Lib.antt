@@ -1,0 +1,4 @@
+pub mod Faults
+pub mod Index
+pub mod Segments
+pub mod Searching

@@ -1,0 +1,367 @@
+//! An open index.
+ghost use Rattle.std.specs.Prelude.{◌≡◌, ◌⊎◌, ◌+◌, ◌<◌, ◌↔◌, [], ℕ, IfErr, IfOk, IfSome, IsSome, IsTrue, List, None, Ok, OnOk, length};
+ghost use Rattle.ii_definitions.specs.Tokens.{IndexToken};
+ghost use Rattle.ii_directory.specs.Directory.{Files};
+ghost use Rattle.ii_directory.specs.declared.name.Name.TheVariants.{Meta};
+ghost use Rattle.ii_index.specs.Faults.{IsAddError, IsCreateError, IsDirectoryFault, IsDocumentsFault, IsReadError};
+ghost use Rattle.ii_index.specs.Index.{IsIndexSchema, IsNewSchema, IsOpenFault, IsSchemaFault, new_schema};
+ghost use Rattle.ii_index.specs.Searching.{OpensIndex};
+ghost use Rattle.ii_index.specs.Segments.{HaveLines, HoldsIndexOf, SegmentsHoldIndexOf, no_documents, segment_of, with_documents};
+ghost use Rattle.ii_io.specs.Faults.{OnlyMemory};
+ghost use Rattle.ii_query_parser.specs.QueryTexts.{IsQueryOfTextBy, field_named};
+ghost use Rattle.ii_schema_text.specs.SchemaText.{AnswersFromText, tokenized_schema};
+ghost use Rattle.ii_segment_store.specs.Contents.{files_contents, index_contents};
+ghost use Rattle.ii_store.specs.Segments.{list_in};
+ghost use Rattle.ii_tokenizers.specs.Tokenizers.{analyzed_in};
+ghost use Rattle.nequllpa_merging.specs.HeldSegments.{HoldsSegment};
+ghost use Rattle.nequllpa_merging.specs.Joins.{IsJoinFault};
+
+use crate::faults::IndexError;
+use crate::index_reader::{IndexReader, Searcher};
+use crate::index_writer::IndexWriter;
+use crate::opening::open_searcher;
+use crate::segments::{documents_for, segment_of};
+use ii_base::{Fault, Field, Schema};
+use ii_directory::{Directory, Name};
+use ii_query_parser::{Query, QueryParserError, field_named, parse_query_by};
+use ii_schema_text::{SchemaFault, TextSchema, new_schema_text, read_text_schema};
+use ii_segment_store::{SegmentFiles, append_segment, load_latest, replace_index};
+use ii_store::StoreFault;
+use ii_store::segments::load_meta;
+use ii_tokenizers::FieldTokenizers;
+use nequllpa_indexing::Documents;
+use nequllpa_merging::{JoinFault, merge_last};
+use std::alloc::Global;
+use std::marker::Model;
+
+/// An index in a directory: a `Folder`, or a `MemoryDirectory`. A program that writes to a folder must hold its
+/// lock (`FolderLock`).
+///
+/// Its model is its directory and its schema.
+pub struct Index<D: Directory + Drop> {
+    directory: D,
+    schema: TextSchema,
+}
+
+// Makes each drop a call.
+impl<D: Directory + Drop> Drop for Index<D> {
+    fn drop(self) {
+        let Index {
+            directory: _,
+            schema: _,
+        } = self;
+    }
+}
+
+impl<D: Directory + Drop> Model for Index<D> {
+    ghost use Rattle.ii_index.specs.Index.{IndexState};
+
+    ghost Value = { IndexState D };
+
+    ghost view = { λ i. record { directory = i.directory; schema = i.schema } };
+}
+
+impl<D: Directory + Drop> Index<D> {
+    /// Creates an index without documents in a directory that has none. `schema` is a text in TOML with a table
+    /// `[[field]]` for each field; fields of texts that name no tokenizer have the tokenizer `default`.
+    ///
+    /// # Errors
+    ///
+    /// `IndexAlreadyExists` if the directory has a file `meta`; `Schema` if the text is no schema; `Commit` if the
+    /// index can't be written. `Store` if the directory can't be read, and `Documents` if an allocation failed.
+    pub fn create(alloc: Global, directory: D, schema: &str) -> Result<Index<D>, IndexError>
+        ensures known { D.is_known directory → IfOk result (λ index. D.is_known index.directory) }
+        ensures new { D.is_known directory → IfOk result (λ index. D.seen directory Meta ≡ None) }
+        ensures schema { IfOk result (λ index. IsNewSchema schema.now index.schema) }
+        ensures empty { D.is_known directory → IfOk result (λ index. HoldsIndexOf index.schema.schema (D.seen index.directory) 0 []) }
+        ensures fault { D.is_known directory → IfErr result (λ e. IsCreateError e schema.now (D.seen directory)) }
+    {
+        match has_index(alloc, &directory) {
+            Ok(false) => create_in(alloc, directory, schema),
+            Ok(true) => Err(IndexError::IndexAlreadyExists),
+            Err(fault) => Err(IndexError::Store(fault)),
+        }
+    }
+
+    /// Opens the index of a directory. Its segments aren't read.
+    ///
+    /// # Errors
+    ///
+    /// `Store` if the directory has no index, or its `meta` is damaged; `OtherVersion` in `Store` for an index of
+    /// version 1 (`upgrade`). `SchemaBytes` or `Schema` if the text in `meta` is no schema.
+    pub fn open(alloc: Global, directory: D) -> Result<Index<D>, IndexError>
+        ensures same { IfOk result (λ index. index.directory ≡ directory) }
+        ensures schema { D.is_known directory → IfOk result (λ index. IsIndexSchema (list_in (D.seen directory Meta)) index.schema) }
+        ensures fault { D.is_known directory → IfErr result (IsOpenFault (list_in (D.seen directory Meta))) }
+    {
+        let list = match load_meta(alloc, &directory) {
+            Ok(list) => list,
+            Err(fault) => return Err(IndexError::Store(fault)),
+        };
+        match stored_schema(alloc, list.schema.as_slice()) {
+            Ok(schema) => Ok(Index { directory, schema }),
+            Err(fault) => Err(fault),
+        }
+    }
+
+    /// Returns the schema.
+    pub fn schema(&self) -> &Schema
+        ensures { result.now ≡ self.now.schema.schema }
+    {
+        self.schema.schema()
+    }
+
+    /// Returns the tokenizers of the fields.
+    pub fn tokenizers(&self) -> &FieldTokenizers
+        ensures { result.now ≡ self.now.schema.tokenizers }
+    {
+        self.schema.tokenizers()
+    }
+
+    /// Returns the directory.
+    pub fn directory(&self) -> &D
+        ensures { result.now ≡ self.now.directory }
+    {
+        &self.directory
+    }
+
+    /// Returns the directory by value.
+    pub fn into_directory(self) -> D
+        ensures { result ≡ self.directory }
+    {
+        let Index {
+            directory,
+            schema: _,
+        } = self;
+        directory
+    }
+
+    /// Returns the field with a name, if there is one.
+    pub fn field_named(&self, name: &str) -> Option<Field>
+        ensures named { result ≡ field_named self.now.schema.schema name.now }
+        ensures inside { IfSome result (λ field. field < length self.now.schema.schema) }
+    {
+        field_named(self.schema.schema(), name)
+    }
+
+    /// Parses the text of a query over the fields of the index, each with its tokenizer. Words without a field name
+    /// are searched in all `default_fields` (`parse_query_by` of `ii_query_parser`).
+    pub fn parse_query(
+        &self,
+        alloc: Global,
+        default_fields: &[Field],
+        text: &str,
+    ) -> Result<Query, QueryParserError>
+        ensures { IsQueryOfTextBy (record { texts = record { analyze = analyzed_in self.now.schema.tokenizers; entries = self.now.schema.schema }; defaults = default_fields.now }) text.now result }
+    {
+        let schema = self.schema.schema();
+        let tokenizers = self.schema.tokenizers();
+        parse_query_by(alloc, schema, default_fields, tokenizers, text)
+    }
+
+    /// Loads and opens all segments. If another program replaces the index meanwhile, the new one is loaded.
+    ///
+    /// # Errors
+    ///
+    /// `Store` if the index can't be loaded; `Segment` for the first segment whose files can't be opened, with its
+    /// first damaged part; `TooManyDocuments`. `Documents` if an allocation failed.
+    pub fn reader(&self, alloc: Global) -> Result<IndexReader, IndexError>
+        ensures opens { D.is_known self.now.directory → IfOk result (OpensIndex self.now.schema.schema (index_contents (D.seen self.now.directory))) }
+        ensures fields { IfOk result (λ r. r.num_fields ≡ length self.now.schema.schema) }
+        ensures holds { D.is_known self.now.directory → (n : ℕ) (ts : List IndexToken) → HoldsIndexOf self.now.schema.schema (D.seen self.now.directory) n ts → IfOk result (λ r. SegmentsHoldIndexOf self.now.schema.schema r.segments n ts) }
+        ensures fault { D.is_known self.now.directory → IfErr result (λ e. IsReadError e self.now.schema.schema (D.seen self.now.directory)) }
+    {
+        match load_searcher(alloc, &self.directory, self.schema.schema()) {
+            Ok(searcher) => Ok(IndexReader::new(searcher)),
+            Err(fault) => Err(fault),
+        }
+    }
+
+    /// Returns a writer of this index, to which no documents were added. Returns `OutOfMemory` if an allocation
+    /// fails.
+    pub fn writer(self, alloc: Global) -> Result<IndexWriter<D>, Fault>
+        ensures ok { IfOk result (λ w. w ≡ record { index = self; pending = no_documents self.schema }) }
+        ensures only { OnlyMemory result }
+    {
+        let documents = match documents_for(alloc, &self.schema) {
+            Ok(documents) => documents,
+            Err(fault) => return Err(fault),
+        };
+        Ok(IndexWriter::new(self, documents))
+    }
+
+    // Returns an empty list of documents.
+    pub(crate) fn no_documents(&self, alloc: Global) -> Result<Documents, Fault>
+        ensures none { IfOk result (λ d. d ≡ no_documents self.now.schema) }
+        ensures only { OnlyMemory result }
+    {
+        documents_for(alloc, &self.schema)
+    }
+
+    // Adds documents as a segment, unless there are none.
+    pub(crate) fn add(&mut self, alloc: Global, documents: Documents) -> Result<(), IndexError>
+        requires schema { documents.schema ≡ self.old.schema.schema }
+        requires lines { HaveLines documents.num_docs documents.lines }
+        ensures known { D.is_known self.old.directory → OnOk result (D.is_known self.new.directory) }
+        ensures schema { self.new.schema ≡ self.old.schema }
+        ensures added { D.is_known self.old.directory → (n : ℕ) (ts : List IndexToken) → HoldsIndexOf self.old.schema.schema (D.seen self.old.directory) n ts
+            → OnOk result (HoldsIndexOf self.old.schema.schema (D.seen self.new.directory) (n + documents.num_docs) (with_documents (analyzed_in self.old.schema.tokenizers) documents n ts)) }
+        ensures leaves_one { D.is_known self.old.directory → (n : ℕ) (ts : List IndexToken) → HoldsIndexOf self.old.schema.schema (D.seen self.old.directory) n ts → (files : Files) → D.left_since self.new.directory (D.moment self.old.directory) files
+            → HoldsIndexOf self.old.schema.schema files n ts ⊎ HoldsIndexOf self.old.schema.schema files (n + documents.num_docs) (with_documents (analyzed_in self.old.schema.tokenizers) documents n ts) }
+        ensures fault { D.is_known self.old.directory → IfErr result (λ e. IsAddError e self.old.schema documents (D.seen self.old.directory)) }
+    {
+        add_documents(alloc, &mut self.directory, &self.schema, documents)
+    }
+
+    // Merges the segments from a place on.
+    pub(crate) fn merge_from(&mut self, alloc: Global, first: usize) -> Result<(), JoinFault>
+        ensures known { D.is_known self.old.directory → OnOk result (D.is_known self.new.directory) }
+        ensures schema { self.new.schema ≡ self.old.schema }
+        ensures same { D.is_known self.old.directory → (n : ℕ) (ts : List IndexToken) → HoldsIndexOf self.old.schema.schema (D.seen self.old.directory) n ts → OnOk result (HoldsIndexOf self.old.schema.schema (D.seen self.new.directory) n ts) }
+        ensures leaves_same { D.is_known self.old.directory → (n : ℕ) (ts : List IndexToken) → HoldsIndexOf self.old.schema.schema (D.seen self.old.directory) n ts → (files : Files) → D.left_since self.new.directory (D.moment self.old.directory) files → HoldsIndexOf self.old.schema.schema files n ts }
+        ensures fault { D.is_known self.old.directory → IfErr result (λ e. IsJoinFault e self.old.schema.schema first (D.seen self.old.directory)) }
+    {
+        merge_documents(alloc, &mut self.directory, self.schema.schema(), first)
+    }
+}
+
+// Adds documents to an index of this schema as a segment, unless there are none.
+fn add_documents<D: Directory>(
+    alloc: Global,
+    directory: &mut D,
+    schema: &TextSchema,
+    documents: Documents,
+) -> Result<(), IndexError>
+    requires schema { documents.schema ≡ schema.now.schema }
+    requires lines { HaveLines documents.num_docs documents.lines }
+    ensures known { D.is_known directory.old → OnOk result (D.is_known directory.new) }
+    ensures added { D.is_known directory.old → (n : ℕ) (ts : List IndexToken) → HoldsIndexOf schema.now.schema (D.seen directory.old) n ts
+        → OnOk result (HoldsIndexOf schema.now.schema (D.seen directory.new) (n + documents.num_docs) (with_documents (analyzed_in schema.now.tokenizers) documents n ts)) }
+    ensures leaves_one { D.is_known directory.old → (n : ℕ) (ts : List IndexToken) → HoldsIndexOf schema.now.schema (D.seen directory.old) n ts → (files : Files) → D.left_since directory.new (D.moment directory.old) files
+        → HoldsIndexOf schema.now.schema files n ts ⊎ HoldsIndexOf schema.now.schema files (n + documents.num_docs) (with_documents (analyzed_in schema.now.tokenizers) documents n ts) }
+    ensures fault { D.is_known directory.old → IfErr result (λ e. IsAddError e schema.now documents (D.seen directory.old)) }
+{
+    if documents.num_docs() == 0 {
+        return Ok(());
+    }
+    let segment = match segment_of(alloc, documents, schema.tokenizers()) {
+        Ok(segment) => segment,
+        Err(fault) => return Err(IndexError::Documents(fault)),
+    };
+    match append_segment(alloc, directory, &segment) {
+        Ok(()) => Ok(()),
+        Err(fault) => Err(IndexError::Commit(fault)),
+    }
+}
+
+// Merges the segments of an index from a place on.
+fn merge_documents<D: Directory>(
+    alloc: Global,
+    directory: &mut D,
+    schema: &Schema,
+    first: usize,
+) -> Result<(), JoinFault>
+    ensures known { D.is_known directory.old → OnOk result (D.is_known directory.new) }
+    ensures same { D.is_known directory.old → (n : ℕ) (ts : List IndexToken) → HoldsIndexOf schema.now (D.seen directory.old) n ts → OnOk result (HoldsIndexOf schema.now (D.seen directory.new) n ts) }
+    ensures leaves_same { D.is_known directory.old → (n : ℕ) (ts : List IndexToken) → HoldsIndexOf schema.now (D.seen directory.old) n ts → (files : Files) → D.left_since directory.new (D.moment directory.old) files → HoldsIndexOf schema.now files n ts }
+    ensures fault { D.is_known directory.old → IfErr result (λ e. IsJoinFault e schema.now first (D.seen directory.old)) }
+{
+    match merge_last(alloc, directory, schema, first) {
+        Ok(()) => Ok(()),
+        Err(fault) => Err(fault),
+    }
+}
+
+// Returns whether a directory has a `meta`.
+fn has_index<D: Directory>(alloc: Global, directory: &D) -> Result<bool, StoreFault>
+    ensures has { D.is_known directory.now → IfOk result (λ has. IsTrue has ↔ IsSome (D.seen directory.now Meta)) }
+    ensures fault { IfErr result IsDirectoryFault }
+{
+    match directory.read(alloc, Name::Meta) {
+        Ok(Some(_)) => Ok(true),
+        Ok(None) => Ok(false),
+        Err(fault) => Err(StoreFault::Directory(fault)),
+    }
+}
+
+// Writes an index without documents.
+fn create_in<D: Directory + Drop>(
+    alloc: Global,
+    directory: D,
+    schema: &str,
+) -> Result<Index<D>, IndexError>
+    ensures known { D.is_known directory → IfOk result (λ index. D.is_known index.directory) }
+    ensures schema { IfOk result (λ index. IsNewSchema schema.now index.schema) }
+    ensures empty { D.is_known directory → IfOk result (λ index. HoldsIndexOf index.schema.schema (D.seen index.directory) 0 []) }
+    ensures fault { D.is_known directory → IfErr result (λ e. IsCreateError e schema.now (D.seen directory)) }
+{
+    let (text, schema) = match new_schema(alloc, schema) {
+        Ok(both) => both,
+        Err(fault) => return Err(IndexError::Schema(fault)),
+    };
+    let segment = match empty_segment(alloc, &schema) {
+        Ok(segment) => segment,
+        Err(fault) => return Err(IndexError::Documents(fault)),
+    };
+    let mut directory = directory;
+    match replace_index(alloc, &mut directory, text, &segment) {
+        Ok(()) => Ok(Index { directory, schema }),
+        Err(fault) => Err(IndexError::Commit(fault)),
+    }
+}
+
+// Returns the bytes of the schema of a new index, and the schema that they describe.
+fn new_schema(alloc: Global, text: &str) -> Result<(Vec<u8>, TextSchema), SchemaFault>
+    ensures { AnswersFromText (λ r. record { text = r.0.items; schema = r.1 }) result (new_schema text.now) }
+{
+    let text = new_schema_text(alloc, text)?;
+    let schema = read_text_schema(alloc, text.as_str())?;
+    Ok((text.into_bytes(), schema))
+}
+
+// Reads the schema of an index.
+fn stored_schema(alloc: Global, bytes: &[u8]) -> Result<TextSchema, IndexError>
+    ensures schema { IfOk result (λ s. tokenized_schema bytes.now ≡ Ok s) }
+    ensures fault { IfErr result (IsSchemaFault bytes.now) }
+{
+    let Ok(text) = std::str::from_utf8(bytes) else {
+        return Err(IndexError::SchemaBytes);
+    };
+    match read_text_schema(alloc, text) {
+        Ok(schema) => Ok(schema),
+        Err(fault) => Err(IndexError::Schema(fault)),
+    }
+}
+
+// Returns the files of a segment without documents.
+fn empty_segment(alloc: Global, schema: &TextSchema) -> Result<SegmentFiles, Fault>
+    ensures holds { IfOk result (λ f. HoldsSegment schema.now.schema (files_contents f) (segment_of (analyzed_in schema.now.tokenizers) (no_documents schema.now))) }
+    ensures fault { IfErr result (λ e. (e ≡ Fault.OutOfMemory) ⊎ IsDocumentsFault (analyzed_in schema.now.tokenizers) (no_documents schema.now) e) }
+{
+    let documents = match documents_for(alloc, schema) {
+        Ok(documents) => documents,
+        Err(fault) => return Err(fault),
+    };
+    segment_of(alloc, documents, schema.tokenizers())
+}
+
+// Loads all segments of a directory, and opens them.
+fn load_searcher<D: Directory>(
+    alloc: Global,
+    directory: &D,
+    schema: &Schema,
+) -> Result<Searcher, IndexError>
+    ensures opens { D.is_known directory.now → IfOk result (OpensIndex schema.now (index_contents (D.seen directory.now))) }
+    ensures fields { IfOk result (λ s. s.num_fields ≡ length schema.now) }
+    ensures holds { D.is_known directory.now → (n : ℕ) (ts : List IndexToken) → HoldsIndexOf schema.now (D.seen directory.now) n ts → IfOk result (λ s. SegmentsHoldIndexOf schema.now s.segments n ts) }
+    ensures fault { D.is_known directory.now → IfErr result (λ e. IsReadError e schema.now (D.seen directory.now)) }
+{
+    let stored = match load_latest(alloc, directory) {
+        Ok(stored) => stored,
+        Err(fault) => return Err(IndexError::Store(fault)),
+    };
+    match open_searcher(alloc, schema, stored.segments) {
+        Ok(searcher) => Ok(searcher),
+        Err(fault) => Err(fault),
+    }
+}
