@@ -1,6 +1,7 @@
 mod FitLaws
 pub mod FolderLaws
 pub mod MergingLaws
+mod IndexLaws
 pub mod RankingLaws
 mod TokenOrderLaws
 mod WordScoreLaws

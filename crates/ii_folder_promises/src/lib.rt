@@ -4,6 +4,7 @@
 
 pub mod damage;
 pub mod folder;
+pub mod index;
 pub mod keys;
 pub mod merging;
 pub mod ranking;
