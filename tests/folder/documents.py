@@ -189,13 +189,37 @@ def store_of(user, folder):
     return path, whole, [struct.unpack('<IQ', index[44 * block:44 * block + 12]) for block in range(count)]
 
 
+# commands that need no stored lines
+UNSTORED = (['search', 'sea'], ['search', 'sea', '--count'], ['search', 'sea', '--positions'], ['search', 'sea', '--ids', '--json'], ['search', 'sea', '--top', '7'],
+            ['terms', 'body'], ['terms', 'id', '--top', '3'], ['postings', 'body', 'sea', '--positions'], ['fields'])
+# commands that read or rewrite them
+STORED = (['search', 'sea', '--source'], ['search', 'sea', '--top', '7', '--source', '--json'], ['stats'], ['delete', 'id', '4'], ['merge'])
+
+
+def answers(user, folder):
+    """Returns what the commands print that need no stored lines."""
+    return [user.wants([words[0], folder, *words[1:]], 0) for words in UNSTORED]
+
+
+def damage_stops_readers(user, told):
+    """With a damaged or missing file of stored lines, the commands answer that need none, and the others refuse it."""
+    if answers(user, 'hurt') != user.unstored:
+        raise Failed(f'a command that needs no stored lines answers otherwise: they {told}')
+    for words in STORED:
+        user.wants([words[0], 'hurt', *words[1:]], 1, f'hurt: the file of stored documents of segment 0 {told}\n'.encode(), 'the command check prints what is damaged')
+
+
 def damage_is_named(user):
-    """Changes a byte at many places: `check` names the block, `get` gives the documents of other blocks."""
+    """Changes a byte at many places: `check` names the block, `get` gives the documents of other blocks, and the commands
+    that need no stored lines answer as before."""
     chosen = random.Random(SEED + 2)
     lines = [random_line(chosen, number) for number in range(1200)]
     shutil.rmtree(user.path('hurt'), ignore_errors=True)
     user.wants(['index', 'hurt', '--schema', 'schema.toml'], 0, given=spaced(chosen, lines))
     path, whole, blocks = store_of(user, 'hurt')
+    # a second segment, so that there is something to merge
+    user.wants(['add', 'hurt', '--no-merge'], 0, given=b'{"id":9999,"body":"sea old"}\n')
+    user.unstored = answers(user, 'hurt')
     if len(blocks) < 5:
         raise Failed(f'only {len(blocks)} blocks')
     ends = [0] + [end for _, end in blocks]
@@ -212,6 +236,8 @@ def damage_is_named(user):
             name = 'of the documents' if hurt is None else f'block {hurt} of the documents'
             if 'the file of stored documents' not in told or name not in told:
                 raise Failed(f'check, byte {place} of {len(whole)}: {told}')
+            if turn % 32 == 0:
+                damage_stops_readers(user, 'has another checksum than meta says')
         if hurt is None:
             user.wants(['get', 'hurt', 0], 1, None)
             continue
@@ -219,8 +245,14 @@ def damage_is_named(user):
         other = chosen.choice([doc for block in range(len(blocks)) if block != hurt for doc in (docs[block], docs[block + 1] - 1)])
         user.wants(['get', 'hurt', inside, other], 1, lines[other][2] + b'\n', f'block {hurt} of the documents')
     with open(path, 'wb') as file:
+        file.write(whole[:-1])
+    damage_stops_readers(user, 'has another length than meta says')
+    os.remove(path)
+    damage_stops_readers(user, 'is missing')
+    with open(path, 'wb') as file:
         file.write(whole)
     user.wants(['check', 'hurt'], 0)
+    user.wants(['merge', 'hurt'], 0, b'2 segments merged, 1201 documents\n')
 
 
 def main():

@@ -5,6 +5,7 @@ use crate::query_texts::{refuse_query, tell_left_out};
 use clap::ArgMatches;
 use ii_base::{Field, ValueType};
 use ii_query_parser::Query;
+use ii_segment_store::WantedFiles;
 use nequllpa_folder::{
     BestListing, CountFormat, Listing, OpenedIndex, are_stored, id_field_of_all, write_best,
     write_count, write_listing,
@@ -22,10 +23,21 @@ pub fn answer_search(
         Ok(limit) => limit.unwrap_or(u32::MAX),
         Err(status) => return Ok(ExitCode::from(status)),
     };
-    match opened_at(rt, path)? {
+    match opened_at(rt, path, wanted_by(given))? {
         Ok(opened) => search(rt, path, &opened, given, limit),
         Err(status) => Ok(ExitCode::from(status)),
     }
+}
+
+// Returns the files that a search reads: the stored documents if it prints of them, the counts if it ranks.
+fn wanted_by(given: &ArgMatches<'_>) -> WantedFiles {
+    if given.get_flag("source") {
+        return WantedFiles::All;
+    }
+    if given.get_str("top").is_some() {
+        return WantedFiles::WithoutStore;
+    }
+    WantedFiles::WithoutCountsAndStore
 }
 
 // Prints the matching documents of an open index, at most `limit`.
