@@ -1,5 +1,5 @@
 #!/usr/bin/env python3
-"""Indexes lines that are stored, and compares `search --source` and `get` with a plain reading of the lines: after adding,
+"""Indexes lines that are stored, and compares `search --source`, `search --fields` and `get` with a plain reading of the lines: after adding,
 replacing, deleting and merging, in random folders, and where bytes of the file of stored lines are changed. An index
 without stored lines answers as before, and says that they aren't stored."""
 import json
@@ -21,6 +21,7 @@ PROGRAM = 'nequllpa_cli'
 SEED = 20261128
 FOLDERS = 200
 CHANGES = 300
+FIELD_LINES = 120
 NOT_STORED = 'the lines of this index are not stored'
 SCHEMA = 'store_source = true\n[[field]]\nname = "id"\ntype = "u64"\n[[field]]\nname = "body"\ntype = "text"\n'
 PIECES = ['sea', 'old', 'man', 'boat', 'line', 'fish', 'na\u00efve', '\u8001\u4eba', '\\u00e9', '\\"', '\\\\', 'x' * 300]
@@ -178,6 +179,90 @@ def random_folders(user):
         user.wants(['get', folder, *range(len(plain.lines))], 0 if plain.lines else 2, b''.join(text + b'\n' for _, _, text in plain.lines))
 
 
+# the fields of lines whose members are chosen, of every type; any value may be in one that isn't indexed
+TYPES = {'all': 'text', 'word': 'text', 'count': 'u64', 'shift': 'i64', 'flag': 'bool', 'raw': 'bytes', 'host': 'ip_addr', 'tree': 'json', 'other': 'text'}
+TEXTS = ['', 'sea', 'old man', 'na\u00efve', '\u8001\u4eba \U0001f41f', '"', '\\', '/', '\n\t\r\b\f', '\x01\x1f\x7f', '</b>', '\u2028']
+
+
+def one_value(chosen, field, depth=2):
+    """Returns a value of a field."""
+    kind = TYPES[field]
+    if field in ('other', 'tree') and depth:
+        pick = chosen.randrange(5)
+        if pick == 0:
+            return [one_value(chosen, field, depth - 1) for _ in range(chosen.randrange(3))]
+        if pick == 1:
+            return {chosen.choice(TEXTS): one_value(chosen, field, depth - 1) for _ in range(chosen.randrange(4))}
+        if pick == 2:
+            return chosen.choice([True, False, None, 0, 2 ** 64 - 1, -2 ** 63, 17])
+    return {'u64': chosen.choice([0, 7, 2 ** 64 - 1, chosen.randrange(2 ** 40)]), 'i64': chosen.choice([0, -1, 2 ** 63 - 1, -2 ** 63]),
+            'bool': chosen.choice([True, False]), 'bytes': chosen.choice(['', '00ff', 'DEad']),
+            'ip_addr': chosen.choice(['127.0.0.1', '::1', '2001:DB8::7'])}.get(kind, chosen.choice(TEXTS))
+
+
+def chosen_members(chosen):
+    """Returns the members of a line, of which some have several values, none, or the key of an earlier one."""
+    pairs = [('all', 'x')]
+    for field in chosen.sample(sorted(TYPES), chosen.randrange(len(TYPES))):
+        for _ in range(chosen.choice([1, 1, 1, 2])):
+            pick = chosen.randrange(6)
+            value = None if pick == 0 else [one_value(chosen, field) for _ in range(chosen.randrange(3))] if pick == 1 else one_value(chosen, field)
+            if field != 'all':
+                pairs.append((field, value))
+    chosen.shuffle(pairs)
+    return pairs
+
+
+def compact(value):
+    """Returns a value as JSON without spaces, the keys of objects in order."""
+    return json.dumps(value, ensure_ascii=False, separators=(',', ':'), sort_keys=True)
+
+
+def written(chosen, pairs):
+    """Returns a line of these members, with spaces and escapes."""
+    spaced = [json.dumps(key) + chosen.choice([':', ' : ']) + json.dumps(value, ensure_ascii=chosen.randrange(2) == 0) for key, value in pairs]
+    return '{' + chosen.choice([',', ' ,  ']).join(spaced) + '}'
+
+
+def picked(names, pairs):
+    """Returns what a line prints of some fields: the last value of each key."""
+    members = dict(pairs)
+    return '{' + ','.join(f'{compact(name)}:{compact(members[name])}' for name in names if name in members) + '}'
+
+
+def fields_are_chosen(user):
+    """Compares `search --fields` with a plain reading of random lines with fields of every type, of which one isn't indexed."""
+    chosen = random.Random(SEED + 3)
+    tables = ''.join(f'[[field]]\nname = "{name}"\ntype = "{kind}"\n' + ('indexed = false\n' if name == 'other' else '') for name, kind in TYPES.items())
+    user.write('fields.toml', 'store_source = true\n' + tables)
+    lines = [chosen_members(chosen) for _ in range(FIELD_LINES)]
+    texts = [written(chosen, pairs) for pairs in lines]
+    user.wants(['index', 'fields', '--schema', 'fields.toml'], 0, given='\n'.join(texts[:FIELD_LINES // 2]).encode())
+    user.wants(['add', 'fields', '--no-merge'], 0, given='\n'.join(texts[FIELD_LINES // 2:]).encode())
+    for turn in range(20):
+        names = chosen.sample(sorted(TYPES), chosen.randrange(1, len(TYPES))) if turn else sorted(TYPES)
+        asked = ['search', 'fields', 'all:x', '--fields', ','.join(names + names[:turn % 3])]
+        rows = [picked(names, pairs) for pairs in lines]
+        user.wants(asked, 0, ''.join(row + '\n' for row in rows).encode())
+        user.wants([*asked, '--limit', '3', '--json'], 0, ''.join(f'{{"doc":{number},"fields":{row}}}\n' for number, row in enumerate(rows[:3])).encode())
+        best = user.wants(['search', 'fields', 'all:x', '--top', '5'], 0).decode().splitlines()
+        ranked = [rows[int(row.split('\t')[0])] + '\t' + row.split('\t')[1] + '\n' for row in best]
+        user.wants([*asked, '--top', '5'], 0, ''.join(ranked).encode())
+        best = user.wants(['search', 'fields', 'all:x', '--top', '5', '--json'], 0).decode().splitlines()
+        ranked = [row[:-1] + ',"fields":' + rows[json.loads(row)['doc']] + '}\n' for row in best]
+        user.wants([*asked, '--top', '5', '--json'], 0, ''.join(ranked).encode())
+    # a number with a fraction is printed as one that reads as it
+    user.wants(['index', 'floats', '--schema', 'fields.toml'], 0, given=b'{"all":"x","other":[0.1,1e300,-2.50,1E2]}\n')
+    if json.loads(user.wants(['search', 'floats', 'x', '--fields', 'other'], 0)) != {'other': [0.1, 1e300, -2.5, 100.0]}:
+        raise Failed('--fields of numbers with fractions')
+    for name in ('nosuch', '', 'all,nosuch', 'word,,all'):
+        user.wants(['search', 'fields', 'all:x', '--fields', name], 2, b'', 'no field ' + ('nosuch' if 'nosuch' in name else ';'))
+    for option in ('--count', '--positions', '--ids'):
+        user.wants(['search', 'fields', 'all:x', '--fields', 'all', option], 2, b'', '--fields stands without')
+    user.wants(['search', 'fields', 'all:x', '--fields', 'all', '--source'], 2, b'', '--source stands without --fields')
+    user.wants(['search', 'two', 'sea', '--fields', 'body'], 2, b'', NOT_STORED)
+
+
 def store_of(user, folder):
     """Returns the path of the one file of stored lines, and where each block ends in it, with its documents."""
     names = [name for name in os.listdir(user.path(folder)) if name.endswith('.store')]
@@ -189,13 +274,37 @@ def store_of(user, folder):
     return path, whole, [struct.unpack('<IQ', index[44 * block:44 * block + 12]) for block in range(count)]
 
 
+# commands that need no stored lines
+UNSTORED = (['search', 'sea'], ['search', 'sea', '--count'], ['search', 'sea', '--positions'], ['search', 'sea', '--ids', '--json'], ['search', 'sea', '--top', '7'],
+            ['terms', 'body'], ['terms', 'id', '--top', '3'], ['postings', 'body', 'sea', '--positions'], ['fields'])
+# commands that read or rewrite them
+STORED = (['search', 'sea', '--source'], ['search', 'sea', '--top', '7', '--source', '--json'], ['stats'], ['delete', 'id', '4'], ['merge'])
+
+
+def answers(user, folder):
+    """Returns what the commands print that need no stored lines."""
+    return [user.wants([words[0], folder, *words[1:]], 0) for words in UNSTORED]
+
+
+def damage_stops_readers(user, told):
+    """With a damaged or missing file of stored lines, the commands answer that need none, and the others refuse it."""
+    if answers(user, 'hurt') != user.unstored:
+        raise Failed(f'a command that needs no stored lines answers otherwise: they {told}')
+    for words in STORED:
+        user.wants([words[0], 'hurt', *words[1:]], 1, f'hurt: the file of stored documents of segment 0 {told}\n'.encode(), 'the command check prints what is damaged')
+
+
 def damage_is_named(user):
-    """Changes a byte at many places: `check` names the block, `get` gives the documents of other blocks."""
+    """Changes a byte at many places: `check` names the block, `get` gives the documents of other blocks, and the commands
+    that need no stored lines answer as before."""
     chosen = random.Random(SEED + 2)
     lines = [random_line(chosen, number) for number in range(1200)]
     shutil.rmtree(user.path('hurt'), ignore_errors=True)
     user.wants(['index', 'hurt', '--schema', 'schema.toml'], 0, given=spaced(chosen, lines))
     path, whole, blocks = store_of(user, 'hurt')
+    # a second segment, so that there is something to merge
+    user.wants(['add', 'hurt', '--no-merge'], 0, given=b'{"id":9999,"body":"sea old"}\n')
+    user.unstored = answers(user, 'hurt')
     if len(blocks) < 5:
         raise Failed(f'only {len(blocks)} blocks')
     ends = [0] + [end for _, end in blocks]
@@ -212,6 +321,8 @@ def damage_is_named(user):
             name = 'of the documents' if hurt is None else f'block {hurt} of the documents'
             if 'the file of stored documents' not in told or name not in told:
                 raise Failed(f'check, byte {place} of {len(whole)}: {told}')
+            if turn % 32 == 0:
+                damage_stops_readers(user, 'has another checksum than meta says')
         if hurt is None:
             user.wants(['get', 'hurt', 0], 1, None)
             continue
@@ -219,8 +330,14 @@ def damage_is_named(user):
         other = chosen.choice([doc for block in range(len(blocks)) if block != hurt for doc in (docs[block], docs[block + 1] - 1)])
         user.wants(['get', 'hurt', inside, other], 1, lines[other][2] + b'\n', f'block {hurt} of the documents')
     with open(path, 'wb') as file:
+        file.write(whole[:-1])
+    damage_stops_readers(user, 'has another length than meta says')
+    os.remove(path)
+    damage_stops_readers(user, 'is missing')
+    with open(path, 'wb') as file:
         file.write(whole)
     user.wants(['check', 'hurt'], 0)
+    user.wants(['merge', 'hurt'], 0, b'2 segments merged, 1201 documents\n')
 
 
 def main():
@@ -234,6 +351,7 @@ def main():
             commands_keep_lines(user)
             other_indexes_answer(user)
             random_folders(user)
+            fields_are_chosen(user)
             damage_is_named(user)
     except Failed as failure:
         print(f'tests/folder: {failure}')

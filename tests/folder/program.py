@@ -26,6 +26,8 @@ import versions
 
 PROGRAM = 'nequllpa_cli'
 FILES = {'schema': 'schema', 'term': 'terms', 'idx': 'postings', 'pos': 'positions', 'fieldnorm': 'field norms'}
+# the options with which a search reads a file that it doesn't need else
+READERS = {'count': ['--top', '1']}
 SEGMENT_FILES = {'term': 'terms', 'idx': 'postings', 'pos': 'positions', 'norm': 'field norms', 'count': 'counts'}
 
 
@@ -453,7 +455,7 @@ def damages_file(user, kind, what):
     with open(path, 'wb') as file:
         file.write(text[:-1] + bytes([text[-1] ^ 1]))
     said = f'three: the file of {what} of segment 1 has another checksum than meta says'
-    user.wants(['search', 'three', 'a'], 1, said + '\n')
+    user.wants(['search', 'three', 'a', *READERS.get(kind, [])], 1, said + '\n')
     if f'{said}, bytes 0..{len(text)}\n' not in user.wants(['check', 'three'], 1):
         raise Failed(f'check: no {said}')
     with open(path, 'wb') as file:
@@ -465,6 +467,7 @@ def damages_segments(user):
     """Changes and removes each file of each segment: the commands must name the segment and the file."""
     for name in sorted(os.listdir(user.path('grown'))):
         id, kind = name.split('.')[0], SEGMENT_FILES.get(name.split('.')[-1])
+        search = ['search', 'grown', 'a', *READERS.get(name.split('.')[-1], [])]
         if kind is None:
             continue
         path = os.path.join(user.path('grown'), name)
@@ -474,11 +477,13 @@ def damages_segments(user):
         for changed, why in ((text[:-1], 'has another length than meta says'), (text[:-1] + bytes([text[-1] ^ 1]), 'has another checksum than meta says')):
             with open(path, 'wb') as file:
                 file.write(changed)
-            user.wants(['search', 'grown', 'a'], 1, f'{what} {why}\n')
+            user.wants(search, 1, f'{what} {why}\n')
+            if search[3:]:
+                user.wants(['search', 'grown', 'a', '--count'], 0)
             if f'{what} {why}, bytes 0..{len(changed)}\n' not in user.wants(['check', 'grown'], 1):
                 raise Failed(f'check: no {what} {why}')
         os.remove(path)
-        user.wants(['search', 'grown', 'a'], 1, f'{what} is missing\n')
+        user.wants(search, 1, f'{what} is missing\n')
         if f'{what} is missing\n' not in user.wants(['check', 'grown'], 1):
             raise Failed(f'check: no {what} is missing')
         with open(path, 'wb') as file:

@@ -4,7 +4,7 @@ ghost use Rattle.std.specs.Prelude.{◌<◌, IfOk, length};
 use crate::orphans::orphan;
 use clap::ArgMatches;
 use ii_base::{Field, Term};
-use ii_segment_store::{StoredSegment, StoredSegments, load_latest};
+use ii_segment_store::{StoredSegment, StoredSegments, WantedFiles, load_latest_with};
 use ii_store::{Folder, IndexFault, Kind, SegmentComponent, StoreFault};
 use nequllpa_folder::{
     AnswerFault, OpenedIndex, TermChoice, term_of, write_fields, write_postings, write_stats,
@@ -35,7 +35,7 @@ pub fn answer_terms(
         prefix: given.get_str("prefix").unwrap_or(""),
         top: top.map(|top| top as usize),
     };
-    match opened_at(rt, path)? {
+    match opened_at(rt, path, WantedFiles::WithoutCountsAndStore)? {
         Ok(opened) => print_terms(rt, path, &opened, given, choice),
         Err(status) => Ok(ExitCode::from(status)),
     }
@@ -65,7 +65,7 @@ pub fn answer_postings(
     path: &str,
     given: &ArgMatches<'_>,
 ) -> anyhow::Result<ExitCode> {
-    match opened_at(rt, path)? {
+    match opened_at(rt, path, WantedFiles::WithoutCountsAndStore)? {
         Ok(opened) => print_postings(rt, path, &opened, given),
         Err(status) => Ok(ExitCode::from(status)),
     }
@@ -107,7 +107,7 @@ fn print_list(
 
 /// Prints the fields.
 pub fn answer_fields(rt: &HostRuntime, path: &str) -> anyhow::Result<ExitCode> {
-    match opened_at(rt, path)? {
+    match opened_at(rt, path, WantedFiles::WithoutStore)? {
         Ok(opened) => print_fields(rt, path, &opened),
         Err(status) => Ok(ExitCode::from(status)),
     }
@@ -123,7 +123,7 @@ fn print_fields(rt: &HostRuntime, path: &str, opened: &OpenedIndex) -> anyhow::R
 
 /// Prints the number of documents, the size of each file, and the space that the lists take.
 pub fn answer_stats(rt: &HostRuntime, path: &str) -> anyhow::Result<ExitCode> {
-    let stored = match loaded_at(rt, path)? {
+    let stored = match loaded_at(rt, path, WantedFiles::All)? {
         Ok(stored) => stored,
         Err(status) => return Ok(ExitCode::from(status)),
     };
@@ -210,9 +210,13 @@ impl Total {
     }
 }
 
-/// Loads the index of a folder, or returns the status if there is none.
-pub fn loaded_at(rt: &HostRuntime, path: &str) -> anyhow::Result<Result<StoredSegments, u8>> {
-    match load_latest(rt.alloc(), &Folder::new(rt, path)) {
+/// Loads the wanted files of the index of a folder, or returns the status if there is none.
+pub fn loaded_at(
+    rt: &HostRuntime,
+    path: &str,
+    wanted: WantedFiles,
+) -> anyhow::Result<Result<StoredSegments, u8>> {
+    match load_latest_with(rt.alloc(), &Folder::new(rt, path), wanted) {
         Ok(stored) => Ok(Ok(stored)),
         Err(StoreFault::Index(fault)) => Ok(Err(tell_no_index(rt, path, fault)?)),
         Err(StoreFault::Directory(fault)) => Ok(Err(refuse_path(rt, path, fault)?)),
@@ -275,9 +279,13 @@ fn opened_of(
     }
 }
 
-/// Opens the index of a folder, or returns the status if there is none.
-pub fn opened_at(rt: &HostRuntime, path: &str) -> anyhow::Result<Result<OpenedIndex, u8>> {
-    match loaded_at(rt, path)? {
+/// Opens the index of a folder with its wanted files, or returns the status if there is none.
+pub fn opened_at(
+    rt: &HostRuntime,
+    path: &str,
+    wanted: WantedFiles,
+) -> anyhow::Result<Result<OpenedIndex, u8>> {
+    match loaded_at(rt, path, wanted)? {
         Ok(stored) => opened_of(rt, path, stored),
         Err(status) => Ok(Err(status)),
     }

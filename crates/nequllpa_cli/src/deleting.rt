@@ -5,7 +5,7 @@ use crate::indexing::target_of;
 use crate::replacing::total;
 use clap::ArgMatches;
 use ii_base::{DocId, Term};
-use ii_segment_store::{CommitFault, commit_changes, remove_slots, upgrade};
+use ii_segment_store::{CommitFault, WantedFiles, commit_changes, remove_slots, upgrade};
 use ii_store::Folder;
 use ii_store::collect::collect;
 use nequllpa_folder::{AnswerFault, OpenedIndex, docs_to_delete};
@@ -28,7 +28,7 @@ pub fn answer_delete(
 
 // Does it, once the folder is locked.
 fn deleted(rt: &HostRuntime, path: &str, given: &ArgMatches<'_>) -> anyhow::Result<ExitCode> {
-    match opened_at(rt, path)? {
+    match opened_at(rt, path, WantedFiles::All)? {
         Ok(opened) => delete_given(rt, path, &opened, given),
         Err(status) => Ok(ExitCode::from(status)),
     }

@@ -2,8 +2,8 @@
 use crate::adding::refuse_commit;
 use crate::commands::{NO, PROGRAM, loaded_at, refuse_path, tell_no_index};
 use crate::indexing::target_of;
-use ii_segment_store::StoredSegments;
 use ii_segment_store::loading::file_of;
+use ii_segment_store::{StoredSegments, WantedFiles};
 use ii_store::collect::collect;
 use ii_store::segments::load_meta;
 use ii_store::{Folder, IndexFault, IndexMeta, SegmentComponent, StoreFault};
@@ -38,7 +38,7 @@ fn tell_one(rt: &HostRuntime, path: &str) -> anyhow::Result<ExitCode> {
     let StoredSegments {
         schema: _,
         segments,
-    } = match loaded_at(rt, path)? {
+    } = match loaded_at(rt, path, WantedFiles::All)? {
         Ok(stored) => stored,
         Err(status) => return Ok(ExitCode::from(status)),
     };

@@ -2,7 +2,9 @@
 use crate::adding::{refuse_commit, tell_left_out};
 use crate::commands::{opened_at, status_of};
 use ii_base::{DocId, Fault, Term};
-use ii_segment_store::{CommitFault, SegmentFiles, commit_changes, remove_slots, upgrade};
+use ii_segment_store::{
+    CommitFault, SegmentFiles, WantedFiles, commit_changes, remove_slots, upgrade,
+};
 use ii_store::Folder;
 use ii_store::collect::collect;
 use nequllpa_folder::{AnswerFault, OpenedIndex, docs_to_delete};
@@ -18,7 +20,7 @@ pub fn replace_keys(
     keys: Vec<Term>,
     bad_lines: u64,
 ) -> anyhow::Result<ExitCode> {
-    let opened = match opened_at(rt, path)? {
+    let opened = match opened_at(rt, path, WantedFiles::All)? {
         Ok(opened) => opened,
         Err(status) => return Ok(ExitCode::from(status)),
     };

@@ -1,13 +1,14 @@
 //! The command `search`.
-use crate::commands::{REFUSED, ended, field_named, number_given, opened_at, refuse};
+use crate::commands::{PROGRAM, REFUSED, ended, field_named, number_given, opened_at, refuse};
 use crate::getting::NOT_STORED;
 use crate::query_texts::{refuse_query, tell_left_out};
 use clap::ArgMatches;
 use ii_base::{Field, ValueType};
 use ii_query_parser::Query;
+use ii_segment_store::WantedFiles;
 use nequllpa_folder::{
-    BestListing, CountFormat, Listing, OpenedIndex, are_stored, id_field_of_all, write_best,
-    write_count, write_listing,
+    BestListing, CountFormat, Listing, OpenedIndex, StoredPart, are_stored, id_field_of_all,
+    write_best, write_count, write_listing,
 };
 use std::io::{self, BufWriter, Write};
 use std::process::ExitCode;
@@ -22,10 +23,32 @@ pub fn answer_search(
         Ok(limit) => limit.unwrap_or(u32::MAX),
         Err(status) => return Ok(ExitCode::from(status)),
     };
-    match opened_at(rt, path)? {
+    match opened_at(rt, path, wanted_by(given))? {
         Ok(opened) => search(rt, path, &opened, given, limit),
         Err(status) => Ok(ExitCode::from(status)),
     }
+}
+
+// Returns the files that a search reads: the stored documents if it prints of them, the counts if it ranks.
+fn wanted_by(given: &ArgMatches<'_>) -> WantedFiles {
+    if option_of_line(given).is_some() {
+        return WantedFiles::All;
+    }
+    if given.get_str("top").is_some() {
+        return WantedFiles::WithoutStore;
+    }
+    WantedFiles::WithoutCountsAndStore
+}
+
+// Returns the option by which a stored line is printed, if one is given.
+fn option_of_line(given: &ArgMatches<'_>) -> Option<&'static str> {
+    if given.get_flag("source") {
+        return Some("source");
+    }
+    if given.get_str("fields").is_some() {
+        return Some("fields");
+    }
+    None
 }
 
 // Prints the matching documents of an open index, at most `limit`.
@@ -48,9 +71,10 @@ fn search(
         let status = refuse(rt, "--top stands without --limit, --count and --positions")?;
         return Ok(ExitCode::from(status));
     }
-    if let Err(status) = source_allowed(rt, opened, given)? {
-        return Ok(ExitCode::from(status));
-    }
+    let names = match line_given(rt, opened, given)? {
+        Ok(names) => names,
+        Err(status) => return Ok(ExitCode::from(status)),
+    };
     if given.get_flag("count") {
         let format = if as_json {
             CountFormat::Json
@@ -64,16 +88,16 @@ fn search(
         Err(status) => return Ok(ExitCode::from(status)),
     };
     if given.get_str("top").is_some() {
-        return search_best(rt, path, opened, &query, given, ids);
+        return search_best(rt, path, opened, &query, given, ids, &names);
     }
     let how = Listing {
         limit,
         as_json,
         with_positions: given.get_flag("positions"),
         ids,
-        with_source: given.get_flag("source"),
+        stored: part_given(given, &names),
     };
-    print_found(rt, path, opened, &query, how)
+    print_found(rt, path, opened, &query, &how)
 }
 
 // Returns whether an option is given that --top doesn't go with.
@@ -81,23 +105,81 @@ fn has_other_choice(given: &ArgMatches<'_>) -> bool {
     given.get_str("limit").is_some() || given.get_flag("count") || given.get_flag("positions")
 }
 
-// Returns the status if --source is given, and stands with an option that it doesn't go with, or lines aren't stored.
-fn source_allowed(
+// Returns the fields of stored lines that are printed. Returns the status if stored lines are printed of an index that
+// has none, or with an option that this doesn't go with.
+fn line_given<'a>(
     rt: &HostRuntime,
     opened: &OpenedIndex,
-    given: &ArgMatches<'_>,
-) -> anyhow::Result<Result<(), u8>> {
-    if !given.get_flag("source") {
-        return Ok(Ok(()));
-    }
+    given: &'a ArgMatches<'_>,
+) -> anyhow::Result<Result<Vec<&'a str>, u8>> {
+    let Some(option) = option_of_line(given) else {
+        return Ok(Ok(Vec::new(rt.alloc())));
+    };
     if given.get_flag("count") || given.get_flag("positions") || given.get_flag("ids") {
-        let status = refuse(rt, "--source stands without --count, --positions and --ids")?;
-        return Ok(Err(status));
+        eprintln!(rt; "{PROGRAM}: --{option} stands without --count, --positions and --ids")?;
+        return Ok(Err(REFUSED));
     }
+    let Some(text) = given.get_str("fields") else {
+        return stored_names(rt, opened, Vec::new(rt.alloc()));
+    };
+    if given.get_flag("source") {
+        return Ok(Err(refuse(rt, "--source stands without --fields")?));
+    }
+    match names_in(rt, opened, text)? {
+        Ok(names) => stored_names(rt, opened, names),
+        Err(status) => Ok(Err(status)),
+    }
+}
+
+// Returns names, or the status if the lines of an index aren't stored.
+fn stored_names<'a>(
+    rt: &HostRuntime,
+    opened: &OpenedIndex,
+    names: Vec<&'a str>,
+) -> anyhow::Result<Result<Vec<&'a str>, u8>> {
     if !are_stored(opened) {
         return Ok(Err(refuse(rt, NOT_STORED)?));
     }
-    Ok(Ok(()))
+    Ok(Ok(names))
+}
+
+// Returns the names of fields that a text has between commas, each once, or the status if one is no field's.
+fn names_in<'a>(
+    rt: &HostRuntime,
+    opened: &OpenedIndex,
+    text: &'a str,
+) -> anyhow::Result<Result<Vec<&'a str>, u8>> {
+    let mut names = Vec::new(rt.alloc());
+    for name in text.split(',') {
+        if let Err(status) = field_named(rt, opened, name)? {
+            return Ok(Err(status));
+        }
+        if !is_one_of(name, &names) {
+            names.push(name)?;
+        }
+    }
+    Ok(Ok(names))
+}
+
+// Returns whether a name is one of some names.
+fn is_one_of(name: &str, names: &[&str]) -> bool {
+    for other in names {
+        if *other == name {
+            return true;
+        }
+    }
+    false
+}
+
+// Returns what is printed of stored lines.
+fn part_given<'a, 'n>(given: &ArgMatches<'_>, names: &'a [&'n str]) -> StoredPart<'a, 'n> {
+    if given.get_flag("source") {
+        return StoredPart::Line;
+    }
+    if names.is_empty() {
+        return StoredPart::Nothing;
+    }
+    StoredPart::Fields(names)
 }
 
 // Prints the best of the matching documents, as many as are given.
@@ -108,6 +190,7 @@ fn search_best(
     query: &Query,
     given: &ArgMatches<'_>,
     ids: Option<Field>,
+    names: &[&str],
 ) -> anyhow::Result<ExitCode> {
     let limit = match number_given(rt, given, "top")? {
         Ok(limit) => limit.unwrap_or(u32::MAX),
@@ -117,9 +200,9 @@ fn search_best(
         limit,
         as_json: given.get_flag("json"),
         ids,
-        with_source: given.get_flag("source"),
+        stored: part_given(given, names),
     };
-    print_best(rt, path, opened, query, how)
+    print_best(rt, path, opened, query, &how)
 }
 
 // Prints the best of the matching documents.
@@ -128,7 +211,7 @@ fn print_best(
     path: &str,
     opened: &OpenedIndex,
     query: &Query,
-    how: BestListing,
+    how: &BestListing<'_, '_>,
 ) -> anyhow::Result<ExitCode> {
     let mut out = BufWriter::new(rt.alloc(), io::writer(rt))?;
     let written = write_best(rt.alloc(), &mut out, opened, query, how);
@@ -156,7 +239,7 @@ fn print_found(
     path: &str,
     opened: &OpenedIndex,
     query: &Query,
-    how: Listing,
+    how: &Listing<'_, '_>,
 ) -> anyhow::Result<ExitCode> {
     let mut out = BufWriter::new(rt.alloc(), io::writer(rt))?;
     let written = write_listing(rt.alloc(), &mut out, opened, query, how);

@@ -166,9 +166,14 @@ static USAGES: [Usage; 12] = [
                 help: "Prints the stored line of a document in place of its number, if the schema says store_source = true; stands without --count, --positions and --ids",
             },
             Word {
+                name: "fields",
+                given: Given::Value("A,B"),
+                help: "Prints of the stored line of a document only the members of these fields, as a JSON object, in this order; stands where --source does, and not with it",
+            },
+            Word {
                 name: "json",
                 given: Given::Flag,
-                help: "Prints a JSON object for each document: doc, its number; with --ids id; with --source source, its line; with --positions terms, each with field, term and positions; with --count one object with count",
+                help: "Prints a JSON object for each document: doc, its number; with --ids id; with --source source, its line; with --fields fields, these members; with --positions terms, each with field, term and positions; with --count one object with count",
             },
         ],
     },

@@ -1,13 +1,13 @@
 -- Stored documents by their numbers.
 use Rattle.std.proofs.Common.{◌≡◌, ℕ, zero, suc, ◌+◌, ◌-◌, ◌<◌, ◌≤◌, Bool, true, false, List, [], ◌∷◌, ◌++◌, drop, filter, get_or, length, map, Option, None, Some, Result, Ok, Err, refl, sym, ap, subst, ◌∙◌, arith, ⊎_elim, length-append}
-use Rattle.std.specs.Prelude.{IsSomeAnd, MatchResult, nat_lt, slice_index}
+use Rattle.std.specs.Prelude.{IsSomeAnd, MatchResult, slice_index}
 use Rattle.std.specs.Borrow.{Bor}
-use Rattle.std.specs.List.{AllByRecursion, AllZip, range_with_len}
+use Rattle.std.specs.List.{AllZip, range_with_len}
 use Rattle.std.proofs.lemmas.Bool.{cases_lt, le-ltb, lt-ltb}
 use Rattle.std.proofs.lemmas.List.{drop_all, drop_more, get_or-append_right, get_or-map, get_or_append_left, length-map}
 use Rattle.std.proofs.lemmas.List.FromFn.{get_or-range_with_len, length-range_with_len}
 use Rattle.ii_alive.specs.Alive.{num_living, rank}
-use Rattle.ii_alive.proofs.RankLemmas.{rank_below, rank_strict}
+use Rattle.ii_alive.proofs.RankLemmas.{rank_strict}
 use Rattle.ii_segments.specs.Segments.{is_living, living_docs}
 use Rattle.ii_segments.proofs.CountLaws.{living_within, ranks_of_living}
 use Rattle.ii_doc_store.specs.declared.checkpoint.Checkpoint.{Checkpoint}

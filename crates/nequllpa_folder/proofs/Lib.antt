@@ -5,3 +5,4 @@ mod QueryLemmas
 mod WantedLemmas
 mod OpenLemmas
 mod RankingLemmas
+mod LineFieldsLemmas

@@ -9,6 +9,7 @@ pub mod faults;
 pub mod finding;
 pub mod ids;
 pub mod inspecting;
+pub mod line_fields;
 pub mod listing;
 pub mod merged_terms;
 pub mod opened;
@@ -16,6 +17,7 @@ pub mod opened_index;
 pub mod ranking;
 pub mod stats;
 pub mod stored_lines;
+pub mod stored_part;
 
 pub use checking::{Checked, check, counts_damage};
 pub use deleting::{docs_to_delete, docs_with_term};
@@ -27,6 +29,7 @@ pub use ii_term_text::{push_key, term_of};
 pub use inspecting::{
     CountFormat, TermChoice, count_all, write_count, write_fields, write_postings, write_terms,
 };
+pub use line_fields::fields_of_line;
 pub use listing::{Listing, write_listing};
 pub use merged_terms::{MergedTerm, MergedTerms};
 pub use opened::{Opened, schema_of, text_schema_of};
@@ -34,3 +37,4 @@ pub use opened_index::{Bases, OpenedIndex, reader_of};
 pub use ranking::{BestListing, write_best};
 pub use stats::write_stats;
 pub use stored_lines::{DamagedBlock, StoredLines, StoredLinesFault, load_lines, store_damages};
+pub use stored_part::StoredPart;

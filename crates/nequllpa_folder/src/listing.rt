@@ -7,19 +7,20 @@ use crate::faults::AnswerFault;
 use crate::finding::{FoundPlaces, TermPositions, find_places, first_docs, wanted_terms};
 use crate::ids::{Ids, ids_of};
 use crate::inspecting::count_all;
+use crate::line_fields::quoted;
 use crate::opened::Opened;
 use crate::opened_index::{Bases, OpenedIndex};
+use crate::stored_part::{StoredPart, write_stored, write_stored_member};
 use ii_base::{Fault, Field, Term};
 use ii_docset::DocId;
 use ii_search::Query;
 use ii_term_text::push_key;
-use serde_json::Value;
 use std::alloc::Global;
 use std::io::Write;
 
 /// How found documents are written, one per line.
 #[derive(Clone, Copy, Debug)]
-pub struct Listing {
+pub struct Listing<'a, 'n> {
     /// The maximum number of documents.
     pub limit: u32,
     /// Whether lines are JSON objects or words.
@@ -28,8 +29,8 @@ pub struct Listing {
     pub with_positions: bool,
     /// The field whose value is written instead of a document's number.
     pub ids: Option<Field>,
-    /// Whether the stored document is written instead of its number.
-    pub with_source: bool,
+    /// What of the stored document is written instead of its number.
+    pub stored: StoredPart<'a, 'n>,
 }
 
 /// Writes the documents that match a query, one per line. Returns whether any document matches, even if the
@@ -39,20 +40,21 @@ pub struct Listing {
 /// the document follow, each after a tab: field, colon, term and positions. A JSON line is an object with
 /// `doc`; with `id` (a string or null) if ids are requested; and with `terms` if positions are, each with
 /// `field`, `term` and `positions`. If stored documents are requested, a line of words is the document alone, and
-/// a JSON line has it as `source`; the first that can't be read ends the listing.
+/// a JSON line has it as `source`; the first that can't be read ends the listing. If fields of them are, these are in
+/// its place, and the member of a JSON line is `fields`.
 pub fn write_listing<W: Write>(
     alloc: Global,
     out: &mut W,
     opened: &OpenedIndex,
     query: &Query,
-    how: Listing,
+    how: &Listing<'_, '_>,
 ) -> Result<bool, AnswerFault> {
     if how.limit == 0 {
         return Ok(count_all(alloc, opened.segments(), query)? > 0);
     }
-    let rows = rows_of(alloc, opened, query, &how)?;
+    let rows = rows_of(alloc, opened, query, how)?;
     let any = !rows.is_empty();
-    let written = write_all_rows(alloc, out, opened, query, &how, &rows);
+    let written = write_all_rows(alloc, out, opened, query, how, &rows);
     drop(rows);
     match written {
         Ok(()) => Ok(any),
@@ -76,7 +78,7 @@ fn rows_of(
     alloc: Global,
     opened: &OpenedIndex,
     query: &Query,
-    how: &Listing,
+    how: &Listing<'_, '_>,
 ) -> Result<Vec<SegmentRows>, AnswerFault> {
     let mut rows = Vec::new(alloc);
     let mut bases = Bases::new();
@@ -103,7 +105,7 @@ fn rows_of(
 fn rows_in(
     alloc: Global,
     placed: (usize, &Opened),
-    how: &Listing,
+    how: &Listing<'_, '_>,
     found: FoundPlaces,
     base: u64,
 ) -> Result<SegmentRows, AnswerFault> {
@@ -144,7 +146,7 @@ fn found_of(
     alloc: Global,
     segment: &Opened,
     query: &Query,
-    how: &Listing,
+    how: &Listing<'_, '_>,
     limit: u32,
 ) -> Result<FoundPlaces, Fault>
     requires { has_fields (length segment.now.schema) query.now ≡ true }
@@ -167,17 +169,16 @@ fn write_all_rows<W: Write>(
     out: &mut W,
     opened: &OpenedIndex,
     query: &Query,
-    how: &Listing,
+    how: &Listing<'_, '_>,
     rows: &Vec<SegmentRows>,
 ) -> Result<(), AnswerFault> {
     let texts = texts_of(alloc, opened, query)?;
     let mut written = Ok(());
     for segment in rows {
         if written.is_ok() {
-            written = if how.with_source {
-                write_sources(out, opened, how, segment)
-            } else {
-                write_rows(alloc, out, how, segment, &texts)
+            written = match how.stored {
+                StoredPart::Nothing => write_rows(alloc, out, how, segment, &texts),
+                _ => write_sources(alloc, out, opened, how, segment),
             };
         }
     }
@@ -189,7 +190,7 @@ fn write_all_rows<W: Write>(
 fn ids_in(
     alloc: Global,
     segment: &Opened,
-    how: &Listing,
+    how: &Listing<'_, '_>,
     docs: &[DocId],
 ) -> Result<Ids, AnswerFault> {
     match how.ids {
@@ -207,7 +208,7 @@ fn ids_in(
 fn write_rows<W: Write>(
     alloc: Global,
     out: &mut W,
-    how: &Listing,
+    how: &Listing<'_, '_>,
     rows: &SegmentRows,
     texts: &[TermText],
 ) -> Result<(), AnswerFault> {
@@ -228,9 +229,10 @@ fn write_rows<W: Write>(
 
 // Writes the stored document of each found document of a segment.
 fn write_sources<W: Write>(
+    alloc: Global,
     out: &mut W,
     opened: &OpenedIndex,
-    how: &Listing,
+    how: &Listing<'_, '_>,
     rows: &SegmentRows,
 ) -> Result<(), AnswerFault> {
     let Some(segment) = opened.segments().get(rows.segment) else {
@@ -241,7 +243,7 @@ fn write_sources<W: Write>(
     for (doc, number) in rows.found.docs.iter().zip(&rows.numbers) {
         if written.is_ok() {
             written = match stored.get(*doc) {
-                Ok(document) => write_source(out, how.as_json, *number, document),
+                Ok(document) => write_source(alloc, out, how, *number, document),
                 Err(fault) => Err(AnswerFault::Document(fault)),
             };
         }
@@ -250,19 +252,20 @@ fn write_sources<W: Write>(
     written
 }
 
-// Writes a stored document, as a line or as a member of a JSON object.
+// Writes what is requested of a stored document, as a line or as a member of a JSON object.
 fn write_source<W: Write>(
+    alloc: Global,
     out: &mut W,
-    as_json: bool,
+    how: &Listing<'_, '_>,
     number: u64,
     document: &[u8],
 ) -> Result<(), AnswerFault> {
-    if as_json {
-        write!(out, "{{\"doc\":{number},\"source\":")?;
-    }
-    out.write_all(document)?;
-    if as_json {
+    if how.as_json {
+        write!(out, "{{\"doc\":{number}")?;
+        write_stored_member(alloc, out, how.stored, document)?;
         write!(out, "}}")?;
+    } else {
+        write_stored(alloc, out, how.stored, document)?;
     }
     writeln!(out)?;
     Ok(())
@@ -324,7 +327,7 @@ impl Row<'_> {
         out: &mut W,
         texts: &[TermText],
         places: &[TermPositions],
-        how: &Listing,
+        how: &Listing<'_, '_>,
     ) -> Result<(), AnswerFault> {
         if how.ids.is_none() {
             write!(out, "{}", self.doc)?;
@@ -347,7 +350,7 @@ impl Row<'_> {
         out: &mut W,
         texts: &[TermText],
         places: &[TermPositions],
-        how: &Listing,
+        how: &Listing<'_, '_>,
     ) -> Result<(), AnswerFault> {
         write!(out, "{{\"doc\":{}", self.doc)?;
         if how.ids.is_some() {
@@ -439,7 +442,7 @@ fn write_names<W: Write>(alloc: Global, out: &mut W, text: &TermText) -> Result<
         Ok(name) => name,
         Err(fault) => {
             drop(field);
-            return Err(fault);
+            return Err(AnswerFault::Index(fault));
         }
     };
     let written = write!(out, "{{\"field\":{field},\"term\":{name},\"positions\":[");
@@ -454,11 +457,4 @@ fn positions_at(term: &TermPositions, place: usize) -> Option<&[u32]> {
         Some(Some(positions)) => Some(positions.as_slice()),
         _ => None,
     }
-}
-
-// Returns a text as a JSON string.
-fn quoted(alloc: Global, text: &str) -> Result<String, AnswerFault> {
-    let mut owned = String::new(alloc);
-    owned.push_str(text)?;
-    Ok(Value::String(owned).to_string(alloc)?)
 }

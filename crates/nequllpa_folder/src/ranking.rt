@@ -12,6 +12,7 @@ use crate::inspecting::count_all;
 use crate::listing::write_id;
 use crate::opened::Opened;
 use crate::opened_index::OpenedIndex;
+use crate::stored_part::{StoredPart, write_stored, write_stored_member};
 use ii_base::{Fault, Field, Term};
 use ii_docset::DocId;
 use ii_ranking::{GatheredStatistics, RankedSegment, Score, TopDocs, search_segments};
@@ -21,15 +22,15 @@ use std::io::Write;
 
 /// How the best documents are written, one per line.
 #[derive(Clone, Copy, Debug)]
-pub struct BestListing {
+pub struct BestListing<'a, 'n> {
     /// The maximum number of documents.
     pub limit: u32,
     /// Whether lines are JSON objects or words.
     pub as_json: bool,
     /// The field whose value is written instead of a document's number.
     pub ids: Option<Field>,
-    /// Whether the stored document is written instead of its number.
-    pub with_source: bool,
+    /// What of the stored document is written instead of its number.
+    pub stored: StoredPart<'a, 'n>,
 }
 
 /// Writes the best documents that match a query, one per line, the best first. Returns whether any document matches,
@@ -38,13 +39,14 @@ pub struct BestListing {
 /// A line of words has the document's number, or instead its id, `-` if it has none, and after a tab its score with
 /// four decimals. A JSON line is an object with `doc`; with `id` (a string or null) if ids are requested; with
 /// `score`, and `units`, which is the score in units of 2^-38. If stored documents are requested, a line of words has
-/// the document in place of its number, and a JSON line has it as `source`, at its end.
+/// the document in place of its number, and a JSON line has it as `source`, at its end. If fields of them are, these are
+/// in its place, and the member is `fields`.
 pub fn write_best<W: Write>(
     alloc: Global,
     out: &mut W,
     opened: &OpenedIndex,
     query: &Query,
-    how: BestListing,
+    how: &BestListing<'_, '_>,
 ) -> Result<bool, AnswerFault> {
     if how.limit == 0 {
         return Ok(count_all(alloc, opened.segments(), query)? > 0);
@@ -65,10 +67,9 @@ pub fn write_best<W: Write>(
             return Err(fault);
         }
     };
-    let written = if how.with_source {
-        write_sources(alloc, out, opened, &how, &best)
-    } else {
-        write_rows(alloc, out, &how, &best, &ids)
+    let written = match how.stored {
+        StoredPart::Nothing => write_rows(alloc, out, how, &best, &ids),
+        _ => write_sources(alloc, out, opened, how, &best),
     };
     drop(ids);
     drop(best);
@@ -279,7 +280,7 @@ fn write_sources<W: Write>(
     alloc: Global,
     out: &mut W,
     opened: &OpenedIndex,
-    how: &BestListing,
+    how: &BestListing<'_, '_>,
     best: &[(Score, DocId)],
 ) -> Result<(), AnswerFault> {
     let stores = segment_stores(alloc, opened)?;
@@ -287,7 +288,7 @@ fn write_sources<W: Write>(
     for pair in best {
         if written.is_ok() {
             written = match document(&stores, u64::from(pair.1)) {
-                Ok(document) => write_source(out, how, pair.0, pair.1, document),
+                Ok(document) => write_source(alloc, out, how, *pair, document),
                 Err(fault) => Err(AnswerFault::Document(fault)),
             };
         }
@@ -296,26 +297,27 @@ fn write_sources<W: Write>(
     written
 }
 
-// Writes a stored document with its score.
+// Writes what is requested of a stored document, with its score.
 fn write_source<W: Write>(
+    alloc: Global,
     out: &mut W,
-    how: &BestListing,
-    score: Score,
-    doc: DocId,
+    how: &BestListing<'_, '_>,
+    best: (Score, DocId),
     document: &[u8],
 ) -> Result<(), AnswerFault> {
+    let (score, doc) = best;
     let parts = (u128::from(score) * 10_000 + (1 << 37)) >> 38;
     let (whole, part) = (parts / 10_000, parts % 10_000);
     if how.as_json {
         write!(
             out,
-            "{{\"doc\":{doc},\"score\":{whole}.{part:04},\"units\":{score},\"source\":"
+            "{{\"doc\":{doc},\"score\":{whole}.{part:04},\"units\":{score}"
         )?;
-        out.write_all(document)?;
+        write_stored_member(alloc, out, how.stored, document)?;
         writeln!(out, "}}")?;
         return Ok(());
     }
-    out.write_all(document)?;
+    write_stored(alloc, out, how.stored, document)?;
     writeln!(out, "\t{whole}.{part:04}")?;
     Ok(())
 }
@@ -324,7 +326,7 @@ fn write_source<W: Write>(
 fn write_rows<W: Write>(
     alloc: Global,
     out: &mut W,
-    how: &BestListing,
+    how: &BestListing<'_, '_>,
     best: &[(Score, DocId)],
     ids: &[String],
 ) -> Result<(), AnswerFault> {
@@ -351,7 +353,7 @@ fn id_at(ids: &[String], place: usize) -> Option<&str> {
 fn write_row<W: Write>(
     alloc: Global,
     out: &mut W,
-    how: &BestListing,
+    how: &BestListing<'_, '_>,
     score: Score,
     doc: DocId,
     id: Option<&str>,

@@ -1,8 +1,8 @@
-use Rattle.std.proofs.Common.{◌≡◌, ◌∙◌, ◌+◌, Err, List, Ok, Result, ap, arith, drop, length, map, subst, sym, ℕ}
+use Rattle.std.proofs.Common.{◌≡◌, ◌∙◌, ◌+◌, Err, List, Ok, Result, ap, arith, drop, map, subst, sym, ℕ}
 use Rattle.std.specs.Prelude.{MatchResult}
 use Rattle.std.proofs.lemmas.List.{length-map}
 use Rattle.nequllpa_folder.specs.declared.faults.DocumentFault.{DocumentFault}
-use Rattle.nequllpa_folder.specs.Documents.{StoredSegmentState, document_from, document_in_segment, stored_segment}
+use Rattle.nequllpa_folder.specs.Documents.{StoredSegmentState, document_from, stored_segment}
 use Rattle.nequllpa_folder.proofs.DocumentLemmas.{in_later, in_this, none_left, segment_at, stored_result}
 use Rattle.nequllpa_folder.proofs.documents.document.Goals as goal
 

@@ -1,4 +1,4 @@
-use Rattle.std.proofs.Common.{◌∙◌, Err, Ok, Some, ap, arith}
+use Rattle.std.proofs.Common.{◌∙◌, Err, Ok, ap, arith}
 use Rattle.std.specs.Option.{option_map}
 use Rattle.nequllpa_folder.specs.Documents.{stored_segment}
 use Rattle.nequllpa_folder.proofs.DocumentLemmas.{has_none, in_found, is_read, selected}
