@@ -38,7 +38,11 @@ PLACES = {
     'ii_directory/src/memory_files.rt': {'stop_in_put'},  # a copy of the bytes was refused
     'ii_term_text/src/terms.rt': {'bytes_term', 'is_memory'},  # the kit's `hex` couldn't grow
     'ii_folder_promises/src/stored_lines.rt': {'stored_lines_come_back', 'line_of', 'copied'},  # a store, or a copy of a line
+    'ii_index/src/faults.rt': {'from'},
     'nequllpa_folder/src/faults.rt': {'is_memory', 'from'},
+    'nequllpa_folder/src/line_fields.rt': {
+        'read_line',  # the kit's reader of JSON was refused memory
+        'value_text', 'quoted'},  # the text of a JSON value couldn't grow
     'nequllpa_folder/src/opened.rt': {'documents_fault'},  # stored documents couldn't be opened for it
     'nequllpa_folder/src/stored_lines.rt': {
         'from', 'memory',
