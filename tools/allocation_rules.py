@@ -37,7 +37,7 @@ PLACES = {
     'ii_directory/src/faults.rt': {'from'},
     'ii_directory/src/memory_files.rt': {'stop_in_put'},  # a copy of the bytes was refused
     'ii_term_text/src/terms.rt': {'bytes_term', 'is_memory'},  # the kit's `hex` couldn't grow
-    'ii_folder_promises/src/stored_lines.rt': {'stored_lines_come_back', 'line_of', 'copied'},  # a store, or a copy of a line
+    'ii_folder_promises/src/stored_lines.rt': {'stored_lines_come_back', 'merged_lines_come_back', 'line_of', 'copied'},  # a store, or a copy of a line
     'ii_index/src/faults.rt': {'from'},
     'nequllpa_folder/src/faults.rt': {'is_memory', 'from'},
     'nequllpa_folder/src/line_fields.rt': {
@@ -59,7 +59,7 @@ PLACES = {
     'iiq/src/commands.rt': {'text_query', 'num_query'},
     'iiq/src/leaves.rt': {'term', 'joined_path'},
     'iiq/src/output.rt': {'written', 'push_item'},
-    'iiq/src/session.rt': {'list_text', 'found_text', 'query_of_text', 'no_query'},
+    'iiq/src/session.rt': {'list_text', 'found_below', 'query_of_text', 'no_query'},
     'iiq/src/words.rt': {'bytes_of'},
 }
 # What is looked for, and what it is called.

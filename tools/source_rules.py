@@ -5,7 +5,8 @@ another decoder, so a body that decodes by one of its own, copies one, or starts
 clause. This search closes that gap for the crates that read lists: COUNTED says, for each way around the counter, which functions may use it; no move
 of a cursor is among them. `tests/rules/program.py` plants each way, and the search must report it.
 
-`allocation_rules.py` searches for fabricated allocation failures."""
+`allocation_rules.py` searches for fabricated allocation failures. `no_conflicts` searches all files for what an
+unfinished merge left in them."""
 import glob
 import os
 import re
@@ -19,8 +20,8 @@ COUNTED = (
     ('a decoder', r'\bBlockDecoder\s*>?\s*::', {
         'ii_codes': {'default'},
         'ii_reader': {'empty_by', 'clear_by', 'fill'},
-        'ii_layout': {'open', 'has_small_sum'},
-        'ii_check': {'first_block', 'validate_positions', 'are_positions'}}),
+        'ii_layout': {'open'},
+        'ii_check': {'first_block', 'validate_positions', 'open_counted_positions', 'are_positions'}}),
     ('a copy', r'\bclone\(', {
         'ii_codes': set(),
         'ii_reader': {'clone', 'doc_freq_given_deletes'},
@@ -40,7 +41,7 @@ COUNTED = (
      r'(?<!-> )(?<!impl )(?<!for )(?<!struct )(?<!let )'
      r'\b(BlockDecoder|SkipReader|PositionBlocks|PositionReader|CheckedPostings|BlockSegmentPostings|SegmentPostings|Self)\s*\{', {
          'ii_codes': {'with_val', 'clone'},
-         'ii_reader': {'empty_by', 'from_block_postings', 'clone'},
+         'ii_reader': {'empty_by', 'from_parts', 'clone'},
          'ii_layout': {'open', 'new', 'anew', 'clone'},
          'ii_check': {'open', 'empty', 'clone'}}),
     ('the complete validation', r'\bcheck_postings\(|\bCheckedPostings::open\b|\.(has_small_sum|num_positions|validate_positions|open_counted_positions)\(', {
@@ -58,16 +59,17 @@ COUNTED = (
     ('a log that a block is added to', r'\.\s*with_block\(|\bdecoded_blocks\s*(\.\s*(docs|freqs)\s*)?=(?!=)', {
         'ii_reader': {'clear_by', 'fill'},
         'ii_check': {'load_block', 'first_block', 'validate_positions', 'are_positions'}}),
-    ('a new counter', r'\bGhostCounter\s*>?\s*(::|\{)|\bCheckedBlocks\s*>?\s*::', {
+    ('a new counter', r'\bGhostCounter\s*>?\s*\{|\b(GhostCounter|DecodeCount|CheckedBlocks|CheckedPositions)\s*>?\s*::|(?<!-> )(?<!impl )(?<!for )(?<!struct )\bDecodeCount\s*\{', {
         'ii_codes': {'with_val'},
-        'ii_reader': {'empty_by', 'clear_by', 'fill'},
+        'ii_reader': {'open', 'open_known', 'reset', 'empty_by', 'clear_by', 'from_block_postings', 'fill', 'fill_positions'},
         'ii_layout': {'new', 'counts_are_narrow'},
-        'ii_check': {'none'}}),
-    ('a counter that is incremented or copied', r'\.\s*(next|same)\(\)|\.\s*(decodes|entries_read)\s*=(?!=)', {
+        'ii_check': {'none', 'new', 'with_decoder', 'with_reader', 'same'}}),
+    ('a counter that is incremented or copied', r'\.\s*(next|same)\(\)|\.\s*(with_decoder|with_reader|add_lists|add_positions|add_reader)\(|\.\s*(decodes|entries_read)\s*=(?!=)', {
         'ii_codes': {'unpack_sorted', 'unpack_unsorted', 'count', 'clone'},
         'ii_layout': {'read_entry', 'clone'},
         'ii_reader': {'clone', 'list_encoded_json_fields', 'list_further'},
-        'ii_check': {'after_documents', 'has_freqs', 'count_last', 'same'}}),
+        'ii_check': {'after_documents', 'has_freqs', 'count_last', 'same', 'add_lists', 'add_positions', 'add_reader', 'validate_positions', 'open_counted_positions',
+                     'are_positions'}}),
     ('an unpacked block',
      r'\b(unpack|unpack_from|unpack_width|unpack_narrow|unpack_wide|sorted_values|sorted_from|sorted_width|sorted_narrow|sorted_wide)\b', {
          'ii_codes': {'unpack', 'unpack_from', 'unpack_sorted', 'unpack_unsorted', 'sum_of', 'sorted_values', 'sorted_from'}}),
@@ -160,4 +162,31 @@ def one_counted_decoder():
                     count += 1
                     print(f'{name_of(source)}:{first + line}: {what} {place}')
     print(f'one counted decoder: {"no" if count == 0 else count} violation{"" if count == 1 else "s"}')
+    return (0, 1) if count else (1, 0)
+
+
+def conflicts_in(text):
+    """Yields the number of each line that marks a conflict of a merge."""
+    for number, line in enumerate(text.split(b'\n'), 1):
+        if re.match(rb'(<{7}|>{7}|\|{7})( |$)', line):
+            yield number
+
+
+def files():
+    """Yields the path of each file of the repository that isn't built."""
+    for folder, folders, names in os.walk(programs.TOP):
+        folders[:] = sorted(name for name in folders if name not in ('.git', 'out'))
+        for name in sorted(names):
+            yield os.path.join(folder, name)
+
+
+def no_conflicts():
+    """Checks that no file has a line that marks a conflict of a merge."""
+    count = 0
+    for path in files():
+        with open(path, 'rb') as file:
+            for number in conflicts_in(file.read()):
+                count += 1
+                print(f'{name_of(path)}:{number}: a conflict of a merge')
+    print(f'conflicts of merges: {"no" if count == 0 else count}')
     return (0, 1) if count else (1, 0)

@@ -3,6 +3,7 @@ unproved one."""
 import os
 import shutil
 import sys
+import tempfile
 
 import programs
 
@@ -38,3 +39,26 @@ def run(name, crate, usage=None, first_words=(), first_input=b''):
     if not is_unproved and programs.is_built(crate):
         os.execv(programs.program_of(crate), [programs.program_of(crate), *passed_on])
     return programs.run_unproved(name, crate, passed_on, first_words, first_input)
+
+
+def install(name, crate, words):
+    """Copies the proved program of a crate into the folder that `words` names, as `name`. It needs nothing else of the
+    tree. Returns the exit status."""
+    if len(words) != 1 or words[0].startswith('-'):
+        print(f'usage: ./{name} install DIR', file=sys.stderr)
+        return 2
+    if not has_kit(name):
+        return 2
+    if not programs.is_built(crate):
+        print(f'{name}: the program of these sources is not built yet; ./{name} --prove proves and builds it', file=sys.stderr)
+        return 2
+    place = os.path.join(words[0], name)
+    try:
+        with tempfile.TemporaryDirectory(dir=words[0], prefix=f'.{name}-') as folder:
+            copied = shutil.copy(programs.program_of(crate), folder)
+            os.replace(copied, place)
+    except OSError as error:
+        print(f'{name}: {place}: {error.strerror}', file=sys.stderr)
+        return 2
+    print(place)
+    return 0

@@ -20,6 +20,7 @@ PRINTS = {
     './nequllpa index sea --schema schema.toml lines.jsonl': '2 documents indexed\n',
     """./nequllpa search sea '"the sea" NOT bird'""": '1\n',
     """./nequllpa search sea '"the sea" NOT bird' --source""": '{"body": "the sea, the old sea"}\n',
+    './nequllpa search sea old --limit 1 --snippet --json': '{"doc":0,"snippet":"the <b>old</b> sea"}\n',
     # BM25 of `old`: 2.2 * ln(1.2) * 1 / (1 + 1.2 * (0.25 + 0.75 * 3 / 4)) = 0.2031; the prefix counts 1.
     "./nequllpa search sea 'old se*' --top 1": '0\t1.2031\n',
     './nequllpa check sea': '0 damages\n',

@@ -7,17 +7,14 @@ import os
 import random
 import shutil
 import struct
-import subprocess
 import sys
-import tempfile
-import time
 
 sys.dont_write_bytecode = True
 HERE = os.path.dirname(os.path.abspath(__file__))
-sys.path[:0] = [HERE, os.path.join(os.path.dirname(os.path.dirname(HERE)), 'tools')]
-import programs
+sys.path.insert(0, HERE)
+import users
+from users import Failed
 
-PROGRAM = 'nequllpa_cli'
 SEED = 20261128
 FOLDERS = 200
 CHANGES = 300
@@ -25,35 +22,6 @@ FIELD_LINES = 120
 NOT_STORED = 'the lines of this index are not stored'
 SCHEMA = 'store_source = true\n[[field]]\nname = "id"\ntype = "u64"\n[[field]]\nname = "body"\ntype = "text"\n'
 PIECES = ['sea', 'old', 'man', 'boat', 'line', 'fish', 'na\u00efve', '\u8001\u4eba', '\\u00e9', '\\"', '\\\\', 'x' * 300]
-
-
-class Failed(Exception):
-    """A result that differs from the expected one."""
-
-
-class User:
-    """Runs the program in a room."""
-
-    def __init__(self, program, room):
-        self.program, self.room, self.runs = program, room, 0
-
-    def run(self, *words, given=b''):
-        self.runs += 1
-        return subprocess.run([self.program, *map(str, words)], input=given, stdout=subprocess.PIPE, stderr=subprocess.PIPE, cwd=self.room, timeout=110)
-
-    def wants(self, words, status, out=None, err='', given=b''):
-        """Checks the status, the output if it is given, and that standard error contains `err`."""
-        done = self.run(*words, given=given)
-        if done.returncode != status or (out is not None and done.stdout != out) or err not in done.stderr.decode():
-            raise Failed(f'{words}: status {done.returncode}, {done.stdout[-300:]!r}, {done.stderr[-300:]!r}; wanted {status}, {out!r}, {err!r}')
-        return done.stdout
-
-    def path(self, *names):
-        return os.path.join(self.room, *names)
-
-    def write(self, name, text):
-        with open(self.path(name), 'w', encoding='utf-8') as file:
-            file.write(text)
 
 
 class Lines:
@@ -278,7 +246,7 @@ def store_of(user, folder):
 UNSTORED = (['search', 'sea'], ['search', 'sea', '--count'], ['search', 'sea', '--positions'], ['search', 'sea', '--ids', '--json'], ['search', 'sea', '--top', '7'],
             ['terms', 'body'], ['terms', 'id', '--top', '3'], ['postings', 'body', 'sea', '--positions'], ['fields'])
 # commands that read or rewrite them
-STORED = (['search', 'sea', '--source'], ['search', 'sea', '--top', '7', '--source', '--json'], ['stats'], ['delete', 'id', '4'], ['merge'])
+STORED = (['search', 'sea', '--source'], ['search', 'sea', '--snippet'], ['search', 'sea', '--top', '7', '--source', '--json'], ['stats'], ['delete', 'id', '4'], ['merge'])
 
 
 def answers(user, folder):
@@ -340,24 +308,14 @@ def damage_is_named(user):
     user.wants(['merge', 'hurt'], 0, b'2 segments merged, 1201 documents\n')
 
 
-def main():
-    if 'NEQULLPA' not in os.environ and not programs.build(PROGRAM):
-        print('tests/folder: the program was not built')
-        return 1
-    program, start = os.environ.get('NEQULLPA', programs.program_of(PROGRAM)), time.monotonic()
-    try:
-        with tempfile.TemporaryDirectory() as room:
-            user = User(os.path.abspath(program), room)
-            commands_keep_lines(user)
-            other_indexes_answer(user)
-            random_folders(user)
-            fields_are_chosen(user)
-            damage_is_named(user)
-    except Failed as failure:
-        print(f'tests/folder: {failure}')
-        return 1
-    print(f'tests/folder: stored lines come back, in {FOLDERS} folders, and damage is named at {CHANGES} places; {user.runs} runs, {time.monotonic() - start:.0f} s')
-    return 0
+def stored_lines(user):
+    """Goes through all of it. Returns what was seen."""
+    commands_keep_lines(user)
+    other_indexes_answer(user)
+    random_folders(user)
+    fields_are_chosen(user)
+    damage_is_named(user)
+    return f'stored lines come back, in {FOLDERS} folders, and damage is named at {CHANGES} places'
 
 
-sys.exit(main())
+sys.exit(users.judged(stored_lines))

@@ -13,6 +13,7 @@ import time
 
 sys.dont_write_bytecode = True
 import player
+import users
 from segments_meaning import Session, some_session
 
 SESSIONS = 100
@@ -41,7 +42,7 @@ def one_session(task):
 
 def main():
     many, first = (int(sys.argv[1]), int(sys.argv[2])) if len(sys.argv) > 2 else (SESSIONS, 0)
-    program, begun = player.program_path(), time.time()
+    program, begun = users.program_path(), time.time()
     if program is None:
         print('tests/folder: the program was not built')
         return 1

@@ -7,20 +7,16 @@ term is damaged, and nothing else. The damaged indexes are of version 1 and of v
 import json
 import os
 import random
-import subprocess
 import sys
-import tempfile
-import time
 
 sys.dont_write_bytecode = True
 HERE = os.path.dirname(os.path.abspath(__file__))
 sys.path.insert(0, HERE)
-sys.path.insert(0, os.path.join(os.path.dirname(os.path.dirname(HERE)), 'tools'))
-import programs
 import texts
+import users
 import versions
+from users import Failed
 
-PROGRAM = 'nequllpa_cli'
 DOCS = 20_000
 FIELDS = 100
 CLAUSES = 128
@@ -35,26 +31,8 @@ FILES = {'term.0': 'terms', 'idx.0': 'postings', 'pos.0': 'positions', 'fieldnor
 SEGMENT_FILES = {'term.0': '0000000000000000.term', 'idx.0': '0000000000000000.idx', 'pos.0': '0000000000000000.pos', 'fieldnorm.0': '0000000000000000.norm'}
 
 
-class Failed(Exception):
-    """A result that differs from the expected one."""
-
-
-class User:
-    """A user who runs the program in a folder."""
-
-    def __init__(self, program, room):
-        self.program, self.room, self.runs = program, room, 0
-
-    def run(self, *words, given=b''):
-        self.runs += 1
-        return subprocess.run([self.program, *map(str, words)], input=given, stdout=subprocess.PIPE, stderr=subprocess.PIPE, cwd=self.room, timeout=300)
-
-    def wants(self, words, status, out, given=b''):
-        """Runs the program and checks its status and its output."""
-        done = self.run(*words, given=given)
-        if done.returncode != status or done.stdout.decode() != out:
-            told = [str(word)[:60] for word in words]
-            raise Failed(f'{told}: status {done.returncode}, {done.stdout[:200]!r}, {done.stderr[-300:]!r}; wanted {status}, {out[:200]!r}')
+class User(users.User):
+    """A user who searches bodies."""
 
     def finds(self, query, found, *more):
         """Searches the bodies, and checks the documents and their number."""
@@ -232,32 +210,22 @@ def list_parts(user, chosen, version):
     return tried
 
 
-def main():
-    if 'NEQULLPA' not in os.environ and not programs.build(PROGRAM):
-        print('tests/folder: the program was not built')
-        return 1
-    begun, chosen = time.time(), random.Random(11)
-    with tempfile.TemporaryDirectory() as room:
-        user = User(os.environ.get('NEQULLPA', programs.program_of(PROGRAM)), room)
-        with open(os.path.join(room, 'schema.toml'), 'w', encoding='utf-8') as file:
-            file.write(schema())
-        docs = documents(chosen)
-        try:
-            given = ''.join(json.dumps(doc) + '\n' for doc in docs).encode()
-            user.wants(['index', 'folder', '--schema', 'schema.toml'], 0, f'{DOCS} documents indexed\n', given=given)
-            searches(user, texts.lists_of(docs, 'body'), chosen)
-            for version in (2, 1):
-                if version == 1:
-                    versions.to_first(os.path.join(room, 'folder'))
-                damages(user, chosen, version)
-                if not user.run('check', 'folder').stdout.decode().endswith('\n0 damages\n'):
-                    raise Failed('check: damages in a folder that was restored')
-            tried = sum(list_parts(user, chosen, version) for version in (1, 2))
-        except Failed as why:
-            print(f'tests/folder: {why}')
-            return 1
-    print(f'tests/folder: {DOCS} documents, {CLAUSES} clauses, a line of {max(len(doc["body"]) for doc in docs) >> 20} MB, {tried} damaged parts of a list, {user.runs} runs, in {time.time() - begun:.0f} s')
-    return 0
+def many_blocks(user):
+    """Goes through all of it. Returns what was seen."""
+    chosen = random.Random(11)
+    user.write('schema.toml', schema())
+    docs = documents(chosen)
+    given = ''.join(json.dumps(doc) + '\n' for doc in docs).encode()
+    user.wants(['index', 'folder', '--schema', 'schema.toml'], 0, f'{DOCS} documents indexed\n', given=given)
+    searches(user, texts.lists_of(docs, 'body'), chosen)
+    for version in (2, 1):
+        if version == 1:
+            versions.to_first(user.path('folder'))
+        damages(user, chosen, version)
+        if not user.run('check', 'folder').stdout.decode().endswith('\n0 damages\n'):
+            raise Failed('check: damages in a folder that was restored')
+    tried = sum(list_parts(user, chosen, version) for version in (1, 2))
+    return f'{DOCS} documents, {CLAUSES} clauses, a line of {max(len(doc["body"]) for doc in docs) >> 20} MB, {tried} damaged parts of a list'
 
 
-sys.exit(main())
+sys.exit(users.judged(many_blocks, User, 300))

@@ -11,12 +11,9 @@ import os
 import subprocess
 import sys
 
-HERE = os.path.dirname(os.path.abspath(__file__))
-sys.path.insert(0, os.path.join(os.path.dirname(os.path.dirname(HERE)), 'tools'))
-import programs
+sys.path.insert(0, os.path.dirname(os.path.abspath(__file__)))
 from segments_meaning import FIELD, SCHEMA, Meaning, doc_tokens, without
-
-PROGRAM = 'nequllpa_cli'
+from users import Failed
 TOML = '''\
 tokenizer = "ascii"
 
@@ -47,17 +44,6 @@ type = "u64"
 name = "j"
 type = "json"
 '''
-
-
-class Failed(Exception):
-    """A result that differs from the expected one."""
-
-
-def program_path():
-    """Returns the path of the program to test, or None if it can't be built."""
-    if 'NEQULLPA' in os.environ:
-        return os.path.abspath(os.environ['NEQULLPA'])
-    return programs.program_of(PROGRAM) if programs.build(PROGRAM) else None
 
 
 def side_by_side(function, tasks):

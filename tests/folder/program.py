@@ -174,7 +174,7 @@ def ids(user):
     """Checks documents printed by the values of a field `id`."""
     schema = user.write('ids.toml', IDS)
     docs = [{'id': 70, 'body': 'old "sea"'}, {'body': 'the sea'}, {'id': [9, 5], 'body': 'sea, old sea'}]
-    user.wants(['index', 'ids', '--schema', schema], 0, '3 documents indexed\n', 'bytes of memory for each byte of input', given=lines(docs).encode())
+    user.wants(['index', 'ids', '--schema', schema], 0, '3 documents indexed\n', 'lines that take about 512 MB of memory become a segment', given=lines(docs).encode())
     user.wants(['search', 'ids', 'sea', '--ids'], 0, '70\n-\n5\n')
     user.wants(['search', 'ids', 'sea -the', '--ids', '--positions'], 0, '70\tbody:sea 1\n5\tbody:sea 0 2\n')
     user.wants(['search', 'ids', 'sea', '--ids', '--json', '--limit', 2], 0, '{"doc":0,"id":"70"}\n{"doc":1,"id":null}\n')
@@ -531,6 +531,11 @@ BAD_SCHEMAS = (
     ('[[field]]\nname = "a"\ntype = "text"\nexpand_dots = true', 'field 0: expand_dots'),
     ('[[field]]\nname = "a"\ntype = "text"\nindexed = 1', 'field 0: indexed'),
     ('[[field]]\nname = "a"\ntype = "text"\nstored = true', 'field 0: unknown key stored (the field a)'),
+    ('[[field]]\nname = "a"\ntype = "text"\nunknown = "ignore"', 'field 0: unknown key unknown (the field a)'),
+    ('unknown = "keep"\n[[field]]\nname = "a"\ntype = "text"', 'unknown: refuse or ignore'),
+    ('unknown = true\n[[field]]\nname = "a"\ntype = "text"', 'unknown: refuse or ignore'),
+    ('unknown = true\nstore_source = 1', 'store_source: true or false'),
+    ('unknown = "ignore"', 'no table [[field]]'),
 )
 
 
@@ -576,6 +581,139 @@ def refusals(user, docs):
     told = user.wants(['check', 'folder'], 0)
     if not told.startswith(f'{len(docs)} documents; '):
         raise Failed(f'after refusals: {told!r}')
+
+
+UNKNOWN = '''\
+unknown = "ignore"
+store_source = true
+[[field]]
+name = "body"
+type = "text"
+[[field]]
+name = "id"
+type = "u64"
+'''
+# lines with members under unknown keys, and without them
+STRANGERS = (
+    ('{"body": "old sea", "x": 1.5, "y": {"body": "new"}, "id": 1}', '{"body": "old sea", "id": 1}'),
+    ('{"z": [null, 5], "body": "sea", "z": "new", "id": 2}', '{"body": "sea", "id": 2}'),
+    ('{"": "new"}', '{}'),
+    ('{"Body": "new", "body ": "new", "bod": "new", "body.x": 5, "id": [4, 5]}', '{"id": [4, 5]}'),
+    ('{"body": null, "a": null, "body": "the sea", "a": 18446744073709551616}', '{"body": "the sea"}'),
+)
+BAD_STRANGERS = (
+    ('{"a": 1, "body": 5}', 'body: not of the type of the field'),
+    ('{"id": 2.5, "zz": 2.5}', 'id: a number out of range'),
+    ('{"x": tru}', 'not JSON, at byte '),
+    ('[{"x": 1}]', 'not an object'),
+)
+
+
+def unknown_keys(user):
+    """Checks that members under unknown keys are ignored if the schema says so: the index is that of the lines without
+    them, the stored lines are complete, and what is wrong with other members is refused as before."""
+    schema = user.write('unknown.toml', UNKNOWN)
+    text = ''.join(line + '\n' for line, _ in STRANGERS)
+    user.wants(['index', 'strangers', '--schema', schema], 0, f'{len(STRANGERS)} documents indexed\n', given=text.encode())
+    user.wants(['index', 'plain', '--schema', schema], 0, given=''.join(line + '\n' for _, line in STRANGERS).encode())
+    for kind in SEGMENT_FILES:
+        files = [os.path.join(user.path(name), f'{0:016x}.{kind}') for name in ('strangers', 'plain')]
+        with open(files[0], 'rb') as one, open(files[1], 'rb') as two:
+            if one.read() != two.read():
+                raise Failed(f'the file {kind} differs from that of lines without unknown keys')
+    user.wants(['search', 'strangers', 'new'], 1, '')
+    user.wants(['search', 'strangers', 'sea'], 0, '0\n1\n4\n')
+    user.wants(['get', 'strangers', *range(len(STRANGERS))], 0, text)
+    user.wants(['add', 'strangers', '--no-merge'], 0, '1 documents added\n', given=b'{"k": {"l": 1.5}, "body": "a new sea", "id": 3}\n')
+    user.wants(['search', 'strangers', 'new', '--source'], 0, '{"k": {"l": 1.5}, "body": "a new sea", "id": 3}\n')
+    user.wants(['add', 'strangers', '--replace-by', 'id'], 0, '1 documents added, 1 replaced\n', given=b'{"id": 1, "w": 2.5, "body": "newest"}\n')
+    user.wants(['search', 'strangers', 'old'], 1, '')
+    user.wants(['search', 'strangers', 'newest', '--source'], 0, '{"id": 1, "w": 2.5, "body": "newest"}\n')
+    user.wants(['merge', 'strangers'], 0)
+    user.wants(['search', 'strangers', 'newest', '--source'], 0, '{"id": 1, "w": 2.5, "body": "newest"}\n')
+    user.wants(['check', 'strangers'], 0)
+    for line, reason in BAD_STRANGERS:
+        for words in (['index', 'strangers', '--schema', schema], ['add', 'strangers'], ['add', 'strangers', '--replace-by', 'id']):
+            user.wants(words, 1, '', f'-:2: {reason}', given=b'{"id": 9, "q": 1}\n' + line.encode() + b'\n')
+    refusing = user.write('refuse.toml', UNKNOWN.replace('"ignore"', '"refuse"'))
+    user.wants(['index', 'refusing', '--schema', refusing], 1, '', '-:1: unknown key x', given=text.encode())
+    user.wants(['index', 'refusing', '--schema', refusing], 0, given=b'{"id": 1}\n')
+    user.wants(['add', 'refusing'], 1, '', '-:1: unknown key x', given=text.encode())
+    user.wants(['add', 'refusing', '--replace-by', 'id'], 1, '', '-:1: unknown key x', given=text.encode())
+
+
+def quiet(user):
+    """Checks that --quiet leaves standard error empty but for why lines are left out, and what --version prints."""
+    schema = user.write('quiet.toml', 'tokenizer = "ascii"\n' + IDS)
+    short = lines([{'body': f'a {"x" * 65531}', 'id': 1}]).encode() + b'\n[1]\n'
+    long = short.replace(b'\n\n', b'\n' + b' ' * (17 << 20) + b'\n')
+    for words, given, steps in ((['index', 'quiet', '--schema', schema], long, [' MB/s\n']), (['add', 'quiet'], short, []), (['add', 'quiet', '--replace-by', 'id'], short, [])):
+        told = user.run(*words, '--skip-bad', given=given).stderr.decode()
+        for said in ('of memory become a segment; --memory sets that\n', 'nequllpa: 1 words of more than', '-:3: not an object\n', *steps):
+            if said not in told:
+                raise Failed(f'{words}: no {said!r} in {told!r}')
+        done = user.run(*words, '--skip-bad', '--quiet', given=given)
+        if done.returncode or done.stderr != b'-:3: not an object\n':
+            raise Failed(f'{words} --quiet: status {done.returncode}, {done.stderr[-300:]!r}')
+    told = user.wants(['--version'], 0)
+    if told != user.wants(['-V'], 0) or not told.startswith('nequllpa ') or not all(part.isdigit() for part in told[9:-1].split('.')) or told[9:-1].count('.') != 2:
+        raise Failed(f'--version: {told!r}')
+
+
+QUERIES = ('the', 'the AND of', 'the OR license', 'the -a', '"of the"', 'lic*', 'nosuchword', 'number:3', 'number:[1 TO 5]', 'change:"-9"', '*', 'the AND', '', '  ',
+           '("', 'se*a', 'nofield:a', 'number:x', 'is_long:7', 'note:a', 'about:"x y"', '"a\\"b"', 'naïve “the”', 'the\tof', 'NOT the', 'the^2')
+CHOICES = (['--limit', 2], ['--limit', 0], ['--count'], ['--count', '--json'], ['--top', 3], ['--top', 0], ['--field', 'body', '--positions', '--limit', 9])
+
+
+def answer_of(user, folder, query, options):
+    """Returns the answer to a query in a batch, from those of a single run."""
+    done = user.run('search', folder, query, *options, *([] if '--json' in options else ['--json']))
+    told, err = done.stdout.decode(), done.stderr.decode()
+    name = json.dumps(query, ensure_ascii=False)
+    if done.returncode < 2:
+        count = told.strip()[1:-1] if '--count' in options else None
+        return f'{{"query":{name},' + (count or f'"docs":[{",".join(told.splitlines())}]') + '}\n'
+    said = f'nequllpa: {query}: '
+    if not err.startswith(said):
+        raise Failed(f'search {query!r}: {err!r}; wanted {said!r}')
+    reason = err[len(said):-1]
+    byte = f',"byte":{reason.split()[2][:-1]}' if reason.startswith('at byte ') else ''
+    return f'{{"query":{name},"error":{json.dumps(reason, ensure_ascii=False)}{byte}}}\n'
+
+
+def batches(user):
+    """Checks that each answer of a batch is that of a single run, and is printed before the next query is read."""
+    queries = '\n'.join(QUERIES).encode()
+    for options in CHOICES:
+        wanted = ''.join(answer_of(user, 'folder', query, options) for query in QUERIES)
+        user.wants(['search', 'folder', '--batch', *options], 2, wanted, given=queries)
+        user.wants(['search', 'folder', *options, '--batch'], 2, wanted, given=queries.replace(b'\n', b'\r\n') + b'\n')
+    user.wants(['search', 'folder', '--batch', '--count'], 0, '', given=b'')
+    user.wants(['search', 'folder', '--batch', '--count'], 0, '{"query":"nosuchword","count":0}\n', given=b'nosuchword\n')
+    user.wants(['search', 'folder', '--batch'], 2, '{"query":null,"error":"not UTF-8"}\n{"query":"nosuchword","docs":[]}\n', given=b'\xff\nnosuchword')
+    schema = user.write('stored.toml', 'store_source = true\n' + IDS)
+    docs = [{'id': 70, 'body': 'old "sea" <b>'}, {'body': 'the sea'}, {'id': 5, 'body': 'sea, old sea'}]
+    user.wants(['index', 'stored', '--schema', schema], 0, given=lines(docs).encode())
+    for options in (['--ids'], ['--ids', '--positions'], ['--ids', '--top', 2], ['--source'], ['--source', '--top', 2], ['--fields', 'body,id'], ['--snippet'], ['--snippet', '--color', 'always', '--top', 2]):
+        wanted = ''.join(answer_of(user, 'stored', query, options) for query in ('sea', 'old', 'the OR old', 'x'))
+        user.wants(['search', 'stored', '--batch', *options], 0, wanted, given=b'sea\nold\nthe OR old\nx\n')
+    for words, reason in ((['sea', '--batch'], 'search needs a query, or --batch'), ([], 'search needs a query, or --batch'), (['--batch', '--top', 1, '--count'], '--top stands without'),
+                          (['--batch', '--field', 'x'], 'no field x'), (['--batch', '--limit', 'x'], '--limit x: expected'), (['--batch', '--source', '--ids'], '--source stands without')):
+        user.wants(['search', 'stored', *words], 2, '', reason, given=b'sea\n')
+    user.wants(['search', 'nowhere', '--batch'], 1, 'nowhere: no index here\n', given=b'sea\n')
+    user.runs += 1
+    with subprocess.Popen([user.program, 'search', 'stored', '--batch', '--timing'], stdin=subprocess.PIPE, stdout=subprocess.PIPE, stderr=subprocess.PIPE, cwd=user.folder) as run:
+        for query, found in (('old', '[{"doc":0},{"doc":2}]'), ('the', '[{"doc":1}]')):
+            run.stdin.write(query.encode() + b'\n')
+            run.stdin.flush()
+            told = run.stdout.readline().decode()
+            if told != f'{{"query":"{query}","docs":{found}}}\n':
+                raise Failed(f'a batch that waits: {told!r}')
+        run.stdin.close()
+        times = run.stderr.read().decode().splitlines()
+        if run.wait() != 0 or [line.rsplit(' ', 2)[0] for line in times] != ['nequllpa: opening:', 'nequllpa: query 1:', 'nequllpa: query 2:'] or not all(line.endswith(' ms') for line in times):
+            raise Failed(f'the times of a batch: {times}')
+    user.wants(['search', 'stored', 'sea', '--timing', '--count'], 0, '3\n', 'nequllpa: search: ')
 
 
 def damages(user, chosen, places):
@@ -749,6 +887,9 @@ def main():
             searches(user, docs, chosen)
             values(user, docs)
             refusals(user, docs)
+            unknown_keys(user)
+            batches(user)
+            quiet(user)
             grows(user, docs, chosen)
             settles(user, docs)
             deletes(user)

@@ -227,7 +227,22 @@ class Reader:
 
     def __init__(self, program, room, fields, lines):
         self.program, self.room, self.settings, self.runs, self.merges_some = program, room, fields, 0, False
+        # chooses members under unknown keys, if these are ignored; the queries that were asked, and their documents
+        self.strange, self.asked = None, []
         self.read(lines)
+
+    def text_of(self, lines):
+        """Returns documents as lines of JSON, if unknown keys are ignored with members of such keys."""
+        return ''.join(json.dumps(self.with_strangers(line), ensure_ascii=False) + '\n' for line in lines).encode()
+
+    def with_strangers(self, line):
+        if not self.strange or self.strange.random() < 0.4:
+            return line
+        known = [field['name'] for field in self.settings]
+        names = self.strange.sample([name for name in NAMES + KEYS + ['Body', 'body ', 'bod', 'zz'] if name not in known], self.strange.randint(1, 3))
+        members = list(line.items()) + [(name, self.strange.choice([1.5, -0.0, None, [2.5, {'body': 'sea'}], random_json(self.strange, 2)])) for name in names]
+        self.strange.shuffle(members)
+        return dict(members)
 
     def read(self, lines):
         """Reads the lines of an index anew."""
@@ -250,9 +265,9 @@ class Reader:
         """Indexes the lines up to the first cut, and adds those between each two cuts as a segment. Or indexes
         nothing, and adds all lines. What is indexed is an index of a version."""
         with open(os.path.join(self.room, 'schema.toml'), 'w', encoding='utf-8') as file:
-            file.write(schema_text(fields))
+            file.write(('unknown = "ignore"\n' if self.strange else '') + schema_text(fields))
         parts = [self.lines[begin:end] for begin, end in zip([0, *cuts], [*cuts, len(self.lines)])]
-        texts = [''.join(json.dumps(line, ensure_ascii=False) + '\n' for line in part).encode() for part in parts]
+        texts = [self.text_of(part) for part in parts]
         if only_adds:
             parts, texts = [[], *parts], [b'', *texts]
         self.wants(['index', 'folder', '--schema', 'schema.toml'], 0, f'{len(parts[0])} documents indexed\n', texts[0])
@@ -320,7 +335,7 @@ class Reader:
         last = {key: place for place, (key, _) in enumerate(keyed)}
         added = [line for place, (key, line) in enumerate(keyed) if last[key] == place]
         gone = set().union(*(field.lists.get(key, {}) for key in last)) if last else set()
-        text = ''.join(json.dumps(line, ensure_ascii=False) + '\n' for line in more).encode()
+        text = self.text_of(more)
         bad = f', {len(more) - len(keyed)} lines left out' if len(more) > len(keyed) else ''
         if bad:
             got, said, err = self.run('add', 'folder', f'--replace-by={name}', given=text)
@@ -343,7 +358,7 @@ class Reader:
         self.is_sound()
         if not does:
             return
-        text = ''.join(json.dumps(line, ensure_ascii=False) + '\n' for line in self.lines).encode()
+        text = self.text_of(self.lines)
         self.wants(['index', 'anew', '--schema', 'schema.toml'], 0, f'{len(self.lines)} documents indexed\n', text)
         files = {name.split('.')[-1]: name for name in os.listdir(os.path.join(self.room, 'folder')) if name.count('.') == 1}
         if sorted(files) != ['count', 'idx', 'norm', 'pos', 'term'][0 if counted else 1:]:
@@ -368,11 +383,15 @@ class Reader:
         text_fields = [field for field in self.fields if field.kind == 'text' and field.setting.get('indexed') is not False]
         everywhere = lambda word: set().union(*(self.docs_of(field, word) for field in text_fields))
         plain = [word for word in WORDS if texts.words_of(word) == [word]]
+        everything = set(range(len(self.lines)))
+        for query, found in (('*', everything), ('* -*', set()), ('* NOT (* NOT *)', everything)):
+            self.finds(query, found)
         for _ in range(8):
             one, two = chosen.choice(plain), chosen.choice(plain)
             if text_fields:
                 a, b = everywhere(one), everywhere(two)
-                for query, found in ((one, a), (f'{one} {two}', a | b), (f'{one} AND {two}', a & b), (f'{one} NOT {two}', a - b), (f'({one} OR {two}) AND -{two}', a - b)):
+                for query, found in ((one, a), (f'{one} {two}', a | b), (f'{one} AND {two}', a & b), (f'{one} NOT {two}', a - b), (f'({one} OR {two}) AND -{two}', a - b),
+                                     (f'* NOT {one}', everything - a), (f'* NOT (* NOT {one})', a)):
                     self.finds(query, found)
         self.prefixes(chosen, plain, text_fields)
         for field in self.fields:
@@ -385,6 +404,16 @@ class Reader:
                 self.finds(f'{name}:"{field.texts[key]}"', set(field.lists[key]))
             elif field.kind == 'text' and field.records() == 'position':
                 self.phrase(chosen, field, name)
+        self.batch()
+
+    def batch(self):
+        """Asks the queries again in one run, and in one that counts."""
+        given = ''.join(query + '\n' for query, _ in self.asked).encode()
+        row = lambda query, rest: f'{{"query":{json.dumps(query, ensure_ascii=False)},{rest}}}\n'
+        docs = lambda found: ','.join(f'{{"doc":{doc}}}' for doc in sorted(found))
+        self.wants(['search', 'folder', '--batch'], 0, ''.join(row(query, f'"docs":[{docs(found)}]') for query, found in self.asked), given)
+        self.wants(['search', 'folder', '--batch', '--count'], 0, ''.join(row(query, f'"count":{len(found)}') for query, found in self.asked), given)
+        self.asked = []
 
     def prefixes(self, chosen, plain, text_fields):
         """Compares searches for words that begin with some characters."""
@@ -421,6 +450,7 @@ class Reader:
         self.finds(f'{name}:"{one.decode()} {two.decode()}"', found)
 
     def finds(self, query, found):
+        self.asked.append((query, found))
         self.wants(['search', 'folder', '--', query], 0 if found else 1, ''.join(f'{doc}\n' for doc in sorted(found)))
         self.wants(['search', 'folder', '--json', '--limit', '2', '--', query], 0 if found else 1, ''.join(f'{{"doc":{doc}}}\n' for doc in sorted(found)[:2]))
         self.wants(['search', 'folder', '--count', '--', query], 0 if found else 1, f'{len(found)}\n')
@@ -431,6 +461,8 @@ def one_folder(program, room, chosen, is_large):
     lines = [random_line(chosen, fields) for _ in range(chosen.randint(300, 900) if is_large else chosen.randint(0, 30))]
     reader = Reader(program, room, fields, lines)
     reader.merges_some = chosen.random() < 0.5
+    if chosen.random() < 0.3:
+        reader.strange = random.Random(chosen.random())
     cuts = sorted(chosen.randint(0, len(lines)) for _ in range(chosen.choice((0, 0, 1, 2, 4))))
     version = chosen.choice((1, 2, 2))
     reader.indexes(fields, cuts, chosen.random() < 0.3, version)

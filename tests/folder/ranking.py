@@ -12,6 +12,7 @@ import time
 
 sys.dont_write_bytecode = True
 import player
+import users
 from ranking_meaning import Ranking, show
 from segments_meaning import FIELD, WORDS, i64_key, some_doc, some_key, u64_key
 
@@ -166,7 +167,7 @@ def one_folder(task):
 
 def main():
     many, first = (int(sys.argv[1]), int(sys.argv[2])) if len(sys.argv) > 2 else (FOLDERS, 0)
-    program, begun = player.program_path(), time.time()
+    program, begun = users.program_path(), time.time()
     if program is None:
         print('tests/folder: the program was not built')
         return 1

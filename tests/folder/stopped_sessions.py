@@ -18,6 +18,7 @@ HERE = os.path.dirname(os.path.abspath(__file__))
 sys.path.insert(0, os.path.dirname(HERE))
 import cuts
 import player
+import users
 import refusing
 from player import Failed
 from segments_meaning import some_doc, some_session
@@ -158,7 +159,7 @@ def tasks_of(program, library, seeds):
 
 def main():
     many, first = (int(sys.argv[1]), int(sys.argv[2])) if len(sys.argv) > 2 else (SESSIONS, FIRST)
-    program, begun = player.program_path(), time.time()
+    program, begun = users.program_path(), time.time()
     if program is None:
         print('tests/folder: the program was not built')
         return 1

@@ -49,8 +49,8 @@ class Folder:
         with open(told, encoding='ascii') as calls:
             return done, calls.read()
 
-    def index(self, lines, **variables):
-        return self.run('index', 'index', '--schema', 'schema.toml', lines, **variables)
+    def index(self, lines, *options, **variables):
+        return self.run('index', 'index', '--schema', 'schema.toml', *options, lines, **variables)
 
     def wants(self, done, status, said):
         if done.returncode != status or said not in done.stdout + done.stderr:
@@ -68,16 +68,16 @@ class Folder:
         raise Failed(f'check: status {done.returncode}, {done.stdout!r}; wanted one of {answers}')
 
 
-def stopped_everywhere(folder, old, version=2):
-    """Stops the program before each of its calls, over a folder with the old index of a version, or without one. Returns
-    its calls."""
+def stopped_everywhere(folder, old, version=2, options=()):
+    """Stops the program, with these options, before each of its calls, over a folder with the old index of a version, or
+    without one. Returns its calls."""
     for stop in range(1, 1000):
         shutil.rmtree(folder.path('index'), ignore_errors=True)
         if old is not None:
             folder.wants(folder.index('old.jsonl')[0], 0, '1 documents indexed')
             if version == 1:
                 versions.to_first(folder.path('index'))
-        done, calls = folder.index('new.jsonl', STOP_AT=stop)
+        done, calls = folder.index('new.jsonl', *options, STOP_AT=stop)
         if done.returncode == 0:
             folder.holds(2)
             return calls
@@ -87,6 +87,35 @@ def stopped_everywhere(folder, old, version=2):
         # what is left must not prevent the next run, and the lock ends with its process
         folder.wants(folder.index('new.jsonl')[0], 0, '2 documents indexed')
         folder.holds(2)
+        folder.stops += 1
+    raise Failed('the program makes no end of calls')
+
+
+def no_remains(folder, segments, after):
+    """Checks that the index has so many segments, and no files of a stopped run."""
+    named = [name for name in os.listdir(folder.path('index')) if name.endswith('.term')]
+    if len(named) != segments or os.path.exists(folder.path('index/meta.new')):
+        raise Failed(f'after {after}: {sorted(os.listdir(folder.path("index")))}')
+
+
+def flushes_everywhere(folder, version=2):
+    """Stops `add` before each of its calls, where each line becomes a segment: all of its documents are added, or none."""
+    for stop in range(1, 1000):
+        shutil.rmtree(folder.path('index'), ignore_errors=True)
+        folder.wants(folder.index('old.jsonl')[0], 0, '1 documents indexed')
+        if version == 1:
+            versions.to_first(folder.path('index'))
+        done, calls = folder.run('add', 'index', '--no-merge', '--memory', '1B', 'new.jsonl', STOP_AT=stop)
+        if done.returncode not in (0, -signal.SIGKILL):
+            raise Failed(f'add with little memory stopped at {stop}: status {done.returncode}, {done.stderr!r}')
+        folder.holds(*((3,) if done.returncode == 0 else (1, 3)))
+        has = int(folder.run('search', 'index', 'sea OR bird', '--count')[0].stdout)
+        # an add removes the files of a stopped run
+        folder.wants(folder.run('add', 'index', '--no-merge', 'old.jsonl')[0], 0, '1 documents added')
+        folder.holds(has + 1)
+        no_remains(folder, has + 1, f'an add with little memory that was stopped at {stop}')
+        if done.returncode == 0:
+            return calls
         folder.stops += 1
     raise Failed('the program makes no end of calls')
 
@@ -112,10 +141,7 @@ def adds_everywhere(folder, before, version=2):
         has = int(folder.run('search', 'index', 'sea', '--count')[0].stdout)
         folder.wants(folder.run('add', 'index', '--no-merge', 'new.jsonl')[0], 0, '2 documents added')
         folder.holds(has + 2)
-        # files of a stopped run were removed
-        named = [name for name in os.listdir(folder.path('index')) if name.endswith('.term')]
-        if len(named) != has + 1 or os.path.exists(folder.path('index/meta.new')):
-            raise Failed(f'after an add that was stopped at {stop}: {sorted(os.listdir(folder.path("index")))}')
+        no_remains(folder, has + 1, f'an add that was stopped at {stop}')
         folder.stops += 1
     raise Failed('the program makes no end of calls')
 
@@ -352,6 +378,10 @@ def main():
             in_order(stopped_everywhere(folder, 1, 1))
             refused = two_writers(folder, len(calls))
             orphans(folder)
+            for old, version in ((1, 2), (None, 2), (1, 1)):
+                in_order(stopped_everywhere(folder, old, version, ('--memory', '1B')))
+            in_order(flushes_everywhere(folder))
+            flushes_everywhere(folder, 1)
             adds_everywhere(folder, ['old.jsonl'], 1)
             adds_everywhere(folder, ['old.jsonl'])
             adds_everywhere(folder, ['old.jsonl', 'old.jsonl'])

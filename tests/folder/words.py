@@ -7,18 +7,15 @@ import json
 import os
 import random
 import struct
-import subprocess
 import sys
-import tempfile
-import time
 
 sys.dont_write_bytecode = True
 HERE = os.path.dirname(os.path.abspath(__file__))
-sys.path[:0] = [HERE, os.path.join(os.path.dirname(os.path.dirname(HERE)), 'tools')]
+sys.path.insert(0, HERE)
 import analyzers
-import programs
+import users
+from users import Failed
 
-PROGRAM = 'nequllpa_cli'
 SEED = 20261127
 ROUNDS = 12
 LINES = 40
@@ -39,30 +36,11 @@ EARLIER = {
 }
 
 
-class Failed(Exception):
-    """A result that differs from the expected one."""
-
-
-class User:
-    """Runs the program in a room."""
-
-    def __init__(self, program, room):
-        self.program, self.room = program, room
-
-    def run(self, *words, given=b''):
-        return subprocess.run([self.program, *words], input=given, stdout=subprocess.PIPE, stderr=subprocess.PIPE, cwd=self.room, timeout=110)
+class User(users.User):
+    """A user who reads what is printed as text."""
 
     def wants(self, words, status, out=None, err='', given=b''):
-        """Checks the status, the output if it is given, and that standard error contains `err`."""
-        done = self.run(*words, given=given)
-        told = done.stdout.decode()
-        if done.returncode != status or (out is not None and told != out) or err not in done.stderr.decode():
-            raise Failed(f'{words}: status {done.returncode}, {told[-300:]!r}, {done.stderr[-300:]!r}; wanted {status}, {out!r}, {err!r}')
-        return told
-
-    def write(self, name, text):
-        with open(os.path.join(self.room, name), 'w', encoding='utf-8') as file:
-            file.write(text)
+        return super().wants(words, status, out, err, given).decode()
 
 
 def schema_text(default):
@@ -150,7 +128,21 @@ def compares(user, chosen, default):
             user.wants(['search', 'folder', query], 2, '', 'expected a text with words')
         if words and kind == 'text':
             user.wants(['search', 'folder', quoted(text), '--field', name, '--count'], 0 if found else 1, f'{len(found)}\n')
+        compares_set(user, chosen, readings)
     user.wants(['check', 'folder'], 0)
+
+
+def compares_set(user, chosen, readings):
+    """Compares the documents of a set of texts, and those without them, with the reading of the lines."""
+    name, kind, tokenizer = chosen.choice(FIELDS)
+    words_by, places = readings[name]
+    values = [text for text in chosen.choices(PIECES, k=chosen.randrange(6)) if words_by(text)]
+    found = [doc for doc in range(LINES) if any(has_phrase(places[doc], words_by(text)) for text in values)]
+    others = [doc for doc in range(LINES) if doc not in found]
+    query = f'{name}{".x" if kind == "json" else ""}:IN [{" ".join(map(quoted, values))}]'
+    for text, docs in (query, found), (f'* AND NOT {query}', others), (f'{query} *', list(range(LINES))):
+        user.wants(['search', 'folder', text], 0 if docs else 1, ''.join(f'{doc}\n' for doc in docs))
+        user.wants(['search', 'folder', text, '--count'], 0 if docs else 1, f'{len(docs)}\n')
 
 
 def rows(user):
@@ -159,8 +151,13 @@ def rows(user):
     lines = [{'body': 'The old man\u2019s \u201csea\u201d', 'id': 'ID-7 a'}, {'body': 'a ' + 'x' * 40 + ' b', 'id': 'id-7'}, {'body': '\u8001\u4eba STRASSE'}]
     user.wants(['index', 'rows', '--schema', 'schema.toml'], 0, '3 documents indexed\n', given=''.join(json.dumps(line) + '\n' for line in lines).encode())
     for query, found in (('the', [0]), ('SEA', [0]), ('man', [0]), ('"MAN S SEA"', [0]), ('"old sea"', []), ('"a b"', []), ('\u8001\u4eba', [2]), ('"\u4eba \u8001"', []), ('stra\u00dfe', [2]),
-                         ('ID-7', []), ('id:ID-7', []), ('id:"ID-7 a"', [0]), ('id:id-7', [1]), ('the AND -id:"ID-7 a"', [])):
+                         ('ID-7', []), ('id:ID-7', []), ('id:"ID-7 a"', [0]), ('id:id-7', [1]), ('the AND -id:"ID-7 a"', []),
+                         ('id:IN [id-7 "ID-7 a" x]', [0, 1]), ('id:IN [ID-7]', []), ('id:IN []', []), ('body:IN [stra\u00dfe "man s sea"]', [0, 2]), ('*', [0, 1, 2]), ('* AND NOT id:IN[id-7]', [0, 2]), ('the AND *', [0])):
         user.wants(['search', 'rows', query], 0 if found else 1, ''.join(f'{doc}\n' for doc in found))
+    for query, err in (
+            ('id:IN [a', 'at byte 8: expected a value of the set'), ('IN [a]', 'at byte 0: a set needs the name of a field'), ('id:IN [a "b]', 'at byte 12: expected a closing quote'),
+            ('ID:IN []', 'no field ID'), ('body:IN [a "-"]', 'expected a text with words')):
+        user.wants(['search', 'rows', query], 2, '', err)
     for text, err in (
             ('tokenizer = "Raw"\n[[field]]\nname = "a"\ntype = "text"', 'unknown tokenizer Raw: one of default, raw, whitespace, ascii'),
             ('tokenizer = 1\n[[field]]\nname = "a"\ntype = "text"', 'tokenizer: one of default, raw, whitespace, ascii'),
@@ -197,24 +194,14 @@ def earlier(user):
         user.wants(['search', 'earlier', query], 0, ''.join(f'{doc}\n' for doc in found))
 
 
-def main():
-    if 'NEQULLPA' not in os.environ and not programs.build(PROGRAM):
-        print('tests/folder: the program was not built')
-        return 1
-    program, begun = os.environ.get('NEQULLPA', programs.program_of(PROGRAM)), time.time()
+def each_tokenizer(user):
+    """Goes through all of it. Returns what was seen."""
     chosen = random.Random(SEED)
-    with tempfile.TemporaryDirectory() as room:
-        user = User(program, room)
-        try:
-            rows(user)
-            earlier(user)
-            for number in range(ROUNDS):
-                compares(user, chosen, [None, 'default', 'raw', 'whitespace', 'ascii'][number % 5])
-        except Failed as why:
-            print(f'tests/folder: {why}')
-            return 1
-    print(f'tests/folder: {ROUNDS} folders of {LINES} lines with each tokenizer, {ROUNDS * QUERIES} queries, in {time.time() - begun:.0f} s')
-    return 0
+    rows(user)
+    earlier(user)
+    for number in range(ROUNDS):
+        compares(user, chosen, [None, 'default', 'raw', 'whitespace', 'ascii'][number % 5])
+    return f'{ROUNDS} folders of {LINES} lines with each tokenizer, {ROUNDS * QUERIES} queries'
 
 
-sys.exit(main())
+sys.exit(users.judged(each_tokenizer, User))

@@ -75,6 +75,10 @@ class Index:
         """Returns the documents with a text at a place in which a word starts like this."""
         return {doc for doc, texts in self.texts.get(place, {}).items() if any(word.startswith(start) for text in texts for word in text)}
 
+    def all_docs(self):
+        """Returns all documents: those below the last one that a line has, and that one."""
+        return set(range(1 + max((int(line.split()[1]) for line in self.lines), default=-1)))
+
     def with_number(self, place, number):
         """Returns the documents with a number at a place."""
         return {doc for doc, numbers in self.numbers.get(place, {}).items() if number in numbers}
@@ -118,10 +122,28 @@ def between(index, draw):
     return f'{place if place in ("text", "num") else "leaf." + place}:{written}', found
 
 
+def among(index, draw):
+    """Returns a set of numbers, words and phrases, and the documents that have one of them."""
+    place, written, found = draw.choice(('text', 'num') + PATHS), [], set()
+    for _ in range(draw.choice((0, 1, 2, 2, 3, 3, 20))):
+        chosen = [str(draw.randrange(11))] if place == 'num' else draw.choices(WORDS, k=draw.choice((1, 1, 1, 2)))
+        written.append(chosen[0] if len(chosen) == 1 and draw.random() < 0.7 else f'"{spelled(chosen, draw)}"')
+        found |= index.with_phrase(place, chosen)
+        if len(chosen) == 1 and chosen[0].isdecimal():
+            found |= index.with_number(place, int(chosen[0]))
+    space = draw.choice((' ', '', '  '))
+    return f'{place if place in ("text", "num") else "leaf." + place}:IN{space}[{space}{" ".join(written)}]', found
+
+
 def literal(index, draw):
-    """Returns a word, a phrase, a prefix, a range or a number, and the documents that have it."""
-    if draw.random() < 0.2:
+    """Returns a word, a phrase, a prefix, a range, a set, a number or all documents, and the documents that have it."""
+    form = draw.random()
+    if form < 0.2:
         return between(index, draw)
+    if form < 0.3:
+        return among(index, draw)
+    if form < 0.35:
+        return '*', index.all_docs()
     place = draw.choice(('', 'text', 'text', 'num') + PATHS)
     if place == 'num':
         number = draw.randrange(11)
@@ -163,7 +185,7 @@ def query(index, draw, depth):
 def part(index, draw, depth):
     """Returns a literal, or a query in parentheses."""
     text, docs = query(index, draw, depth - 1)
-    return (text, docs) if re.fullmatch(r'[^ ]+|[^" ]*"[^"]*"|[^" ]*[\[{][^\]}]*[\]}]', text) and '(' not in text else (f'({text})', docs)
+    return (text, docs) if re.fullmatch(r'[^ ]+|[^" ]*"[^"]*"|[^" ]*(IN *)?[\[{][^\]}]*[\]}]', text) and '(' not in text else (f'({text})', docs)
 
 
 def all_of(index, draw, depth):
@@ -190,12 +212,22 @@ def asked(index, draw):
     return text, ' '.join(map(str, sorted(docs))) or 'none'
 
 
+def largest_sets():
+    """Returns whether a set of 65,536 values is read, and one of 65,537 refused."""
+    given = 'text 0 sea\n' + ''.join(f'? query text:IN [{"a " * many}sea]\n' for many in (65535, 65536))
+    run = subprocess.run([programs.program_of('iiq')], input=given.encode(), stdout=subprocess.PIPE, stderr=subprocess.PIPE)
+    if run.stdout != b'0\nerror line\n':
+        print(f'tests/queries: the largest sets: {run.stdout[:80]!r}')
+        return False
+    return True
+
+
 def main():
     count, seed = (int(sys.argv[1]), sys.argv[2]) if len(sys.argv) > 2 else (10_000, '0')
     if not programs.build('iiq'):
         print('tests/queries: the program was not built')
         return 1
-    draw, wrong, matched = random.Random(seed), 0, 0
+    draw, wrong, matched = random.Random(seed), 0 if largest_sets() else 1, 0
     for first in range(0, count, ASKED):
         index = Index(draw)
         pairs = [asked(index, draw) for _ in range(min(ASKED, count - first))]

@@ -1,7 +1,7 @@
-//! Creates an index of three documents in memory, and searches it.
+//! Creates an index of three documents in memory, searches it, and ranks what matches.
 #![tactic(auto)]
 
-use ii_index::{DocSet, Field, Index, MemoryDirectory, TERMINATED};
+use ii_index::{DocSet, Field, Index, MemoryDirectory, TERMINATED, TopDocs};
 
 const SCHEMA: &str = "[[field]]\nname = \"body\"\ntype = \"text\"\n";
 
@@ -17,7 +17,11 @@ fn main(rt: HostRuntime) -> anyhow::Result<()> {
     let body = [Field::from_field_id(0)];
     let query = index.parse_query(rt.alloc(), &body, "\"old sea\" OR bird")?;
     let searcher = reader.searcher();
+    let best = searcher.top_docs(rt.alloc(), &query, &TopDocs::with_limit(1))?;
     let mut found = searcher.search(rt.alloc(), &query)?;
+    for (_, doc) in &best {
+        println!(rt; "best: document {doc}")?;
+    }
     for _ in 0..searcher.num_docs() {
         if found.doc() >= TERMINATED {
             return Ok(());

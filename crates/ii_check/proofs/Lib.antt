@@ -7,6 +7,7 @@ pub mod CheckedPostingsLemmas
 pub mod KnownLemmas
 pub mod PartLemmas
 pub mod SeekLemmas
+pub mod SpentLemmas
 pub mod StrictLemmas
 pub mod WorkedRows
 pub mod PositionLemmas

@@ -1,5 +1,6 @@
 pub mod FreqReading
 pub mod CheckedBlocks
+pub mod CheckedPositions
 pub mod DecodedBlocks
 pub mod CheckedPostings
 pub mod Check

@@ -1,4 +1,4 @@
-ghost use Rattle.std.specs.Prelude.{◌≡◌, ◌+◌, ◌/◌, ◌<◌, ◌≤◌, ◌&&◌, ◌==◌, ⊤, [], length, min, nat_lt, true, is_some, None, Some, Ok, Err, IfOk, IfErr, OnErr, OnOk, IfSome, IsOk, IsSome, MatchOption};
+ghost use Rattle.std.specs.Prelude.{◌≡◌, ◌+◌, ◌/◌, ◌<◌, ◌≤◌, ◌&&◌, ◌==◌, ⊤, [], length, min, nat_lt, true, is_some, None, Some, Ok, Err, IfOk, IfErr, OnErr, OnOk, IfSome, IsOk, IsSome, IsTrue, MatchOption};
 ghost use Rattle.std.specs.List.{sum, list_all};
 ghost use Rattle.ii_io.specs.Faults.{OnlyMemory};
 ghost use Rattle.ii_io.specs.Parts.{part_of};
@@ -10,12 +10,14 @@ ghost use Rattle.ii_layout.specs.Postings.{postings};
 ghost use Rattle.ii_layout.specs.TermList.{deltas_if};
 ghost use Rattle.ii_check.specs.Positions.{deltas_read};
 ghost use Rattle.ii_check.specs.CheckedBlocks.{blocks_checked, freqs_checked};
+ghost use Rattle.ii_check.specs.CheckedPositions.{ChecksBytes, ChecksPositions};
 ghost use Rattle.ii_check.specs.DecodedBlocks.{LogsBlock};
 ghost use Rattle.ii_check.specs.CheckedPostings.{AreGiven, AreLastFreqs, HasDocuments, IsAtBlock, IsSkipData, LoadsBlock, SeeksBlock, SeeksFreq, new_decoder};
 ghost use Rattle.ii_check.specs.FreqReading.{freq_reading_of, reading_of_none};
 
 use super::check::freq_reading_option;
 use super::checked_blocks::CheckedBlocks;
+use super::checked_positions::CheckedPositions;
 use super::decoded_blocks::DecodedBlocks;
 use super::freq_reading_option::FreqReadingOption;
 use super::load::{NO_FREQ, decode_docs, decode_freqs, is_passed};
@@ -286,21 +288,23 @@ impl CheckedPostings {
     ///
     /// Validates all positions. Returns `Positions` if they are not as many as the term frequencies say, or
     /// one exceeds `u32::MAX`. If validation is skipped, the positions must be valid, and only the width of
-    /// each block and the last positions are read.
+    /// each block and the last positions are read. Counts the blocks that were decoded to validate them.
     pub fn open_positions(
         &self,
         bytes: Option<Bytes>,
         validation: Validation,
+        checked_positions: &mut CheckedPositions,
     ) -> Result<Option<PositionReader>, LayoutFault>
         requires { validation ≡ Validation.Skipped → IsSome (deltas_if (has_positions (downgrade self.now.recorded self.now.requested)) self.now.postings.freqs bytes) }
         ensures ok { IfOk result (λ opened. deltas_if (has_positions (downgrade self.now.recorded self.now.requested)) self.now.postings.freqs bytes
             ≡ Some (deltas_read opened)) }
         ensures decodes { IfOk result (λ opened. MatchOption opened ⊤ (λ reader. reader.decodes ≤ 1)) }
+        ensures checked { OnOk result (ChecksPositions validation self.now.doc_freq bytes checked_positions.old checked_positions.new) }
         ensures refused { OnErr result (deltas_if (has_positions (downgrade self.now.recorded self.now.requested)) self.now.postings.freqs bytes ≡ None) }
         ensures err { IfErr result (λ fault. fault ≡ LayoutFault.Damaged Part.Positions) }
     {
         match validation {
-            Validation::Complete => self.validate_positions(bytes),
+            Validation::Complete => self.validate_positions(bytes, checked_positions),
             Validation::Skipped => Ok(self.known_positions(bytes)),
         }
     }
@@ -309,13 +313,18 @@ impl CheckedPostings {
     fn validate_positions(
         &self,
         bytes: Option<Bytes>,
+        checked_positions: &mut CheckedPositions,
     ) -> Result<Option<PositionReader>, LayoutFault>
         ensures ok { IfOk result (λ opened. deltas_if (has_positions (downgrade self.now.recorded self.now.requested)) self.now.postings.freqs bytes
             ≡ Some (deltas_read opened)) }
         ensures decodes { IfOk result (λ opened. MatchOption opened ⊤ (λ reader. reader.decodes ≤ 1)) }
+        ensures checked { OnOk result (ChecksBytes 1 self.now.doc_freq bytes checked_positions.old checked_positions.new) }
         ensures refused { OnErr result (deltas_if (has_positions (downgrade self.now.recorded self.now.requested)) self.now.postings.freqs bytes ≡ None) }
         ensures err { IfErr result (λ fault. fault ≡ LayoutFault.Damaged Part.Positions) }
     {
+        if bytes.is_none() {
+            return Ok(None);
+        }
         if !self.reads_positions() {
             return Ok(None);
         }
@@ -332,7 +341,8 @@ impl CheckedPostings {
             &mut freq_decoder,
             &mut decoded_blocks,
         );
-        self.open_counted_positions(bytes, freq_decoder.output_array())
+        checked_positions.add_lists(&doc_decoder, &freq_decoder);
+        self.open_counted_positions(bytes, freq_decoder.output_array(), checked_positions)
     }
 
     /// Opens and validates the positions in `bytes` as `open_positions` does, given the term frequencies of
@@ -341,11 +351,13 @@ impl CheckedPostings {
         &self,
         bytes: Option<Bytes>,
         last_freqs: &[u32],
+        checked_positions: &mut CheckedPositions,
     ) -> Result<Option<PositionReader>, LayoutFault>
         requires { AreLastFreqs self.now.postings.freqs (self.now.doc_freq / 128) last_freqs.now }
         ensures ok { IfOk result (λ opened. deltas_if (has_positions (downgrade self.now.recorded self.now.requested)) self.now.postings.freqs bytes
             ≡ Some (deltas_read opened)) }
         ensures decodes { IfOk result (λ opened. MatchOption opened ⊤ (λ reader. reader.decodes ≤ 1)) }
+        ensures checked { OnOk result (ChecksBytes 0 self.now.doc_freq bytes checked_positions.old checked_positions.new) }
         ensures refused { OnErr result (deltas_if (has_positions (downgrade self.now.recorded self.now.requested)) self.now.postings.freqs bytes ≡ None) }
         ensures err { IfErr result (λ fault. fault ≡ LayoutFault.Damaged Part.Positions) }
     {
@@ -363,12 +375,16 @@ impl CheckedPostings {
             return Err(LayoutFault::Damaged(Part::Positions));
         }
         // No position exceeds the sum of all deltas.
-        if reader.has_small_sum() {
+        let mut decoder = BlockDecoder::with_val(0);
+        let is_small = reader.has_small_sum(&mut decoder);
+        checked_positions.add_positions(&decoder);
+        if is_small {
             return Ok(Some(reader));
         }
-        if !self.are_positions(&mut reader) {
+        if !self.are_positions(&mut reader, checked_positions) {
             return Err(LayoutFault::Damaged(Part::Positions));
         }
+        checked_positions.add_reader(&reader);
         Ok(Some(reader.anew()))
     }
 
@@ -417,11 +433,19 @@ impl CheckedPostings {
     }
 
     // Returns whether a reader has the positions of the term, as many as its term frequencies say.
-    fn are_positions(&self, reader: &mut PositionReader) -> bool
+    fn are_positions(
+        &self,
+        reader: &mut PositionReader,
+        checked_positions: &mut CheckedPositions,
+    ) -> bool
         requires { IsSome self.now.postings.freqs }
         ensures are { IfSome self.now.postings.freqs (λ freqs. result
             ≡ (length reader.old.deltas == sum freqs && list_all fit_u32 (positions_of freqs reader.old.deltas))) }
         ensures deltas { reader.new.deltas ≡ reader.old.deltas }
+        ensures decodes { IsTrue result → reader.new.decodes ≤ reader.old.decodes + length reader.old.deltas / 128 + 1 }
+        ensures docs_checked { IsTrue result → checked_positions.new.docs ≤ checked_positions.old.docs + self.now.doc_freq / 128 + 1 }
+        ensures freqs_checked { IsTrue result → checked_positions.new.freqs ≤ checked_positions.old.freqs + self.now.doc_freq / 128 + 1 }
+        ensures positions_checked { IsTrue result → checked_positions.new.positions ≡ checked_positions.old.positions }
     {
         let mut skip = self.skip_reader();
         let mut doc_decoder = BlockDecoder::with_val(TERMINATED);
@@ -443,6 +467,7 @@ impl CheckedPostings {
             end = next;
             self.advance(&mut skip);
         }
+        checked_positions.add_lists(&doc_decoder, &freq_decoder);
         u128::from(end) == reader.len()
     }
 

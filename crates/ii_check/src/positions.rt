@@ -1,6 +1,7 @@
-ghost use Rattle.std.specs.Prelude.{◌≡◌, ◌+◌, ◌^◌, ◌<◌, ◌≤◌, if◌then◌else◌, length, take, drop, Some, None};
+ghost use Rattle.std.specs.Prelude.{◌≡◌, ◌+◌, ◌^◌, ◌<◌, ◌≤◌, ℕ, if◌then◌else◌, length, take, drop, Some, None, IfSome, IsTrue};
 ghost use Rattle.std.specs.List.{sum};
 ghost use Rattle.ii_codes.specs.Sums.{fit_u32, running_sums};
+ghost use Rattle.ii_check.specs.CheckedPositions.{SpendsTo};
 ghost use Rattle.ii_check.specs.Positions.{suffice};
 
 use ii_codes::COMPRESSION_BLOCK_SIZE;
@@ -17,6 +18,7 @@ pub(crate) fn end_of_positions(
     requires low { start + sum freqs.now < 2 ^ 64 }
     ensures end { result ≡ (if suffice freqs.now (drop start reader.old.deltas) then Some (start + sum freqs.now) else None) }
     ensures deltas { reader.new.deltas ≡ reader.old.deltas }
+    ensures decodes { IfSome result (λ end. (before : ℕ) → SpendsTo before start reader.old → SpendsTo before end reader.new) }
 {
     let len = reader.len();
     let mut end = start;
@@ -38,6 +40,7 @@ fn position_fits(reader: &mut PositionReader, start: u64, freq: u32) -> bool
     requires low { start + freq < 2 ^ 64 }
     ensures fits { result ≡ fit_u32 (running_sums 0 (take freq (drop start reader.old.deltas))) }
     ensures deltas { reader.new.deltas ≡ reader.old.deltas }
+    ensures decodes { IsTrue result → (before : ℕ) → SpendsTo before start reader.old → SpendsTo before (start + freq) reader.new }
 {
     let mut buffer = [0; COMPRESSION_BLOCK_SIZE];
     let mut position = 0;

@@ -1,4 +1,5 @@
 mod AddingLemmas
 mod JsonLemmas
 mod LineLemmas
+mod UnknownLemmas
 mod WorkedRows

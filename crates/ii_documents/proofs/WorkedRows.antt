@@ -8,7 +8,8 @@ use Rattle.ii_base.specs.declared.schema.value_type.ValueType.{ValueType}
 use Rattle.ii_base.specs.declared.schema.value_type.ValueType.TheVariants as types
 use Rattle.ii_definitions.specs.Tokens.{Call, Content, text, value}
 use Rattle.ii_documents.specs.declared.faults.ValueFault.TheVariants as faults
-use Rattle.ii_documents.specs.JsonLines.{members_calls, unknown_key, wrong_value}
+use Rattle.ii_schema_text.specs.declared.unknown_keys.UnknownKeys.TheVariants.{Ignore, Refuse}
+use Rattle.ii_documents.specs.JsonLines.{members_calls, read_members, unknown_key, wrong_value}
 
 abbrev entry : ValueType → SchemaEntry
 entry t = record { name = codes "a"; value_type = t; option = Basic; is_indexed = true; has_fieldnorms = false; expands_dots = false }
@@ -52,3 +53,15 @@ no_text = refl
 stranger : members_calls (entry types.Str ∷ []) 2 (member (codes "a") (boolean true) (member (codes "b") null no_members)) ≡ Err (unknown_key (codes "b"))
 unfolding members_calls
 stranger = refl
+
+-- unknown keys are ignored, whatever their values
+ignored : read_members Ignore (entry types.Str ∷ []) (member (codes "0") (object no_members) (member (codes "a") (string (codes "x")) (member (codes "b") null no_members))) ≡ member (codes "a") (string (codes "x")) no_members
+ignored = refl
+
+refused : read_members Refuse (entry types.Str ∷ []) (member (codes "a") (boolean true) (member (codes "b") null no_members)) ≡ member (codes "a") (boolean true) (member (codes "b") null no_members)
+refused = refl
+
+-- a value of a field is refused as before
+ignored_beside_no_text : members_calls (entry types.Str ∷ []) 2 (read_members Ignore (entry types.Str ∷ []) (member (codes "a") (boolean true) (member (codes "b") null no_members))) ≡ Err (wrong_value 0 faults.WrongType)
+unfolding members_calls
+ignored_beside_no_text = refl

@@ -1,5 +1,5 @@
 -- The index calls of a line of JSON, by a schema.
-use Rattle.std.specs.Prelude.{◌≡◌, ◌+◌, ℕ, Bool, true, false, List, [], ◌∷◌, ◌++◌, bytes_eq, map, if◌then◌else◌, Option, None, Some, option_map, ok_or, Result, Ok, Err, ⊤, string_bytes}
+use Rattle.std.specs.Prelude.{◌≡◌, ◌+◌, ℕ, Bool, List, [], ◌∷◌, ◌++◌, bytes_eq, map, if◌then◌else◌, Option, None, Some, option_map, ok_or, Result, Ok, Err, ⊤, string_bytes}
 use Rattle.std.specs.List.{AllByRecursion, list_any}
 use Rattle.std.specs.Int.{bytes_high_first}
 use Rattle.hex.specs.Hex.{decode_of}
@@ -20,6 +20,8 @@ use Rattle.ii_documents.specs.declared.faults.LineFault.{LineFault}
 use Rattle.ii_documents.specs.declared.faults.LineFault.TheVariants as faults
 use Rattle.ii_documents.specs.declared.faults.ValueFault.{ValueFault}
 use Rattle.ii_documents.specs.declared.faults.ValueFault.TheVariants as value_faults
+use Rattle.ii_schema_text.specs.declared.unknown_keys.UnknownKeys.{UnknownKeys}
+use Rattle.ii_schema_text.specs.declared.unknown_keys.UnknownKeys.TheVariants.{Ignore, Refuse}
 use Rattle.ii_term_text.specs.Addresses.{address_in}
 use Rattle.ii_documents.specs.JsonValues.{json_from}
 use Rattle.ii_documents.specs.Steps.{◌>>=◌}
@@ -150,6 +152,23 @@ line_calls es doc line = do
   d ← ok_or (read line) not_json
   ms ← ok_or (as_object d) not_an_object
   members_calls es doc ms
+
+-- the members whose keys are names of fields
+abbrev pub named_members : List SchemaEntry → Members → Members
+named_members es no_members = no_members
+named_members es (member key d ms) = if list_any (λ (e : SchemaEntry). bytes_eq e.name key) es then member key d (named_members es ms) else named_members es ms
+
+-- the members that are read: all, or those whose keys are names of fields
+abbrev pub read_members : UnknownKeys → List SchemaEntry → Members → Members
+read_members Refuse es ms = ms
+read_members Ignore es ms = named_members es ms
+
+-- the calls of a document in a line, where unknown keys are refused or ignored
+unfoldable pub line_calls_by : UnknownKeys → List SchemaEntry → ℕ → List ℕ → Result (List Call) Refusal
+line_calls_by unknown es doc line = do
+  d ← ok_or (read line) not_json
+  ms ← ok_or (as_object d) not_an_object
+  members_calls es doc (read_members unknown es ms)
 
 -- A call has this document, and its field takes its value.
 pub record IsOf (es : List SchemaEntry) (doc : ℕ) (c : IndexCall) : Type 0 where

@@ -6,18 +6,38 @@ ghost use Rattle.serde_json.specs.View.{items_view, members_view, view};
 ghost use Rattle.ii_base.specs.Schema.{SchemaEntry};
 ghost use Rattle.ii_definitions.specs.JsonKeys.{is_json};
 ghost use Rattle.ii_definitions.specs.IndexCalls.{call_of};
-ghost use Rattle.ii_documents.specs.JsonLines.{AddsAs, AnswersFromLine, IsOf, field_calls, fields_calls, items_calls, line_calls, members_calls, unknown_name_in};
+ghost use Rattle.ii_documents.specs.JsonLines.{AddsAs, AnswersFromLine, IsOf, field_calls, fields_calls, items_calls, line_calls, line_calls_by, members_calls, read_members, unknown_name_in};
 
 use crate::faults::LineFault;
 use crate::values::value_call;
 use ii_base::{Field, Schema, ValueType};
 use ii_definitions::IndexCall;
 use ii_docset::DocId;
+use ii_schema_text::UnknownKeys;
 use serde_json::{Map, Value};
 use std::alloc::Global;
 
 /// Converts a line to the index calls of a document. The line must be an object whose keys are names of
 /// fields.
+///
+/// # Errors
+///
+/// Those of `line_calls_by`.
+#[tactic(auto, unfolding(crate::specs::JsonLines::line_calls, crate::specs::JsonLines::line_calls_by))]
+pub fn line_calls(
+    alloc: Global,
+    schema: &Schema,
+    doc: DocId,
+    line: &str,
+) -> Result<Vec<IndexCall>, LineFault>
+    ensures gives { AnswersFromLine (λ v. map (call_of schema.now) v.items) result (line_calls schema.now doc line.now) }
+    ensures each { IfOk result (λ v. AllByRecursion (IsOf schema.now doc) v.items) }
+{
+    line_calls_by(alloc, schema, UnknownKeys::Refuse, doc, line)
+}
+
+/// Converts a line to the index calls of a document. The line must be an object. Members whose keys are no names of
+/// fields are refused or ignored: of `Ignore` the calls are those of the line without these members.
 ///
 /// Fields are taken in the order of the schema. `null` is no value. An array holds several values of its
 /// field, one after the other, but is one value of a JSON field. A field that isn't indexed takes any value,
@@ -29,17 +49,18 @@ use std::alloc::Global;
 /// # Errors
 ///
 /// * `NotJson` or `NotAnObject` for the line.
-/// * `UnknownKey` with the first unknown key in the order of their bytes.
+/// * `UnknownKey` with the first unknown key in the order of their bytes, unless these are ignored.
 /// * `WrongValue` for the first invalid value, in the order of fields.
 /// * `OutOfMemory` if an allocation fails.
-#[tactic(auto, unfolding(crate::specs::JsonLines::line_calls))]
-pub fn line_calls(
+#[tactic(auto, unfolding(crate::specs::JsonLines::line_calls_by))]
+pub fn line_calls_by(
     alloc: Global,
     schema: &Schema,
+    unknown: UnknownKeys,
     doc: DocId,
     line: &str,
 ) -> Result<Vec<IndexCall>, LineFault>
-    ensures gives { AnswersFromLine (λ v. map (call_of schema.now) v.items) result (line_calls schema.now doc line.now) }
+    ensures gives { AnswersFromLine (λ v. map (call_of schema.now) v.items) result (line_calls_by unknown schema.now doc line.now) }
     ensures each { IfOk result (λ v. AllByRecursion (IsOf schema.now doc) v.items) }
 {
     let value = match Value::from_str(alloc, line) {
@@ -47,8 +68,25 @@ pub fn line_calls(
         Err(error) => return Err(LineFault::of_json(error)),
     };
     match value.as_object() {
-        Some(members) => members_calls(alloc, schema, doc, members),
+        Some(members) => read_calls(alloc, schema, unknown, doc, members),
         None => Err(LineFault::NotAnObject),
+    }
+}
+
+// Converts the members of a document that are read to its calls.
+fn read_calls(
+    alloc: Global,
+    schema: &Schema,
+    unknown: UnknownKeys,
+    doc: DocId,
+    members: &Map<String, Value>,
+) -> Result<Vec<IndexCall>, LineFault>
+    ensures gives { AnswersFromLine (λ v. map (call_of schema.now) v.items) result (members_calls schema.now doc (read_members unknown schema.now (members_view members.now.entries))) }
+    ensures each { IfOk result (λ v. AllByRecursion (IsOf schema.now doc) v.items) }
+{
+    match unknown {
+        UnknownKeys::Refuse => members_calls(alloc, schema, doc, members),
+        UnknownKeys::Ignore => fields_calls(alloc, schema, doc, members),
     }
 }
 
@@ -67,6 +105,19 @@ fn members_calls(
         let key = String::from_str(alloc, key)?;
         return Err(LineFault::UnknownKey(key));
     }
+    fields_calls(alloc, schema, doc, members)
+}
+
+// Converts the members of a document whose keys are names of fields to its calls.
+fn fields_calls(
+    alloc: Global,
+    schema: &Schema,
+    doc: DocId,
+    members: &Map<String, Value>,
+) -> Result<Vec<IndexCall>, LineFault>
+    ensures gives { AnswersFromLine (λ v. map (call_of schema.now) v.items) result (fields_calls doc (members_view members.now.entries) 0 schema.now) }
+    ensures each { IfOk result (λ v. AllByRecursion (IsOf schema.now doc) v.items) }
+{
     let mut calls = Vec::new(alloc);
     push_fields(&mut calls, alloc, schema, doc, members)?;
     Ok(calls)

@@ -8,4 +8,4 @@ mod json_values;
 mod values;
 
 pub use faults::{LineFault, ValueFault};
-pub use json_lines::line_calls;
+pub use json_lines::{line_calls, line_calls_by};

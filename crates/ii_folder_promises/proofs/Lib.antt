@@ -7,3 +7,4 @@ mod TokenOrderLaws
 mod WordScoreLaws
 mod SegmentLaws
 mod SegmentRankingLaws
+mod IndexRankingLaws

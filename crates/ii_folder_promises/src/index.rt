@@ -1,9 +1,11 @@
 // An index in a directory, to which documents are added.
-ghost use Rattle.std.specs.Prelude.{◌≡◌, ◌+◌, [], ℕ, IfSome, List};
-ghost use Rattle.ii_definitions.specs.Tokens.{IndexToken};
-ghost use Rattle.ii_index.specs.Segments.{HoldsIndexOf};
+ghost use Rattle.std.specs.Prelude.{◌≡◌, ◌⊎◌, ◌<◌, ◌≤◌, [], ◌∷◌, IfSome, IsTrue, length, true};
+ghost use Rattle.ii_base.specs.Terms.{TermState};
+ghost use Rattle.ii_directory.specs.Directory.{Files};
+ghost use Rattle.ii_index.specs.Index.{HasNothing};
+ghost use Rattle.ii_index.specs.Segments.{HoldsIndexOf, no_documents};
 
-use ii_index::{Directory, Index, IndexWriter};
+use ii_index::{Directory, Index, IndexWriter, Term};
 use std::alloc::Global;
 
 /// Two documents that are added to a new index and committed are all documents of the index, in whatever directory.
@@ -28,6 +30,7 @@ fn number_committed<D: Directory + Drop>(alloc: Global, writer: IndexWriter<D>) 
     requires known { D.is_known writer.index.directory }
     requires empty { HoldsIndexOf writer.index.schema.schema (D.seen writer.index.directory) 0 [] }
     requires two { writer.pending.num_docs ≡ 2 }
+    requires none { writer.deletes ≡ [] }
     ensures { IfSome result (λ n. n ≡ 2) }
 {
     let mut writer = writer;
@@ -52,6 +55,7 @@ fn with_two<D: Directory + Drop>(
     ensures known { IfSome result (λ w. D.is_known w.index.directory) }
     ensures empty { IfSome result (λ w. HoldsIndexOf w.index.schema.schema (D.seen w.index.directory) 0 []) }
     ensures two { IfSome result (λ w. w.pending.num_docs ≡ 2) }
+    ensures none { IfSome result (λ w. w.deletes ≡ []) }
 {
     let Ok(index) = Index::create(alloc, directory, schema) else {
         return None;
@@ -67,4 +71,95 @@ fn with_two<D: Directory + Drop>(
         return None;
     };
     Some(writer)
+}
+
+/// Of two committed documents, of which the first has the word `a` and the second the word `b`, the second is deleted
+/// once its word is: by the next commit. Wherever that is stopped, both are there or the first alone.
+pub fn documents_with_a_term_are_deleted<D: Directory + Drop>(
+    alloc: Global,
+    writer: &mut IndexWriter<D>,
+) -> bool
+    requires known { D.is_known writer.old.index.directory }
+    requires pending { writer.old.pending ≡ no_documents writer.old.index.schema }
+    requires delete { writer.old.deletes ≡ (record { term = record { field = 0; value = 98 ∷ [] }; num_pending = 0 }) ∷ [] }
+    requires two { HoldsIndexOf writer.old.index.schema.schema (D.seen writer.old.index.directory) 2
+        ((record { doc = 0; field = 0; key = 97 ∷ []; position = 0; of_text = true }) ∷ (record { doc = 1; field = 0; key = 98 ∷ []; position = 0; of_text = true }) ∷ []) }
+    ensures one { IsTrue result → HoldsIndexOf writer.old.index.schema.schema (D.seen writer.new.index.directory) 1 ((record { doc = 0; field = 0; key = 97 ∷ []; position = 0; of_text = true }) ∷ []) }
+    ensures stopped { (files : Files) → D.left_since writer.new.index.directory (D.moment writer.old.index.directory) files
+        → HoldsIndexOf writer.old.index.schema.schema files 2
+        ((record { doc = 0; field = 0; key = 97 ∷ []; position = 0; of_text = true }) ∷ (record { doc = 1; field = 0; key = 98 ∷ []; position = 0; of_text = true }) ∷ [])
+        ⊎ HoldsIndexOf writer.old.index.schema.schema files 1 ((record { doc = 0; field = 0; key = 97 ∷ []; position = 0; of_text = true }) ∷ []) }
+{
+    let Ok(()) = writer.commit(alloc) else {
+        return false;
+    };
+    true
+}
+
+/// A document that is added after a delete is kept: of two documents, between which a term is deleted, one or both are
+/// there after the commit.
+pub fn later_documents_are_kept<D: Directory + Drop>(
+    alloc: Global,
+    writer: IndexWriter<D>,
+    term: Term,
+    first: &str,
+    second: &str,
+) -> Option<u32>
+    requires known { D.is_known writer.index.directory }
+    requires nothing { HasNothing writer }
+    requires empty { HoldsIndexOf writer.index.schema.schema (D.seen writer.index.directory) 0 [] }
+    requires field { term.field < length writer.index.schema.schema }
+    ensures least { IfSome result (λ n. 1 ≤ n) }
+    ensures most { IfSome result (λ n. n ≤ 2) }
+{
+    let Some(writer) = with_delete_between(alloc, writer, term, first, second) else {
+        return None;
+    };
+    number_left(alloc, writer)
+}
+
+// Returns a writer to which a document, a delete and a document were added.
+fn with_delete_between<D: Directory + Drop>(
+    alloc: Global,
+    writer: IndexWriter<D>,
+    term: Term,
+    first: &str,
+    second: &str,
+) -> Option<IndexWriter<D>>
+    requires nothing { HasNothing writer }
+    requires field { term.field < length writer.index.schema.schema }
+    ensures index { IfSome result (λ w. w.index ≡ writer.index) }
+    ensures two { IfSome result (λ w. w.pending.num_docs ≡ 2) }
+    ensures delete { IfSome result (λ w. w.deletes ≡ (record { term = term; num_pending = 1 }) ∷ []) }
+{
+    let mut writer = writer;
+    let Ok(()) = writer.add_document(alloc, first) else {
+        return None;
+    };
+    let Ok(()) = writer.delete_term(term) else {
+        return None;
+    };
+    let Ok(()) = writer.add_document(alloc, second) else {
+        return None;
+    };
+    Some(writer)
+}
+
+// Returns the number of documents of an index after a commit.
+fn number_left<D: Directory + Drop>(alloc: Global, writer: IndexWriter<D>) -> Option<u32>
+    requires known { D.is_known writer.index.directory }
+    requires empty { HoldsIndexOf writer.index.schema.schema (D.seen writer.index.directory) 0 [] }
+    requires two { writer.pending.num_docs ≡ 2 }
+    requires delete { (term : TermState) × (writer.deletes ≡ (record { term = term; num_pending = 1 }) ∷ []) }
+    ensures least { IfSome result (λ n. 1 ≤ n) }
+    ensures most { IfSome result (λ n. n ≤ 2) }
+{
+    let mut writer = writer;
+    let Ok(()) = writer.commit(alloc) else {
+        return None;
+    };
+    let Ok(reader) = writer.index().reader(alloc) else {
+        return None;
+    };
+    Some(reader.searcher().num_docs())
 }

@@ -5,6 +5,7 @@
 pub mod damage;
 pub mod folder;
 pub mod index;
+pub mod index_ranking;
 pub mod keys;
 pub mod merging;
 pub mod ranking;

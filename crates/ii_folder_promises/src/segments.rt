@@ -13,8 +13,8 @@ ghost use Rattle.nequllpa_merging.specs.Joins.{HoldsIndex};
 
 use ii_base::{DocId, Schema};
 use ii_segment_store::{
-    CommitFault, SegmentFiles, StoredSegments, append_segment, commit_changes, load_segments,
-    replace_index, upgrade,
+    CommitFault, PendingSegments, SegmentFiles, StoredSegments, append_segment, commit_changes,
+    load_segments, replace_index, upgrade,
 };
 use ii_store::collect::collect;
 use ii_store::commit_check::may_commit;
@@ -47,6 +47,34 @@ pub fn segments_are_added_at_once<D: Directory>(
         → (index_contents files ≡ index_contents (D.seen directory.old)) ⊎ (index_contents files ≡ with_segment (files_contents segment.now) (index_contents (D.seen directory.old))) }
 {
     append_segment(alloc, directory, segment)
+}
+
+/// Two segments are added at once, after those that the index has. Wherever this is stopped, the index holds what it
+/// held, or both segments at its end.
+pub fn two_segments_are_added_at_once<D: Directory>(
+    alloc: Global,
+    directory: &mut D,
+    first: &SegmentFiles,
+    second: &SegmentFiles,
+) -> Result<(), CommitFault>
+    requires { D.is_known directory.old }
+    ensures added { OnOk result (index_contents (D.seen directory.new) ≡ with_segment (files_contents second.now) (with_segment (files_contents first.now) (index_contents (D.seen directory.old)))) }
+    ensures stopped { (files : Files) → D.left_since directory.new (D.moment directory.old) files
+        → (index_contents files ≡ index_contents (D.seen directory.old)) ⊎ (index_contents files ≡ with_segment (files_contents second.now) (with_segment (files_contents first.now) (index_contents (D.seen directory.old)))) }
+{
+    let pending = match PendingSegments::begin(alloc, directory) {
+        Ok(pending) => pending,
+        Err(fault) => return Err(fault),
+    };
+    let pending = match pending.add(alloc, directory, first) {
+        Ok(pending) => pending,
+        Err(fault) => return Err(fault),
+    };
+    let pending = match pending.add(alloc, directory, second) {
+        Ok(pending) => pending,
+        Err(fault) => return Err(fault),
+    };
+    pending.commit(alloc, directory)
 }
 
 /// After an index was replaced, the directory's index has exactly the given schema and segment. Wherever replacing

@@ -1,10 +1,15 @@
 // Lines that are stored with their documents.
-ghost use Rattle.std.specs.Prelude.{◌≡◌, ◌<◌, ℕ, [], List, Some, IfErr, IfOk, IsErrOf, get_or, length};
+ghost use Rattle.std.specs.Prelude.{◌≡◌, ◌<◌, ℕ, [], List, Some, IfErr, IfOk, IsErrOf, get_or, length, map};
+ghost use Rattle.std.specs.List.{AllByRecursion, AllZip};
 ghost use Rattle.ii_doc_store.specs.StoreReader.{HoldsDocuments};
+ghost use Rattle.ii_doc_store.specs.declared.faults.StoreDamage.{StoreDamage};
+ghost use Rattle.ii_doc_store_merger.specs.declared.faults.StoreMergeFault.{StoreMergeFault};
+ghost use Rattle.ii_doc_store_merger.specs.StoreSources.{FitsFlags, SegmentDocuments, SourceHolds, documents_of_segments, opened_store};
 
 use bytes::Bytes;
 use ii_base::{DocId, Fault};
 use ii_doc_store::{StoreOpenFault, StoreReader};
+use ii_doc_store_merger::{StoreMergeFault, StoreSource, merge_stores};
 use ii_segment_store::SegmentFiles;
 use ii_tokenizers::FieldAnalyzers;
 use nequllpa_indexing::Documents;
@@ -15,6 +20,8 @@ use std::alloc::Global;
 pub enum StoredLineFault {
     /// The segment can't be built.
     Segment(Fault),
+    /// The stores can't be merged.
+    Merge(StoreMergeFault),
     /// A memory allocation failed.
     OutOfMemory,
     /// The segment doesn't have the line.
@@ -45,6 +52,28 @@ pub fn stored_lines_come_back<F: FieldAnalyzers>(
     line_of(alloc, bytes, doc)
 }
 
+/// A line of a living document is given back by its number from the store that stores are merged into: exactly its bytes,
+/// and it isn't missing. The documents are the living ones, one store after the other. No block is called damaged.
+pub fn merged_lines_come_back(
+    alloc: Global,
+    sources: &[StoreSource<'_>],
+    doc: DocId,
+) -> Result<Vec<u8>, StoredLineFault>
+    requires fits { AllByRecursion FitsFlags (map opened_store sources.now) }
+    ensures same { (ds : List SegmentDocuments) → AllZip SourceHolds (map opened_store sources.now) ds → doc < length (documents_of_segments ds) → IfOk result (λ found. found.items ≡ get_or (documents_of_segments ds) doc []) }
+    ensures there { (ds : List SegmentDocuments) → AllZip SourceHolds (map opened_store sources.now) ds → doc < length (documents_of_segments ds) → IsErrOf result StoredLineFault.Missing → ⊥ }
+    ensures undamaged { (ds : List SegmentDocuments) (place : ℕ) (damage : StoreDamage) → AllZip SourceHolds (map opened_store sources.now) ds → IsErrOf result (StoredLineFault.Merge (StoreMergeFault.Damaged place damage)) → ⊥ }
+{
+    let merged = match merge_stores(alloc, sources) {
+        Ok(merged) => merged,
+        Err(fault) => return Err(StoredLineFault::Merge(fault)),
+    };
+    let Ok(bytes) = Bytes::from_vec(merged) else {
+        return Err(StoredLineFault::OutOfMemory);
+    };
+    line_of(alloc, bytes, doc)
+}
+
 // Returns the file of stored lines.
 fn store_of(segment: SegmentFiles) -> Option<Vec<u8>>
     ensures { result ≡ segment.store }
@@ -65,6 +94,7 @@ fn store_of(segment: SegmentFiles) -> Option<Vec<u8>>
 fn line_of(alloc: Global, bytes: Bytes, doc: DocId) -> Result<Vec<u8>, StoredLineFault>
     ensures same { (lines : List (List ℕ)) → HoldsDocuments bytes lines → doc < length lines → IfOk result (λ found. found.items ≡ get_or lines doc []) }
     ensures there { (lines : List (List ℕ)) → HoldsDocuments bytes lines → doc < length lines → IsErrOf result StoredLineFault.Missing → ⊥ }
+    ensures unmerged { (fault : StoreMergeFault) → IsErrOf result (StoredLineFault.Merge fault) → ⊥ }
 {
     let reader = match StoreReader::open(alloc, bytes) {
         Ok(reader) => reader,

@@ -14,15 +14,16 @@ use Rattle.ii_segment_store.specs.Contents.{SegmentContents, index_contents, wit
 use Rattle.ii_segments.specs.Segments.{Segment, index_tokens, num_docs_of}
 use Rattle.ii_segments.proofs.MergeLaws.{all_alive, from_append}
 use Rattle.ii_index.specs.Searching.{OpensIndex, SearcherState}
-use Rattle.ii_index.specs.Segments.{HaveTokens, HoldsIndexOf, SegmentsHoldIndexOf, after, segment_of, with_documents}
-use Rattle.ii_index.proofs.OpenLemmas.{index_open}
+use Rattle.ii_index.specs.Ranking.{SearcherHolds}
+use Rattle.ii_index.specs.Segments.{HaveTokens, HoldsIndexOf, after, segment_of, with_documents}
+use Rattle.ii_index.proofs.OpenLemmas.{index_counted, index_open}
 use Rattle.ii_index.proofs.TokenLaws.{are_segment_tokens}
 use Rattle.nequllpa_indexing.specs.Documents.{DocumentsState, WereCalls}
 use Rattle.nequllpa_indexing.specs.FieldTokens.{tokens_by}
 use Rattle.nequllpa_merging.specs.HeldSegments.{HoldsSegment}
 use Rattle.nequllpa_merging.specs.Joins.{HoldsSameIndex}
 
-zip_more : {A B : Type 0} (R : A → B → Type 0) (xs : List A) (ys : List B) (x : A) (y : B) → AllZip R xs ys → R x y → AllZip R (xs ++ x ∷ []) (ys ++ y ∷ [])
+pub zip_more : {A B : Type 0} (R : A → B → Type 0) (xs : List A) (ys : List B) (x : A) (y : B) → AllZip R xs ys → R x y → AllZip R (xs ++ x ∷ []) (ys ++ y ∷ [])
 zip_more R [] [] x y zip holds = (holds, tt)
 zip_more R [] (b ∷ ys) x y zip holds = absurd zip
 zip_more R (a ∷ xs) [] x y zip holds = absurd zip
@@ -36,7 +37,7 @@ module _ (words : ℕ → List ℕ → List Word) (d : DocumentsState) where
   flags = replicate d.num_docs true
 
   -- documents come after those of other segments
-  have_more : (n : ℕ) (ts : List IndexToken) (ss : List Segment) → AllByRecursion (λ (t : IndexToken). t.doc < d.num_docs) tokens → HaveTokens n ts ss → HaveTokens (n + d.num_docs) (with_documents words d n ts) (ss ++ segment_of words d ∷ [])
+  pub have_more : (n : ℕ) (ts : List IndexToken) (ss : List Segment) → AllByRecursion (λ (t : IndexToken). t.doc < d.num_docs) tokens → HaveTokens n ts ss → HaveTokens (n + d.num_docs) (with_documents words d n ts) (ss ++ segment_of words d ∷ [])
   have_more n ts ss below have = record {
     num_docs = omega (arith, docs_more ss, all_living d.num_docs, have.num_docs);
     tokens =
@@ -60,6 +61,11 @@ same_holds entries old new n ts same h = record {
   holds = record { contents = h.holds.contents; read = same ∙ h.holds.read; hold = h.holds.hold };
   have = h.have;
 }
+
+-- files that hold what an index held hold the same documents
+pub left_holds : (entries : List SchemaEntry) (old files : Files) (n : ℕ) (ts : List IndexToken) → HoldsOldOr (index_contents old) old files → HoldsIndexOf entries old n ts → HoldsIndexOf entries files n ts
+left_holds entries old files n ts (inl same) h = same_holds entries old files n ts same h
+left_holds entries old files n ts (inr same) h = same_holds entries old files n ts same h
 
 -- files with the same bytes are the same
 same_files : (old new : Files) → Same old new → new ≡ old
@@ -90,7 +96,7 @@ created entries words d files text c none no_calls read holds =
     holds_below = subst (AllByRecursion (λ (t : IndexToken). t.doc < d.num_docs)) (sym no_tokens) tt
 
 -- no documents have no tokens
-none_below : (ts : List IndexToken) (n : ℕ) → n ≡ 0 → AllByRecursion (λ (t : IndexToken). t.doc < n) ts → ts ≡ []
+pub none_below : (ts : List IndexToken) (n : ℕ) → n ≡ 0 → AllByRecursion (λ (t : IndexToken). t.doc < n) ts → ts ≡ []
 none_below [] n none below = refl
 none_below (t ∷ ts) n none below = absurd (omega (arith, none, below.0))
 
@@ -141,5 +147,5 @@ merged_holds entries files n ts ss have h = record {
 }
 
 -- what is read of an index holds its documents
-pub index_open_of : (entries : List SchemaEntry) (files : Files) (n : ℕ) (ts : List IndexToken) (s : SearcherState) → OpensIndex entries (index_contents files) s → HoldsIndexOf entries files n ts → SegmentsHoldIndexOf entries s.segments n ts
-index_open_of entries files n ts s opens h = record { segments = h.segments; hold = index_open entries files h.segments s opens h.holds; have = h.have }
+pub index_open_of : (entries : List SchemaEntry) (files : Files) (n : ℕ) (ts : List IndexToken) (s : SearcherState) → OpensIndex entries (index_contents files) s → HoldsIndexOf entries files n ts → SearcherHolds entries s n ts
+index_open_of entries files n ts s opens h = record { segments = h.segments; hold = index_open entries files h.segments s opens h.holds; have = h.have; counts = index_counted entries files h.segments s opens h.holds }

@@ -1,6 +1,17 @@
 mod FaultLemmas
+mod DeleteLaws
+mod DeleteLemmas
 mod TokenLaws
 mod SegmentLemmas
+mod TermLemmas
+mod StatisticsLaws
+mod CountLemmas
+mod HeldLemmas
+mod TermCountLemmas
+mod TotalsLemmas
 mod OpenLemmas
 mod IndexLemmas
+mod ReachLemmas
+mod ChangeLemmas
+mod CommitLemmas
 mod WriterLemmas

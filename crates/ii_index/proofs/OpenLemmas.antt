@@ -1,7 +1,9 @@
 -- Segments that are opened one after the other, and what they hold.
-use Rattle.std.proofs.Common.{◌≡◌, ◌∙◌, ℕ, true, List, [], ◌∷◌, ◌++◌, Result, Ok, Some, length, map, ap, append-nil, append_assoc, refl, subst, sym}
+use Rattle.std.proofs.Common.{◌≡◌, ◌∙◌, ℕ, true, List, [], ◌∷◌, ◌++◌, Vec, Global, Result, Ok, Some, length, map, ap, append-nil, append_assoc, refl, subst, sym}
 use Rattle.std.specs.Prelude.{slice_get}
 use Rattle.std.specs.List.{AllZip}
+use Rattle.std.proofs.lemmas.List.{map-append}
+use Rattle.ii_io.specs.declared.faults.Part.{Part}
 use Rattle.ii_base.specs.Schema.{SchemaEntry}
 use Rattle.ii_definitions.specs.Fields.{option_of}
 use Rattle.ii_definitions.specs.Files.{HoldTokens}
@@ -16,9 +18,16 @@ use Rattle.ii_segment_store.specs.Contents.{IndexContents, SegmentContents, inde
 use Rattle.ii_segment_store.specs.declared.stored_segments.StoredSegment.{StoredSegment}
 use Rattle.ii_segments.specs.Segments.{Segment}
 use Rattle.ii_store.specs.declared.faults.IndexFault.{IndexFault}
-use Rattle.ii_index.specs.Searching.{HaveReaders, OpenSegments, OpensIndex, OpensSegment, SearcherState}
+use Rattle.ii_index.specs.Ranking.{segment_counts}
+use Rattle.ii_index.specs.Searching.{HaveReaders, OpenSegments, OpensIndex, OpensSegment, SearcherState, segment_totals, totals_view}
+use Rattle.ii_index.proofs.HeldLemmas.{all_totals_held}
 use Rattle.nequllpa_merging.specs.HeldSegments.{HoldSegments}
+use Rattle.nequllpa_merging.specs.OpenedSegments.{totals_by_file}
 use Rattle.nequllpa_merging.specs.Joins.{HoldsIndex}
+
+-- how many tokens a segment has in each field, as it is kept
+abbrev pub SegmentTotals : Type 0
+SegmentTotals = Result (Vec ℕ Global) Part
 
 module _ (entries : List SchemaEntry) where
   -- A stored segment opens as this one.
@@ -95,6 +104,28 @@ module _ (entries : List SchemaEntry) where
   open_hold (c ∷ cs) (o ∷ os) [] opens hold = absurd hold
   open_hold (c ∷ cs) (o ∷ os) (s ∷ ss) opens hold = (opens.0.holds s hold.0, open_hold cs os ss opens.1 hold.1)
 
+  -- The numbers of tokens of the segments that were taken from a list.
+  abbrev pub AreCounting : List StoredSegment → List SegmentTotals → Type 0
+  AreCounting taken totals = map totals_view totals ≡ map (segment_totals entries) (map segment_contents taken)
+
+  pub counting_goes_on : (taken : List StoredSegment) (totals new : List SegmentTotals) (x : StoredSegment) (t : SegmentTotals) → new ≡ totals ++ t ∷ [] → totals_view t ≡ segment_totals entries (segment_contents x) → AreCounting taken totals → AreCounting (taken ++ x ∷ []) new
+  counting_goes_on taken totals new x t pushed counted so_far =
+      ap (map totals_view) pushed
+      ∙ map-append totals_view totals (t ∷ [])
+      ∙ (λ j. so_far j ++ counted j ∷ [])
+      ∙ sym (map-append (segment_totals entries) (map segment_contents taken) (segment_contents x ∷ []))
+      ∙ ap (map (segment_totals entries)) (sym (map-append segment_contents taken (x ∷ [])))
+
+  pub counting_ends : (all taken rest : List StoredSegment) (opened : List OpenSegmentState) (totals : List SegmentTotals) → rest ≡ [] → AreOpening all taken rest opened → AreCounting taken totals → map totals_view totals ≡ map (segment_totals entries) (map segment_contents all)
+  counting_ends all taken rest opened totals none so_far counted =
+      let e : taken ≡ all = sym (append-nil taken) ∙ ap (λ (r : List StoredSegment). taken ++ r) (sym none) ∙ so_far.whole in
+      counted ∙ ap (λ (xs : List StoredSegment). map (segment_totals entries) (map segment_contents xs)) e
+
+  -- what is counted over the files of a segment
+  pub counted_over : (c : SegmentContents) (index : OpenIndexState) (totals : Result (List ℕ) Part) → index_of_files c.terms c.postings c.positions c.fieldnorms entries ≡ Ok index → totals ≡ totals_by_file (length entries) index c.counts c.alive
+      → totals ≡ segment_totals entries c
+  counted_over c index totals opened is = is ∙ rw opened refl
+
   same_ok : {c d : IndexContents} → ◌≡◌ {A = Result IndexContents IndexFault} (Ok c) (Ok d) → c ≡ d
   same_ok e = cc
 
@@ -103,6 +134,12 @@ module _ (entries : List SchemaEntry) where
   index_open files ss s opens holds =
       let same : opens.0 ≡ holds.contents = same_ok (sym opens.1 ∙ holds.read) in
       open_hold opens.0.segments s.segments ss opens.2 (subst (λ (c : IndexContents). HoldSegments entries c.segments ss) (sym same) holds.hold)
+
+  -- and has the numbers of their tokens
+  pub index_counted : (files : Files) (ss : List Segment) (s : SearcherState) → OpensIndex entries (index_contents files) s → HoldsIndex entries files ss → s.num_tokens ≡ map (segment_counts (length entries)) ss
+  index_counted files ss s opens holds =
+      let same : opens.0 ≡ holds.contents = same_ok (sym opens.1 ∙ holds.read) in
+      opens.3 ∙ all_totals_held entries opens.0.segments ss (subst (λ (c : IndexContents). HoldSegments entries c.segments ss) (sym same) holds.hold)
 
 -- a query of the fields may be asked of each segment
 pub have_fields : (n : ℕ) (query : Query) (os : List OpenSegmentState) → HaveReaders n os → has_fields n query ≡ true → HaveFields query os

@@ -1,9 +1,10 @@
 -- The documents of a writer.
-use Rattle.std.proofs.Common.{◌≡◌, ◌+◌, ℕ, Bool, true, false, List, [], ◌∷◌, Option, None, Some, Result, Ok, ap, arith, length-append, refl, subst, sym}
+use Rattle.std.proofs.Common.{◌≡◌, ◌+◌, ◌<◌, ℕ, Bool, true, false, List, [], ◌∷◌, ◌++◌, Option, None, Some, Result, Ok, ap, arith, length-append, refl, subst, sym}
 use Rattle.std.specs.Prelude.{if◌then◌else◌}
 use Rattle.ii_schema_text.specs.SchemaText.{TextSchemaState}
 use Rattle.ii_store.specs.declared.faults.IndexFault.{IndexFault}
 use Rattle.ii_store.specs.IndexMeta.{MetaState}
+use Rattle.ii_index.specs.Deletes.{DeleteState, HaveFieldsBelow}
 use Rattle.ii_index.specs.declared.faults.IndexError.{IndexError}
 use Rattle.ii_index.specs.declared.faults.IndexError.TheVariants as faults
 use Rattle.ii_index.specs.Index.{IsOpenFault, IsSchemaFault}
@@ -43,5 +44,18 @@ open_fault list m (faults.Store fault) is why = absurd why
 open_fault list m (faults.Commit fault) is why = why
 open_fault list m (faults.Merge fault) is why = why
 open_fault list m (faults.Segment place fault) is why = why
+open_fault list m (faults.NoCounts place) is why = why
 open_fault list m faults.TooManyDocuments is why = why
 open_fault list m (faults.Documents fault) is why = why
+
+-- the fields of deletes, of which there are none
+pub none_have_fields : (n : ℕ) (ds : List DeleteState) → ds ≡ [] → HaveFieldsBelow n ds
+none_have_fields n ds none = subst (HaveFieldsBelow n) (sym none) tt
+
+-- and of one more
+pub added_has_field : (n : ℕ) (ds new : List DeleteState) (d : DeleteState) → new ≡ ds ++ d ∷ [] → HaveFieldsBelow n ds → d.term.field < n → HaveFieldsBelow n new
+added_has_field n ds new d is have known = subst (HaveFieldsBelow n) (sym is) (more ds have)
+  where
+    more : (es : List DeleteState) → HaveFieldsBelow n es → HaveFieldsBelow n (es ++ d ∷ [])
+    more [] h = (known, tt)
+    more (e ∷ es) h = (h.0, more es h.1)

@@ -1,5 +1,6 @@
 -- Why the calls of an index fail.
-use Rattle.std.specs.Prelude.{◌≡◌, ◌⊎◌, ⊤, ℕ, [], List, Option, None, Some, Ok, IsSome, slice_get}
+use Rattle.std.specs.List.{AllZip}
+use Rattle.std.specs.Prelude.{◌≡◌, ◌≢◌, ◌⊎◌, ⊤, ℕ, [], ◌∷◌, List, Option, None, Some, Ok, IsSome, slice_get}
 use Rattle.ii_base.specs.Schema.{SchemaEntry}
 use Rattle.ii_base.specs.Words.{Word}
 use Rattle.ii_definitions.specs.Fields.{option_of}
@@ -10,6 +11,7 @@ use Rattle.ii_io.specs.declared.faults.Fault.TheVariants.{OutOfMemory}
 use Rattle.ii_reader.specs.InvertedIndexReader.{IsRefusal}
 use Rattle.ii_reader.specs.OpenIndex.{index_of_files}
 use Rattle.ii_schema_text.specs.SchemaText.{TellsOfText, TextSchemaState, told_of_text}
+use Rattle.ii_segment_store.specs.Changes.{IsChangeFault}
 use Rattle.ii_segment_store.specs.Commits.{IsCommitFault, emptied}
 use Rattle.ii_segment_search.specs.Searcher.{AreFew, OpenSegmentState}
 use Rattle.ii_segment_store.specs.Contents.{IndexContents, SegmentContents, index_contents}
@@ -23,9 +25,14 @@ use Rattle.nequllpa_indexing.specs.Documents.{DocumentsState}
 use Rattle.nequllpa_indexing.specs.FieldTokens.{calls_fault_by, tokens_by}
 use Rattle.nequllpa_indexing.specs.StoredLines.{IsLinesFault}
 use Rattle.nequllpa_merging.specs.HeldSegments.{HoldsSegment}
+use Rattle.nequllpa_merging.specs.MergedSegments.{IsMergingFault}
+use Rattle.nequllpa_merging.specs.declared.faults.JoinFault.TheVariants as joins
+use Rattle.nequllpa_merging.specs.declared.faults.MergeFault.TheVariants as merges
+use Rattle.ii_index.specs.Deletes.{AreDeletedOf, DeleteState, HoldsLeft, docs_in_files, segment_left}
 use Rattle.ii_index.specs.Index.{NewSchema, new_schema}
 use Rattle.ii_index.specs.Searching.{OpenSegments}
 use Rattle.ii_index.specs.Segments.{no_documents, segment_of}
+use Rattle.ii_index.specs.declared.deletes.Scope.TheVariants.{Committed, Pending}
 use Rattle.ii_index.specs.declared.faults.IndexError.{IndexError}
 use Rattle.ii_index.specs.declared.faults.IndexError.TheVariants as faults
 
@@ -57,6 +64,38 @@ abbrev pub IsAddError : IndexError → TextSchemaState → DocumentsState → Fi
 IsAddError (faults.Documents fault) s d files = (fault ≡ OutOfMemory) ⊎ IsDocumentsFault (analyzed_in s.tokenizers) d fault
 IsAddError (faults.Commit fault) s d files = (c : SegmentContents) × HoldsSegment s.schema c (segment_of (analyzed_in s.tokenizers) d) × IsCommitFault fault (list_in (files Meta)) c
 IsAddError _ s d files = ⊥
+
+-- Why documents of the segment at a place aren't deleted: its files or the list of a term can't be opened, or it has no counts.
+abbrev pub IsDeleteErrorAt : IndexError → ℕ → List SchemaEntry → List DeleteState → SegmentContents → Type 0
+IsDeleteErrorAt (faults.Segment place fault) at entries deletes c = (place ≡ at) × IsRefusal (docs_in_files Committed entries deletes c) fault
+IsDeleteErrorAt (faults.NoCounts place) at entries deletes c = (place ≡ at) × (c.counts ≡ None) × (docs : List ℕ) × (docs_in_files Committed entries deletes c ≡ Ok docs) × (docs ≢ [])
+IsDeleteErrorAt _ at entries deletes c = ⊥
+
+-- Why documents of segments aren't deleted: those of the one at a place, or an allocation failed.
+abbrev pub IsDeleteError : IndexError → List SchemaEntry → List DeleteState → List SegmentContents → Type 0
+IsDeleteError e entries deletes cs = (e ≡ faults.Documents OutOfMemory) ⊎ ((place : ℕ) × (c : SegmentContents) × (slice_get cs place ≡ Some c) × IsDeleteErrorAt e place entries deletes c)
+
+-- Why the segment of the documents that were pending isn't built, without those that deletes reach.
+abbrev pub IsLeftError : IndexError → TextSchemaState → DocumentsState → List DeleteState → Type 0
+IsLeftError (faults.Documents fault) s d deletes =
+    (fault ≡ OutOfMemory) ⊎ IsDocumentsFault (analyzed_in s.tokenizers) d fault
+    ⊎ ((c : SegmentContents) × HoldsSegment s.schema c (segment_of (analyzed_in s.tokenizers) d) × IsRefusal (docs_in_files Pending s.schema deletes c) fault)
+IsLeftError (faults.Merge (joins.Merge fault)) s d deletes =
+    (fault ≡ merges.Merge OutOfMemory) ⊎ ((c : SegmentContents) × HoldsSegment s.schema c (segment_left (analyzed_in s.tokenizers) d deletes) × IsMergingFault s.schema (c ∷ []) fault)
+IsLeftError _ s d deletes = ⊥
+
+-- Why documents aren't deleted and added.
+abbrev pub IsChangeError : IndexError → TextSchemaState → DocumentsState → List DeleteState → Files → Type 0
+IsChangeError (faults.Store fault) s d deletes files = Fails fault (index_contents files)
+IsChangeError (faults.Commit fault) s d deletes files =
+    (c : IndexContents) × (index_contents files ≡ Ok c) × (deleted : List (List ℕ)) × AllZip (AreDeletedOf s.schema deletes) c.segments deleted
+    × (added : Option SegmentContents) × HoldsLeft s d deletes added × IsChangeFault fault deleted added files
+IsChangeError e s d deletes files = ((c : IndexContents) × (index_contents files ≡ Ok c) × IsDeleteError e s.schema deletes c.segments) ⊎ IsLeftError e s d deletes
+
+-- Why documents and deletes aren't committed.
+abbrev pub IsCommitError : IndexError → TextSchemaState → DocumentsState → List DeleteState → Files → Type 0
+IsCommitError e s d [] files = IsAddError e s d files
+IsCommitError e s d (x ∷ xs) files = IsChangeError e s d (x ∷ xs) files
 
 -- Why segments aren't opened: the files of the one at a place can't be, or there are too many documents, or an allocation failed.
 abbrev pub IsOpenSegmentsError : IndexError → List SchemaEntry → List SegmentContents → Type 0

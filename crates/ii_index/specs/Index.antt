@@ -1,11 +1,14 @@
 -- An index in a directory, its writer, and why their calls fail.
-use Rattle.std.specs.Prelude.{◌≡◌, ℕ, List, Result, Ok}
+use Rattle.std.specs.Prelude.{◌≡◌, ℕ, List, [], ◌∷◌, ◌++◌, Result, Ok}
 use Rattle.std.specs.Str.{IsUtf8}
 use Rattle.ii_schema_text.specs.SchemaText.{Refusal, TellsOfText, TextSchemaState, new_schema_text, told_of_text, tokenized_schema}
 use Rattle.ii_schema_text.specs.Steps.{◌>>=◌}
 use Rattle.ii_store.specs.declared.faults.IndexFault.{IndexFault}
 use Rattle.ii_store.specs.Index.{Fails}
 use Rattle.ii_store.specs.IndexMeta.{MetaState}
+use Rattle.ii_base.specs.Terms.{TermState}
+use Rattle.ii_index.specs.Deletes.{DeleteState}
+use Rattle.ii_index.specs.Segments.{no_documents}
 use Rattle.ii_index.specs.declared.faults.IndexError.{IndexError}
 use Rattle.ii_index.specs.declared.faults.IndexError.TheVariants as faults
 use Rattle.nequllpa_indexing.specs.Documents.{DocumentsState}
@@ -15,10 +18,25 @@ pub record IndexState (D : Type 0) : Type 0 where
   pub directory : D
   pub schema : TextSchemaState
 
--- a writer: the index, and the documents that were added and not committed
+-- a writer: the index, and the documents that were added, and the deletes, that weren't committed
 pub record IndexWriterState (D : Type 0) : Type 0 where
   pub index : IndexState D
   pub pending : DocumentsState
+  pub deletes : List DeleteState
+
+-- a writer with a delete more, of the documents that have a term
+abbrev pub with_delete : {D : Type 0} → TermState → IndexWriterState D → IndexWriterState D
+with_delete term w = record w { deletes = w.deletes ++ (record { term = term; num_pending = w.pending.num_docs }) ∷ [] }
+
+-- A writer has no documents and no deletes that weren't committed.
+pub record HasNothing {D : Type 0} (w : IndexWriterState D) : Type 0 where
+  pub pending : w.pending ≡ no_documents w.index.schema
+  pub deletes : w.deletes ≡ []
+
+-- The documents and deletes that weren't committed are the same.
+pub record IsPendingAs {D : Type 0} (old new : IndexWriterState D) : Type 0 where
+  pub pending : new.pending ≡ old.pending
+  pub deletes : new.deletes ≡ old.deletes
 
 -- the text of the schema of a new index, and the schema in it
 pub record NewSchema : Type 0 where
@@ -46,6 +64,7 @@ IsSchemaFault bytes (faults.Store fault) = ⊥
 IsSchemaFault bytes (faults.Commit fault) = ⊥
 IsSchemaFault bytes (faults.Merge fault) = ⊥
 IsSchemaFault bytes (faults.Segment place fault) = ⊥
+IsSchemaFault bytes (faults.NoCounts place) = ⊥
 IsSchemaFault bytes faults.TooManyDocuments = ⊥
 IsSchemaFault bytes (faults.Documents fault) = ⊥
 
@@ -58,5 +77,6 @@ IsOpenFault list (faults.Store fault) = Fails fault list
 IsOpenFault list (faults.Commit fault) = ⊥
 IsOpenFault list (faults.Merge fault) = ⊥
 IsOpenFault list (faults.Segment place fault) = ⊥
+IsOpenFault list (faults.NoCounts place) = ⊥
 IsOpenFault list faults.TooManyDocuments = ⊥
 IsOpenFault list (faults.Documents fault) = ⊥

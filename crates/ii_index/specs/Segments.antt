@@ -5,15 +5,14 @@ use Rattle.ii_base.specs.Words.{Word}
 use Rattle.ii_definitions.specs.Tokens.{IndexToken}
 use Rattle.ii_directory.specs.Directory.{Files}
 use Rattle.ii_schema_text.specs.SchemaText.{TextSchemaState}
-use Rattle.ii_segment_search.specs.Searcher.{OpenSegmentState, SegmentsHold}
 use Rattle.ii_segments.specs.Segments.{Segment, index_tokens, num_docs_of}
 use Rattle.nequllpa_indexing.specs.Documents.{DocumentsState}
 use Rattle.nequllpa_indexing.specs.FieldTokens.{tokens_by}
 use Rattle.nequllpa_merging.specs.Joins.{HoldsIndex}
 
--- no documents, of the fields of a schema, with their lines if it stores them
+-- no documents, of the fields of a schema, with their lines if it stores them, and with unknown keys as it says
 abbrev pub no_documents : TextSchemaState → DocumentsState
-no_documents s = record { schema = s.schema; num_docs = 0; calls = []; lines = if s.stores_source then Some [] else None }
+no_documents s = record { schema = s.schema; num_docs = 0; calls = []; lines = if s.stores_source then Some [] else None; unknown_keys = s.unknown_keys }
 
 -- If lines are stored, there is one for each document.
 abbrev pub HaveLines : ℕ → Option (List (List ℕ)) → Type 0
@@ -33,12 +32,6 @@ pub record HaveTokens (n : ℕ) (ts : List IndexToken) (ss : List Segment) : Typ
 pub record HoldsIndexOf (entries : List SchemaEntry) (files : Files) (n : ℕ) (ts : List IndexToken) : Type 0 where
   pub segments : List Segment
   pub holds : HoldsIndex entries files segments
-  pub have : HaveTokens n ts segments
-
--- Open segments hold an index of this number of documents, with these tokens.
-pub record SegmentsHoldIndexOf (entries : List SchemaEntry) (opened : List OpenSegmentState) (n : ℕ) (ts : List IndexToken) : Type 0 where
-  pub segments : List Segment
-  pub hold : SegmentsHold entries opened segments
   pub have : HaveTokens n ts segments
 
 -- a token of a document that comes after n others

@@ -35,6 +35,10 @@ pub enum IndexError {
     /// The files of the segment at this place, from 0, can't be opened.
     #[error("segment {0}: {1}")]
     Segment(usize, Fault),
+    /// The segment at this place, from 0, has no counts of its tokens, so its documents can't be deleted: it comes
+    /// from an index of version 1.
+    #[error("segment {0} has no counts of its tokens")]
+    NoCounts(usize),
     /// The segments have 2^31 documents or more.
     #[error("more than 2147483647 documents")]
     TooManyDocuments,

@@ -1,21 +1,29 @@
 //! An open index.
 ghost use Rattle.std.specs.Prelude.{◌≡◌, ◌⊎◌, ◌+◌, ◌<◌, ◌↔◌, [], ℕ, IfErr, IfOk, IfSome, IsSome, IsTrue, List, None, Ok, OnOk, length};
+ghost use Rattle.ii_base.specs.Schema.{SchemaEntry};
 ghost use Rattle.ii_definitions.specs.Tokens.{IndexToken};
 ghost use Rattle.ii_directory.specs.Directory.{Files};
 ghost use Rattle.ii_directory.specs.declared.name.Name.TheVariants.{Meta};
-ghost use Rattle.ii_index.specs.Faults.{IsAddError, IsCreateError, IsDirectoryFault, IsDocumentsFault, IsReadError};
+ghost use Rattle.ii_index.specs.Deletes.{HaveFieldsBelow, HoldsIndexOfSegment, committed};
+ghost use Rattle.ii_index.specs.Faults.{IsCommitError, IsCreateError, IsDirectoryFault, IsDocumentsFault, IsReadError};
 ghost use Rattle.ii_index.specs.Index.{IsIndexSchema, IsNewSchema, IsOpenFault, IsSchemaFault, new_schema};
+ghost use Rattle.ii_index.specs.Ranking.{SearcherHolds};
 ghost use Rattle.ii_index.specs.Searching.{OpensIndex};
-ghost use Rattle.ii_index.specs.Segments.{HaveLines, HoldsIndexOf, SegmentsHoldIndexOf, no_documents, segment_of, with_documents};
+ghost use Rattle.ii_index.specs.Segments.{HaveLines, HoldsIndexOf, no_documents, segment_of, with_documents};
 ghost use Rattle.ii_io.specs.Faults.{OnlyMemory};
 ghost use Rattle.ii_query_parser.specs.QueryTexts.{IsQueryOfTextBy, field_named};
 ghost use Rattle.ii_schema_text.specs.SchemaText.{AnswersFromText, tokenized_schema};
 ghost use Rattle.ii_segment_store.specs.Contents.{files_contents, index_contents};
+ghost use Rattle.ii_store.specs.Collect.{CountsGarbage, HasNoGarbage};
+ghost use Rattle.ii_store.specs.Index.{Fails};
+ghost use Rattle.ii_store.specs.IndexMeta.{MetaState};
 ghost use Rattle.ii_store.specs.Segments.{list_in};
 ghost use Rattle.ii_tokenizers.specs.Tokenizers.{analyzed_in};
 ghost use Rattle.nequllpa_merging.specs.HeldSegments.{HoldsSegment};
 ghost use Rattle.nequllpa_merging.specs.Joins.{IsJoinFault};
 
+use crate::committing::commit_documents;
+use crate::deletes::Delete;
 use crate::faults::IndexError;
 use crate::index_reader::{IndexReader, Searcher};
 use crate::index_writer::IndexWriter;
@@ -25,7 +33,7 @@ use ii_base::{Fault, Field, Schema};
 use ii_directory::{Directory, Name};
 use ii_query_parser::{Query, QueryParserError, field_named, parse_query_by};
 use ii_schema_text::{SchemaFault, TextSchema, new_schema_text, read_text_schema};
-use ii_segment_store::{SegmentFiles, append_segment, load_latest, replace_index};
+use ii_segment_store::{SegmentFiles, collect_garbage, load_latest, replace_index};
 use ii_store::StoreFault;
 use ii_store::segments::load_meta;
 use ii_tokenizers::FieldTokenizers;
@@ -168,7 +176,7 @@ impl<D: Directory + Drop> Index<D> {
     pub fn reader(&self, alloc: Global) -> Result<IndexReader, IndexError>
         ensures opens { D.is_known self.now.directory → IfOk result (OpensIndex self.now.schema.schema (index_contents (D.seen self.now.directory))) }
         ensures fields { IfOk result (λ r. r.num_fields ≡ length self.now.schema.schema) }
-        ensures holds { D.is_known self.now.directory → (n : ℕ) (ts : List IndexToken) → HoldsIndexOf self.now.schema.schema (D.seen self.now.directory) n ts → IfOk result (λ r. SegmentsHoldIndexOf self.now.schema.schema r.segments n ts) }
+        ensures holds { D.is_known self.now.directory → (n : ℕ) (ts : List IndexToken) → HoldsIndexOf self.now.schema.schema (D.seen self.now.directory) n ts → IfOk result (λ r. SearcherHolds self.now.schema.schema r n ts) }
         ensures fault { D.is_known self.now.directory → IfErr result (λ e. IsReadError e self.now.schema.schema (D.seen self.now.directory)) }
     {
         match load_searcher(alloc, &self.directory, self.schema.schema()) {
@@ -180,14 +188,14 @@ impl<D: Directory + Drop> Index<D> {
     /// Returns a writer of this index, to which no documents were added. Returns `OutOfMemory` if an allocation
     /// fails.
     pub fn writer(self, alloc: Global) -> Result<IndexWriter<D>, Fault>
-        ensures ok { IfOk result (λ w. w ≡ record { index = self; pending = no_documents self.schema }) }
+        ensures ok { IfOk result (λ w. w ≡ record { index = self; pending = no_documents self.schema; deletes = [] }) }
         ensures only { OnlyMemory result }
     {
         let documents = match documents_for(alloc, &self.schema) {
             Ok(documents) => documents,
             Err(fault) => return Err(fault),
         };
-        Ok(IndexWriter::new(self, documents))
+        Ok(IndexWriter::new(self, documents, Vec::new(alloc)))
     }
 
     // Returns an empty list of documents.
@@ -198,19 +206,40 @@ impl<D: Directory + Drop> Index<D> {
         documents_for(alloc, &self.schema)
     }
 
-    // Adds documents as a segment, unless there are none.
-    pub(crate) fn add(&mut self, alloc: Global, documents: Documents) -> Result<(), IndexError>
+    // Adds documents as a segment, unless there are none, and deletes those that deletes reach.
+    pub(crate) fn commit(
+        &mut self,
+        alloc: Global,
+        documents: Documents,
+        deletes: &[Delete],
+    ) -> Result<(), IndexError>
         requires schema { documents.schema ≡ self.old.schema.schema }
         requires lines { HaveLines documents.num_docs documents.lines }
+        requires fields { HaveFieldsBelow (length self.old.schema.schema) deletes.now }
         ensures known { D.is_known self.old.directory → OnOk result (D.is_known self.new.directory) }
         ensures schema { self.new.schema ≡ self.old.schema }
-        ensures added { D.is_known self.old.directory → (n : ℕ) (ts : List IndexToken) → HoldsIndexOf self.old.schema.schema (D.seen self.old.directory) n ts
+        ensures added { D.is_known self.old.directory → deletes.now ≡ [] → (n : ℕ) (ts : List IndexToken) → HoldsIndexOf self.old.schema.schema (D.seen self.old.directory) n ts
             → OnOk result (HoldsIndexOf self.old.schema.schema (D.seen self.new.directory) (n + documents.num_docs) (with_documents (analyzed_in self.old.schema.tokenizers) documents n ts)) }
+        ensures changed { D.is_known self.old.directory → (n : ℕ) (ts : List IndexToken) → HoldsIndexOf self.old.schema.schema (D.seen self.old.directory) n ts
+            → OnOk result (HoldsIndexOfSegment self.old.schema.schema (D.seen self.new.directory) (committed (analyzed_in self.old.schema.tokenizers) documents deletes.now n ts)) }
         ensures leaves_one { D.is_known self.old.directory → (n : ℕ) (ts : List IndexToken) → HoldsIndexOf self.old.schema.schema (D.seen self.old.directory) n ts → (files : Files) → D.left_since self.new.directory (D.moment self.old.directory) files
-            → HoldsIndexOf self.old.schema.schema files n ts ⊎ HoldsIndexOf self.old.schema.schema files (n + documents.num_docs) (with_documents (analyzed_in self.old.schema.tokenizers) documents n ts) }
-        ensures fault { D.is_known self.old.directory → IfErr result (λ e. IsAddError e self.old.schema documents (D.seen self.old.directory)) }
+            → HoldsIndexOf self.old.schema.schema files n ts ⊎ HoldsIndexOfSegment self.old.schema.schema files (committed (analyzed_in self.old.schema.tokenizers) documents deletes.now n ts) }
+        ensures fault { D.is_known self.old.directory → IfErr result (λ e. IsCommitError e self.old.schema documents deletes.now (D.seen self.old.directory)) }
     {
-        add_documents(alloc, &mut self.directory, &self.schema, documents)
+        commit_documents(alloc, &mut self.directory, &self.schema, documents, deletes)
+    }
+
+    // Removes the files that the index doesn't have any more.
+    pub(crate) fn collect_garbage(&mut self, alloc: Global) -> Result<u64, StoreFault>
+        ensures known { D.is_known self.old.directory → OnOk result (D.is_known self.new.directory) }
+        ensures schema { self.new.schema ≡ self.old.schema }
+        ensures removed { D.is_known self.old.directory → IfOk result (λ _. (m : MetaState) → list_in (D.seen self.old.directory Meta) ≡ Ok m → HasNoGarbage m (D.seen self.new.directory)) }
+        ensures count { D.is_known self.old.directory → IfOk result (λ count. (m : MetaState) → list_in (D.seen self.old.directory Meta) ≡ Ok m → CountsGarbage m (D.seen self.old.directory) count) }
+        ensures same { D.is_known self.old.directory → OnOk result (index_contents (D.seen self.new.directory) ≡ index_contents (D.seen self.old.directory)) }
+        ensures leaves_same { D.is_known self.old.directory → (n : ℕ) (ts : List IndexToken) → HoldsIndexOf self.old.schema.schema (D.seen self.old.directory) n ts → (files : Files) → D.left_since self.new.directory (D.moment self.old.directory) files → HoldsIndexOf self.old.schema.schema files n ts }
+        ensures fault { D.is_known self.old.directory → IfErr result (λ e. Fails e (list_in (D.seen self.old.directory Meta))) }
+    {
+        collect_files(alloc, &mut self.directory)
     }
 
     // Merges the segments from a place on.
@@ -225,32 +254,18 @@ impl<D: Directory + Drop> Index<D> {
     }
 }
 
-// Adds documents to an index of this schema as a segment, unless there are none.
-fn add_documents<D: Directory>(
-    alloc: Global,
-    directory: &mut D,
-    schema: &TextSchema,
-    documents: Documents,
-) -> Result<(), IndexError>
-    requires schema { documents.schema ≡ schema.now.schema }
-    requires lines { HaveLines documents.num_docs documents.lines }
+// Removes the files that an index doesn't have any more.
+fn collect_files<D: Directory>(alloc: Global, directory: &mut D) -> Result<u64, StoreFault>
     ensures known { D.is_known directory.old → OnOk result (D.is_known directory.new) }
-    ensures added { D.is_known directory.old → (n : ℕ) (ts : List IndexToken) → HoldsIndexOf schema.now.schema (D.seen directory.old) n ts
-        → OnOk result (HoldsIndexOf schema.now.schema (D.seen directory.new) (n + documents.num_docs) (with_documents (analyzed_in schema.now.tokenizers) documents n ts)) }
-    ensures leaves_one { D.is_known directory.old → (n : ℕ) (ts : List IndexToken) → HoldsIndexOf schema.now.schema (D.seen directory.old) n ts → (files : Files) → D.left_since directory.new (D.moment directory.old) files
-        → HoldsIndexOf schema.now.schema files n ts ⊎ HoldsIndexOf schema.now.schema files (n + documents.num_docs) (with_documents (analyzed_in schema.now.tokenizers) documents n ts) }
-    ensures fault { D.is_known directory.old → IfErr result (λ e. IsAddError e schema.now documents (D.seen directory.old)) }
+    ensures removed { D.is_known directory.old → IfOk result (λ _. (m : MetaState) → list_in (D.seen directory.old Meta) ≡ Ok m → HasNoGarbage m (D.seen directory.new)) }
+    ensures count { D.is_known directory.old → IfOk result (λ count. (m : MetaState) → list_in (D.seen directory.old Meta) ≡ Ok m → CountsGarbage m (D.seen directory.old) count) }
+    ensures same { D.is_known directory.old → OnOk result (index_contents (D.seen directory.new) ≡ index_contents (D.seen directory.old)) }
+    ensures leaves_same { D.is_known directory.old → (entries : List SchemaEntry) (n : ℕ) (ts : List IndexToken) → HoldsIndexOf entries (D.seen directory.old) n ts → (files : Files) → D.left_since directory.new (D.moment directory.old) files → HoldsIndexOf entries files n ts }
+    ensures fault { D.is_known directory.old → IfErr result (λ e. Fails e (list_in (D.seen directory.old Meta))) }
 {
-    if documents.num_docs() == 0 {
-        return Ok(());
-    }
-    let segment = match segment_of(alloc, documents, schema.tokenizers()) {
-        Ok(segment) => segment,
-        Err(fault) => return Err(IndexError::Documents(fault)),
-    };
-    match append_segment(alloc, directory, &segment) {
-        Ok(()) => Ok(()),
-        Err(fault) => Err(IndexError::Commit(fault)),
+    match collect_garbage(alloc, directory) {
+        Ok(count) => Ok(count),
+        Err(fault) => Err(fault),
     }
 }
 
@@ -353,7 +368,7 @@ fn load_searcher<D: Directory>(
 ) -> Result<Searcher, IndexError>
     ensures opens { D.is_known directory.now → IfOk result (OpensIndex schema.now (index_contents (D.seen directory.now))) }
     ensures fields { IfOk result (λ s. s.num_fields ≡ length schema.now) }
-    ensures holds { D.is_known directory.now → (n : ℕ) (ts : List IndexToken) → HoldsIndexOf schema.now (D.seen directory.now) n ts → IfOk result (λ s. SegmentsHoldIndexOf schema.now s.segments n ts) }
+    ensures holds { D.is_known directory.now → (n : ℕ) (ts : List IndexToken) → HoldsIndexOf schema.now (D.seen directory.now) n ts → IfOk result (λ s. SearcherHolds schema.now s n ts) }
     ensures fault { D.is_known directory.now → IfErr result (λ e. IsReadError e schema.now (D.seen directory.now)) }
 {
     let stored = match load_latest(alloc, directory) {

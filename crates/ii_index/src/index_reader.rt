@@ -1,15 +1,30 @@
 //! Reads the segments of an index.
-ghost use Rattle.std.specs.Prelude.{◌≡◌, List, Ok, IfErr, IfOk, true};
+ghost use Rattle.std.specs.Prelude.{◌≡◌, ◌<◌, ◌-◌, ◌^◌, ℕ, List, None, Ok, IfErr, IfOk, OnOk, length, map, min, true};
+ghost use Rattle.ii_base.specs.Entries.{Entry};
 ghost use Rattle.ii_base.specs.Schema.{SchemaEntry};
-ghost use Rattle.ii_index.specs.Searching.{HaveReaders};
+ghost use Rattle.ii_base.specs.declared.doc_id.TheConstants.{TERMINATED};
+ghost use Rattle.ii_definitions.specs.Tokens.{IndexToken};
+ghost use Rattle.ii_index.specs.Ranking.{CountsDocs, SearcherHolds, best_damage};
+ghost use Rattle.ii_index.specs.Searching.{HaveReaders, totals_view};
+ghost use Rattle.ii_index.specs.Statistics.{counts_damage, doc_freq_in, index_statistics, num_tokens_of, token_statistics};
 ghost use Rattle.ii_living_docs.specs.Chain.{chained};
 ghost use Rattle.ii_query_parser.specs.Queries.{has_fields};
+ghost use Rattle.ii_query_parser.specs.declared.query.Query.TheVariants as queries;
+ghost use Rattle.ii_ranking.specs.Scores.{IsScoreFault, damage_of};
+ghost use Rattle.ii_ranking.specs.Segments.{segments_scored};
+ghost use Rattle.ii_ranking.specs.TokenScores.{GivesBest, token_score};
+ghost use Rattle.ii_ranking.specs.TopDocs.{AreBest, scored_docs};
 ghost use Rattle.ii_reader.specs.InvertedIndexReader.{IsRefusal};
-ghost use Rattle.ii_segment_search.specs.Searcher.{GivesFound, MayAsk, Reaches, SegmentsHold, found_from, living_rest, total_living};
+ghost use Rattle.ii_segment_search.specs.Searcher.{GivesFound, GivesNumber, MayAsk, Reaches, SegmentsHold, found_from, living_rest, total_living};
+ghost use Rattle.ii_segment_search.specs.SegmentSearch.{covers_docs};
 ghost use Rattle.ii_segments.specs.Segments.{Segment};
 
-use ii_base::Fault;
+use crate::ranking::best_by;
+use crate::statistics::statistics_of;
+use crate::totals::{SegmentTotals, damaged_counts, sum_of_tokens};
+use ii_base::{DocId, Fault, Field, Part, Term};
 use ii_query_parser::Query;
+use ii_ranking::{Score, TopDocs};
 use ii_segment_search::{Searcher as SegmentSearcher, SegmentsCursor};
 use std::alloc::Global;
 use std::marker::Model;
@@ -51,10 +66,12 @@ impl IndexReader {
 }
 
 /// Searches the segments of an index. Its documents are the living ones of the first segment, then those of the
-/// next, numbered from 0. Its model is the list of the open segments, and the number of fields.
+/// next, numbered from 0. Its model is the list of the open segments, the number of fields, and how many tokens the
+/// living documents of each segment have in each field, or the damaged part of its counts.
 pub struct Searcher {
     segments: SegmentSearcher,
     num_fields: usize,
+    num_tokens: Vec<SegmentTotals>,
 }
 
 // Makes each drop a call.
@@ -63,30 +80,51 @@ impl Drop for Searcher {
         let Searcher {
             segments: _,
             num_fields: _,
+            num_tokens: _,
         } = self;
     }
 }
 
 impl Model for Searcher {
-    ghost use Rattle.ii_index.specs.Searching.{HaveReaders, SearcherState};
+    ghost use Rattle.std.specs.Prelude.{map};
+    ghost use Rattle.ii_index.specs.Searching.{HaveReaders, SearcherState, totals_view};
 
     ghost Value = { SearcherState };
 
-    ghost view = { λ s. record { segments = s.segments; num_fields = s.num_fields } };
+    ghost view = { λ s. record { segments = s.segments; num_fields = s.num_fields; num_tokens = map totals_view s.num_tokens.items } };
 
     ghost invariant = { λ s. HaveReaders s.num_fields s.segments };
 }
 
 impl Searcher {
     // Returns a searcher of open segments.
-    pub(crate) fn new(segments: SegmentSearcher, num_fields: usize) -> Searcher
+    pub(crate) fn new(
+        segments: SegmentSearcher,
+        num_fields: usize,
+        num_tokens: Vec<SegmentTotals>,
+    ) -> Searcher
         requires { HaveReaders num_fields segments }
-        ensures { result ≡ record { segments = segments; num_fields = num_fields } }
+        ensures { result ≡ record { segments = segments; num_fields = num_fields; num_tokens = map totals_view num_tokens.items } }
     {
         Searcher {
             segments,
             num_fields,
+            num_tokens,
         }
+    }
+
+    // Returns the sum of the tokens of all segments in a field, at most 2^64 - 1.
+    pub(crate) fn sum_of_tokens(&self, field: Field) -> u64
+        ensures { result ≡ min (2 ^ 64 - 1) (num_tokens_of self.now.num_tokens field) }
+    {
+        sum_of_tokens(self.num_tokens.as_slice(), field)
+    }
+
+    // Returns the first damaged part of the counts of segments.
+    pub(crate) fn damaged_counts(&self) -> Option<Part>
+        ensures { result ≡ counts_damage self.now.num_tokens }
+    {
+        damaged_counts(self.num_tokens.as_slice())
     }
 
     /// Returns the number of documents, deleted ones not counted.
@@ -110,5 +148,70 @@ impl Searcher {
         ensures holds { (entries : List SchemaEntry) (ss : List Segment) → SegmentsHold entries self.entry.now.segments ss → MayAsk entries query.entry.now → Reaches query.entry.now ss → GivesFound query.entry.now ss result }
     {
         self.segments.search(alloc, query)
+    }
+
+    /// Returns how many documents match a query of the index. See `search` for the errors.
+    pub fn count(&self, alloc: Global, query: &Query) -> Result<u32, Fault>
+        requires { has_fields self.now.num_fields query.now ≡ true }
+        ensures listed { IfOk result (λ count. (es : List Entry) × (found_from query.now 0 self.now.segments ≡ Ok es) × (count ≡ length es)) }
+        ensures refused { IfErr result (IsRefusal (found_from query.now 0 self.now.segments)) }
+        // where the segments hold tokens
+        ensures holds { (entries : List SchemaEntry) (ss : List Segment) → SegmentsHold entries self.now.segments ss → MayAsk entries query.now → Reaches query.now ss → GivesNumber query.now ss result }
+    {
+        self.segments.count(alloc, query)
+    }
+
+    /// Returns how many documents have a term. Its field must be one of the index. See `search` for the errors.
+    pub fn doc_freq(&self, alloc: Global, term: &Term) -> Result<u32, Fault>
+        requires { term.now.field < self.now.num_fields }
+        ensures counted { IfOk result (λ n. n ≡ doc_freq_in self.now.segments term.now) }
+        ensures sound { OnOk result (damage_of (found_from (queries.Term term.now) 0 self.now.segments) ≡ None) }
+        ensures fault { IfErr result (IsScoreFault (damage_of (found_from (queries.Term term.now) 0 self.now.segments))) }
+        // where the segments hold tokens
+        ensures holds { (entries : List SchemaEntry) (n : ℕ) (ts : List IndexToken) → SearcherHolds entries self.now n ts → term.now.field < length entries → CountsDocs n ts term.now result }
+    {
+        // that all documents have numbers, for the proof
+        let _segments = self.segments.segments();
+        let copy = Term::from_field_bytes(alloc, term.field(), term.serialized_value_bytes());
+        let query = match copy {
+            Ok(copy) => Query::Term(copy),
+            Err(fault) => return Err(fault),
+        };
+        let counted = self.count(alloc, &query);
+        drop(query);
+        counted
+    }
+
+    /// Returns the best documents that match a query of the index, each with its score: the greatest score first, and
+    /// of equal ones the smaller document. `docs` says how many are wanted, and how many better ones are passed.
+    /// Scores are those of BM25 (`ii_ranking`), by the numbers of the documents of the index and of their tokens;
+    /// deleted documents don't count.
+    ///
+    /// # Errors
+    ///
+    /// `Damaged` with the first corrupt part: of the counts of a segment, then of the documents of each term of the
+    /// query, then of what the scores need, segment by segment; `OutOfMemory` if an allocation fails.
+    pub fn top_docs(
+        &self,
+        alloc: Global,
+        query: &Query,
+        docs: &TopDocs,
+    ) -> Result<Vec<(Score, DocId)>, Fault>
+        requires { has_fields self.now.num_fields query.now ≡ true }
+        ensures best { IfOk result (λ best. AreBest docs.now (segments_scored (index_statistics self.now) query.now 0 self.now.segments) best.items) }
+        ensures sound { OnOk result (best_damage self.now query.now ≡ None) }
+        ensures fault { IfErr result (IsScoreFault (best_damage self.now query.now)) }
+        // where the segments hold an index
+        ensures holds { (entries : List SchemaEntry) (n : ℕ) (ts : List IndexToken) → SearcherHolds entries self.now n ts → MayAsk entries query.now → covers_docs TERMINATED query.now ≡ true
+            → GivesBest docs.now (scored_docs n (token_score entries ts (token_statistics n ts) query.now)) result }
+    {
+        let statistics = match statistics_of(alloc, self, query) {
+            Ok(statistics) => statistics,
+            Err(fault) => return Err(fault),
+        };
+        match best_by(alloc, self.segments.segments(), &statistics, query, docs) {
+            Ok(best) => Ok(best),
+            Err(fault) => Err(fault),
+        }
     }
 }

@@ -1,18 +1,26 @@
 //! An index in a directory: create or open it, add JSON documents, search it. The names are tantivy's.
 #![tactic(auto)]
 
+mod committing;
+mod deletes;
+mod deleting;
 pub mod faults;
 pub mod index;
 pub mod index_reader;
 pub mod index_writer;
 mod opening;
+mod query_terms;
+mod ranking;
 mod segments;
+mod statistics;
+mod totals;
 
 pub use faults::IndexError;
-pub use ii_base::{Fault, Field, Schema};
+pub use ii_base::{Fault, Field, Schema, Term};
 pub use ii_directory::{Directory, Folder, FolderLock, MemoryDirectory};
 pub use ii_docset::{DocId, DocSet, TERMINATED};
 pub use ii_query_parser::{Query, QueryParserError};
+pub use ii_ranking::{SCORE_ONE, Score, TopDocs};
 pub use index::Index;
 pub use index_reader::{IndexReader, Searcher};
 pub use index_writer::IndexWriter;

@@ -1,10 +1,11 @@
 //! Documents as the files of a segment.
-ghost use Rattle.std.specs.Prelude.{◌≡◌, IfErr, IfOk};
+ghost use Rattle.std.specs.Prelude.{◌≡◌, IfErr, IfOk, IsSome};
 ghost use Rattle.ii_index.specs.Faults.{IsDocumentsFault};
 ghost use Rattle.ii_index.specs.Segments.{HaveLines, no_documents, segment_of};
 ghost use Rattle.ii_io.specs.Faults.{OnlyMemory};
 ghost use Rattle.ii_segment_store.specs.Contents.{files_contents};
 ghost use Rattle.ii_tokenizers.specs.Tokenizers.{analyzed_in};
+ghost use Rattle.nequllpa_indexing.specs.Documents.{WereCalls};
 ghost use Rattle.nequllpa_merging.specs.HeldSegments.{HoldsSegment};
 
 use ii_base::Fault;
@@ -14,7 +15,8 @@ use ii_tokenizers::FieldTokenizers;
 use nequllpa_indexing::Documents;
 use std::alloc::Global;
 
-// Returns an empty list of documents, of the fields of a schema. Their lines are stored if the schema says so.
+// Returns an empty list of documents, of the fields of a schema. Their lines are stored, and unknown keys ignored, if
+// the schema says so.
 pub(crate) fn documents_for(alloc: Global, schema: &TextSchema) -> Result<Documents, Fault>
     ensures none { IfOk result (λ d. d ≡ no_documents schema.now) }
     ensures only { OnlyMemory result }
@@ -23,10 +25,11 @@ pub(crate) fn documents_for(alloc: Global, schema: &TextSchema) -> Result<Docume
         Ok(fields) => fields,
         Err(fault) => return Err(fault),
     };
+    let unknown = schema.unknown_keys();
     if schema.stores_source() {
-        return Ok(Documents::storing(alloc, fields));
+        return Ok(Documents::storing(alloc, fields).with_unknown_keys(unknown));
     }
-    Ok(Documents::new(alloc, fields))
+    Ok(Documents::new(alloc, fields).with_unknown_keys(unknown))
 }
 
 // Builds the files of a segment of documents.
@@ -37,6 +40,8 @@ pub(crate) fn segment_of(
 ) -> Result<SegmentFiles, Fault>
     requires { HaveLines documents.num_docs documents.lines }
     ensures holds { IfOk result (λ f. HoldsSegment documents.schema (files_contents f) (segment_of (analyzed_in tokenizers.now) documents)) }
+    ensures counted { IfOk result (λ f. IsSome f.counts) }
+    ensures calls { WereCalls documents.schema documents.num_docs documents.calls }
     ensures fault { IfErr result (IsDocumentsFault (analyzed_in tokenizers.now) documents) }
 {
     // that its calls may be indexed, for the proof

@@ -1,5 +1,5 @@
 // Documents in two batches: what is found of them after commits, a rollback and a merge.
-use ii_index::{DocSet, Field, Index, IndexWriter, MemoryDirectory, TERMINATED};
+use ii_index::{DocSet, Field, Index, IndexWriter, MemoryDirectory, TERMINATED, Term, TopDocs};
 use std::alloc::Global;
 use std::test::Fail;
 
@@ -120,5 +120,244 @@ fn an_index_is_opened(rt: HostRuntime) -> Result<(), Fail> {
     let index = Index::open(rt.alloc(), writer.into_index().into_directory())?;
     let found = found(rt.alloc(), &index, "old")?;
     assert!(rt; found.as_str() == "0,2,of 4");
+    Ok(())
+}
+
+// What is done with a writer, in order: a document is added, those of a word are deleted, or all is committed.
+enum Step {
+    Add(&'static str),
+    Delete(&'static str),
+    Commit,
+}
+
+// Steps, a query, and the documents that match it afterwards.
+type Session = (&'static [Step], &'static str, &'static str);
+
+const MAN: Step = Step::Add("{\"body\": \"the old man and the sea\"}");
+
+const BIRD: Step = Step::Add("{\"body\": \"a bird in the hand\"}");
+
+const SEA: Step = Step::Add("{\"body\": \"the sea, the old sea\"}");
+
+const KEY: Step = Step::Add("{\"body\": \"key one\"}");
+
+const OTHER: Step = Step::Add("{\"body\": \"key two\"}");
+
+static SESSIONS: [Session; 8] = [
+    // in two segments
+    (
+        &[
+            MAN,
+            BIRD,
+            Step::Commit,
+            BIRD,
+            SEA,
+            Step::Commit,
+            Step::Delete("sea"),
+            Step::Commit,
+        ],
+        "the OR sea",
+        "0,1,of 2",
+    ),
+    // a term that no document has
+    (
+        &[MAN, BIRD, Step::Commit, Step::Delete("storm"), Step::Commit],
+        "the",
+        "0,1,of 2",
+    ),
+    // a key is replaced twice
+    (
+        &[
+            KEY,
+            BIRD,
+            Step::Commit,
+            Step::Delete("key"),
+            OTHER,
+            Step::Commit,
+            Step::Delete("key"),
+            KEY,
+            Step::Commit,
+        ],
+        "key OR bird",
+        "0,1,of 2",
+    ),
+    // a pending document is deleted, one that is added later isn't
+    (
+        &[MAN, KEY, Step::Delete("key"), OTHER, BIRD, Step::Commit],
+        "key",
+        "1,of 3",
+    ),
+    // nothing is deleted before a commit
+    (
+        &[MAN, SEA, Step::Commit, Step::Delete("man")],
+        "sea",
+        "0,1,of 2",
+    ),
+    // all documents
+    (
+        &[MAN, Step::Commit, SEA, Step::Delete("sea"), Step::Commit],
+        "sea OR the",
+        "of 0",
+    ),
+    // a second delete of what was deleted
+    (
+        &[
+            MAN,
+            SEA,
+            BIRD,
+            Step::Commit,
+            Step::Delete("man"),
+            Step::Commit,
+            Step::Delete("old"),
+            Step::Delete("man"),
+            Step::Commit,
+        ],
+        "the",
+        "0,of 1",
+    ),
+    // two keys in one commit, one of them twice
+    (
+        &[
+            KEY,
+            Step::Delete("one"),
+            KEY,
+            Step::Delete("one"),
+            KEY,
+            OTHER,
+            Step::Delete("two"),
+            Step::Commit,
+        ],
+        "key",
+        "0,of 1",
+    ),
+];
+
+// Makes a step.
+fn make(alloc: Global, writer: &mut IndexWriter<MemoryDirectory>, step: &Step) -> Result<(), Fail> {
+    match step {
+        Step::Add(document) => writer.add_document(alloc, document)?,
+        Step::Delete(word) => {
+            let Some(field) = writer.index().field_named("body") else {
+                return Ok(());
+            };
+            writer.delete_term(Term::from_field_text(alloc, field, word)?)?;
+        }
+        Step::Commit => writer.commit(alloc)?,
+    }
+    Ok(())
+}
+
+#[test]
+fn deleted_documents_are_not_found(rt: HostRuntime) -> Result<(), Fail> {
+    for (steps, text, wanted) in &SESSIONS {
+        let index = Index::create(rt.alloc(), MemoryDirectory::create(rt.alloc()), SCHEMA)?;
+        let mut writer = index.writer(rt.alloc())?;
+        for step in *steps {
+            make(rt.alloc(), &mut writer, step)?;
+        }
+        let found = found(rt.alloc(), writer.index(), text)?;
+        assert!(rt; found.as_str() == *wanted);
+    }
+    Ok(())
+}
+
+// A query, how many documents are wanted after how many better ones, and the best documents, each with its score.
+type Ranked = (&'static str, usize, usize, &'static str);
+
+static RANKED: [Ranked; 9] = [
+    ("sea", 9, 0, "2:244769570918,0:158176549920,"),
+    ("the", 9, 0, "2:125951838975,0:118187670285,1:88945378899,"),
+    ("the", 2, 0, "2:125951838975,0:118187670285,"),
+    ("the", 2, 2, "1:88945378899,"),
+    ("the", 9, 3, ""),
+    ("the", 0, 0, ""),
+    ("old OR bird", 1, 1, "2:172852753921,"),
+    (
+        "\"old sea\" OR bird",
+        9,
+        0,
+        "2:345705534868,1:300239319347,",
+    ),
+    ("storm", 9, 0, ""),
+];
+
+// The same once the document with a bird is deleted.
+static LEFT: [Ranked; 4] = [
+    ("sea", 9, 0, "1:161159035761,0:102507709453,"),
+    ("the", 1, 1, "0:150673979470,"),
+    ("man OR hand", 9, 0, "0:213918721656,"),
+    ("\"old sea\" OR bird", 9, 0, "1:224927038387,"),
+];
+
+// Lists the best documents that match a text, each with its score.
+fn ranked(alloc: Global, index: &Index<MemoryDirectory>, row: &Ranked) -> Result<String, Fail> {
+    let reader = index.reader(alloc)?;
+    let query = index.parse_query(alloc, &[Field::from_field_id(0)], row.0)?;
+    let docs = TopDocs::with_limit(row.1).and_offset(row.2);
+    let best = reader.searcher().top_docs(alloc, &query, &docs)?;
+    let mut text = String::new(alloc);
+    for (score, doc) in &best {
+        write!(text, "{doc}:{score},")?;
+    }
+    Ok(text)
+}
+
+#[test]
+fn the_best_documents_come_first(rt: HostRuntime) -> Result<(), Fail> {
+    for place in 0..5 {
+        let mut writer = committed(rt.alloc(), place)?;
+        for row in &RANKED {
+            let found = ranked(rt.alloc(), writer.index(), row)?;
+            assert!(rt; found.as_str() == row.3);
+        }
+        make(rt.alloc(), &mut writer, &Step::Delete("bird"))?;
+        make(rt.alloc(), &mut writer, &Step::Commit)?;
+        for row in &LEFT {
+            let found = ranked(rt.alloc(), writer.index(), row)?;
+            assert!(rt; found.as_str() == row.3);
+        }
+        writer.merge(rt.alloc(), 0)?;
+        for row in &LEFT {
+            let found = ranked(rt.alloc(), writer.index(), row)?;
+            assert!(rt; found.as_str() == row.3);
+        }
+    }
+    Ok(())
+}
+
+// Returns how many documents have a word.
+fn doc_freq(alloc: Global, index: &Index<MemoryDirectory>, word: &str) -> Result<u32, Fail> {
+    let reader = index.reader(alloc)?;
+    let Some(field) = index.field_named("body") else {
+        return Ok(0);
+    };
+    let term = Term::from_field_text(alloc, field, word)?;
+    Ok(reader.searcher().doc_freq(alloc, &term)?)
+}
+
+#[test]
+fn documents_are_counted(rt: HostRuntime) -> Result<(), Fail> {
+    let writer = committed(rt.alloc(), 1)?;
+    let reader = writer.index().reader(rt.alloc())?;
+    let body = [Field::from_field_id(0)];
+    let query = writer
+        .index()
+        .parse_query(rt.alloc(), &body, "old OR hand")?;
+    assert!(rt; reader.searcher().count(rt.alloc(), &query)? == 3);
+    assert!(rt; doc_freq(rt.alloc(), writer.index(), "the")? == 3);
+    assert!(rt; doc_freq(rt.alloc(), writer.index(), "storm")? == 0);
+    Ok(())
+}
+
+#[test]
+fn garbage_is_collected(rt: HostRuntime) -> Result<(), Fail> {
+    let mut writer = committed(rt.alloc(), 2)?;
+    writer.merge(rt.alloc(), 0)?;
+    assert!(rt; writer.garbage_collect_files(rt.alloc())? > 0);
+    assert!(rt; writer.garbage_collect_files(rt.alloc())? == 0);
+    for (text, wanted) in &ROWS {
+        let found = found(rt.alloc(), writer.index(), text)?;
+        assert!(rt; found.as_str() == *wanted);
+    }
     Ok(())
 }

@@ -382,6 +382,9 @@ pub record KeepsReading (held before kept decodes offset count done : ℕ) : Typ
   pub from : 0 < done → 128 * kept < offset + done
   pub to : 0 < done → offset + done ≤ 128 * kept + 128
   pub same : LieInBlock held offset count → decodes ≡ before
+  pub nothing : done ≡ 0 → decodes ≡ before
+  pub once : 0 < done → decodes + offset / 128 ≤ before + kept + 1
+  pub forward : held ≤ offset / 128 → decodes + held ≤ before + kept
 
 loads_here : (held before kept decodes offset count block start done : ℕ) → KeepsReading held before kept decodes offset count done → LieInBlock held offset count → 128 * block + start ≡ offset + done → start < 128 → done < count → block ≡ kept
 loads_here held before kept decodes offset count block start zero k lie place low left =
@@ -396,13 +399,48 @@ loads_here held before kept decodes offset count block start (suc done) k lie pl
     let to = lie.to in
     omega arith
 
+-- what it costs to go on to a block, which may be the kept one
+step_cost : (kept decodes block more : ℕ) (t : Bool) → nat_lt kept block ≡ t → kept ≤ block → (kept ≡ block → more ≡ decodes) → more ≤ decodes + 1 → more + kept ≤ decodes + block
+step_cost kept decodes block more true later order stays one =
+    let behind = ltb-true kept block later in
+    omega arith
+step_cost kept decodes block more false later order stays one =
+    let before = ltb-false kept block later in
+    let here = stays (omega arith) in
+    omega arith
+
+once_more : (held before kept decodes offset count block start done more : ℕ) → KeepsReading held before kept decodes offset count done → 128 * block + start ≡ offset + done → start < 128 → (kept ≡ block → more ≡ decodes) → more ≤ decodes + 1 → more + offset / 128 ≤ before + block + 1
+once_more held before kept decodes offset count block start zero more k place low stays one =
+    let same = k.nothing refl in
+    omega arith
+once_more held before kept decodes offset count block start (suc done) more k place low stays one =
+    let from = k.from (omega arith) in
+    let once = k.once (omega arith) in
+    let cost = step_cost kept decodes block more (nat_lt kept block) refl (omega arith) stays one in
+    omega arith
+
+forward_more : (held before kept decodes offset count block start done more : ℕ) → KeepsReading held before kept decodes offset count done → 128 * block + start ≡ offset + done → start < 128 → (kept ≡ block → more ≡ decodes) → more ≤ decodes + 1 → held ≤ offset / 128 → more + held ≤ before + block
+forward_more held before kept decodes offset count block start zero more k place low stays one order =
+    let same = k.none refl in
+    let none = k.nothing refl in
+    let cost = step_cost kept decodes block more (nat_lt kept block) refl (omega arith) stays one in
+    omega arith
+forward_more held before kept decodes offset count block start (suc done) more k place low stays one order =
+    let from = k.from (omega arith) in
+    let spent = k.forward order in
+    let cost = step_cost kept decodes block more (nat_lt kept block) refl (omega arith) stays one in
+    omega arith
+
 pub keeps_more : (held before kept decodes offset count block start done next more n size : ℕ) → KeepsReading held before kept decodes offset count done → 128 * block + start ≡ offset + done → start < 128 → done < count
-    → next ≡ block → (kept ≡ block → more ≡ decodes) → n ≡ min (size - start) (count - done) → start < size → size ≤ 128 → KeepsReading held before next more offset count (done + n)
-keeps_more held before kept decodes offset count block start done next more n size k place low left at stays n_is some few = record {
+    → next ≡ block → (kept ≡ block → more ≡ decodes) → more ≤ decodes + 1 → n ≡ min (size - start) (count - done) → start < size → size ≤ 128 → KeepsReading held before next more offset count (done + n)
+keeps_more held before kept decodes offset count block start done next more n size k place low left at stays one n_is some few = record {
   none = λ e. absurd (omega arith);
   from = λ on. omega arith;
   to = λ on. omega arith;
   same = λ lie. stays (sym (loads_here held before kept decodes offset count block start done k lie place low left)) ∙ k.same lie;
+  nothing = λ e. absurd (omega arith);
+  once = λ on. omega (arith, at, once_more held before kept decodes offset count block start done more k place low stays one);
+  forward = λ order. omega (arith, at, forward_more held before kept decodes offset count block start done more k place low stays one order);
 }
 
 kept_cases : (held before kept decodes offset count : ℕ) → KeepsReading held before kept decodes offset count count → kept ≡ block_kept held offset count

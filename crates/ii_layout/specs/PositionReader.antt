@@ -23,6 +23,11 @@ pub record LieInBlock (block offset count : ℕ) : Type 0 where
   pub from : 128 * block ≤ offset
   pub to : offset + count ≤ 128 * block + 128
 
+-- A read decodes each block of its deltas at most once. From the kept block on, it decodes only later ones.
+pub record DecodesEachOnce (offset count : ℕ) (old new : PositionReaderState) : Type 0 where
+  pub once : 0 < count → new.decodes + offset / 128 ≤ old.decodes + new.block + 1
+  pub forward : old.block ≤ offset / 128 → new.decodes + old.block ≤ old.decodes + new.block
+
 -- the block that is kept after a read: that of the last delta read
 abbrev pub block_kept : ℕ → ℕ → ℕ → ℕ
 block_kept before offset zero = before

@@ -4,7 +4,7 @@ use Rattle.std.proofs.Math.Seq.{get_or-append_right, take-append_seam}
 use Rattle.std.proofs.lemmas.List.{length-append}
 use Rattle.ii_check.specs.DecodedBlocks.{AreDecoded, DecodesAllowed, DecodesLater}
 use Rattle.ii_check.proofs.DecodedBlocksLaws.{all_at, ascend_bounds, ascend_strictly}
-use Rattle.ii_promises.specs.DecodedBlocks.{DecodesEachOnce, HasDecodedOnce}
+use Rattle.ii_promises.specs.DecodedBlocks.{DecodesNoneTwice, HasDecodedOnce}
 
 -- a block that was added
 added_at : (blocks blocks' added : List ℕ) (i : ℕ) → blocks' ≡ blocks ++ added → length blocks ≤ i → get_or blocks' i 0 ≡ get_or added (i - length blocks) 0
@@ -14,7 +14,7 @@ pub decoded_once : (block decodes : ℕ) (blocks : List ℕ) → AreDecoded bloc
 decoded_once block decodes blocks d =
     record { once = λ i j order inside. ascend_strictly 0 block blocks i j d.ascend order inside; within = λ i inside. (ascend_bounds 0 block blocks i d.ascend inside).1 }
 
-pub each_once : (old new : ℕ) (blocks blocks' : List ℕ) → DecodesLater old new blocks blocks' → DecodesEachOnce old new blocks blocks'
+pub each_once : (old new : ℕ) (blocks blocks' : List ℕ) → DecodesLater old new blocks blocks' → DecodesNoneTwice old new blocks blocks'
 each_once old new blocks blocks' d =
     let size = ap length d.are ∙ length-append blocks d.added in
     record {

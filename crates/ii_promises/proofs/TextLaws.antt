@@ -5,7 +5,7 @@ use Rattle.ii_io.specs.declared.faults.Fault.TheVariants.{OutOfMemory}
 use Rattle.ii_docset.specs.Intersection.{has_doc}
 use Rattle.ii_query.specs.Combined.{QueryCursorState}
 use Rattle.ii_definitions.specs.Tokens.{IndexToken}
-use Rattle.ii_query_parser.specs.QueryTexts.{MeansText, QueryFields, text_matches, text_refusal}
+use Rattle.ii_query_parser.specs.QueryTexts.{AnalyzedFields, MeansTextBy, text_matches_by, text_refusal_by}
 use Rattle.ii_query_parser.specs.declared.query.Query.{Query}
 use Rattle.ii_query_parser.specs.declared.query_parser_error.QueryParserError.{QueryParserError}
 use Rattle.ii_query_parser.specs.declared.query_parser_error.QueryParserError.TheVariants as errors
@@ -17,13 +17,13 @@ use Rattle.ii_query_grammar.specs.declared.parse_error.ParseError.TheVariants as
 use Rattle.ii_query_grammar.specs.declared.user_input_ast.UserInputAst.{UserInputAst}
 use Rattle.ii_query_grammar.specs.declared.parse_error.ParseError.{ParseError}
 
-pub text_found : {T : Type 0} (q : QueryFields) (text : List ℕ) (query : Query) (ts : List IndexToken) (r : Result (QueryCursorState T) QueryParserError) → MeansText q text query → GivesOrTells query ts r
-    → IfOk r (λ cursor. (doc : ℕ) → has_doc cursor.rest doc ≡ text_matches q text ts doc)
+pub text_found : {T : Type 0} (q : AnalyzedFields) (text : List ℕ) (query : Query) (ts : List IndexToken) (r : Result (QueryCursorState T) QueryParserError) → MeansTextBy q text query → GivesOrTells query ts r
+    → IfOk r (λ cursor. (doc : ℕ) → has_doc cursor.rest doc ≡ text_matches_by q text ts doc)
 text_found q text query ts (Ok cursor) means found = λ doc. found.exact doc ∙ means.exact ts doc
 text_found q text query ts (Err e) means found = tt
 
-pub text_refused : {T : Type 0} (q : QueryFields) (text : List ℕ) (query : Query) (ts : List IndexToken) (r : Result (QueryCursorState T) QueryParserError) → GivesOrTells query ts r
-    → IfErr r (λ e. (e ≡ errors.Fault OutOfMemory) ⊎ (text_refusal q text ≡ Some e))
+pub text_refused : {T : Type 0} (q : AnalyzedFields) (text : List ℕ) (query : Query) (ts : List IndexToken) (r : Result (QueryCursorState T) QueryParserError) → GivesOrTells query ts r
+    → IfErr r (λ e. (e ≡ errors.Fault OutOfMemory) ⊎ (text_refusal_by q text ≡ Some e))
 text_refused q text query ts (Ok cursor) found = tt
 text_refused q text query ts (Err e) memory = inl memory
 

@@ -15,7 +15,7 @@ abbrev pub DecodesNewBlock : ℕ → ℕ → List ℕ → List ℕ → Type 0
 DecodesNewBlock old new blocks blocks' = (blocks' ≡ blocks) ⊎ ((old < new) × (blocks' ≡ blocks ++ new ∷ []))
 
 -- Decoded blocks were added, each after the old block and at most the new one, and after the one added before it.
-pub record DecodesEachOnce (old new : ℕ) (blocks blocks' : List ℕ) : Type 0 where
+pub record DecodesNoneTwice (old new : ℕ) (blocks blocks' : List ℕ) : Type 0 where
   pub kept : take (length blocks) blocks' ≡ blocks
   pub between : (i : ℕ) → length blocks ≤ i → i < length blocks' → (old < slice_index blocks' i) × (slice_index blocks' i ≤ new)
   pub once : (i j : ℕ) → length blocks ≤ i → i < j → j < length blocks' → slice_index blocks' i < slice_index blocks' j

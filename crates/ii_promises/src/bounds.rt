@@ -9,7 +9,7 @@ ghost use Rattle.ii_fieldnorm.specs.Readers.{id_of_doc};
 ghost use Rattle.ii_layout.specs.Documents.{skip_entry};
 ghost use Rattle.ii_layout.specs.SkipList.{SkipList, skip_list};
 ghost use Rattle.ii_layout.specs.Written.{AreFreqs, written_postings};
-ghost use Rattle.ii_promises.specs.DecodedBlocks.{DecodesEachOnce};
+ghost use Rattle.ii_promises.specs.DecodedBlocks.{DecodesNoneTwice};
 ghost use Rattle.nequllpa.specs.TrueBounds.{IndexHasTrueBounds};
 
 use ii_layout::written::bounds_what_is_written;
@@ -34,8 +34,8 @@ pub fn counts_are_sought(cursor: &mut SegmentPostings, target: DocId, least: u32
     requires { IsTarget target cursor.old.rest }
     ensures first { result ≡ doc_at (filter (λ (e : Entry). nat_le target e.doc && nat_le least e.term_freq) cursor.old.rest) }
     ensures stands { result ≡ doc_at cursor.new.rest }
-    ensures each_docs { DecodesEachOnce cursor.old.block cursor.new.block cursor.old.doc_blocks cursor.new.doc_blocks }
-    ensures each_counts { DecodesEachOnce cursor.old.block cursor.new.block cursor.old.freq_blocks cursor.new.freq_blocks }
+    ensures each_docs { DecodesNoneTwice cursor.old.block cursor.new.block cursor.old.doc_blocks cursor.new.doc_blocks }
+    ensures each_counts { DecodesNoneTwice cursor.old.block cursor.new.block cursor.old.freq_blocks cursor.new.freq_blocks }
     ensures only_docs { (i : ℕ) → length cursor.old.doc_blocks ≤ i → i < length cursor.new.doc_blocks
         → (not ((slice_index_or cursor.old.bounds (slice_index cursor.new.doc_blocks i) (0, 0)).1 == 0) && nat_lt (slice_index_or cursor.old.bounds (slice_index cursor.new.doc_blocks i) (0, 0)).1 least) ≡ false }
     ensures only_counts { (i : ℕ) → length cursor.old.freq_blocks ≤ i → i < length cursor.new.freq_blocks

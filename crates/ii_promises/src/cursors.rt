@@ -1,15 +1,16 @@
 // A cursor over a term: its answers, and how often it decodes.
-ghost use Rattle.std.specs.Prelude.{◌≡◌, ◌+◌, ◌*◌, ◌/◌, ◌^◌, ◌<◌, ◌≤◌, ◌++◌, ◌∷◌, ◌↔◌, ◌⊎◌, [], drop, length, map, min, not, take, Ok, Err, IfOk, IfErr, IsOk, IsTrue, OnOk, OnErr, if◌then◌else◌};
-ghost use Rattle.std.specs.List.{All};
+ghost use Rattle.std.specs.Prelude.{◌≡◌, ◌+◌, ◌*◌, ◌/◌, ◌^◌, ◌<◌, ◌≤◌, ◌++◌, ◌∷◌, ◌↔◌, ◌⊎◌, [], drop, length, map, min, not, take, Ok, Err, IfOk, IfErr, IfSome, IsOk, IsTrue, OnOk, OnErr, if◌then◌else◌};
+ghost use Rattle.std.specs.List.{All, sum};
 ghost use Rattle.ii_io.specs.Faults.{OnlyMemory};
 ghost use Rattle.ii_io.specs.Parts.{part_of};
 ghost use Rattle.ii_base.specs.Entries.{Entry, docs_of};
 ghost use Rattle.ii_docset.specs.Calls.{IsLawful, answers_in, answers_to, counts_asked, num_asked, rest_after};
 ghost use Rattle.ii_docset.specs.Cursor.{IsCurrent, IsDangerAnswer, IsTarget, doc_at, from_doc, positions_at, term_freq_at};
+ghost use Rattle.ii_layout.specs.PositionReader.{deltas_of};
 ghost use Rattle.ii_layout.specs.TermList.{term_list};
 ghost use Rattle.ii_check.specs.CheckedPostings.{is_read};
 ghost use Rattle.ii_reader.specs.LoadedPostings.{num_positions};
-ghost use Rattle.ii_promises.specs.DecodedBlocks.{DecodesEachOnce, DecodesNewBlock, HasDecodedOnce};
+ghost use Rattle.ii_promises.specs.DecodedBlocks.{DecodesNoneTwice, DecodesNewBlock, HasDecodedOnce};
 
 use bytes::Bytes;
 use nequllpa::{
@@ -20,8 +21,10 @@ use std::alloc::Global;
 
 /// Any bytes open as the list that the layout relation gives. If it gives none, the first corrupt part
 /// is returned. All documents remain. To validate documents and term frequencies, each block of them is
-/// decoded at most once. After that, at most one block each of documents, term frequencies and positions is
-/// decoded, and at most one skip entry read. A list of one block is decoded once for both.
+/// decoded at most once; a list of one block is decoded once for this and for reading. To validate positions,
+/// each full block of them is decoded at most once, and one block each of documents and of term frequencies;
+/// if the sum of all deltas exceeds 32 bits, all blocks again. After that, at most one block each of documents,
+/// term frequencies and positions is decoded, and at most one skip entry read.
 pub fn any_bytes_open_as_their_list(
     doc_freq: u32,
     postings: Bytes,
@@ -38,6 +41,10 @@ pub fn any_bytes_open_as_their_list(
     // What is decoded to validate it.
     ensures validation { IfOk result (λ cursor. (cursor.checked.docs ≤ (doc_freq + 127) / 128) × (cursor.checked.freqs ≤ (doc_freq + 127) / 128)) }
     ensures short { doc_freq < 128 → IfOk result (λ cursor. (cursor.checked.docs ≡ 0) × (cursor.checked.freqs ≡ 0)) }
+    ensures position_lists { IfOk result (λ cursor. (cursor.positions_checked.docs ≤ doc_freq / 128 + 2) × (cursor.positions_checked.freqs ≤ doc_freq / 128 + 2)) }
+    ensures position_blocks { IfOk result (λ cursor. IfSome positions (λ bytes. cursor.positions_checked.positions ≤ 2 * (length (deltas_of bytes) / 128) + 2)) }
+    ensures small_sum { IfOk result (λ cursor. IfSome positions (λ bytes. sum (deltas_of bytes) < 2 ^ 32
+        → (cursor.positions_checked.docs ≤ 1) × (cursor.positions_checked.freqs ≤ 1) × (cursor.positions_checked.positions ≤ length (deltas_of bytes) / 128))) }
 {
     SegmentPostings::open(doc_freq, postings, positions, recorded, requested)
 }
@@ -56,7 +63,7 @@ pub fn known_lists_are_never_refused(
     ensures list { term_list recorded requested doc_freq postings positions ≡ Ok result.rest }
     ensures many { length result.rest ≡ doc_freq }
     ensures decodes { (result.doc_decodes ≤ 1) × (result.freq_decodes ≤ 1) × (result.position_decodes ≤ 1) }
-    ensures no_validation { (result.checked.docs ≡ 0) × (result.checked.freqs ≡ 0) }
+    ensures no_validation { (result.checked.docs ≡ 0) × (result.checked.freqs ≡ 0) × (result.positions_checked.docs ≡ 0) × (result.positions_checked.freqs ≡ 0) × (result.positions_checked.positions ≡ 0) }
 {
     SegmentPostings::open_known(doc_freq, postings, positions, recorded, requested)
 }
@@ -78,6 +85,8 @@ pub fn reset_opens_anew(
     ensures decodes { (cursor.new.doc_decodes ≤ 1) × (cursor.new.freq_decodes ≤ 1) × (cursor.new.position_decodes ≤ 1) }
     ensures entries { cursor.new.entries_read ≤ 1 }
     ensures validation { (cursor.new.checked.docs ≤ (doc_freq + 127) / 128) × (cursor.new.checked.freqs ≤ (doc_freq + 127) / 128) }
+    ensures position_lists { (cursor.new.positions_checked.docs ≤ doc_freq / 128 + 2) × (cursor.new.positions_checked.freqs ≤ doc_freq / 128 + 2) }
+    ensures position_blocks { IfSome positions (λ bytes. cursor.new.positions_checked.positions ≤ 2 * (length (deltas_of bytes) / 128) + 2) }
 {
     cursor.reset(doc_freq, postings, positions, recorded, requested)
 }
@@ -135,7 +144,7 @@ pub fn advance_decodes_one_block(cursor: &mut SegmentPostings) -> DocId
     ensures counts { cursor.new.freq_decodes ≤ cursor.old.freq_decodes + 1 }
     ensures blocks { DecodesNewBlock cursor.old.block cursor.new.block cursor.old.doc_blocks cursor.new.doc_blocks × DecodesNewBlock cursor.old.block cursor.new.block cursor.old.freq_blocks cursor.new.freq_blocks }
     ensures positions { cursor.new.position_decodes ≡ cursor.old.position_decodes }
-    ensures validation { cursor.new.checked ≡ cursor.old.checked }
+    ensures validation { (cursor.new.checked ≡ cursor.old.checked) × (cursor.new.positions_checked ≡ cursor.old.positions_checked) }
     // Totals at the new block.
     ensures all_docs { cursor.new.doc_decodes ≤ cursor.new.block + 1 }
     ensures all_counts { cursor.new.freq_decodes ≤ cursor.new.block + 1 }
@@ -157,7 +166,7 @@ pub fn seek_decodes_one_block(cursor: &mut SegmentPostings, target: DocId) -> Do
     ensures counts { cursor.new.freq_decodes ≤ cursor.old.freq_decodes + 1 }
     ensures blocks { DecodesNewBlock cursor.old.block cursor.new.block cursor.old.doc_blocks cursor.new.doc_blocks × DecodesNewBlock cursor.old.block cursor.new.block cursor.old.freq_blocks cursor.new.freq_blocks }
     ensures positions { cursor.new.position_decodes ≡ cursor.old.position_decodes }
-    ensures validation { cursor.new.checked ≡ cursor.old.checked }
+    ensures validation { (cursor.new.checked ≡ cursor.old.checked) × (cursor.new.positions_checked ≡ cursor.old.positions_checked) }
     // Totals at the new block.
     ensures all_docs { cursor.new.doc_decodes ≤ cursor.new.block + 1 }
     ensures all_counts { cursor.new.freq_decodes ≤ cursor.new.block + 1 }
@@ -222,8 +231,8 @@ pub fn asking_for_a_document_decodes_no_positions(
 ) -> SeekDangerResult
     requires { target ≤ 2147483647 }
     ensures answer { IsDangerAnswer result target cursor.new.rest }
-    ensures each_docs { DecodesEachOnce cursor.old.block cursor.new.block cursor.old.doc_blocks cursor.new.doc_blocks }
-    ensures each_counts { DecodesEachOnce cursor.old.block cursor.new.block cursor.old.freq_blocks cursor.new.freq_blocks }
+    ensures each_docs { DecodesNoneTwice cursor.old.block cursor.new.block cursor.old.doc_blocks cursor.new.doc_blocks }
+    ensures each_counts { DecodesNoneTwice cursor.old.block cursor.new.block cursor.old.freq_blocks cursor.new.freq_blocks }
     ensures docs { cursor.new.doc_decodes + cursor.old.block ≤ cursor.old.doc_decodes + cursor.new.block }
     ensures counts { cursor.new.freq_decodes + cursor.old.block ≤ cursor.old.freq_decodes + cursor.new.block }
     ensures positions { cursor.new.position_decodes ≡ cursor.old.position_decodes }
@@ -239,8 +248,8 @@ pub fn filling_decodes_no_positions(
 ) -> usize
     ensures many { result ≡ min 64 (length cursor.old.rest) }
     ensures rest { cursor.new.rest ≡ drop 64 cursor.old.rest }
-    ensures each_docs { DecodesEachOnce cursor.old.block cursor.new.block cursor.old.doc_blocks cursor.new.doc_blocks }
-    ensures each_counts { DecodesEachOnce cursor.old.block cursor.new.block cursor.old.freq_blocks cursor.new.freq_blocks }
+    ensures each_docs { DecodesNoneTwice cursor.old.block cursor.new.block cursor.old.doc_blocks cursor.new.doc_blocks }
+    ensures each_counts { DecodesNoneTwice cursor.old.block cursor.new.block cursor.old.freq_blocks cursor.new.freq_blocks }
     ensures docs { cursor.new.doc_decodes + cursor.old.block ≤ cursor.old.doc_decodes + cursor.new.block }
     ensures counts { cursor.new.freq_decodes + cursor.old.block ≤ cursor.old.freq_decodes + cursor.new.block }
     ensures positions { cursor.new.position_decodes ≡ cursor.old.position_decodes }
@@ -252,8 +261,8 @@ pub fn filling_decodes_no_positions(
 /// one, and none of them twice.
 pub fn counting_decodes_no_positions(cursor: &mut SegmentPostings) -> u32
     ensures many { result ≡ length cursor.old.rest }
-    ensures each_docs { DecodesEachOnce cursor.old.block cursor.new.block cursor.old.doc_blocks cursor.new.doc_blocks }
-    ensures each_counts { DecodesEachOnce cursor.old.block cursor.new.block cursor.old.freq_blocks cursor.new.freq_blocks }
+    ensures each_docs { DecodesNoneTwice cursor.old.block cursor.new.block cursor.old.doc_blocks cursor.new.doc_blocks }
+    ensures each_counts { DecodesNoneTwice cursor.old.block cursor.new.block cursor.old.freq_blocks cursor.new.freq_blocks }
     ensures docs { cursor.new.doc_decodes + cursor.old.block ≤ cursor.old.doc_decodes + cursor.new.block }
     ensures counts { cursor.new.freq_decodes + cursor.old.block ≤ cursor.old.freq_decodes + cursor.new.block }
     ensures positions { cursor.new.position_decodes ≡ cursor.old.position_decodes }
@@ -363,8 +372,8 @@ pub fn calls_are_answered_as_over_the_list(
 
     // Where the cursor goes, and what it decodes.
     ensures forward { cursor.old.block ≤ cursor.new.block }
-    ensures each_docs { DecodesEachOnce cursor.old.block cursor.new.block cursor.old.doc_blocks cursor.new.doc_blocks }
-    ensures each_counts { DecodesEachOnce cursor.old.block cursor.new.block cursor.old.freq_blocks cursor.new.freq_blocks }
+    ensures each_docs { DecodesNoneTwice cursor.old.block cursor.new.block cursor.old.doc_blocks cursor.new.doc_blocks }
+    ensures each_counts { DecodesNoneTwice cursor.old.block cursor.new.block cursor.old.freq_blocks cursor.new.freq_blocks }
     ensures docs { cursor.new.doc_decodes + cursor.old.block ≤ cursor.old.doc_decodes + cursor.new.block }
     ensures counts { cursor.new.freq_decodes + cursor.old.block ≤ cursor.old.freq_decodes + cursor.new.block }
     ensures positions { cursor.new.position_decodes ≤ cursor.old.position_decodes + counts_asked calls.now (not (is_read cursor.old.freq_reading)) cursor.old.rest / 128 + 2 * num_asked calls.now }

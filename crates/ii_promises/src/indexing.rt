@@ -81,7 +81,7 @@ pub fn what_is_indexed_opens_without_validation<A: TextAnalyzer>(
     requires docs { num_docs ≤ 2147483647 }
     requires calls { MayAllBeIndexed schema num_docs calls.items }
     requires field { term.now.field < length schema }
-    ensures no_validation { IfOk result (λ found. IfSome found (λ cursor. (cursor.checked.docs ≡ 0) × (cursor.checked.freqs ≡ 0))) }
+    ensures no_validation { IfOk result (λ found. IfSome found (λ cursor. (cursor.checked.docs ≡ 0) × (cursor.checked.freqs ≡ 0) × (cursor.positions_checked.docs ≡ 0) × (cursor.positions_checked.freqs ≡ 0) × (cursor.positions_checked.positions ≡ 0))) }
     ensures decodes { IfOk result (λ found. IfSome found (λ cursor. (cursor.doc_decodes ≤ 1) × (cursor.freq_decodes ≤ 1) × (cursor.position_decodes ≤ 1))) }
 {
     let index = index_in_ram(alloc, schema, num_docs, calls, analyzer)?;

@@ -143,7 +143,7 @@ pub fn trusted_readers_open_every_term(
 ) -> Result<Option<SegmentPostings>, Fault>
     requires { AllOpen reader.old }
     ensures list { IfSome (info_under term.now.value reader.old.terms) (λ info. IfOk result (λ found. IsSomeAnd found (λ cursor. term_of_file reader.old requested info ≡ Ok cursor.rest))) }
-    ensures no_validation { IfSome (info_under term.now.value reader.old.terms) (λ info. IfOk result (λ found. IsSomeAnd found (λ cursor. (cursor.checked.docs ≡ 0) × (cursor.checked.freqs ≡ 0)))) }
+    ensures no_validation { IfSome (info_under term.now.value reader.old.terms) (λ info. IfOk result (λ found. IsSomeAnd found (λ cursor. (cursor.checked.docs ≡ 0) × (cursor.checked.freqs ≡ 0) × (cursor.positions_checked.docs ≡ 0) × (cursor.positions_checked.freqs ≡ 0) × (cursor.positions_checked.positions ≡ 0)))) }
     ensures same { reader.new ≡ trusted_reader reader.old }
     ensures memory { IfErr result (λ fault. fault ≡ Fault.OutOfMemory) }
 {

@@ -16,7 +16,7 @@ ghost use Rattle.ii_base.specs.Schema.{SchemaEntry};
 ghost use Rattle.ii_reader.specs.OpenIndex.{IndexHolds};
 ghost use Rattle.ii_indexing.specs.RamFiles.{IsRamFault};
 ghost use Rattle.ii_promises.specs.Decodes.{HaveDecodedFew};
-ghost use Rattle.ii_promises.specs.DecodedBlocks.{DecodesEachOnce};
+ghost use Rattle.ii_promises.specs.DecodedBlocks.{DecodesNoneTwice};
 ghost use Rattle.ii_promises.specs.HopelessBlocks.{hopeful_blocks, is_hopeless_block};
 
 use bytes::Bytes;
@@ -206,8 +206,8 @@ pub fn hopeless_blocks_are_not_decoded(
     cursor: &mut SegmentPostings,
     n: usize,
 ) -> Result<Vec<(DocId, u32)>, Fault>
-    ensures each_docs { DecodesEachOnce cursor.old.block cursor.new.block cursor.old.doc_blocks cursor.new.doc_blocks }
-    ensures each_counts { DecodesEachOnce cursor.old.block cursor.new.block cursor.old.freq_blocks cursor.new.freq_blocks }
+    ensures each_docs { DecodesNoneTwice cursor.old.block cursor.new.block cursor.old.doc_blocks cursor.new.doc_blocks }
+    ensures each_counts { DecodesNoneTwice cursor.old.block cursor.new.block cursor.old.freq_blocks cursor.new.freq_blocks }
     ensures hopeful_docs { (i : ℕ) → length cursor.old.doc_blocks ≤ i → i < length cursor.new.doc_blocks → is_hopeless_block n cursor.old (slice_index cursor.new.doc_blocks i) ≡ false }
     ensures hopeful_counts { (i : ℕ) → length cursor.old.freq_blocks ≤ i → i < length cursor.new.freq_blocks → is_hopeless_block n cursor.old (slice_index cursor.new.freq_blocks i) ≡ false }
     ensures once { cursor.new.doc_decodes + cursor.old.block ≤ cursor.old.doc_decodes + cursor.new.block }

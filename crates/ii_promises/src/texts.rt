@@ -1,5 +1,5 @@
 // What query texts find.
-ghost use Rattle.std.specs.Prelude.{◌≡◌, ◌≤◌, ◌⊎◌, ℕ, List, length, true, IfErr, IfOk, Some};
+ghost use Rattle.std.specs.Prelude.{◌≡◌, ◌<◌, ◌≤◌, ◌⊎◌, ℕ, List, length, true, IfErr, IfOk, Some};
 ghost use Rattle.ii_base.specs.Schema.{SchemaEntry};
 ghost use Rattle.ii_docset.specs.Cursor.{IsAscending};
 ghost use Rattle.ii_docset.specs.Intersection.{has_doc};
@@ -8,20 +8,32 @@ ghost use Rattle.ii_reader.specs.OpenIndex.{IndexHolds};
 ghost use Rattle.ii_query_grammar.specs.Parsed.{IsReadAs, parsed};
 ghost use Rattle.ii_query_grammar.specs.Spelling.{has_spelling, nesting};
 ghost use Rattle.ii_query_grammar.specs.Trees.{ast_of};
-ghost use Rattle.ii_query_parser.specs.Queries.{any_of, each_of, has_fields, keeps_positions, no_tree, tree, tree_of};
-ghost use Rattle.ii_query_parser.specs.QueryTexts.{text_matches, text_refusal};
+ghost use Rattle.ii_query_parser.specs.Queries.{any_of, each_of, has_fields, keeps_positions, matches, no_tree, tree, tree_of};
+ghost use Rattle.ii_query_parser.specs.QueryTexts.{text_matches, text_matches_by, text_refusal, text_refusal_by};
+ghost use Rattle.ii_tokenizers.specs.Analyzers.{analyzed};
+ghost use Rattle.ii_tokenizers.specs.Tokenizers.{analyzed_in};
 ghost use Rattle.ii_promises.specs.Texts.{GivesOrTells};
 
 use ii_query_grammar::laws::reads_what_is_spelled;
+use ii_query_parser::parse_query_by;
+use ii_tokenizers::{Analyzer, FieldAnalyzers, FieldTokenizers, OneAnalyzer};
 use nequllpa::{
-    Fault, Field, OpenIndex, ParseError, Query, QueryCursor, QueryParserError, Schema,
-    SegmentPostings, TermOrPhrase, TextAnalyzer, UserInputAst, parse, parse_query, search,
+    DocId, Fault, Field, OpenIndex, ParseError, Query, QueryCursor, QueryParserError, Schema,
+    SegmentPostings, TermOrPhrase, TextAnalyzer, UserInputAst, parse, search,
 };
 use std::alloc::Global;
 
+/// A query that is bounded by the number of documents matches each of them or not as it did.
+pub fn bounded_queries_match_the_same(query: Query, num_docs: DocId) -> Query
+    ensures { (tokens : List IndexToken) (doc : ℕ) → doc < num_docs → matches result tokens doc ≡ matches query tokens doc }
+{
+    let mut query = query;
+    query.bound(num_docs);
+    query
+}
+
 /// In an index that holds tokens of a schema, a text finds exactly the documents that it matches, in
 /// ascending order. It fails only with `OutOfMemory`, or because of an error in the text.
-#[tactic(auto, using(crate::proofs::SearchingLaws::found_ascend, crate::proofs::SearchingLaws::same_fields))]
 pub fn texts_find_what_matches<A: TextAnalyzer>(
     alloc: Global,
     index: &OpenIndex,
@@ -39,10 +51,68 @@ pub fn texts_find_what_matches<A: TextAnalyzer>(
         → IfErr result (λ e. (e ≡ QueryParserError.Fault Fault.OutOfMemory)
         ⊎ (text_refusal (record { texts = record { analyze = A.words analyzer.now; entries = schema.now }; defaults = default_fields.now }) text.now ≡ Some e)) }
 {
-    match parse_query(alloc, schema, default_fields, analyzer, text) {
+    let analyzers = OneAnalyzer(analyzer);
+    texts_find_by_their_analyzers(alloc, index, schema, default_fields, &analyzers, text)
+}
+
+/// So it does where each field has an analyzer of its own: the text is compared with the tokens of a field as that
+/// field's analyzer cuts it.
+#[tactic(auto, using(crate::proofs::SearchingLaws::found_ascend, crate::proofs::SearchingLaws::same_fields))]
+pub fn texts_find_by_their_analyzers<F: FieldAnalyzers>(
+    alloc: Global,
+    index: &OpenIndex,
+    schema: &Schema,
+    default_fields: &[Field],
+    analyzers: &F,
+    text: &str,
+) -> Result<QueryCursor<TermOrPhrase<SegmentPostings>>, QueryParserError>
+    requires many { length index.now.readers ≡ length schema.now }
+    ensures ascending { IfOk result (λ cursor. IsAscending cursor.rest) }
+    ensures found { (num_docs : ℕ) (tokens : List IndexToken) → IndexHolds schema.now num_docs index.now tokens
+        → IfOk result (λ cursor. (doc : ℕ) → has_doc cursor.rest doc
+        ≡ text_matches_by (record { texts = record { analyze = F.words analyzers.now; entries = schema.now }; defaults = default_fields.now }) text.now tokens doc) }
+    ensures refused { (num_docs : ℕ) (tokens : List IndexToken) → IndexHolds schema.now num_docs index.now tokens
+        → IfErr result (λ e. (e ≡ QueryParserError.Fault Fault.OutOfMemory)
+        ⊎ (text_refusal_by (record { texts = record { analyze = F.words analyzers.now; entries = schema.now }; defaults = default_fields.now }) text.now ≡ Some e)) }
+{
+    match parse_query_by(alloc, schema, default_fields, analyzers, text) {
         Ok(query) => searched(alloc, index, &query),
         Err(error) => Err(error),
     }
+}
+
+/// So it does by each of the tokenizers `ascii`, `raw`, `whitespace` and `default`, whose words are `analyzed`.
+pub fn texts_find_by_each_tokenizer(
+    alloc: Global,
+    index: &OpenIndex,
+    schema: &Schema,
+    default_fields: &[Field],
+    tokenizer: &Analyzer,
+    text: &str,
+) -> Result<QueryCursor<TermOrPhrase<SegmentPostings>>, QueryParserError>
+    requires many { length index.now.readers ≡ length schema.now }
+    ensures found { (num_docs : ℕ) (tokens : List IndexToken) → IndexHolds schema.now num_docs index.now tokens
+        → IfOk result (λ cursor. (doc : ℕ) → has_doc cursor.rest doc
+        ≡ text_matches (record { texts = record { analyze = analyzed tokenizer.now; entries = schema.now }; defaults = default_fields.now }) text.now tokens doc) }
+{
+    texts_find_what_matches(alloc, index, schema, default_fields, tokenizer, text)
+}
+
+/// So it does where a schema names a tokenizer for each field.
+pub fn texts_find_by_their_tokenizers(
+    alloc: Global,
+    index: &OpenIndex,
+    schema: &Schema,
+    default_fields: &[Field],
+    tokenizers: &FieldTokenizers,
+    text: &str,
+) -> Result<QueryCursor<TermOrPhrase<SegmentPostings>>, QueryParserError>
+    requires many { length index.now.readers ≡ length schema.now }
+    ensures found { (num_docs : ℕ) (tokens : List IndexToken) → IndexHolds schema.now num_docs index.now tokens
+        → IfOk result (λ cursor. (doc : ℕ) → has_doc cursor.rest doc
+        ≡ text_matches_by (record { texts = record { analyze = analyzed_in tokenizers.now; entries = schema.now }; defaults = default_fields.now }) text.now tokens doc) }
+{
+    texts_find_by_their_analyzers(alloc, index, schema, default_fields, tokenizers, text)
 }
 
 // Searches for a query.

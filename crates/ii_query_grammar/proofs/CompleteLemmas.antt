@@ -4,7 +4,7 @@ use Rattle.std.specs.Prelude.{⊤}
 use Rattle.std.proofs.lemmas.Bool.{lt-ltb}
 use Rattle.ii_query_grammar.specs.declared.parse_error.Expected.TheVariants.{LessNesting}
 use Rattle.ii_query_grammar.specs.declared.parse_error.ParseError.TheVariants.{Syntax}
-use Rattle.ii_query_grammar.specs.Grammar.{Kind, Spells, all, alone, and, and_not, between_bounds, chain, clauses, excluded, in_parentheses, next_to, nothing, one, or, part, query, token, wanted, wants}
+use Rattle.ii_query_grammar.specs.Grammar.{Kind, Spells, all, alone, among_values, and, and_not, between_bounds, chain, clauses, excluded, in_parentheses, next_to, nothing, one, or, part, query, star_alone, token, wanted, wants}
 use Rattle.ii_query_grammar.specs.Lexemes.{Token, and_word, closing, minus, opening, or_word}
 use Rattle.ii_query_grammar.specs.Parsed.{ChainState, GroupState, PlaceState, after_and, after_and_minus, after_minus, after_or, begins, chain_and, chain_and_not, chain_of, chained, empty, minus_at, put, put_at, read, read_closing, read_end, read_sign, whole, whole_at, whole_of, with_chain_tree}
 use Rattle.ii_query_grammar.specs.Trees.{Ast}
@@ -166,6 +166,8 @@ over_query more w e t ls (g, is, leads) whole_is = (g, whole_between w e g.wante
 goes_over : {more : ℕ} {k : Kind} {ls : List Token} → Spells more k ls → GoesOver more k ls
 goes_over (alone {more} at l) = λ limit size opened g rest room. refl
 goes_over (between_bounds {more} at r) = λ limit size opened g rest room. refl
+goes_over (among_values {more} at s) = λ limit size opened g rest room. refl
+goes_over (star_alone {more} at) = λ limit size opened g rest room. refl
 goes_over (in_parentheses {more} {t} {ls} at end q) = over_parentheses more t ls at end (goes_over q)
 goes_over (one {more} {t} {ls} p) = over_one more t ls (goes_over p)
 goes_over (and {more} {c} {t} {ks} {ls} at p q) = over_and more c t ks ls at (goes_over p) (goes_over q)

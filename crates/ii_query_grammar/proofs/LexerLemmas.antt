@@ -2,14 +2,17 @@
 use Rattle.std.proofs.Common.{◌≡◌, ◌∙◌, ℕ, zero, suc, ◌-◌, ◌<◌, ◌≤◌, Bool, true, false, cond, List, [], ◌∷◌, Option, None, Some, Result, Ok, Err, drop, take, length, refl, sym, ap, arith}
 use Rattle.std.proofs.lemmas.List.{length-drop}
 use Rattle.std.specs.List.{take_while}
-use Rattle.std.specs.Prelude.{⊤, bytes_eq, codes}
+use Rattle.std.specs.Prelude.{◌==◌, ⊤, bytes_eq, codes}
 use Rattle.ii_query_grammar.specs.declared.cut.Stop.{Stop}
 use Rattle.ii_query_grammar.specs.declared.cut.Stop.TheVariants as stops
 use Rattle.ii_query_grammar.specs.declared.lexeme.Edge.{Edge}
 use Rattle.ii_query_grammar.specs.declared.lexeme.Edge.TheVariants as edges
+use Rattle.ii_query_grammar.specs.declared.parse_error.Expected.{Expected}
+use Rattle.ii_query_grammar.specs.declared.parse_error.Expected.TheVariants as wanted
 use Rattle.ii_query_grammar.specs.declared.parse_error.Feature.{Feature}
 use Rattle.ii_query_grammar.specs.declared.parse_error.ParseError.{ParseError}
-use Rattle.ii_query_grammar.specs.Lexemes.{Front, Limit, RangeFront, Token, after_spaces, after_to, before_stop, begins, bound_with, ended_range, feature_after, feature_in_front, from_stop, front, front_at, greater, has_star, is_empty, is_prefix, is_space, less as less_range, lexemes, limit_at, one_more, phrase_front, place_of, range_above, range_after_to, range_at, range_below, range_between, range_from, range_to, text_limit, tokens, unless_feature, unless_range, value_front, word_front}
+use Rattle.ii_query_grammar.specs.declared.sets.TheConstants.{MAX_SET_VALUES}
+use Rattle.ii_query_grammar.specs.Lexemes.{Front, Limit, RangeFront, SetFront, Token, after_spaces, after_to, before_stop, begins, bound_with, ended_range, feature_after, feature_in_front, from_stop, front, front_at, greater, has_star, is_empty, is_prefix, is_set, is_space, less as less_range, lexemes, limit_at, next_value, one_more, phrase_front, place_of, range_above, range_after_to, range_at, range_below, range_between, range_from, range_to, set_front, after_bracket, set_values, text_limit, tokens, unless_feature, unless_range, value_and, value_front, values_from, with_values, word_front}
 use Rattle.ii_query_grammar.specs.Trees.{Bound}
 
 -- The text after the first lexeme has fewer than n bytes.
@@ -65,8 +68,8 @@ spaces_end_leaves : (n : ℕ) (text : List ℕ) → length text < n → length (
 spaces_end_leaves n text few = end_leaves (length (take_while is_space text)) n text few
 
 -- bounds
-text_limit_leaves : (stop : Stop) (size n : ℕ) (text : List ℕ) → length text < n → LimitLeaves n (text_limit stop size text)
-text_limit_leaves stop size n text few =
+text_limit_leaves : (e : Expected) (stop : Stop) (size n : ℕ) (text : List ℕ) → length text < n → LimitLeaves n (text_limit e stop size text)
+text_limit_leaves e stop size n text few =
     let inner = drop 1 text in
     let some = end_leaves 1 n text few in
     let last = end_leaves (place_of stops.PhraseEnd false inner) n inner some in
@@ -75,7 +78,7 @@ text_limit_leaves stop size n text few =
     (λ is. limit_either (is_empty (before_stop stop text)) n _ _ (λ is. tt) (λ is. end_leaves (place_of stop false text) n text few))
 
 limit_leaves : (size n : ℕ) (text : List ℕ) → length text < n → LimitLeaves n (limit_at size text)
-limit_leaves size n text few = limit_either (begins 42 text) n _ _ (λ is. end_leaves 1 n text few) (λ is. text_limit_leaves stops.BoundEnd size n text few)
+limit_leaves size n text few = limit_either (begins 42 text) n _ _ (λ is. end_leaves 1 n text few) (λ is. text_limit_leaves wanted.Bound stops.BoundEnd size n text few)
 
 -- ranges
 ended_leaves : (size n : ℕ) (name : List ℕ) (lower : Bound) (upper : Option (List ℕ)) (text : List ℕ) → length text < n → RangeLeaves n (ended_range size name lower upper text)
@@ -114,14 +117,14 @@ below_leaves n name edge (Ok upper) few = few
 greater_leaves : (size n : ℕ) (name text : List ℕ) → length text < n → RangeLeaves n (greater size name text)
 greater_leaves size n name text few =
     range_either (begins 61 text) n _ _
-    (λ is. above_leaves n name edges.Inclusive _ (text_limit_leaves stops.WordEnd size n (drop 1 text) (end_leaves 1 n text few)))
-    (λ is. above_leaves n name edges.Exclusive _ (text_limit_leaves stops.WordEnd size n text few))
+    (λ is. above_leaves n name edges.Inclusive _ (text_limit_leaves wanted.Bound stops.WordEnd size n (drop 1 text) (end_leaves 1 n text few)))
+    (λ is. above_leaves n name edges.Exclusive _ (text_limit_leaves wanted.Bound stops.WordEnd size n text few))
 
 less_leaves : (size n : ℕ) (name text : List ℕ) → length text < n → RangeLeaves n (less_range size name text)
 less_leaves size n name text few =
     range_either (begins 61 text) n _ _
-    (λ is. below_leaves n name edges.Inclusive _ (text_limit_leaves stops.WordEnd size n (drop 1 text) (end_leaves 1 n text few)))
-    (λ is. below_leaves n name edges.Exclusive _ (text_limit_leaves stops.WordEnd size n text few))
+    (λ is. below_leaves n name edges.Inclusive _ (text_limit_leaves wanted.Bound stops.WordEnd size n (drop 1 text) (end_leaves 1 n text few)))
+    (λ is. below_leaves n name edges.Exclusive _ (text_limit_leaves wanted.Bound stops.WordEnd size n text few))
 
 -- a range, or what there is instead
 by_case : (b : Bool) (o : Option (Result RangeFront ParseError)) (f : Result RangeFront ParseError) (at n : ℕ) (g : Front) → (b ≡ true → RangeLeaves n f) → 0 < n → Leaves n (unless_range o at g) → Leaves n (unless_range (cond b (Some f) o) at g)
@@ -138,14 +141,48 @@ unless_range_leaves size at n name text g few other =
     (by_case (begins 62 text) _ _ at n g (λ is. greater_leaves size n name (drop 1 text) later) some
     (by_case (begins 60 text) _ _ at n g (λ is. less_leaves size n name (drop 1 text) later) some other)))
 
+-- sets
+abbrev SetLeaves : ℕ → Result SetFront ParseError → Type 0
+SetLeaves = LeavesAfter (λ (f : SetFront). f.rest)
+
+with_values_leave : (n : ℕ) (values : List (List ℕ)) (found : Result SetFront ParseError) → SetLeaves n found → SetLeaves n (with_values values found)
+with_values_leave n values (Err e) few = tt
+with_values_leave n values (Ok f) few = few
+
+next_leaves : (left size n : ℕ) (text : List ℕ) → length text < n → LimitLeaves n (next_value left size text)
+next_leaves left size n text few =
+    limit_either (begins 93 text) n _ _ (λ is. end_leaves 1 n text few)
+    (λ is. limit_either (left == 0) n _ _ (λ is. tt) (λ is. text_limit_leaves wanted.SetValue stops.BoundEnd size n text few))
+
+value_and_leaves : (n : ℕ) (others : List ℕ → Result SetFront ParseError) (value : Option (List ℕ)) (rest : List ℕ) → ((text : List ℕ) → length text < n → SetLeaves n (others text)) → length rest < n → SetLeaves n (value_and others value rest)
+value_and_leaves n others None rest each few = few
+value_and_leaves n others (Some value) rest each few = with_values_leave n (value ∷ []) (others rest) (each rest few)
+
+values_leave : (n : ℕ) (others : List ℕ → Result SetFront ParseError) (read : Result Limit ParseError) → ((text : List ℕ) → length text < n → SetLeaves n (others text)) → LimitLeaves n read → SetLeaves n (values_from others read)
+values_leave n others (Err e) each few = tt
+values_leave n others (Ok l) each few = value_and_leaves n others l.text l.rest each few
+
+set_leaves : (left size n : ℕ) (text : List ℕ) → length text < n → SetLeaves n (set_values left size text)
+unfolding set_values
+set_leaves zero size n text few = values_leave n (λ rest. Ok (record { values = []; rest = rest })) _ (λ rest less. less) (next_leaves zero size n (after_spaces text) (spaces_end_leaves n text few))
+set_leaves (suc left) size n text few = values_leave n _ _ (set_leaves left size n) (next_leaves (suc left) size n (after_spaces text) (spaces_end_leaves n text few))
+
+set_front_leaves : (at n : ℕ) (name : List ℕ) (found : Result SetFront ParseError) → 0 < n → SetLeaves n found → Leaves n (set_front at name found)
+set_front_leaves at n name (Err e) some few = some
+set_front_leaves at n name (Ok f) some few = few
+
 value_leaves : (size at n : ℕ) (name text : List ℕ) → length text < n → Leaves n (value_front size at name text)
 value_leaves size at n name text less =
     let some : 0 < n = omega (arith, less) in
     either (begins 34 text) n _ _ (λ is. phrase_leaves size at n (Some name) (drop 1 text) (end_leaves 1 n text less))
     (λ is. unless_range_leaves size at n name text _ less (unless (feature_in_front text) _ n _ some
-    (either (has_star (from_stop stops.WordEnd text)) n _ _ (λ star. end_leaves 1 n (from_stop stops.WordEnd text) (end_leaves (place_of stops.WordEnd false text) n text less))
-    (λ none. unless (feature_after (from_stop stops.WordEnd text)) _ n _ some
-    (either (is_empty (before_stop stops.WordEnd text)) n _ _ (λ is. some) (λ is. end_leaves (place_of stops.WordEnd false text) n text less))))))
+    (let rest = from_stop stops.WordEnd text in
+    let later = end_leaves (place_of stops.WordEnd false text) n text less in
+    either (is_set (before_stop stops.WordEnd text) rest) n _ _
+    (λ is. set_front_leaves at n name _ some (set_leaves MAX_SET_VALUES size n (after_bracket rest) (end_leaves 1 n (after_spaces rest) (spaces_end_leaves n rest later))))
+    (λ none. either (has_star rest) n _ _ (λ star. end_leaves 1 n rest later)
+    (λ none. unless (feature_after rest) _ n _ some
+    (either (is_empty (before_stop stops.WordEnd text)) n _ _ (λ is. some) (λ is. later)))))))
 
 -- a word that isn't empty takes a byte
 taken : (k : ℕ) (text : List ℕ) → is_empty (take k text) ≡ false → length (drop k text) < length text
@@ -164,11 +201,12 @@ word_leaves size at text some =
     let word = before_stop stops.WordEnd text in
     let rest = from_stop stops.WordEnd text in
     unless (feature_in_front text) at n _ some
-    (either (is_prefix word rest) n _ _ (λ star. end_leaves 1 n rest (taken (place_of stops.WordEnd false text) text (prefix_some word rest star)))
+    (either (is_set word rest) n _ _ (λ is. some)
+    (λ no_set. either (is_prefix word rest) n _ _ (λ star. end_leaves 1 n rest (taken (place_of stops.WordEnd false text) text (prefix_some word rest star)))
     (λ none. unless (feature_after rest) _ n _ some
     (either (is_empty word) n _ _ (λ is. some)
     (λ is. let less = taken (place_of stops.WordEnd false text) text is in
-    either (begins 58 rest) n _ _ (λ colon. value_leaves size at n word (drop 1 rest) (end_leaves 1 n rest less)) (λ none. less)))))
+    either (begins 58 rest) n _ _ (λ colon. value_leaves size at n word (drop 1 rest) (end_leaves 1 n rest less)) (λ none. less))))))
 
 -- each lexeme takes a byte
 front_leaves : (size at : ℕ) (text : List ℕ) → is_empty text ≡ false → Leaves (length text) (front_at size at text)
@@ -182,7 +220,8 @@ front_leaves size at (b ∷ bs) some =
     (λ is. either (begins 45 (b ∷ bs)) n _ _ (λ is. less)
     (λ is. either (begins 43 (b ∷ bs)) n _ _ (λ is. more)
     (λ is. either (begins 34 (b ∷ bs)) n _ _ (λ is. phrase_leaves size at n None bs less)
-    (λ is. word_leaves size at (b ∷ bs) more)))))
+    (λ is. either (has_star (b ∷ bs)) n _ _ (λ is. less)
+    (λ is. word_leaves size at (b ∷ bs) more))))))
 
 spaces_leave : (text : List ℕ) → length (after_spaces text) ≤ length text
 spaces_leave text = omega (arith, length-drop (length (take_while is_space text)) text)

@@ -6,10 +6,10 @@ use Rattle.ii_query_grammar.specs.declared.parse_error.Expected.{Expected}
 use Rattle.ii_query_grammar.specs.declared.parse_error.Expected.TheVariants.{LessNesting}
 use Rattle.ii_query_grammar.specs.declared.parse_error.ParseError.{ParseError}
 use Rattle.ii_query_grammar.specs.declared.parse_error.ParseError.TheVariants.{Syntax}
-use Rattle.ii_query_grammar.specs.Grammar.{Spells, all, alone, and, and_not, between_bounds, chain, clauses, excluded, in_parentheses, next_to, nothing, one, or, part, query, token, wanted, wants}
-use Rattle.ii_query_grammar.specs.Lexemes.{Lexeme, Token, and_word, broken, closing, literal, minus, opening, or_word, range}
+use Rattle.ii_query_grammar.specs.Grammar.{Spells, all, alone, among_values, and, and_not, between_bounds, chain, clauses, excluded, in_parentheses, next_to, nothing, one, or, part, query, star_alone, token, wanted, wants}
+use Rattle.ii_query_grammar.specs.Lexemes.{Lexeme, Token, and_word, asterisk, broken, closing, literal, minus, opening, or_word, range, value_set}
 use Rattle.ii_query_grammar.specs.Parsed.{ChainState, GroupState, PlaceState, after_and, after_and_minus, after_minus, after_or, and_at, begins, chained, empty, minus_at, or_at, put, put_and, put_at, put_minus, put_or, read, read_closing, read_end, read_sign, whole_at, whole_of, with_chain_tree}
-use Rattle.ii_query_grammar.specs.Trees.{Ast, leaf, ranged}
+use Rattle.ii_query_grammar.specs.Trees.{Ast, everything, in_set, leaf, ranged}
 
 -- Lexemes end where a chain may begin: after clauses, or after an OR.
 abbrev Ready : ℕ → List Ast → List Ast → List Token → Type 0
@@ -190,6 +190,10 @@ tells_one limit size ts more opened g outer done t at (literal l) later are stan
     further limit t outer done ts (token at (literal l)) (later more opened (put g (leaf l)) outer (done ++ token at (literal l) ∷ []) t are (put_stands more g.wanted g.excluded g.place (leaf l) done (token at (literal l) ∷ []) stands (alone at l)) is)
 tells_one limit size ts more opened g outer done t at (range r) later are stands is =
     further limit t outer done ts (token at (range r)) (later more opened (put g (ranged r)) outer (done ++ token at (range r) ∷ []) t are (put_stands more g.wanted g.excluded g.place (ranged r) done (token at (range r) ∷ []) stands (between_bounds at r)) is)
+tells_one limit size ts more opened g outer done t at (value_set s) later are stands is =
+    further limit t outer done ts (token at (value_set s)) (later more opened (put g (in_set s)) outer (done ++ token at (value_set s) ∷ []) t are (put_stands more g.wanted g.excluded g.place (in_set s) done (token at (value_set s) ∷ []) stands (among_values at s)) is)
+tells_one limit size ts more opened g outer done t at asterisk later are stands is =
+    further limit t outer done ts (token at asterisk) (later more opened (put g everything) outer (done ++ token at asterisk ∷ []) t are (put_stands more g.wanted g.excluded g.place everything done (token at asterisk ∷ []) stands (star_alone at)) is)
 tells_one limit size ts more opened g outer done t at opening later are stands is =
     tells_opening limit size ts more opened g outer done t at (nat_lt (length opened) limit) later are stands refl is
 tells_one limit size ts more opened g outer done t at closing later are stands is =

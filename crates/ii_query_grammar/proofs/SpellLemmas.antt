@@ -1,201 +1,34 @@
 -- The text of a tree is parsed as that tree.
 use Rattle.std.proofs.Common.{◌≡◌, ◌∙◌, ℕ, zero, suc, ◌-◌, ◌≤◌, Bool, true, false, ◌&&◌, ◌||◌, ◌==◌, not, List, [], ◌∷◌, ◌++◌, append_assoc, append-nil, cond, drop, take, length, Option, None, Some, option_map, Result, Ok, refl, sym, ap, subst, arith}
-use Rattle.std.proofs.Math.Bool.{and-false, or-true}
-use Rattle.std.specs.Prelude.{bytes_eq, codes, slice_index}
-use Rattle.std.specs.List.{take_while}
-use Rattle.std.proofs.lemmas.Bool.{and_parts, eqb-true, not-true}
+use Rattle.std.proofs.Math.Bool.{and-false}
+use Rattle.std.specs.Prelude.{bytes_eq, codes, nat_le}
+use Rattle.std.specs.List.{list_all, take_while}
+use Rattle.std.proofs.lemmas.Bool.{and_parts, eqb-true, leb-true, not-true}
+use Rattle.ii_query_grammar.specs.declared.sets.TheConstants.{MAX_SET_VALUES}
 use Rattle.std.proofs.lemmas.List.{drop_at, take_at}
 use Rattle.std.proofs.lemmas.List.Sums.{take_while-cons}
 use Rattle.std.proofs.lemmas.Slice.Eq.{bytes_eq-Decides}
 use Rattle.ii_query_grammar.specs.declared.cut.Stop.{Stop}
 use Rattle.ii_query_grammar.specs.declared.cut.Stop.TheVariants as stops
 use Rattle.ii_query_grammar.specs.declared.lexeme.Edge.TheVariants as edges
+use Rattle.ii_query_grammar.specs.declared.parse_error.Expected.{Expected}
+use Rattle.ii_query_grammar.specs.declared.parse_error.Expected.TheVariants as expected
 use Rattle.ii_query_grammar.specs.declared.parse_error.Feature.{Feature}
 use Rattle.ii_query_grammar.specs.declared.parse_error.ParseError.{ParseError}
 use Rattle.ii_query_grammar.specs.declared.user_input_ast.Delimiter.{Delimiter}
 use Rattle.ii_query_grammar.specs.declared.user_input_ast.Delimiter.TheVariants as delimiters
-use Rattle.ii_query_grammar.specs.Grammar.{Kind, Spells, all, alone, and, and_not, between_bounds, chain, in_parentheses, next_to, nothing, one, or, part, query, token, wanted, wants}
-use Rattle.ii_query_grammar.specs.Lexemes.{Front, Lexeme, Limit, RangeFront, Token, after_spaces, after_to, and_word, before_stop, begins, closing, ended_phrase, ends_word, feature_after, feature_in_front, first_feature_of, from_stop, front_at, front_with, has_star, is_empty, is_escape, is_prefix, is_prefix_end, is_space, is_special, lexemes, limit_at, literal, literal_with, minus, one_more, opening, or_word, phrase_front, place_of, quoted_limit, range, range_after_to, range_at, range_from, range_front, range_to, range_with, stops_at, text_limit, unescaped, unless_feature, unless_range, value_front, value_or_prefix, word_front, word_lexeme, word_or_name, word_or_prefix}
+use Rattle.ii_query_grammar.specs.Grammar.{Kind, Spells, all, alone, among_values, and, and_not, between_bounds, chain, in_parentheses, next_to, nothing, one, or, part, query, star_alone, token, wanted, wants}
+use Rattle.ii_query_grammar.specs.Lexemes.{Front, Lexeme, Limit, RangeFront, Token, after_spaces, after_to, and_word, asterisk, before_stop, begins, closing, ended_phrase, ends_prefix, feature_after, feature_in_front, first_feature_of, from_stop, front_at, front_with, has_star, is_empty, is_prefix, is_prefix_end, is_set, is_space, is_special, lexemes, limit_at, literal, literal_with, minus, next_value, one_more, opening, or_word, phrase_front, place_of, quoted_limit, range, range_after_to, range_at, range_from, range_front, range_to, range_with, set_front, set_values, text_limit, unescaped, unless_feature, unless_range, value_front, value_or_prefix, value_set, values_from, with_values, word_front, word_lexeme, word_or_name, word_or_prefix}
 use Rattle.ii_query_grammar.specs.Parsed.{ChainState, chain_tree, parsed}
-use Rattle.ii_query_grammar.specs.Spelling.{are_several, delimited, escaped, field_text, has_spelling, have_spelling, is_bound, is_literal, is_no_operator, is_range, is_value, is_writable, is_writable_word, literal_text, lower_text, may_be_alone, nesting, part_nesting, part_text, parts_nesting, parts_text, quoted, range_text, spelled, upper_text, word_text}
-use Rattle.ii_query_grammar.specs.Trees.{Ast, Asts, Bound, Literal, Range, all_of, and_asts, any_of, asts_from, exclusive, inclusive, leaf, no_asts, ranged, unbounded, without}
+use Rattle.ii_query_grammar.specs.Spelling.{are_several, delimited, escaped, field_text, has_spelling, have_spelling, is_bound, is_literal, is_no_operator, is_range, is_value, is_writable, is_writable_word, literal_text, lower_text, may_be_alone, may_be_set, nesting, part_nesting, part_text, parts_nesting, parts_text, quoted, range_text, set_text, spelled, upper_text, values_text, word_text}
+use Rattle.ii_query_grammar.specs.Trees.{Ast, Asts, Bound, Literal, Range, ValueSet, all_of, and_asts, any_of, asts_from, everything, exclusive, in_set, inclusive, leaf, no_asts, ranged, unbounded, without}
 use Rattle.ii_query_grammar.proofs.CompleteLemmas.{reads_query}
-use Rattle.ii_query_grammar.proofs.CutLemmas.{escaped_case, place_case}
+use Rattle.ii_query_grammar.proofs.EscapeLemmas.{IsPlain, differs, ends_there, is_plain, phrase_unescapes, phrases, word_unescapes, words, writable}
 use Rattle.ii_query_grammar.proofs.LexerLemmas.{lexemes_step}
 
--- How what ends a word or a phrase and what is escaped in it fit together.
-record AreTogether (end quoting : Stop) : Type 0 where
-  never : (b : ℕ) → stops_at end b true ≡ false
-  backslash : (f : Bool) → stops_at end 92 f ≡ false
-  plain : (b : ℕ) (a f : Bool) → stops_at quoting b a ≡ false → stops_at end b f ≡ false
-  special : (b : ℕ) (a : Bool) → stops_at quoting b a ≡ true → is_special b ≡ true
-
-or_more : (a b c d e f g h : Bool) → a ≡ true → (a || b || c || d || e || f || g || h) ≡ true
-or_more a b c d e f g h is = rw is refl
-
-ends_special : (b : ℕ) → ends_word b ≡ true → is_special b ≡ true
-ends_special b is = or_more (ends_word b) (b == 45) (b == 43) (b == 47) (b == 60) (b == 62) (b == 93) (b == 125) is
-
--- a test that is true of what isn't special is false
-not_special : (p s q : Bool) → (p ≡ true → s ≡ true) → (s && (p || q)) ≡ false → p ≡ false
-not_special true true q is h = absurd (cc)
-not_special true false q is h = absurd (let one = is refl in cc)
-not_special false s q is h = refl
-
-left_false : (p q : Bool) → p ≡ false → (p && q) ≡ false
-left_false p q is = rw is refl
-
-words : AreTogether stops.WordEnd stops.WordEscape
-words = record {
-  never = λ b. and-false (ends_word b);
-  backslash = λ f. refl;
-  plain = λ b a f h. left_false (ends_word b) (not f) (not_special (ends_word b) (is_special b) a (ends_special b) h);
-  special = λ b a h. (and_parts (is_special b) (ends_word b || a) h).0;
-}
-
-quote_special : (b : ℕ) → (b == 34) ≡ true → is_special b ≡ true
-quote_special b is = rw (eqb-true b 34 is) refl
-
-phrases : AreTogether stops.PhraseEnd stops.PhraseEscape
-phrases = record {
-  never = λ b. and-false (b == 34);
-  backslash = λ f. refl;
-  plain = λ b a f h. left_false (b == 34) (not f) (not_special (b == 34) (is_special b) a (quote_special b) h);
-  special = λ b a h. (and_parts (is_special b) (b == 34 || a) h).0;
-}
-
--- a test that tells two bytes apart
-differs : (p : ℕ → Bool) (b c : ℕ) → p b ≡ false → p c ≡ true → (b == c) ≡ false
-differs p b c no_b is_c = by (b == c) refl
-  where
-    by : (same : Bool) → (b == c) ≡ same → same ≡ false
-    by true is = absurd (let all = ap p (eqb-true b c is) in cc)
-    by false is = refl
-
--- a special byte is no backslash
-special_differs : (b : ℕ) → is_special b ≡ true → (b == 92) ≡ false
-special_differs b is = by (b == 92) refl
-  where
-    by : (same : Bool) → (b == 92) ≡ same → same ≡ false
-    by true same = absurd (let all = ap is_special (eqb-true b 92 same) in cc)
-    by false same = refl
-
--- whether a text ends after a backslash, by whether one comes before it
-abbrev ends_after : Bool → List ℕ → Bool
-ends_after f [] = f
-ends_after f (b ∷ bs) = ends_after (b == 92) bs
-
-last_is : (f : Bool) (b : ℕ) (bs : List ℕ) → ends_after f (b ∷ bs) ≡ (slice_index (b ∷ bs) (length bs) == 92)
-last_is f b [] = refl
-last_is f b (c ∷ cs) = last_is (b == 92) c cs
-
-writable : (text : List ℕ) → is_writable text ≡ true → ends_after false text ≡ false
-writable [] is = refl
-writable (b ∷ bs) is =
-    let less : length (b ∷ bs) - 1 ≡ length bs = omega arith in
-    last_is false b bs ∙ ap (λ (n : ℕ). slice_index (b ∷ bs) n == 92) (sym less) ∙ not-true (slice_index (b ∷ bs) (length (b ∷ bs) - 1) == 92) is
-
--- an escaped text ends where the text after it begins
-ends_there : (end quoting : Stop) → AreTogether end quoting → (f a : Bool) (text rest : List ℕ) → ends_after f text ≡ false → place_of end false rest ≡ 0
-    → place_of end f (escaped quoting a text ++ rest) ≡ length (escaped quoting a text)
-ends_there end quoting are f a [] rest last stop = ap (λ (g : Bool). place_of end g rest) last ∙ stop
-ends_there end quoting are f a (b ∷ bs) rest last stop = by (stops_at quoting b a) refl (λ (g h : Bool) (same : ends_after g bs ≡ false). ends_there end quoting are g h bs rest same stop)
-  where
-    by : (here : Bool) → stops_at quoting b a ≡ here → ((g h : Bool) → ends_after g bs ≡ false → place_of end g (escaped quoting h bs ++ rest) ≡ length (escaped quoting h bs))
-        → place_of end f (escaped quoting a (b ∷ bs) ++ rest) ≡ length (escaped quoting a (b ∷ bs))
-    by true is later =
-        let others = escaped quoting false bs in
-        rw (escaped_case quoting a b bs true is)
-        (place_case end f 92 (b ∷ (others ++ rest)) false (are.backslash f)
-        ∙ ap suc (place_case end true b (others ++ rest) false (are.never b) ∙ ap suc (later (b == 92) false last)))
-    by false is later =
-        let others = escaped quoting (b == 92) bs in
-        rw (escaped_case quoting a b bs false is)
-        (place_case end f b (others ++ rest) false (are.plain b a f is) ∙ ap suc (later (b == 92) (b == 92) last))
-
--- its first byte, after a backslash that isn't one of an quoting, isn't special
-no_escape : (quoting : Stop) (b : ℕ) (bs : List ℕ) → ((c : ℕ) → is_special c ≡ true → stops_at quoting c true ≡ true) → is_escape b (escaped quoting (b == 92) bs) ≡ false
-no_escape quoting b [] each = refl
-no_escape quoting b (c ∷ cs) each = by (b == 92) (is_special c) refl refl
-  where
-    by : (after special : Bool) → (b == 92) ≡ after → is_special c ≡ special → is_escape b (escaped quoting (b == 92) (c ∷ cs)) ≡ false
-    by false special is kind = first (escaped quoting (b == 92) (c ∷ cs))
-      where
-        first : (text : List ℕ) → is_escape b text ≡ false
-        first [] = refl
-        first (d ∷ ds) = ap (λ (x : Bool). is_special d && x) is ∙ and-false (is_special d)
-    by true true is kind =
-        let here : stops_at quoting c (b == 92) ≡ true = ap (stops_at quoting c) is ∙ each c kind in
-        ap (is_escape b) (escaped_case quoting (b == 92) c cs true here)
-    by true false is kind = plain (stops_at quoting c (b == 92)) refl
-      where
-        plain : (here : Bool) → stops_at quoting c (b == 92) ≡ here → is_escape b (escaped quoting (b == 92) (c ∷ cs)) ≡ false
-        plain true here = ap (is_escape b) (escaped_case quoting (b == 92) c cs true here)
-        plain false here = ap (is_escape b) (escaped_case quoting (b == 92) c cs false here) ∙ left_false (is_special c) (b == 92) kind
-
-unescaped_case : (b : ℕ) (bs : List ℕ) (here : Bool) → is_escape b bs ≡ here → unescaped (b ∷ bs) ≡ cond here (unescaped bs) (b ∷ unescaped bs)
-unescaped_case b bs here is = ap (λ (h : Bool). cond h (unescaped bs) (b ∷ unescaped bs)) is
-
-special_no_escape : (b : ℕ) (bs : List ℕ) → is_special b ≡ true → is_escape b bs ≡ false
-special_no_escape b [] is = refl
-special_no_escape b (c ∷ cs) is = ap (λ (x : Bool). is_special c && x) (special_differs b is) ∙ and-false (is_special c)
-
--- the text of an escaped text
-unescapes : (end quoting : Stop) → AreTogether end quoting → ((c : ℕ) → is_special c ≡ true → stops_at quoting c true ≡ true) → (a : Bool) (text : List ℕ) → unescaped (escaped quoting a text) ≡ text
-unescapes end quoting are each a [] = refl
-unescapes end quoting are each a (b ∷ bs) = by (stops_at quoting b a) refl (λ (h : Bool). unescapes end quoting are each h bs)
-  where
-    by : (here : Bool) → stops_at quoting b a ≡ here → ((h : Bool) → unescaped (escaped quoting h bs) ≡ bs) → unescaped (escaped quoting a (b ∷ bs)) ≡ b ∷ bs
-    by true is later =
-        let kind = are.special b a is in
-        let others = escaped quoting false bs in
-        ap unescaped (escaped_case quoting a b bs true is)
-        ∙ unescaped_case 92 (b ∷ others) true (rw kind refl)
-        ∙ unescaped_case b others false (special_no_escape b others kind)
-        ∙ ap (λ (l : List ℕ). b ∷ l) (later false)
-    by false is later =
-        let others = escaped quoting (b == 92) bs in
-        ap unescaped (escaped_case quoting a b bs false is)
-        ∙ unescaped_case b others false (no_escape quoting b bs each)
-        ∙ ap (λ (l : List ℕ). b ∷ l) (later (b == 92))
-
-both_true : (p q : Bool) → p ≡ true → q ≡ true → (p && q) ≡ true
-both_true p q h i = rw (h, i) refl
-
-word_unescapes : (text : List ℕ) → unescaped (word_text text) ≡ text
-word_unescapes text = unescapes stops.WordEnd stops.WordEscape words (λ c is. both_true (is_special c) (ends_word c || true) is (or-true (ends_word c))) true text
-
-phrase_unescapes : (text : List ℕ) → unescaped (escaped stops.PhraseEscape false text) ≡ text
-phrase_unescapes text = unescapes stops.PhraseEnd stops.PhraseEscape phrases (λ c is. both_true (is_special c) (c == 34 || true) is (or-true (c == 34))) false text
-
--- A word begins with a byte that isn't special.
-record IsPlain (text : List ℕ) : Type 0 where
-  first : ℕ
-  others : List ℕ
-  text_is : text ≡ first ∷ others
-  plain : is_special first ≡ false
-
-is_plain : (text : List ℕ) → is_empty text ≡ false → IsPlain (word_text text)
-is_plain [] some = absurd (cc)
-is_plain (b ∷ bs) some = by (is_special b) refl
-  where
-    by : (special : Bool) → is_special b ≡ special → IsPlain (word_text (b ∷ bs))
-    by true is = record {
-      first = 92;
-      others = b ∷ escaped stops.WordEscape false bs;
-      text_is = escaped_case stops.WordEscape true b bs true (both_true (is_special b) (ends_word b || true) is (or-true (ends_word b)));
-      plain = refl;
-    }
-    by false is = record {
-      first = b;
-      others = escaped stops.WordEscape (b == 92) bs;
-      text_is = escaped_case stops.WordEscape true b bs false (left_false (is_special b) (ends_word b || true) is);
-      plain = is;
-    }
-
--- five tests that fail
-all_fail : (p q r s o : Bool) (a b c d e f : Front) → p ≡ false → q ≡ false → r ≡ false → s ≡ false → o ≡ false → cond p a (cond q b (cond r c (cond s d (cond o e f)))) ≡ f
-all_fail p q r s o a b c d e f h i j k l = rw (h, i, j, k, l) refl
+-- six tests that fail
+all_fail : (p q r s o t : Bool) (a b c d e f g : Front) → p ≡ false → q ≡ false → r ≡ false → s ≡ false → o ≡ false → t ≡ false → cond p a (cond q b (cond r c (cond s d (cond o e (cond t f g))))) ≡ g
+all_fail p q r s o t a b c d e f g h i j k l m = rw (h, i, j, k, l, m) refl
 
 four_fail : (p q r s : Bool) → p ≡ false → q ≡ false → r ≡ false → s ≡ false → (p || q || r || s) ≡ false
 four_fail p q r s h i j k = rw (h, i, j, k) refl
@@ -213,16 +46,21 @@ no_space b is = four_fail (b == 32) (b == 9) (b == 10) (b == 13) (differs is_spe
 first_none : (b : ℕ) → is_special b ≡ false → first_feature_of b ≡ None
 first_none b is = no_feature (b == 47) (b == 60) (b == 62) _ _ (differs is_special b 47 is refl) (differs is_special b 60 is refl) (differs is_special b 62 is refl)
 
+left_false : (p q : Bool) → p ≡ false → (p && q) ≡ false
+left_false p q is = rw is refl
+
 plain_front : (size at b : ℕ) (bs : List ℕ) → is_special b ≡ false → front_at size at (b ∷ bs) ≡ word_front size at (b ∷ bs)
 plain_front size at b bs is =
-    all_fail (b == 40) (b == 41) (b == 45) (b == 43) (b == 34) _ _ _ _ _ _
+    all_fail (b == 40) (b == 41) (b == 45) (b == 43) (b == 34) (has_star (b ∷ bs)) _ _ _ _ _ _ _
     (differs is_special b 40 is refl) (differs is_special b 41 is refl) (differs is_special b 45 is refl) (differs is_special b 43 is refl) (differs is_special b 34 is refl)
+    (left_false (b == 42) (ends_prefix bs) (differs is_special b 42 is refl))
 
 -- A text may come after a word.
 record MayFollow (rest : List ℕ) : Type 0 where
   stop : place_of stops.WordEnd false rest ≡ 0
   feature : feature_after rest ≡ None
   star : has_star rest ≡ false
+  set : begins 91 (after_spaces rest) ≡ false
 
 unless_none : (o : Option Feature) (at : ℕ) (f : Front) → o ≡ None → unless_feature o at f ≡ f
 unless_none o at f is = rw is refl
@@ -253,12 +91,16 @@ one_fails p a b h = rw h refl
 one_holds : (p : Bool) (a b : Front) → p ≡ true → cond p a b ≡ a
 one_holds p a b h = rw h refl
 
+-- no bracket of a set follows a word
+no_set : (word rest : List ℕ) → begins 91 (after_spaces rest) ≡ false → is_set word rest ≡ false
+no_set word rest is = ap (λ (b : Bool). bytes_eq word (codes "IN") && b) is ∙ and-false (bytes_eq word (codes "IN"))
+
 -- no star follows a word
 no_prefix : (word rest : List ℕ) → has_star rest ≡ false → is_prefix word rest ≡ false
 no_prefix word rest is = ap (λ (b : Bool). not (is_empty word) && b) is ∙ and-false (not (is_empty word))
 
 word_follows : (size at : ℕ) (word rest : List ℕ) → MayFollow rest → word_or_prefix size at word rest ≡ word_or_name size at word rest
-word_follows size at word rest follows = one_fails (is_prefix word rest) _ _ (no_prefix word rest follows.star) ∙ unless_none (feature_after rest) _ _ follows.feature
+word_follows size at word rest follows = one_fails (is_set word rest) _ _ (no_set word rest follows.set) ∙ one_fails (is_prefix word rest) _ _ (no_prefix word rest follows.star) ∙ unless_none (feature_after rest) _ _ follows.feature
 
 some_in_word : (text : List ℕ) → is_empty text ≡ false → is_empty (word_text text) ≡ false
 some_in_word text some = let p = is_plain text some in ap is_empty p.text_is
@@ -330,8 +172,8 @@ abbrev limit : List ℕ → List ℕ → Result Limit ParseError
 limit text rest = Ok (record { text = Some text; rest = rest })
 
 -- a bound between quotes
-quoted_limit_is : (stop : Stop) (size : ℕ) (phrase rest : List ℕ) → is_writable phrase ≡ true → text_limit stop size (quoted phrase ++ rest) ≡ limit phrase rest
-quoted_limit_is stop size phrase rest may =
+quoted_limit_is : (e : Expected) (stop : Stop) (size : ℕ) (phrase rest : List ℕ) → is_writable phrase ≡ true → text_limit e stop size (quoted phrase ++ rest) ≡ limit phrase rest
+quoted_limit_is e stop size phrase rest may =
     let text = escaped stops.PhraseEscape false phrase in
     let cut = is_phrase phrase rest may in
     ap (λ (l : List ℕ). quoted_limit size (before_stop stops.PhraseEnd l) (from_stop stops.PhraseEnd l)) (append_assoc text (34 ∷ []) rest)
@@ -342,18 +184,18 @@ quoted_limit_is stop size phrase rest may =
 -- the lower bound of a range
 lower_is : (size : ℕ) (name : List ℕ) (lower : Bound) (after : List ℕ) → is_bound lower ≡ true → range_at size name (lower_text lower ++ after) ≡ Some (range_after_to size name lower (after_to size (after_spaces after)))
 lower_is size name unbounded after may = refl
-lower_is size name (inclusive text) after may = ap (λ (r : Result Limit ParseError). Some (range_from size name edges.Inclusive r)) (quoted_limit_is stops.BoundEnd size text after may)
-lower_is size name (exclusive text) after may = ap (λ (r : Result Limit ParseError). Some (range_from size name edges.Exclusive r)) (quoted_limit_is stops.BoundEnd size text after may)
+lower_is size name (inclusive text) after may = ap (λ (r : Result Limit ParseError). Some (range_from size name edges.Inclusive r)) (quoted_limit_is expected.Bound stops.BoundEnd size text after may)
+lower_is size name (exclusive text) after may = ap (λ (r : Result Limit ParseError). Some (range_from size name edges.Exclusive r)) (quoted_limit_is expected.Bound stops.BoundEnd size text after may)
 
 -- its upper bound
 upper_is : (size : ℕ) (name : List ℕ) (lower upper : Bound) (rest : List ℕ) → is_bound upper ≡ true → range_to size name lower (limit_at size (after_spaces (32 ∷ (upper_text upper ++ rest)))) ≡ Ok (range_with name lower upper rest)
 upper_is size name lower unbounded rest may = refl
 upper_is size name lower (inclusive text) rest may =
     ap (λ (l : List ℕ). range_to size name lower (limit_at size (after_spaces (32 ∷ l)))) (append_assoc (quoted text) (93 ∷ []) rest)
-    ∙ ap (range_to size name lower) (quoted_limit_is stops.BoundEnd size text (93 ∷ rest) may)
+    ∙ ap (range_to size name lower) (quoted_limit_is expected.Bound stops.BoundEnd size text (93 ∷ rest) may)
 upper_is size name lower (exclusive text) rest may =
     ap (λ (l : List ℕ). range_to size name lower (limit_at size (after_spaces (32 ∷ l)))) (append_assoc (quoted text) (125 ∷ []) rest)
-    ∙ ap (range_to size name lower) (quoted_limit_is stops.BoundEnd size text (125 ∷ rest) may)
+    ∙ ap (range_to size name lower) (quoted_limit_is expected.Bound stops.BoundEnd size text (125 ∷ rest) may)
 
 -- two texts with one between them, and a text after them
 between : (a s b rest : List ℕ) → (a ++ s ++ b) ++ rest ≡ a ++ (s ++ (b ++ rest))
@@ -401,17 +243,26 @@ plain_value size at name text word rest b bs is plain cut =
 
 value_follows : (size at : ℕ) (name word rest : List ℕ) → MayFollow rest → is_empty word ≡ false → value_or_prefix size at name word rest ≡ front_with at (literal_with (Some name) word delimiters.None) rest
 value_follows size at name word rest follows some =
-    one_fails (has_star rest) _ _ follows.star ∙ unless_none (feature_after rest) _ _ follows.feature ∙ one_fails (is_empty word) _ _ some
+    one_fails (is_set word rest) _ _ (no_set word rest follows.set) ∙ one_fails (has_star rest) _ _ follows.star ∙ unless_none (feature_after rest) _ _ follows.feature ∙ one_fails (is_empty word) _ _ some
 
--- whether what is spelled may end before this: nothing, a space or a parenthesis that closes
+-- whether what is spelled may end before this: nothing, a space or a parenthesis that closes, and no bracket after spaces
+abbrev ends_here : List ℕ → Bool
+ends_here [] = true
+ends_here (b ∷ bs) = b == 32 || b == 41
+
 abbrev ends : List ℕ → Bool
-ends [] = true
-ends (b ∷ bs) = b == 32 || b == 41
+ends rest = ends_here rest && not (begins 91 (after_spaces rest))
+
+here : (rest : List ℕ) → ends rest ≡ true → ends_here rest ≡ true
+here rest end = (and_parts (ends_here rest) (not (begins 91 (after_spaces rest))) end).0
+
+no_bracket : (rest : List ℕ) → ends rest ≡ true → begins 91 (after_spaces rest) ≡ false
+no_bracket rest end = not-true (begins 91 (after_spaces rest)) (and_parts (ends_here rest) (not (begins 91 (after_spaces rest))) end).1
 
 -- a star that ends a prefix
 star_ends : (rest : List ℕ) → ends rest ≡ true → has_star (42 ∷ rest) ≡ true
 star_ends [] end = refl
-star_ends (b ∷ bs) end = by (b == 32) refl end
+star_ends (b ∷ bs) end = by (b == 32) refl (here (b ∷ bs) end)
   where
     by : (space : Bool) → (b == 32) ≡ space → (space || b == 41) ≡ true → is_prefix_end b ≡ true
     by true is h = rw (eqb-true b 32 is) refl
@@ -426,6 +277,7 @@ prefix_value : (size at : ℕ) (name phrase rest : List ℕ) → is_writable phr
 prefix_value size at name phrase rest may some end =
     let p = is_plain phrase some in
     plain_value size at name (word_text phrase ++ 42 ∷ rest) (word_text phrase) (42 ∷ rest) p.first (p.others ++ 42 ∷ rest) (after_plain (word_text phrase) (42 ∷ rest) p) p.plain (is_cut phrase (42 ∷ rest) may refl)
+    ∙ one_fails (is_set (word_text phrase) (42 ∷ rest)) _ _ (no_set (word_text phrase) (42 ∷ rest) refl)
     ∙ one_holds (has_star (42 ∷ rest)) _ _ (star_ends rest end)
     ∙ ap (λ (l : Lexeme). front_with at l rest) (lexeme_fails (is_empty (word_text phrase)) _ _ (some_in_word phrase some))
 
@@ -446,20 +298,28 @@ named_value size at name delimiters.Star phrase rest h follows end =
     ap (value_front size at name) (append_assoc (word_text phrase) (42 ∷ []) rest) ∙ prefix_value size at name phrase rest parts.1 (not-true (is_empty phrase) parts.0) end
     ∙ ap (λ (w : List ℕ). front_with at (literal (record { field_name = Some (unescaped name); phrase = w; delimiter = delimiters.Star })) rest) (word_unescapes phrase)
 
-follows_by : (b c : ℕ) (bs : List ℕ) → b ≡ c → MayFollow (c ∷ bs) → MayFollow (b ∷ bs)
-follows_by b c bs is follows = subst (λ (d : ℕ). MayFollow (d ∷ bs)) (sym is) follows
+-- What may come after a word, but for a set.
+record MayEnd (rest : List ℕ) : Type 0 where
+  stop : place_of stops.WordEnd false rest ≡ 0
+  feature : feature_after rest ≡ None
+  star : has_star rest ≡ false
+
+follows_by : (b c : ℕ) (bs : List ℕ) → b ≡ c → MayEnd (c ∷ bs) → MayEnd (b ∷ bs)
+follows_by b c bs is follows = subst (λ (d : ℕ). MayEnd (d ∷ bs)) (sym is) follows
 
 begins_by : (b c : ℕ) (bs : List ℕ) → b ≡ c → (c == 58) ≡ false → begins 58 (b ∷ bs) ≡ false
 begins_by b c bs is other = ap (λ (d : ℕ). d == 58) is ∙ other
 
-ends_either : (b : ℕ) (bs : List ℕ) (space : Bool) → (b == 32) ≡ space → (space || b == 41) ≡ true → MayFollow (b ∷ bs) × (begins 58 (b ∷ bs) ≡ false)
+ends_either : (b : ℕ) (bs : List ℕ) (space : Bool) → (b == 32) ≡ space → (space || b == 41) ≡ true → MayEnd (b ∷ bs) × (begins 58 (b ∷ bs) ≡ false)
 ends_either b bs true is h = (follows_by b 32 bs (eqb-true b 32 is) (record { stop = refl; feature = refl; star = refl }), begins_by b 32 bs (eqb-true b 32 is) refl)
 ends_either b bs false is h = (follows_by b 41 bs (eqb-true b 41 h) (record { stop = refl; feature = refl; star = refl }), begins_by b 41 bs (eqb-true b 41 h) refl)
 
 -- a word ends there, and is no name
 word_ends : (rest : List ℕ) → ends rest ≡ true → MayFollow rest × (begins 58 rest ≡ false)
-word_ends [] h = (record { stop = refl; feature = refl; star = refl }, refl)
-word_ends (b ∷ bs) h = ends_either b bs (b == 32) refl h
+word_ends [] h = (record { stop = refl; feature = refl; star = refl; set = refl }, refl)
+word_ends (b ∷ bs) h =
+    let (end, no_name) = ends_either b bs (b == 32) refl (here (b ∷ bs) h) in
+    (record { stop = end.stop; feature = end.feature; star = end.star; set = no_bracket (b ∷ bs) h }, no_name)
 
 no_spaces : (b : ℕ) (bs : List ℕ) → is_space b ≡ false → after_spaces (b ∷ bs) ≡ b ∷ bs
 no_spaces b bs is =
@@ -506,6 +366,7 @@ begins_alone size delimiters.Star phrase rest h end =
       front_is = λ at.
           ap (front_at size at) joined
           ∙ front_of_plain size at (word_text phrase ++ 42 ∷ rest) (word_text phrase) (42 ∷ rest) p.first (p.others ++ 42 ∷ rest) (after_plain (word_text phrase) (42 ∷ rest) p) p.plain (is_cut phrase (42 ∷ rest) parts.1 refl)
+          ∙ one_fails (is_set (word_text phrase) (42 ∷ rest)) _ _ (no_set (word_text phrase) (42 ∷ rest) refl)
           ∙ one_holds (is_prefix (word_text phrase) (42 ∷ rest)) _ _ prefix
           ∙ ap (λ (w : List ℕ). front_with at (literal (record { field_name = None; phrase = w; delimiter = delimiters.Star })) rest) (word_unescapes phrase);
     }
@@ -525,7 +386,7 @@ begins_named size name delimiter phrase rest h value end =
       no_space_first = text.0;
       some = text.1;
       front_is = λ at.
-          front_of_word size at name (58 ∷ after) h (record { stop = refl; feature = refl; star = refl })
+          front_of_word size at name (58 ∷ after) h (record { stop = refl; feature = refl; star = refl; set = refl })
           ∙ one_fails (is_empty (word_text name)) _ _ (some_in_word name some)
           ∙ named_value size at (word_text name) delimiter phrase rest value (word_ends rest end).0 end
           ∙ ap (λ (n : List ℕ). front_with at (literal (record { field_name = Some n; phrase = phrase; delimiter = delimiter })) rest) (word_unescapes name);
@@ -554,7 +415,7 @@ begins_between size name lower upper rest h first last =
       no_space_first = text.0;
       some = text.1;
       front_is = λ at.
-          front_of_word size at name (58 ∷ after) h (record { stop = refl; feature = refl; star = refl })
+          front_of_word size at name (58 ∷ after) h (record { stop = refl; feature = refl; star = refl; set = refl })
           ∙ one_fails (is_empty (word_text name)) _ _ (some_in_word name some)
           ∙ one_fails (begins 34 after) _ _ (no_quote lower (codes " TO " ++ (upper_text upper ++ rest)))
           ∙ found_range (range_at size (word_text name) after) at _ _ (range_is size (word_text name) lower upper rest first last)
@@ -569,6 +430,66 @@ begins_range size r rest h =
     subst (λ (text : List ℕ). Begins size text (range r) rest)
     (sym (append_assoc (word_text r.field_name) (58 ∷ body) rest ∙ ap (λ (l : List ℕ). word_text r.field_name ++ 58 ∷ l) (between (lower_text r.lower) (codes " TO ") (upper_text r.upper) rest)))
     (begins_between size r.field_name r.lower r.upper rest bounds.0 bounds.1 parts.1)
+
+-- the values of a set do not depend on spaces before them
+set_of_spaces : (left size : ℕ) (a b : List ℕ) → after_spaces a ≡ after_spaces b → set_values left size a ≡ set_values left size b
+unfolding set_values
+set_of_spaces zero size a b is = ap (λ (l : List ℕ). values_from (λ rest. Ok (record { values = []; rest = rest })) (next_value zero size l)) is
+set_of_spaces (suc left) size a b is = ap (λ (l : List ℕ). values_from (set_values left size) (next_value (suc left) size l)) is
+
+values_space : (values : List (List ℕ)) (rest : List ℕ) → after_spaces (values_text (32 ∷ []) values ++ rest) ≡ after_spaces (values_text [] values ++ rest)
+values_space [] rest = refl
+values_space (value ∷ values) rest = refl
+
+one_left : (left : ℕ) (a b : Result Limit ParseError) → cond (suc left == 0) a b ≡ b
+one_left left a b = by (suc left == 0) refl
+  where
+    by : (none : Bool) → (suc left == 0) ≡ none → cond none a b ≡ b
+    by true is = absurd (let zero_is = eqb-true (suc left) 0 is in omega (arith, zero_is))
+    by false is = refl
+
+-- the values of a set, from their text
+values_are : (left size : ℕ) (values : List (List ℕ)) (rest : List ℕ) → list_all is_writable values ≡ true → length values ≤ left → set_values left size (values_text [] values ++ rest) ≡ Ok (record { values = values; rest = rest })
+unfolding set_values
+values_are zero size [] rest may few = refl
+values_are (suc left) size [] rest may few = refl
+values_are zero size (value ∷ values) rest may few = absurd (omega (arith, few))
+values_are (suc left) size (value ∷ values) rest may few =
+    let parts = and_parts (is_writable value) (list_all is_writable values) may in
+    let later = values_text (32 ∷ []) values in
+    ap (λ (l : List ℕ). values_from (set_values left size) (next_value (suc left) size (after_spaces l))) (append_assoc (quoted value) later rest)
+    ∙ ap (values_from (set_values left size)) (one_left left _ (text_limit expected.SetValue stops.BoundEnd size (quoted value ++ (later ++ rest))) ∙ quoted_limit_is expected.SetValue stops.BoundEnd size value (later ++ rest) parts.0)
+    ∙ ap (with_values (value ∷ [])) (set_of_spaces left size (later ++ rest) (values_text [] values ++ rest) (values_space values rest) ∙ values_are left size values rest parts.1 (omega (arith, few)))
+
+-- a set in front
+begins_among : (size : ℕ) (name : List ℕ) (values : List (List ℕ)) (rest : List ℕ) → is_writable_word name ≡ true → list_all is_writable values ≡ true → length values ≤ MAX_SET_VALUES
+    → Begins size (word_text name ++ 58 ∷ (codes "IN [" ++ (values_text [] values ++ rest))) (value_set (record { field_name = name; values = values })) rest
+begins_among size name values rest h may few =
+    let some = not-true (is_empty name) (and_parts (not (is_empty name)) (is_writable name) h).0 in
+    let body = values_text [] values ++ rest in
+    let after = codes "IN [" ++ body in
+    let text = plain_text name (58 ∷ after) some in
+    record {
+      no_space_first = text.0;
+      some = text.1;
+      front_is = λ at.
+          front_of_word size at name (58 ∷ after) h (record { stop = refl; feature = refl; star = refl; set = refl })
+          ∙ one_fails (is_empty (word_text name)) _ _ (some_in_word name some)
+          ∙ ap (set_front at (word_text name)) (values_are MAX_SET_VALUES size values rest may few)
+          ∙ ap (λ (n : List ℕ). front_with at (value_set (record { field_name = n; values = values })) rest) (word_unescapes name);
+    }
+
+begins_set : (size : ℕ) (s : ValueSet) (rest : List ℕ) → may_be_set s ≡ true → Begins size (set_text s ++ rest) (value_set s) rest
+begins_set size s rest h =
+    let parts = and_parts (is_writable_word s.field_name && list_all is_writable s.values) (nat_le (length s.values) MAX_SET_VALUES) h in
+    let texts = and_parts (is_writable_word s.field_name) (list_all is_writable s.values) parts.0 in
+    subst (λ (text : List ℕ). Begins size text (value_set s) rest)
+    (sym (between (word_text s.field_name) (codes ":IN [") (values_text [] s.values) rest))
+    (begins_among size s.field_name s.values rest texts.0 texts.1 (leb-true (length s.values) MAX_SET_VALUES parts.1))
+
+-- a star in front
+begins_star : (size : ℕ) (rest : List ℕ) → ends rest ≡ true → Begins size (42 ∷ rest) asterisk rest
+begins_star size rest end = record { no_space_first = refl; some = refl; front_is = λ at. one_holds (has_star (42 ∷ rest)) _ _ (star_ends rest end) }
 
 -- the first lexeme of a text
 lexemes_begin : (size : ℕ) (text : List ℕ) (x : Lexeme) (rest : List ℕ) → Begins size text x rest → lexemes size text ≡ token (size - length text) x ∷ lexemes size rest
@@ -621,6 +542,20 @@ lexed_range more r h = λ size rest end. record {
   is = lexemes_begin size (range_text r ++ rest) (range r) rest (begins_range size r rest h);
 }
 
+lexed_set : (more : ℕ) (s : ValueSet) → may_be_set s ≡ true → Lexed more (part (in_set s)) (set_text s)
+lexed_set more s h = λ size rest end. record {
+  ts = token (size - length (set_text s ++ rest)) (value_set s) ∷ [];
+  spells = among_values (size - length (set_text s ++ rest)) s;
+  is = lexemes_begin size (set_text s ++ rest) (value_set s) rest (begins_set size s rest h);
+}
+
+lexed_star : (more : ℕ) → Lexed more (part everything) (codes "*")
+lexed_star more = λ size rest end. record {
+  ts = token (size - length (42 ∷ rest)) asterisk ∷ [];
+  spells = star_alone (size - length (42 ∷ rest));
+  is = lexemes_begin size (42 ∷ rest) asterisk rest (begins_star size rest end);
+}
+
 lexed_parentheses : (more : ℕ) (t : Ast) (text : List ℕ) → Lexed more (query t) text → Lexed (suc more) (part t) (40 ∷ text ++ 41 ∷ [])
 lexed_parentheses more t text inner = λ size rest end.
     let inside = inner size (41 ∷ rest) refl in
@@ -669,9 +604,9 @@ AllLexed more no_asts = Unit {0}
 AllLexed more (and_asts t ts) = Lexed more (part t) (part_text t) × AllLexed more ts
 
 -- a text may end before further parts
-ends_before : (s : List ℕ) (ts : Asts) (rest : List ℕ) → ends rest ≡ true → ends (parts_text (32 ∷ s) (32 ∷ s) ts ++ rest) ≡ true
-ends_before s no_asts rest end = end
-ends_before s (and_asts t ts) rest end = refl
+ends_before : (s : List ℕ) (ts : Asts) (rest : List ℕ) → ((text : List ℕ) → ends (s ++ text) ≡ true) → ends rest ≡ true → ends (parts_text s s ts ++ rest) ≡ true
+ends_before s no_asts rest each end = end
+ends_before s (and_asts t ts) rest each end = ap ends (between s (part_text t) (parts_text s s ts) rest) ∙ each (part_text t ++ (parts_text s s ts ++ rest))
 
 -- Lexemes that continue others are this together with them.
 record Continues (more : ℕ) (k : Kind) (ks : List Token) (size : ℕ) (text rest : List ℕ) : Type 0 where
@@ -692,7 +627,7 @@ and_tail more no_asts each ws ks spells = λ size rest end. record {
 and_tail more (and_asts t ts) (lexed, each) ws ks spells = λ size rest end.
     let tail = parts_text (codes " AND ") (codes " AND ") ts in
     let at = size - length (65 ∷ 78 ∷ 68 ∷ 32 ∷ (part_text t ++ (tail ++ rest))) in
-    let here = lexed size (tail ++ rest) (ends_before (65 ∷ 78 ∷ 68 ∷ 32 ∷ []) ts rest end) in
+    let here = lexed size (tail ++ rest) (ends_before (codes " AND ") ts rest (λ text. refl) end) in
     let later = and_tail more ts each (ws ++ t ∷ []) (ks ++ token at and_word ∷ here.ts) (and at spells here.spells) size rest end in
     record {
       ts = token at and_word ∷ (here.ts ++ later.ts);
@@ -713,7 +648,7 @@ or_tail more no_asts each ws ks spells = λ size rest end. record {
 or_tail more (and_asts t ts) (lexed, each) ws ks spells = λ size rest end.
     let tail = parts_text (codes " OR ") (codes " OR ") ts in
     let at = size - length (79 ∷ 82 ∷ 32 ∷ (part_text t ++ (tail ++ rest))) in
-    let here = lexed size (tail ++ rest) (ends_before (79 ∷ 82 ∷ 32 ∷ []) ts rest end) in
+    let here = lexed size (tail ++ rest) (ends_before (codes " OR ") ts rest (λ text. refl) end) in
     let later = or_tail more ts each (ws ++ t ∷ []) (ks ++ token at or_word ∷ here.ts) (or at spells (one here.spells)) size rest end in
     record {
       ts = token at or_word ∷ (here.ts ++ later.ts);
@@ -730,7 +665,7 @@ lexed_all more (and_asts t no_asts) several each = absurd (cc)
 lexed_all more (and_asts t (and_asts u ts)) several (lexed, each) = λ size rest end.
     let us = and_asts u ts in
     let tail = parts_text (codes " AND ") (codes " AND ") us in
-    let here = lexed size (tail ++ rest) (ends_before (65 ∷ 78 ∷ 68 ∷ 32 ∷ []) us rest end) in
+    let here = lexed size (tail ++ rest) (ends_before (codes " AND ") us rest (λ text. refl) end) in
     let later = and_tail more us each (t ∷ []) here.ts (one here.spells) size rest end in
     record {
       ts = here.ts ++ later.ts;
@@ -747,7 +682,7 @@ lexed_any more (and_asts t no_asts) several each = absurd (cc)
 lexed_any more (and_asts t (and_asts u ts)) several (lexed, each) = λ size rest end.
     let us = and_asts u ts in
     let tail = parts_text (codes " OR ") (codes " OR ") us in
-    let here = lexed size (tail ++ rest) (ends_before (79 ∷ 82 ∷ 32 ∷ []) us rest end) in
+    let here = lexed size (tail ++ rest) (ends_before (codes " OR ") us rest (λ text. refl) end) in
     let later = or_tail more us each (t ∷ []) here.ts (next_to nothing (one here.spells)) size rest end in
     record {
       ts = here.ts ++ later.ts;
@@ -762,16 +697,20 @@ in_room (suc m) n t text few lexed = lexed_parentheses m t text (lexed m (omega 
 
 -- a tree as a part
 as_part : (more : ℕ) (t : Ast) → has_spelling t ≡ true → part_nesting t ≤ more → ((m : ℕ) → nesting t ≤ m → Lexed m (query t) (spelled t)) → Lexed more (part t) (part_text t)
+as_part more everything h few lexed = lexed_star more
 as_part more (leaf l) h few lexed = lexed_leaf more l h
 as_part more (ranged r) h few lexed = lexed_range more r h
+as_part more (in_set s) h few lexed = lexed_set more s h
 as_part more (all_of ts) h few lexed = in_room more (nesting (all_of ts)) (all_of ts) (spelled (all_of ts)) few lexed
 as_part more (any_of ts) h few lexed = in_room more (nesting (any_of ts)) (any_of ts) (spelled (any_of ts)) few lexed
 as_part more (without s t) h few lexed = in_room more (nesting (without s t)) (without s t) (spelled (without s t)) few lexed
 
 mutual
   lexed_query : (t : Ast) → has_spelling t ≡ true → (more : ℕ) → nesting t ≤ more → Lexed more (query t) (spelled t)
+  lexed_query everything h = λ more few size rest end. let got = lexed_star more size rest end in record { ts = got.ts; spells = chain_query more _ _ (one got.spells); is = got.is }
   lexed_query (leaf l) h = λ more few size rest end. let got = lexed_leaf more l h size rest end in record { ts = got.ts; spells = chain_query more _ _ (one got.spells); is = got.is }
   lexed_query (ranged r) h = λ more few size rest end. let got = lexed_range more r h size rest end in record { ts = got.ts; spells = chain_query more _ _ (one got.spells); is = got.is }
+  lexed_query (in_set s) h = λ more few size rest end. let got = lexed_set more s h size rest end in record { ts = got.ts; spells = chain_query more _ _ (one got.spells); is = got.is }
   lexed_query (all_of ts) h = λ more few. let parts = and_parts (are_several ts) (have_spelling ts) h in lexed_all more ts parts.0 (lexed_parts ts parts.1 more few)
   lexed_query (any_of ts) h = λ more few. let parts = and_parts (are_several ts) (have_spelling ts) h in lexed_any more ts parts.0 (lexed_parts ts parts.1 more few)
   lexed_query (without s t) h = λ more few.

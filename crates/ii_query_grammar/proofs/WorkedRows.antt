@@ -2,16 +2,16 @@
 use Rattle.std.proofs.Common.{◌≡◌, ℕ, List, [], ◌∷◌, None, Some, Result, Ok, Err, refl}
 use Rattle.std.specs.Prelude.{codes}
 use Rattle.ii_query_grammar.specs.declared.parse_error.Expected.{Expected}
-use Rattle.ii_query_grammar.specs.declared.parse_error.Expected.TheVariants.{Bound as ABound, Closing, End, Excluded, Included, LessNesting, Operand, Query, Quote, RangeEnd, To, Value}
+use Rattle.ii_query_grammar.specs.declared.parse_error.Expected.TheVariants.{Bound as ABound, Closing, End, Excluded, Included, LessNesting, Operand, Query, Quote, RangeEnd, SetValue, FewerValues, To, Value}
 use Rattle.ii_query_grammar.specs.declared.parse_error.Feature.{Feature}
-use Rattle.ii_query_grammar.specs.declared.parse_error.Feature.TheVariants.{Boosts, Comparisons, Fuzzy, Ranges, RegularExpressions, RequiredClauses, Wildcards}
+use Rattle.ii_query_grammar.specs.declared.parse_error.Feature.TheVariants.{Boosts, Comparisons, Fuzzy, Ranges, RegularExpressions, RequiredClauses, Sets, Wildcards}
 use Rattle.ii_query_grammar.specs.declared.parse_error.ParseError.{ParseError}
 use Rattle.ii_query_grammar.specs.declared.parse_error.ParseError.TheVariants.{Syntax, Unsupported}
 use Rattle.ii_query_grammar.specs.declared.user_input_ast.Delimiter.TheVariants as delimiters
-use Rattle.ii_query_grammar.specs.Lexemes.{tokens}
+use Rattle.ii_query_grammar.specs.Lexemes.{SetFront, set_values, tokens}
 use Rattle.ii_query_grammar.specs.Parsed.{parsed}
 use Rattle.ii_query_grammar.specs.Spelling.{spelled}
-use Rattle.ii_query_grammar.specs.Trees.{Ast, Bound, all_of, any_of, asts_from, exclusive, inclusive, leaf, ranged, unbounded, without}
+use Rattle.ii_query_grammar.specs.Trees.{Ast, Bound, all_of, any_of, asts_from, everything, exclusive, in_set, inclusive, leaf, ranged, unbounded, without}
 
 abbrev word : List ℕ → Ast
 word text = leaf (record { field_name = None; phrase = text; delimiter = delimiters.None })
@@ -30,6 +30,15 @@ prefix_in name text = leaf (record { field_name = Some name; phrase = text; deli
 
 abbrev range : List ℕ → Bound → Bound → Ast
 range name lower upper = ranged (record { field_name = name; lower = lower; upper = upper })
+
+abbrev among : List ℕ → List (List ℕ) → Ast
+among name values = in_set (record { field_name = name; values = values })
+
+abbrev set_front : List (List ℕ) → List ℕ → Result SetFront ParseError
+set_front values rest = Ok (record { values = values; rest = rest })
+
+abbrev set_error : Expected → ℕ → Result SetFront ParseError
+set_error expected at = Err (Syntax expected at)
 
 abbrev all : List Ast → Ast
 all ts = all_of (asts_from ts)
@@ -144,10 +153,6 @@ suffix_row = refl
 abbrev starred_name_row : parsed 9 (codes "x*:a") ≡ unsupported Wildcards 1
 unfolding tokens
 starred_name_row = refl
-
-abbrev any_word_row : parsed 9 (codes "a *") ≡ unsupported Wildcards 2
-unfolding tokens
-any_word_row = refl
 
 abbrev question_row : parsed 9 (codes "text:s?a") ≡ unsupported Wildcards 6
 unfolding tokens
@@ -287,3 +292,57 @@ spelled_prefix_row = refl
 
 abbrev spelled_range_row : spelled (any (range (codes "t") (inclusive (codes "a \"b\"")) unbounded ∷ range (codes "u") unbounded (exclusive (codes "c")) ∷ [])) ≡ codes "t:[\"a \\\"b\\\"\" TO *] OR u:[* TO \"c\"}"
 spelled_range_row = refl
+
+abbrev everything_row : parsed 9 (codes "*") ≡ tree everything
+unfolding tokens
+everything_row = refl
+
+abbrev everything_but_row : parsed 9 (codes "* AND NOT se* (*)") ≡ tree (any (without everything (prefix (codes "se")) ∷ everything ∷ []))
+unfolding tokens
+everything_but_row = refl
+
+abbrev set_row : parsed 9 (codes "tag:IN [a \"b c\" d]") ≡ tree (among (codes "tag") (codes "a" ∷ codes "b c" ∷ codes "d" ∷ []))
+unfolding tokens set_values
+set_row = refl
+
+abbrev set_spaces_row : parsed 9 (codes "a tag:IN[\tIN  TO\\] ]AND b") ≡ tree (any (a ∷ all (among (codes "tag") (codes "IN" ∷ codes "TO]" ∷ []) ∷ b ∷ []) ∷ []))
+unfolding tokens set_values
+set_spaces_row = refl
+
+abbrev no_value_row : parsed 9 (codes "tag:IN []") ≡ tree (among (codes "tag") [])
+unfolding tokens set_values
+no_value_row = refl
+
+abbrev in_word_row : parsed 9 (codes "IN tag:IN (a)") ≡ tree (any (word (codes "IN") ∷ in_field (codes "tag") (codes "IN") ∷ a ∷ []))
+unfolding tokens set_values
+in_word_row = refl
+
+abbrev open_set_row : parsed 9 (codes "tag:IN [a b") ≡ syntax_error SetValue 11
+unfolding tokens set_values
+open_set_row = refl
+
+abbrev bad_value_row : parsed 9 (codes "tag:IN [a* b]") ≡ syntax_error SetValue 9
+unfolding tokens set_values
+bad_value_row = refl
+
+abbrev open_value_row : parsed 9 (codes "tag:IN [\"a]") ≡ syntax_error Quote 11
+unfolding tokens set_values
+open_value_row = refl
+
+abbrev bare_set_row : parsed 9 (codes "a IN [b]") ≡ unsupported Sets 2
+unfolding tokens set_values
+bare_set_row = refl
+
+abbrev few_values_row : set_values 2 7 (codes "a b ] c") ≡ set_front (codes "a" ∷ codes "b" ∷ []) (codes " c")
+unfolding set_values
+few_values_row = refl
+
+abbrev many_values_row : set_values 2 6 (codes "a b c]") ≡ set_error FewerValues 4
+unfolding set_values
+many_values_row = refl
+
+abbrev spelled_set_row : spelled (all (everything ∷ among (codes "na:me") (codes "a" ∷ codes "b c" ∷ []) ∷ [])) ≡ codes "* AND na\\:me:IN [\"a\" \"b c\"]"
+spelled_set_row = refl
+
+abbrev spelled_no_value_row : spelled (among (codes "tag") []) ≡ codes "tag:IN []"
+spelled_no_value_row = refl

@@ -1,5 +1,5 @@
 -- The words, phrases, ranges, signs and parentheses of a text.
-use Rattle.std.specs.Prelude.{◌≡◌, ℕ, zero, suc, ◌-◌, Bool, true, false, ◌&&◌, ◌||◌, ◌==◌, not, List, [], ◌∷◌, Option, None, Some, Result, Ok, Err, option_map, bytes_eq, codes, drop, take, if◌then◌else◌, length, take_while}
+use Rattle.std.specs.Prelude.{◌≡◌, ◌<◌, ℕ, zero, suc, ◌-◌, Bool, true, false, ◌&&◌, ◌||◌, ◌==◌, not, List, [], ◌∷◌, ◌++◌, Option, None, Some, Result, Ok, Err, option_map, bytes_eq, codes, drop, take, if◌then◌else◌, length, take_while}
 use Rattle.ii_query_grammar.specs.declared.cut.Stop.{Stop}
 use Rattle.ii_query_grammar.specs.declared.cut.Stop.TheVariants as stops
 use Rattle.ii_query_grammar.specs.declared.lexeme.BoundView.{BoundView}
@@ -10,22 +10,27 @@ use Rattle.ii_query_grammar.specs.declared.lexeme.Lexeme.{Lexeme as SeenLexeme}
 use Rattle.ii_query_grammar.specs.declared.lexeme.Lexeme.TheVariants as seen
 use Rattle.ii_query_grammar.specs.declared.lexeme.LiteralView.{LiteralView}
 use Rattle.ii_query_grammar.specs.declared.lexeme.RangeView.{RangeView}
+use Rattle.ii_query_grammar.specs.declared.lexeme.SetView.{SetView}
 use Rattle.ii_query_grammar.specs.declared.lexeme.Token.{Token as SeenToken}
 use Rattle.ii_query_grammar.specs.declared.parse_error.Feature.{Feature}
 use Rattle.ii_query_grammar.specs.declared.parse_error.Feature.TheVariants as features
 use Rattle.ii_query_grammar.specs.declared.parse_error.ParseError.{ParseError}
 use Rattle.ii_query_grammar.specs.declared.parse_error.ParseError.TheVariants.{Syntax, Unsupported}
+use Rattle.ii_query_grammar.specs.declared.parse_error.Expected.{Expected}
 use Rattle.ii_query_grammar.specs.declared.parse_error.Expected.TheVariants as expected
+use Rattle.ii_query_grammar.specs.declared.sets.TheConstants.{MAX_SET_VALUES}
 use Rattle.ii_query_grammar.specs.declared.user_input_ast.Delimiter.{Delimiter}
 use Rattle.ii_query_grammar.specs.declared.user_input_ast.Delimiter.TheVariants as delimiters
-use Rattle.ii_query_grammar.specs.Trees.{Bound, Literal, Range, exclusive, inclusive, unbounded}
+use Rattle.ii_query_grammar.specs.Trees.{Bound, Literal, Range, ValueSet, exclusive, inclusive, unbounded}
 use Rattle.std.specs.Borrow.{Bor}
 use Rattle.std.specs.Option.{option_copied}
 
 -- A lexeme; a broken one holds its error.
 pub data Lexeme : Type 0 where
+  asterisk : Lexeme
   literal : Literal → Lexeme
   range : Range → Lexeme
+  value_set : ValueSet → Lexeme
   opening : Lexeme
   closing : Lexeme
   minus : Lexeme
@@ -188,22 +193,22 @@ quoted_limit size text rest =
     else Err (Syntax expected.Quote size)
 
 -- a word that is a bound, and the text after it
-abbrev pub word_limit : ℕ → List ℕ → List ℕ → Result Limit ParseError
-word_limit size word rest =
-    if is_empty word then Err (Syntax expected.Bound (size - length rest))
+abbrev pub word_limit : Expected → ℕ → List ℕ → List ℕ → Result Limit ParseError
+word_limit wanted size word rest =
+    if is_empty word then Err (Syntax wanted (size - length rest))
     else Ok (record { text = Some (unescaped word); rest = rest })
 
--- the text between quotes or the word at the start of a text, where a word ends at this stop
-abbrev pub text_limit : Stop → ℕ → List ℕ → Result Limit ParseError
-text_limit stop size text =
+-- the text between quotes or the word at the start of a text, where a word ends at this stop, or this is expected there
+abbrev pub text_limit : Expected → Stop → ℕ → List ℕ → Result Limit ParseError
+text_limit wanted stop size text =
     if begins 34 text then quoted_limit size (before_stop stops.PhraseEnd (drop 1 text)) (from_stop stops.PhraseEnd (drop 1 text))
-    else word_limit size (before_stop stop text) (from_stop stop text)
+    else word_limit wanted size (before_stop stop text) (from_stop stop text)
 
 -- the bound at the start of a text: a text between quotes, a word, or `*` for none
 abbrev pub limit_at : ℕ → List ℕ → Result Limit ParseError
 limit_at size text =
     if begins 42 text then Ok (record { text = None; rest = drop 1 text })
-    else text_limit stops.BoundEnd size text
+    else text_limit expected.Bound stops.BoundEnd size text
 
 -- the text after the word `TO` at the start
 abbrev pub after_to : ℕ → List ℕ → Result (List ℕ) ParseError
@@ -266,14 +271,14 @@ range_below name edge (Ok upper) = Ok (range_with name unbounded (bound_with edg
 -- the range of a comparison with `>` or `>=`, from the text after the `>`
 abbrev pub greater : ℕ → List ℕ → List ℕ → Result RangeFront ParseError
 greater size name text =
-    if begins 61 text then range_above name edges.Inclusive (text_limit stops.WordEnd size (drop 1 text))
-    else range_above name edges.Exclusive (text_limit stops.WordEnd size text)
+    if begins 61 text then range_above name edges.Inclusive (text_limit expected.Bound stops.WordEnd size (drop 1 text))
+    else range_above name edges.Exclusive (text_limit expected.Bound stops.WordEnd size text)
 
 -- the range of a comparison with `<` or `<=`, from the text after the `<`
 abbrev pub less : ℕ → List ℕ → List ℕ → Result RangeFront ParseError
 less size name text =
-    if begins 61 text then range_below name edges.Inclusive (text_limit stops.WordEnd size (drop 1 text))
-    else range_below name edges.Exclusive (text_limit stops.WordEnd size text)
+    if begins 61 text then range_below name edges.Inclusive (text_limit expected.Bound stops.WordEnd size (drop 1 text))
+    else range_below name edges.Exclusive (text_limit expected.Bound stops.WordEnd size text)
 
 -- the range or the comparison at the start of a text, if there is one
 abbrev pub range_at : ℕ → List ℕ → List ℕ → Option (Result RangeFront ParseError)
@@ -294,19 +299,80 @@ abbrev pub unless_range : Option (Result RangeFront ParseError) → ℕ → Fron
 unless_range None at front = front
 unless_range (Some read) at front = range_front at read
 
+-- The values of a set, and the text after its `]`.
+pub record SetFront : Type 0 where
+  pub values : List (List ℕ)
+  pub rest : List ℕ
+
+-- the next value of a set, or none for its `]`, which is expected where no value is left
+abbrev pub next_value : ℕ → ℕ → List ℕ → Result Limit ParseError
+next_value left size text =
+    if begins 93 text then Ok (record { text = None; rest = drop 1 text })
+    else if left == 0 then Err (Syntax expected.FewerValues (size - length text))
+    else text_limit expected.SetValue stops.BoundEnd size text
+
+-- values before those that follow
+abbrev pub with_values : List (List ℕ) → Result SetFront ParseError → Result SetFront ParseError
+with_values values (Err e) = Err e
+with_values values (Ok f) = Ok (record { values = values ++ f.values; rest = f.rest })
+
+-- a value and those that follow, or the end of a set
+abbrev pub value_and : (List ℕ → Result SetFront ParseError) → Option (List ℕ) → List ℕ → Result SetFront ParseError
+value_and others None rest = Ok (record { values = []; rest = rest })
+value_and others (Some value) rest = with_values (value ∷ []) (others rest)
+
+-- the same, where the value is read
+abbrev pub values_from : (List ℕ → Result SetFront ParseError) → Result Limit ParseError → Result SetFront ParseError
+values_from others (Err e) = Err e
+values_from others (Ok l) = value_and others l.text l.rest
+
+-- the values of a set, of which so many may be left, from the text after its `[` or a value
+unfoldable pub set_values : ℕ → ℕ → List ℕ → Result SetFront ParseError
+set_values zero size text = values_from (λ rest. Ok (record { values = []; rest = rest })) (next_value zero size (after_spaces text))
+set_values (suc left) size text = values_from (set_values left size) (next_value (suc left) size (after_spaces text))
+
+-- whether a word and the text after it begin a set: `IN`, and a `[` after any spaces
+abbrev pub is_set : List ℕ → List ℕ → Bool
+is_set word rest = bytes_eq word (codes "IN") && begins 91 (after_spaces rest)
+
+-- the text after the `[` of a set
+abbrev pub after_bracket : List ℕ → List ℕ
+after_bracket rest = drop 1 (after_spaces rest)
+
+-- the lexeme of a set, or its error
+abbrev pub set_lexeme : List ℕ → Result SetFront ParseError → Lexeme
+set_lexeme name (Err e) = broken e
+set_lexeme name (Ok f) = value_set (record { field_name = unescaped name; values = f.values })
+
+-- the values of a set that is read
+abbrev pub set_values_of : Result SetFront ParseError → Result (List (List ℕ)) ParseError
+set_values_of (Err e) = Err e
+set_values_of (Ok f) = Ok f.values
+
+-- the text after a set that is read
+abbrev pub set_rest : Result SetFront ParseError → Result (List ℕ) ParseError
+set_rest (Err e) = Err e
+set_rest (Ok f) = Ok f.rest
+
+-- the lexeme of a set and the text after it, or the error
+abbrev pub set_front : ℕ → List ℕ → Result SetFront ParseError → Front
+set_front at name (Err e) = broken_front at e
+set_front at name (Ok f) = front_with at (set_lexeme name (Ok f)) f.rest
+
 -- a prefix after a field name, or the range without bounds if the prefix is empty
 abbrev pub star_lexeme : List ℕ → List ℕ → Lexeme
 star_lexeme name word =
     if is_empty word then range (record { field_name = unescaped name; lower = unbounded; upper = unbounded })
     else literal_with (Some name) word delimiters.Star
 
--- a word or a prefix after a field name, from the word and the text after it
+-- a set, a word or a prefix after a field name, from the word and the text after it
 abbrev pub value_or_prefix : ℕ → ℕ → List ℕ → List ℕ → List ℕ → Front
 value_or_prefix size at name word rest =
-    if has_star rest then front_with at (star_lexeme name word) (drop 1 rest)
+    if is_set word rest then set_front at name (set_values MAX_SET_VALUES size (after_bracket rest))
+    else if has_star rest then front_with at (star_lexeme name word) (drop 1 rest)
     else unless_feature (feature_after rest) (size - length rest) (value_word size at name word rest)
 
--- a phrase, a range, a word or a prefix after a field name and its colon
+-- a phrase, a range, a set, a word or a prefix after a field name and its colon
 abbrev pub value_front : ℕ → ℕ → List ℕ → List ℕ → Front
 value_front size at name text =
     if begins 34 text then phrase_front size at (Some name) (drop 1 text)
@@ -333,10 +399,11 @@ word_or_name size at word rest =
 abbrev pub is_prefix : List ℕ → List ℕ → Bool
 is_prefix word rest = not (is_empty word) && has_star rest
 
--- a word, a field name or a prefix, given the text after it
+-- a word, a field name or a prefix, given the text after it; a set needs a field name before it
 abbrev pub word_or_prefix : ℕ → ℕ → List ℕ → List ℕ → Front
 word_or_prefix size at word rest =
-    if is_prefix word rest then front_with at (literal_with None word delimiters.Star) (drop 1 rest)
+    if is_set word rest then broken_front at (Unsupported features.Sets at)
+    else if is_prefix word rest then front_with at (literal_with None word delimiters.Star) (drop 1 rest)
     else unless_feature (feature_after rest) (size - length rest) (word_or_name size at word rest)
 
 -- a word or a prefix at the start
@@ -353,6 +420,7 @@ front_at size at text =
     else if begins 45 text then front_with at minus (drop 1 text)
     else if begins 43 text then broken_front at (Unsupported features.RequiredClauses at)
     else if begins 34 text then phrase_front size at None (drop 1 text)
+    else if has_star text then front_with at asterisk (drop 1 text)
     else word_front size at text
 
 -- the first lexeme of a text that is the end of one of this length
@@ -386,6 +454,10 @@ bound_seen (seen_bounds.Exclusive text) = exclusive (unescaped text.now)
 abbrev pub range_seen : RangeView → Range
 range_seen r = record { field_name = unescaped r.field_name.now; lower = bound_seen r.lower; upper = bound_seen r.upper }
 
+-- the model of a set
+abbrev pub set_seen : SetView → Lexeme
+set_seen s = set_lexeme s.field_name.now (set_values MAX_SET_VALUES s.size s.text.now)
+
 -- the model of the text of a bound and the text after it
 abbrev pub limit_seen : Option (Bor (List ℕ)) → Bor (List ℕ) → Limit
 limit_seen text rest = record { text = option_map unescaped (option_copied text); rest = rest.now }
@@ -394,6 +466,12 @@ limit_seen text rest = record { text = option_map unescaped (option_copied text)
 abbrev pub IsLimit : Result Limit ParseError → Result (Option (Bor (List ℕ)) × Bor (List ℕ)) ParseError → Type 0
 IsLimit limit (Ok parts) = limit ≡ Ok (limit_seen parts.0 parts.1)
 IsLimit limit (Err e) = limit ≡ Err e
+
+-- The next value of a set was read, or its end, or the error is this; then so many values are left, and this text.
+abbrev pub IsValue : ℕ → ℕ → List ℕ → ℕ → List ℕ → Result (Option (Bor (List ℕ))) ParseError → Type 0
+IsValue left size text less rest (Err e) = set_values left size text ≡ Err e
+IsValue left size text less rest (Ok None) = set_values left size text ≡ Ok (record { values = []; rest = rest })
+IsValue left size text less rest (Ok (Some value)) = (less < left) × (set_values left size text ≡ with_values (unescaped value.now ∷ []) (set_values less size rest))
 
 -- A text follows, or the error is this.
 abbrev pub IsRest : Result (List ℕ) ParseError → Result (Bor (List ℕ)) ParseError → Type 0
@@ -412,8 +490,10 @@ IsRangeAt (Some found) read = IsRange found read
 
 -- the model of a lexeme
 abbrev pub lexeme_seen : SeenLexeme → Lexeme
+lexeme_seen seen.All = asterisk
 lexeme_seen (seen.Literal l) = literal (literal_seen l)
 lexeme_seen (seen.Range r) = range (range_seen r)
+lexeme_seen (seen.Set s) = set_seen s
 lexeme_seen seen.Opening = opening
 lexeme_seen seen.Closing = closing
 lexeme_seen seen.Minus = minus

@@ -1,5 +1,5 @@
 -- How lexemes are parsed into a tree.
-use Rattle.std.specs.Prelude.{◌≡◌, ℕ, List, [], ◌∷◌, ◌++◌, Option, None, Some, Result, Ok, Err, IfErr, if◌then◌else◌, length, map, nat_lt, reverse, ⊤, Vec}
+use Rattle.std.specs.Prelude.{◌≡◌, ℕ, List, [], ◌∷◌, ◌++◌, Option, None, Some, Result, Ok, Err, IfErr, if◌then◌else◌, length, map, nat_lt, reverse, string_bytes, ⊤, String, Vec}
 use Rattle.std.specs.declared.alloc.Global.{Global}
 use Rattle.ii_query_grammar.specs.declared.group.Chain.{Chain}
 use Rattle.ii_query_grammar.specs.declared.group.Group.{Group}
@@ -10,8 +10,8 @@ use Rattle.ii_query_grammar.specs.declared.parse_error.Expected.TheVariants.{Clo
 use Rattle.ii_query_grammar.specs.declared.parse_error.ParseError.{ParseError}
 use Rattle.ii_query_grammar.specs.declared.parse_error.ParseError.TheVariants.{OutOfMemory, Syntax, Unsupported}
 use Rattle.ii_query_grammar.specs.declared.user_input_ast.UserInputAst.{UserInputAst}
-use Rattle.ii_query_grammar.specs.Lexemes.{Lexeme, Token, and_word, broken, closing, lexemes, literal, minus, opening, or_word, range}
-use Rattle.ii_query_grammar.specs.Trees.{Ast, all_of, any_of, ast_of, asts_from, leaf, ranged, without}
+use Rattle.ii_query_grammar.specs.Lexemes.{Lexeme, SetFront, Token, and_word, asterisk, broken, closing, lexemes, literal, minus, opening, or_word, range, set_values_of, value_set}
+use Rattle.ii_query_grammar.specs.Trees.{Ast, ValueSet, all_of, any_of, ast_of, asts_from, everything, in_set, leaf, ranged, without}
 
 -- parts joined by AND: those that must match, and those that must not
 pub record ChainState : Type 0 where
@@ -167,8 +167,10 @@ read_closing others (group ∷ opened) at (Ok t) = others opened (put group t)
 
 -- reads one lexeme, then the others
 abbrev pub read_one : ℕ → Reading → List GroupState → GroupState → ℕ → Lexeme → Result Ast ParseError
+read_one limit others opened group at asterisk = others opened (put group everything)
 read_one limit others opened group at (literal l) = others opened (put group (leaf l))
 read_one limit others opened group at (range r) = others opened (put group (ranged r))
+read_one limit others opened group at (value_set s) = others opened (put group (in_set s))
 read_one limit others opened group at opening = read_opening limit others opened group at
 read_one limit others opened group at closing = read_closing others opened at (whole_of group)
 read_one limit others opened group at minus = read_sign others opened at (put_minus group)
@@ -241,3 +243,17 @@ IsWhole at whole (Err OutOfMemory) = ⊤
 abbrev pub IsSingle : List UserInputAst → Result UserInputAst (Vec UserInputAst Global) → Type 0
 IsSingle trees (Ok t) = trees ≡ t ∷ []
 IsSingle trees (Err others) = (others.items ≡ trees) × (length trees ≡ 1 → ⊥)
+
+-- The values of a set were read, or the error is this, unless an allocation failed.
+abbrev pub AreValues : Result SetFront ParseError → Result (Vec (String Global) Global) ParseError → Type 0
+AreValues found (Ok values) = set_values_of found ≡ Ok (map (λ value. string_bytes value) values.items)
+AreValues found (Err (Syntax expected at)) = found ≡ Err (Syntax expected at)
+AreValues found (Err (Unsupported feature at)) = found ≡ Err (Unsupported feature at)
+AreValues found (Err OutOfMemory) = ⊤
+
+-- The tree of a set was made, or the error is that of its lexeme, unless an allocation failed.
+abbrev pub IsSetTree : Lexeme → Result UserInputAst ParseError → Type 0
+IsSetTree lexeme (Ok ast) = (s : ValueSet) × (lexeme ≡ value_set s) × (ast_of ast ≡ in_set s)
+IsSetTree lexeme (Err (Syntax expected at)) = lexeme ≡ broken (Syntax expected at)
+IsSetTree lexeme (Err (Unsupported feature at)) = lexeme ≡ broken (Unsupported feature at)
+IsSetTree lexeme (Err OutOfMemory) = ⊤

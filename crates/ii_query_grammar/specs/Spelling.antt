@@ -1,11 +1,13 @@
 -- Trees as texts.
-use Rattle.std.specs.Prelude.{ℕ, suc, ◌-◌, Bool, true, false, ◌&&◌, not, ◌==◌, List, [], ◌∷◌, ◌++◌, Option, None, Some, bytes_eq, codes, if◌then◌else◌, length, max, slice_index}
+use Rattle.std.specs.Prelude.{ℕ, suc, ◌-◌, Bool, true, false, ◌&&◌, not, ◌==◌, List, [], ◌∷◌, ◌++◌, Option, None, Some, bytes_eq, codes, if◌then◌else◌, length, max, nat_le, slice_index}
+use Rattle.std.specs.List.{list_all}
 use Rattle.ii_query_grammar.specs.declared.cut.Stop.{Stop}
 use Rattle.ii_query_grammar.specs.declared.cut.Stop.TheVariants as stops
 use Rattle.ii_query_grammar.specs.declared.user_input_ast.Delimiter.{Delimiter}
+use Rattle.ii_query_grammar.specs.declared.sets.TheConstants.{MAX_SET_VALUES}
 use Rattle.ii_query_grammar.specs.declared.user_input_ast.Delimiter.TheVariants as delimiters
 use Rattle.ii_query_grammar.specs.Lexemes.{is_empty, stops_at}
-use Rattle.ii_query_grammar.specs.Trees.{Ast, Asts, Bound, Literal, Range, all_of, and_asts, any_of, exclusive, inclusive, leaf, no_asts, ranged, unbounded, without}
+use Rattle.ii_query_grammar.specs.Trees.{Ast, Asts, Bound, Literal, Range, ValueSet, all_of, and_asts, any_of, everything, exclusive, in_set, inclusive, leaf, no_asts, ranged, unbounded, without}
 
 -- a text with each byte escaped that must be, given whether a backslash comes before the text
 abbrev pub escaped : Stop → Bool → List ℕ → List ℕ
@@ -55,10 +57,21 @@ upper_text (exclusive text) = quoted text ++ 125 ∷ []
 abbrev pub range_text : Range → List ℕ
 range_text r = word_text r.field_name ++ 58 ∷ (lower_text r.lower ++ codes " TO " ++ upper_text r.upper)
 
--- a text as a part: a word, a phrase or a range as it is, any other tree in parentheses
+-- the values of a set and its end, with one text before the first value and a space before each other
+abbrev pub values_text : List ℕ → List (List ℕ) → List ℕ
+values_text before [] = 93 ∷ []
+values_text before (value ∷ values) = before ++ quoted value ++ values_text (32 ∷ []) values
+
+-- the text of a set
+abbrev pub set_text : ValueSet → List ℕ
+set_text s = word_text s.field_name ++ codes ":IN [" ++ values_text [] s.values
+
+-- a text as a part: `*`, a word, a phrase, a range or a set as it is, any other tree in parentheses
 abbrev pub text_as_part : Ast → List ℕ → List ℕ
+text_as_part everything text = text
 text_as_part (leaf l) text = text
 text_as_part (ranged r) text = text
+text_as_part (in_set s) text = text
 text_as_part (all_of ts) text = 40 ∷ text ++ 41 ∷ []
 text_as_part (any_of ts) text = 40 ∷ text ++ 41 ∷ []
 text_as_part (without first other) text = 40 ∷ text ++ 41 ∷ []
@@ -66,8 +79,10 @@ text_as_part (without first other) text = 40 ∷ text ++ 41 ∷ []
 -- The text of a tree; or of trees as parts, with one text before the first and another before each other.
 abbrev mutual
   pub spelled : Ast → List ℕ
+  spelled everything = codes "*"
   spelled (leaf l) = literal_text l
   spelled (ranged r) = range_text r
+  spelled (in_set s) = set_text s
   spelled (all_of ts) = parts_text [] (codes " AND ") ts
   spelled (any_of ts) = parts_text [] (codes " OR ") ts
   spelled (without first other) = text_as_part first (spelled first) ++ codes " AND -" ++ text_as_part other (spelled other)
@@ -119,17 +134,23 @@ is_bound (exclusive text) = is_writable text
 abbrev pub is_range : Range → Bool
 is_range r = is_writable_word r.field_name && is_bound r.lower && is_bound r.upper
 
+-- whether a set can be written
+abbrev pub may_be_set : ValueSet → Bool
+may_be_set s = is_writable_word s.field_name && list_all is_writable s.values && nat_le (length s.values) MAX_SET_VALUES
+
 -- whether there are two trees or more
 abbrev pub are_several : Asts → Bool
 are_several no_asts = false
 are_several (and_asts t no_asts) = false
 are_several (and_asts t (and_asts u ts)) = true
 
--- whether each word, phrase and range of a tree can be written, and each list of parts has two or more
+-- whether each word, phrase, range and set of a tree can be written, and each list of parts has two or more
 abbrev mutual
   pub has_spelling : Ast → Bool
+  has_spelling everything = true
   has_spelling (leaf l) = is_literal l.field_name l.delimiter l.phrase
   has_spelling (ranged r) = is_range r
+  has_spelling (in_set s) = may_be_set s
   has_spelling (all_of ts) = are_several ts && have_spelling ts
   has_spelling (any_of ts) = are_several ts && have_spelling ts
   has_spelling (without first other) = has_spelling first && has_spelling other
@@ -140,8 +161,10 @@ abbrev mutual
 
 -- the number of open parentheses when a tree is a part
 abbrev pub nesting_as_part : Ast → ℕ → ℕ
+nesting_as_part everything n = 0
 nesting_as_part (leaf l) n = 0
 nesting_as_part (ranged r) n = 0
+nesting_as_part (in_set s) n = 0
 nesting_as_part (all_of ts) n = suc n
 nesting_as_part (any_of ts) n = suc n
 nesting_as_part (without first other) n = suc n
@@ -149,8 +172,10 @@ nesting_as_part (without first other) n = suc n
 -- the maximum number of open parentheses in the text of a tree
 abbrev mutual
   pub nesting : Ast → ℕ
+  nesting everything = 0
   nesting (leaf l) = 0
   nesting (ranged r) = 0
+  nesting (in_set s) = 0
   nesting (all_of ts) = parts_nesting ts
   nesting (any_of ts) = parts_nesting ts
   nesting (without first other) = max (nesting_as_part first (nesting first)) (nesting_as_part other (nesting other))

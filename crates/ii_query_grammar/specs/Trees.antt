@@ -1,5 +1,5 @@
 -- Syntax trees of queries.
-use Rattle.std.specs.Prelude.{ℕ, List, [], ◌∷◌, Option, option_map, string_bytes}
+use Rattle.std.specs.Prelude.{ℕ, List, [], ◌∷◌, Option, map, option_map, string_bytes}
 use Rattle.ii_query_grammar.specs.declared.user_input_ast.Delimiter.{Delimiter}
 use Rattle.ii_query_grammar.specs.declared.user_input_ast.UserInputAst.{UserInputAst, fold-UserInputAst}
 use Rattle.ii_query_grammar.specs.declared.user_input_ast.UserInputAst.TheOpen.{UserInputAst-F}
@@ -7,6 +7,7 @@ use Rattle.ii_query_grammar.specs.declared.user_input_ast.UserInputBound.{UserIn
 use Rattle.ii_query_grammar.specs.declared.user_input_ast.UserInputBound.TheVariants as bounds
 use Rattle.ii_query_grammar.specs.declared.user_input_ast.UserInputLiteral.{UserInputLiteral}
 use Rattle.ii_query_grammar.specs.declared.user_input_ast.UserInputRange.{UserInputRange}
+use Rattle.ii_query_grammar.specs.declared.user_input_ast.UserInputSet.{UserInputSet}
 
 -- a word or a phrase: the name of its field, if it has one, its text, and its delimiter
 pub record Literal : Type 0 where
@@ -26,12 +27,19 @@ pub record Range : Type 0 where
   pub lower : Bound
   pub upper : Bound
 
--- A tree: a word or a phrase; a range; what all parts match; what at least one matches; what the first part matches
--- and the other doesn't.
+-- a set: the name of its field, and its values
+pub record ValueSet : Type 0 where
+  pub field_name : List ℕ
+  pub values : List (List ℕ)
+
+-- A tree: all documents; a word or a phrase; a range; a set; what all parts match; what at least one matches; what the
+-- first part matches and the other doesn't.
 mutual
   pub data Ast : Type 0 where
+    everything : Ast
     leaf : Literal → Ast
     ranged : Range → Ast
+    in_set : ValueSet → Ast
     all_of : Asts → Ast
     any_of : Asts → Ast
     without : Ast → Ast → Ast
@@ -59,10 +67,16 @@ bound_of (bounds.Exclusive text) = exclusive (string_bytes text)
 abbrev pub range_of : UserInputRange → Range
 range_of r = record { field_name = string_bytes r.field_name; lower = bound_of r.lower; upper = bound_of r.upper }
 
+-- the model of a set
+abbrev pub set_of : UserInputSet → ValueSet
+set_of s = record { field_name = string_bytes s.field_name; values = map (λ value. string_bytes value) s.values.items }
+
 -- one level of a tree, given the models of its parts
 abbrev pub ast_step : UserInputAst-F Ast → Ast
+ast_step UserInputAst-F.All = everything
 ast_step (UserInputAst-F.Leaf l) = leaf (literal_of l)
 ast_step (UserInputAst-F.Range r) = ranged (range_of r)
+ast_step (UserInputAst-F.Set s) = in_set (set_of s)
 ast_step (UserInputAst-F.And v) = all_of (asts_from v.items)
 ast_step (UserInputAst-F.Or v) = any_of (asts_from v.items)
 ast_step (UserInputAst-F.AndNot first other) = without first.value other.value

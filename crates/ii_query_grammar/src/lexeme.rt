@@ -32,11 +32,22 @@ pub(crate) struct RangeView<'a> {
     pub(crate) upper: BoundView<'a>,
 }
 
+// A set as written in the text: the name of its field, and the text after its bracket, which is the end of one with
+// `size` bytes.
+#[derive(Clone, Copy)]
+pub(crate) struct SetView<'a> {
+    pub(crate) field_name: &'a str,
+    pub(crate) size: usize,
+    pub(crate) text: &'a str,
+}
+
 // A lexeme of a text; a broken one holds its error.
 #[derive(Clone, Copy)]
 pub(crate) enum Lexeme<'a> {
+    All,
     Literal(LiteralView<'a>),
     Range(RangeView<'a>),
+    Set(SetView<'a>),
     Opening,
     Closing,
     Minus,

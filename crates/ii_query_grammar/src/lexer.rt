@@ -2,16 +2,17 @@ ghost use Rattle.std.specs.Prelude.{◌≡◌, ◌∷◌, ◌<◌, ◌≤◌, []
 ghost use Rattle.std.specs.Option.{option_copied};
 ghost use Rattle.ii_query_grammar.specs.declared.parse_error.ParseError.{ParseError};
 ghost use Rattle.ii_query_grammar.specs.declared.parse_error.ParseError.TheVariants.{Syntax, Unsupported};
-ghost use Rattle.ii_query_grammar.specs.Lexemes.{IsFront, IsRange, RangeFront, broken, feature_after, feature_in_front, feature_of, first_feature_of, front, front_at, lexeme_seen, lexemes, literal_with, has_star, is_prefix, phrase_front, range_front, star_lexeme, token_seen, unless_feature, unless_range, value_front, value_or_prefix, value_word, word_front, word_lexeme, word_or_name, word_or_prefix, is_empty};
+ghost use Rattle.ii_query_grammar.specs.Lexemes.{IsFront, IsRange, RangeFront, broken, feature_after, feature_in_front, feature_of, first_feature_of, front, front_at, lexeme_seen, lexemes, literal_with, has_star, is_prefix, phrase_front, range_front, set_front, set_values, star_lexeme, token_seen, unless_feature, unless_range, value_front, value_or_prefix, value_word, word_front, word_lexeme, word_or_name, word_or_prefix, is_empty};
 
 use crate::cut::{Stop, after_spaces, cut_at, is_nothing, strip, strip_star};
-use crate::lexeme::{BoundView, Lexeme, LiteralView, RangeView, Token};
+use crate::lexeme::{BoundView, Lexeme, LiteralView, RangeView, SetView, Token};
 use crate::parse_error::{Expected, Feature, ParseError};
 use crate::ranges::range_at;
+use crate::sets::{MAX_SET_VALUES, after_bracket, after_set};
 use crate::user_input_ast::Delimiter;
 use std::marker::Model;
 
-/// Splits a text into words, phrases, ranges, signs and parentheses. It holds the length of the complete text, and
+/// Splits a text into words, phrases, ranges, sets, signs and parentheses. It holds the length of the complete text, and
 /// the remaining text.
 #[derive(Drop)]
 pub(crate) struct Lexer<'a> {
@@ -77,6 +78,9 @@ fn front(size: usize, text: &str) -> (Token<'_>, &str)
     if let Some(rest) = strip(text, b'"') {
         return phrase(size, at, None, rest);
     }
+    if let Some(rest) = strip_star(text) {
+        return (sign(at, Lexeme::All), rest);
+    }
     word(size, at, text)
 }
 
@@ -100,6 +104,9 @@ fn word_or_prefix<'a>(size: usize, at: usize, word: &'a str, rest: &'a str) -> (
     ensures front { IsFront (word_or_prefix size at word.now rest.now) (token_seen result.0) result.1.now }
     ensures shorter { length result.1.now ≤ size }
 {
+    if after_bracket(word, rest).is_some() {
+        return (unsupported(at, Feature::Sets), "");
+    }
     if let Some(after) = star_after(word, rest) {
         return (literal(at, None, word, Delimiter::Star), after);
     }
@@ -135,7 +142,7 @@ fn word_or_name<'a>(size: usize, at: usize, word: &'a str, rest: &'a str) -> (To
     (sign(at, word_lexeme(word)), rest)
 }
 
-// Reads a phrase, a range, a word or a prefix after a field name and its colon.
+// Reads a phrase, a range, a set, a word or a prefix after a field name and its colon.
 fn value<'a>(size: usize, at: usize, name: &'a str, text: &'a str) -> (Token<'a>, &'a str)
     requires { length text.now ≤ size }
     ensures front { IsFront (value_front size at name.now text.now) (token_seen result.0) result.1.now }
@@ -154,7 +161,7 @@ fn value<'a>(size: usize, at: usize, name: &'a str, text: &'a str) -> (Token<'a>
     value_or_prefix(size, at, name, word, rest)
 }
 
-// Reads a word or a prefix after a field name.
+// Reads a set, a word or a prefix after a field name.
 fn value_or_prefix<'a>(
     size: usize,
     at: usize,
@@ -166,6 +173,9 @@ fn value_or_prefix<'a>(
     ensures front { IsFront (value_or_prefix size at name.now word.now rest.now) (token_seen result.0) result.1.now }
     ensures shorter { length result.1.now ≤ size }
 {
+    if let Some(text) = after_bracket(word, rest) {
+        return set(size, at, name, text);
+    }
     if let Some(after) = strip_star(rest) {
         return (sign(at, star_lexeme(name, word)), after);
     }
@@ -185,6 +195,25 @@ fn range_token<'a>(
 {
     match read {
         Ok((range, rest)) => (sign(at, Lexeme::Range(range)), rest),
+        Err(error) => (sign(at, Lexeme::Broken(error)), ""),
+    }
+}
+
+// Reads a set, given the text after its bracket.
+fn set<'a>(size: usize, at: usize, name: &'a str, text: &'a str) -> (Token<'a>, &'a str)
+    requires { length text.now ≤ size }
+    ensures front { IsFront (set_front at name.now (set_values MAX_SET_VALUES size text.now)) (token_seen result.0) result.1.now }
+    ensures shorter { length result.1.now ≤ size }
+{
+    match after_set(size, text) {
+        Ok(rest) => {
+            let set = SetView {
+                field_name: name,
+                size,
+                text,
+            };
+            (sign(at, Lexeme::Set(set)), rest)
+        }
         Err(error) => (sign(at, Lexeme::Broken(error)), ""),
     }
 }

@@ -10,11 +10,13 @@ mod lexer;
 pub mod parse_error;
 pub mod query_grammar;
 mod ranges;
+pub mod sets;
 pub mod user_input_ast;
 
 pub use escapes::{can_name, spell_name};
 pub use parse_error::{Expected, Feature, ParseError};
 pub use query_grammar::{MAX_NESTING, parse};
+pub use sets::MAX_SET_VALUES;
 pub use user_input_ast::{
-    Delimiter, UserInputAst, UserInputBound, UserInputLiteral, UserInputRange,
+    Delimiter, UserInputAst, UserInputBound, UserInputLiteral, UserInputRange, UserInputSet,
 };

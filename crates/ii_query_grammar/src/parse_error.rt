@@ -13,7 +13,7 @@ pub enum Expected {
     Operand,
     /// The part to exclude, after a minus or `NOT`.
     Excluded,
-    /// A word, a phrase or a range, after the name of a field and a colon.
+    /// A word, a phrase, a range or a set, after the name of a field and a colon.
     Value,
     /// A bound: a word, a text in quotes, or `*`.
     Bound,
@@ -21,6 +21,10 @@ pub enum Expected {
     To,
     /// The `]` or `}` that ends a range.
     RangeEnd,
+    /// A value of a set, which is a word or a text in quotes, or the `]` that ends the set.
+    SetValue,
+    /// The `]` that ends a set: it has `MAX_SET_VALUES` values.
+    FewerValues,
     /// The quote that ends a phrase.
     Quote,
     /// The parenthesis that closes an open one.
@@ -47,6 +51,10 @@ impl Expected {
             Expected::Bound => "expected a bound: a word, a text in quotes, or * within brackets",
             Expected::To => "expected the word TO between two bounds, as in year:[1 TO 2]",
             Expected::RangeEnd => "expected ] or } after the bounds of a range",
+            Expected::SetValue => {
+                "expected a value of the set, a word or a text in quotes, or the ] that ends it"
+            }
+            Expected::FewerValues => "expected at most 65536 values in a set",
             Expected::Quote => "expected a closing quote",
             Expected::Closing => "expected a closing parenthesis",
             Expected::End => "expected the end of the query: this parenthesis closes none",
@@ -74,6 +82,8 @@ pub enum Feature {
     Ranges,
     /// `>7`, `<=7`, where no name of a field and colon come before it.
     Comparisons,
+    /// `IN [a b]`, where no name of a field and colon come before it.
+    Sets,
     /// `/se.*/`.
     RegularExpressions,
     /// `+sea`.
@@ -98,6 +108,9 @@ impl Feature {
             }
             Feature::Comparisons => {
                 "a comparison needs the name of a field before it, as in year:>7; put the word in quotes to search for it as it is"
+            }
+            Feature::Sets => {
+                "a set needs the name of a field before it, as in tag:IN [a b]; put the word IN in quotes to search for it as it is"
             }
             Feature::RegularExpressions => {
                 "regular expressions (/se.*/) are not supported; put the word in quotes to search for it as it is"

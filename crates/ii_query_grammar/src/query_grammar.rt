@@ -1,15 +1,18 @@
-ghost use Rattle.std.specs.Prelude.{◌≡◌, ◌∷◌, IfOk, List, Option, string_bytes};
+ghost use Rattle.std.specs.Prelude.{◌≡◌, ◌∷◌, ℕ, IfOk, List, Option, map, string_bytes};
 ghost use Rattle.std.specs.Option.{option_copied, option_map};
-ghost use Rattle.ii_query_grammar.specs.Lexemes.{bound_seen, literal_seen, range_seen, token_seen, unescaped};
-ghost use Rattle.ii_query_grammar.specs.Parsed.{GoesOn, GroupState, IsReadAs, OnlyMemoryRefuses, empty, group_of, parsed, put, read_closing, read_end, read_one, read_opening, read_sign, stack_of, whole_of};
-ghost use Rattle.ii_query_grammar.specs.Trees.{ast_of, bound_of, leaf, ranged};
+ghost use Rattle.ii_query_grammar.specs.Lexemes.{bound_seen, literal_seen, range_seen, set_seen, token_seen, unescaped};
+ghost use Rattle.ii_query_grammar.specs.Parsed.{GoesOn, GroupState, IsReadAs, IsSetTree, OnlyMemoryRefuses, empty, group_of, parsed, put, read_closing, read_end, read_one, read_opening, read_sign, stack_of, whole_of};
+ghost use Rattle.ii_query_grammar.specs.Trees.{ast_of, bound_of, in_set, leaf, ranged};
 
 use crate::escapes::unescape;
 use crate::group::Group;
-use crate::lexeme::{BoundView, Lexeme, LiteralView, RangeView, Token};
+use crate::lexeme::{BoundView, Lexeme, LiteralView, RangeView, SetView, Token};
 use crate::lexer::Lexer;
 use crate::parse_error::{Expected, ParseError};
-use crate::user_input_ast::{UserInputAst, UserInputBound, UserInputLiteral, UserInputRange};
+use crate::sets::values_of;
+use crate::user_input_ast::{
+    UserInputAst, UserInputBound, UserInputLiteral, UserInputRange, UserInputSet,
+};
 use std::alloc::Global;
 
 /// The maximum number of open parentheses. Nothing else bounds a query: a chain or a row of any number of
@@ -29,7 +32,11 @@ const _: () = prove!(MAX_NESTING == 128);
 ///   spaces within the brackets. `[` and `]` say that the bound belongs to the range, `{` and `}` that it doesn't. A
 ///   bound is a word, which `]` and `}` end too, a text in quotes, or `*` for none. `name:>a`, `name:>=a`, `name:<a`
 ///   and `name:<=a`, with a word or a text in quotes, are ranges with one bound, and `name:*` is one with none.
-/// - A part is a word, a phrase, a prefix, a range, or a query in parentheses. At most `MAX_NESTING` parentheses may be open.
+/// - A set is a field name, a colon, the word `IN`, a `[`, values and a `]`, with any spaces after `IN` and within the
+///   brackets. A value is a word, which `]` and `}` end too, or a text in quotes. There are at most `MAX_SET_VALUES`
+///   of them, or none.
+/// - A part is a word, a phrase, a prefix, a range, a set, a query in parentheses, or `*`, before a space, a closing
+///   parenthesis or the end. At most `MAX_NESTING` parentheses may be open.
 /// - `a AND b` matches what both match, and `a AND -b` what the first matches and the other doesn't.
 /// - `a OR b` and `a b` match what at least one of the two matches; AND binds tighter.
 /// - `-b` next to other parts excludes `b` from all that they match. At least one part must not be excluded.
@@ -68,8 +75,10 @@ fn read_one(
 {
     let at = token.at;
     match token.lexeme {
+        Lexeme::All => group.put(alloc, UserInputAst::All),
         Lexeme::Literal(literal) => put_leaf(alloc, group, literal),
         Lexeme::Range(range) => put_range(alloc, group, range),
+        Lexeme::Set(set) => put_set(alloc, group, set),
         Lexeme::Opening => open(alloc, opened, group, at),
         Lexeme::Closing => close(alloc, opened, group, at),
         Lexeme::Minus => after_sign(group.put_minus(alloc), at),
@@ -95,6 +104,16 @@ fn put_range(alloc: Global, group: Group, range: RangeView<'_>) -> Result<Group,
 {
     let ast = ranged(alloc, range)?;
     group.put(alloc, ast)
+}
+
+// Adds a set to a group, or returns the error of its text.
+fn put_set(alloc: Global, group: Group, set: SetView<'_>) -> Result<Group, ParseError>
+    ensures { (opened : List GroupState) (at : ℕ) → GoesOn result opened (λ others. read_one MAX_NESTING others opened (group_of group) at (set_seen set.entry)) }
+{
+    match set_tree(alloc, set) {
+        Ok(ast) => group.put(alloc, ast),
+        Err(error) => Err(error),
+    }
 }
 
 // Opens a group within the current one, if one more may be open.
@@ -171,6 +190,23 @@ fn ranged(alloc: Global, range: RangeView<'_>) -> Result<UserInputAst, ParseErro
         lower,
         upper,
     }))
+}
+
+// Returns a set as a tree, or the error of its text.
+fn set_tree(alloc: Global, set: SetView<'_>) -> Result<UserInputAst, ParseError>
+    ensures { IsSetTree (set_seen set.entry) result }
+{
+    let field_name = unescape(alloc, set.field_name)?;
+    match values_of(alloc, set.size, set.text) {
+        Ok(values) => Ok(set_with(field_name, values)),
+        Err(error) => Err(error),
+    }
+}
+
+fn set_with(field_name: String, values: Vec<String>) -> UserInputAst
+    ensures { ast_of result ≡ in_set (record { field_name = string_bytes field_name; values = map (λ value. string_bytes value) values.items }) }
+{
+    UserInputAst::Set(UserInputSet { field_name, values })
 }
 
 // Copies a bound. Fails only with `OutOfMemory`.

@@ -89,11 +89,11 @@ fn greater<'a>(
     ensures shorter { IfOk result (λ parts. length parts.1.now ≤ size) }
 {
     if let Some(text) = strip(text, b'=') {
-        let (lower, rest) = text_limit(Stop::WordEnd, size, text)?;
+        let (lower, rest) = text_limit(Expected::Bound, Stop::WordEnd, size, text)?;
         let lower = bound_with(Edge::Inclusive, lower);
         return Ok((range(name, lower, BoundView::Unbounded), rest));
     }
-    let (lower, rest) = text_limit(Stop::WordEnd, size, text)?;
+    let (lower, rest) = text_limit(Expected::Bound, Stop::WordEnd, size, text)?;
     let lower = bound_with(Edge::Exclusive, lower);
     Ok((range(name, lower, BoundView::Unbounded), rest))
 }
@@ -109,11 +109,11 @@ fn less<'a>(
     ensures shorter { IfOk result (λ parts. length parts.1.now ≤ size) }
 {
     if let Some(text) = strip(text, b'=') {
-        let (upper, rest) = text_limit(Stop::WordEnd, size, text)?;
+        let (upper, rest) = text_limit(Expected::Bound, Stop::WordEnd, size, text)?;
         let upper = bound_with(Edge::Inclusive, upper);
         return Ok((range(name, BoundView::Unbounded, upper), rest));
     }
-    let (upper, rest) = text_limit(Stop::WordEnd, size, text)?;
+    let (upper, rest) = text_limit(Expected::Bound, Stop::WordEnd, size, text)?;
     let upper = bound_with(Edge::Exclusive, upper);
     Ok((range(name, BoundView::Unbounded, upper), rest))
 }
@@ -137,21 +137,25 @@ fn limit_at(size: usize, text: &str) -> Result<(Option<&str>, &str), ParseError>
     if let Some(rest) = strip(text, b'*') {
         return Ok((None, rest));
     }
-    text_limit(Stop::BoundEnd, size, text)
+    text_limit(Expected::Bound, Stop::BoundEnd, size, text)
 }
 
-// Reads a text in quotes, or a word that ends at this stop.
-fn text_limit(stop: Stop, size: usize, text: &str) -> Result<(Option<&str>, &str), ParseError>
-    requires { length text.now ≤ size }
-    ensures limit { IsLimit (text_limit stop size text.now) result }
-    ensures shorter { IfOk result (λ parts. length parts.1.now ≤ size) }
+/// Reads a text in quotes, or a word that ends at this stop, or returns that this is expected.
+pub(crate) fn text_limit(
+    wanted: Expected,
+    stop: Stop,
+    size: usize,
+    text: &str,
+) -> Result<(Option<&str>, &str), ParseError>
+    ensures limit { IsLimit (text_limit wanted stop size text.now) result }
+    ensures shorter { IfOk result (λ parts. length parts.1.now ≤ length text.now) }
 {
     if let Some(text) = strip(text, b'"') {
         let (phrase, rest) = cut_at(text, Stop::PhraseEnd);
         return quoted_limit(size, phrase, rest);
     }
     let (word, rest) = cut_at(text, stop);
-    word_limit(size, word, rest)
+    word_limit(wanted, size, word, rest)
 }
 
 // Returns a text in quotes as a bound, given the text at its end.
@@ -160,9 +164,8 @@ fn quoted_limit<'a>(
     text: &'a str,
     rest: &'a str,
 ) -> Result<(Option<&'a str>, &'a str), ParseError>
-    requires { length rest.now ≤ size }
     ensures limit { IsLimit (quoted_limit size text.now rest.now) result }
-    ensures shorter { IfOk result (λ parts. length parts.1.now ≤ size) }
+    ensures shorter { IfOk result (λ parts. length parts.1.now ≤ length rest.now) }
 {
     if let Some(rest) = strip(rest, b'"') {
         return Ok((Some(text), rest));
@@ -172,16 +175,16 @@ fn quoted_limit<'a>(
 
 // Returns a word as a bound, given the text after it.
 fn word_limit<'a>(
+    wanted: Expected,
     size: usize,
     word: &'a str,
     rest: &'a str,
 ) -> Result<(Option<&'a str>, &'a str), ParseError>
-    requires { length rest.now ≤ size }
-    ensures limit { IsLimit (word_limit size word.now rest.now) result }
-    ensures shorter { IfOk result (λ parts. length parts.1.now ≤ size) }
+    ensures limit { IsLimit (word_limit wanted size word.now rest.now) result }
+    ensures shorter { IfOk result (λ parts. length parts.1.now ≤ length rest.now) }
 {
     if is_nothing(word) {
-        return Err(ParseError::Syntax(Expected::Bound, size - rest.len()));
+        return Err(ParseError::Syntax(wanted, size.saturating_sub(rest.len())));
     }
     Ok((Some(word), rest))
 }

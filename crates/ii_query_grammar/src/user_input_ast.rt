@@ -1,6 +1,6 @@
 ghost use Rattle.std.specs.Prelude.{◌≡◌, ◌++◌, [], IfOk, OnOk, false, map, string_bytes, true};
-ghost use Rattle.ii_query_grammar.specs.Spelling.{literal_text, lower_text, part_text, parts_text, phrase_text, quoted, range_text, spelled, upper_text};
-ghost use Rattle.ii_query_grammar.specs.Trees.{ast_of, asts_from, bound_of, literal_of, range_of};
+ghost use Rattle.ii_query_grammar.specs.Spelling.{literal_text, lower_text, part_text, parts_text, phrase_text, quoted, range_text, set_text, spelled, upper_text, values_text};
+ghost use Rattle.ii_query_grammar.specs.Trees.{ast_of, asts_from, bound_of, literal_of, range_of, set_of};
 
 use crate::cut::Stop;
 use crate::escapes::push_escaped;
@@ -50,13 +50,26 @@ pub struct UserInputRange {
     pub upper: UserInputBound,
 }
 
+/// A set of values of a field.
+#[derive(Drop)]
+pub struct UserInputSet {
+    /// The name of the field, written before a colon.
+    pub field_name: String,
+    /// The values, without escapes.
+    pub values: Vec<String>,
+}
+
 /// The syntax tree of a query.
 #[derive(Drop)]
 pub enum UserInputAst {
+    /// Matches all documents.
+    All,
     /// A word, a phrase or a prefix.
     Leaf(UserInputLiteral),
     /// A range of values.
     Range(UserInputRange),
+    /// A set of values, of which a document needs one.
+    Set(UserInputSet),
     /// Matches the documents that all parts match.
     And(Vec<UserInputAst>),
     /// Matches the documents that at least one part matches.
@@ -156,9 +169,33 @@ impl UserInputRange {
     }
 }
 
+impl UserInputSet {
+    // Appends its text.
+    fn spell_into(&self, text: &mut String) -> Result<(), AllocError>
+        ensures { OnOk result (string_bytes text.new ≡ string_bytes text.old ++ set_text (set_of self.now)) }
+    {
+        push_escaped(Stop::WordEscape, true, self.field_name.as_str(), text)?;
+        text.push_str(":IN [")?;
+        spell_values(&self.values, text)
+    }
+}
+
+// Appends the values of a set and its end.
+fn spell_values(values: &Vec<String>, text: &mut String) -> Result<(), AllocError>
+    ensures { OnOk result (string_bytes text.new ≡ string_bytes text.old ++ values_text [] (map (λ value. string_bytes value) values.now.items)) }
+{
+    let mut before = "";
+    for value in values {
+        text.push_str(before)?;
+        spell_quoted(value.as_str(), text)?;
+        before = " ";
+    }
+    text.push_str("]")
+}
+
 impl UserInputAst {
-    /// Returns the tree as text, with the bounds of ranges in quotes, and with parentheses around each part that is
-    /// not a word, a phrase or a range.
+    /// Returns the tree as text, with the bounds of ranges and the values of sets in quotes, and with parentheses
+    /// around each part that is not `*`, a word, a phrase, a range or a set.
     pub fn spell(&self, alloc: Global) -> Result<String, AllocError>
         ensures { IfOk result (λ text. string_bytes text ≡ spelled (ast_of self.now)) }
     {
@@ -173,8 +210,10 @@ impl UserInputAst {
         ensures { OnOk result (string_bytes text.new ≡ string_bytes text.old ++ spelled (ast_of self.now)) }
     {
         match self {
+            UserInputAst::All => text.push_str("*"),
             UserInputAst::Leaf(literal) => literal.spell_into(text),
             UserInputAst::Range(range) => range.spell_into(text),
+            UserInputAst::Set(set) => set.spell_into(text),
             UserInputAst::And(parts) => spell_parts(parts, " AND ", text),
             UserInputAst::Or(parts) => spell_parts(parts, " OR ", text),
             UserInputAst::AndNot(first, other) => {
@@ -190,15 +229,17 @@ impl UserInputAst {
     fn spell_part(&self, text: &mut String) -> Result<(), AllocError>
         ensures { OnOk result (string_bytes text.new ≡ string_bytes text.old ++ part_text (ast_of self.now)) }
     {
-        if let UserInputAst::Leaf(literal) = self {
-            return literal.spell_into(text);
+        match self {
+            UserInputAst::All => text.push_str("*"),
+            UserInputAst::Leaf(literal) => literal.spell_into(text),
+            UserInputAst::Range(range) => range.spell_into(text),
+            UserInputAst::Set(set) => set.spell_into(text),
+            UserInputAst::And(_) | UserInputAst::Or(_) | UserInputAst::AndNot(..) => {
+                text.push_str("(")?;
+                self.spell_into(text)?;
+                text.push_str(")")
+            }
         }
-        if let UserInputAst::Range(range) = self {
-            return range.spell_into(text);
-        }
-        text.push_str("(")?;
-        self.spell_into(text)?;
-        text.push_str(")")
     }
 }
 

@@ -1,6 +1,9 @@
+pub mod BoundLemmas
 pub mod QueryLemmas
 pub mod RangeRows
 pub mod RangeTextLemmas
+pub mod SetLemmas
+pub mod SetRows
 pub mod TermLemmas
 pub mod TreeLemmas
 pub mod ValueOrder

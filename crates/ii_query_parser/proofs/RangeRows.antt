@@ -38,10 +38,10 @@ said doc words = record { doc = doc; field = 1; content = text words }
 abbrev values : List IndexToken
 values = tokens_of ascii_words (number 0 (negsuc 4) ∷ number 1 (pos 0) ∷ number 2 (pos 7) ∷ said 0 (codes "sea") ∷ said 1 (codes "search") ∷ said 2 (codes "set") ∷ said 3 (codes "sf") ∷ [])
 
-abbrev docs_of : List ℕ → List ℕ
+abbrev pub docs_of : List ℕ → List ℕ
 docs_of query = filter (λ (doc : ℕ). text_matches_by fields query values doc) (0 ∷ 1 ∷ 2 ∷ 3 ∷ 4 ∷ [])
 
-abbrev refusal_of : List ℕ → Option QueryParserError
+abbrev pub refusal_of : List ℕ → Option QueryParserError
 refusal_of query = text_refusal_by fields query
 
 abbrev up_to_excluded : docs_of (codes "n:[-5 TO 7}") ≡ 0 ∷ 1 ∷ []

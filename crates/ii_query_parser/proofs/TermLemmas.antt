@@ -27,17 +27,18 @@ use Rattle.ii_query_parser.specs.declared.query.PhraseTerm.{PhraseTerm}
 use Rattle.ii_query_parser.specs.declared.query_parser_error.QueryParserError.{QueryParserError}
 use Rattle.ii_query_parser.specs.declared.query_parser_error.QueryParserError.TheVariants as errors
 use Rattle.ii_definitions.specs.Tokens.{IndexToken}
-use Rattle.ii_query_grammar.specs.Trees.{Literal, leaf}
+use Rattle.ii_query_grammar.specs.Trees.{Ast, Literal, leaf}
+use Rattle.ii_query_grammar.specs.declared.user_input_ast.Delimiter.{Delimiter}
 use Rattle.ii_query_parser.specs.declared.query.Query.{Query}
 use Rattle.ii_query_parser.specs.Queries.{has_fields, has_positions_in, keeps_positions, matches}
-use Rattle.ii_query_parser.specs.QueryTexts.{Adds, AddsIn, AddsMaybe, AddsOrKeeps, AddsText, IsPhraseIn, IsRefusedAs, IsWhyRefused, Means, AnalyzedFields, FieldTexts, PhraseState, Terms, TextFields, are_in, default_terms, has_one, has_term, in_field, is_alone, joined_terms, left_out, no_prefix, one_term, path_key, path_value, phrase_kept, phrase_within, refused, some_default, some_left, stand_after, terms_after, terms_in_field, terms_of, text_terms, typed_terms, value_term, words_phrase}
+use Rattle.ii_query_parser.specs.QueryTexts.{Adds, AddsIn, AddsMaybe, AddsOrKeeps, AddsText, IsPhraseIn, IsRefusedAs, IsWhyRefused, Means, AnalyzedFields, FieldTexts, PhraseState, Terms, TextFields, are_in, ast_matches, ast_refusal, default_terms, has_one, has_term, in_field, is_alone, joined_terms, left_out, no_prefix, one_term, path_key, path_value, phrase_kept, phrase_within, refused, some_default, some_left, stand_after, terms_after, terms_in_field, terms_of, text_terms, typed_terms, value_term, words_phrase}
 
--- Terms of the fields so far were added, and those of the fields that are left come after them.
-pub record IsGathering (q : FieldTexts) (phrase all fields : List ℕ) (old now : List PhraseState) : Type 0 where
+-- Terms were added, and those that are left come after them; together they are all.
+pub record IsJoining (entries : List SchemaEntry) (all left : Terms) (old now : List PhraseState) : Type 0 where
   pub found : List PhraseState
   pub now_is : now ≡ old ++ found
-  pub within : are_in q.entries found ≡ true
-  pub whole : default_terms q phrase all ≡ joined_terms (Ok found) (default_terms q phrase fields)
+  pub within : are_in entries found ≡ true
+  pub whole : all ≡ joined_terms (Ok found) left
 
 nothing_in_front : (found : Terms) → found ≡ joined_terms (Ok []) found
 nothing_in_front (Ok terms) = refl
@@ -47,9 +48,24 @@ joined_on : (first more : List PhraseState) (found : Terms) → joined_terms (Ok
 joined_on first more (Ok terms) = ap (λ (ps : List PhraseState). Ok ps) (sym (append_assoc first more terms))
 joined_on first more (Err e) = refl
 
+pub joins_none : (entries : List SchemaEntry) (all : Terms) (old : List PhraseState) → IsJoining entries all all old old
+joins_none entries all old = record { found = []; now_is = sym (append-nil old); within = refl; whole = nothing_in_front all }
+
+pub joins_more : (entries : List SchemaEntry) (all left here rest : Terms) (old now new ts : List PhraseState) → left ≡ joined_terms here rest → IsJoining entries all left old now → here ≡ Ok ts → new ≡ now ++ ts → are_in entries ts ≡ true → IsJoining entries all rest old new
+joins_more entries all left here rest old now new ts left_is j is new_is within = record {
+  found = j.found ++ ts;
+  now_is = new_is ∙ ap (λ (ps : List PhraseState). ps ++ ts) j.now_is ∙ append_assoc old j.found ts;
+  within = list_all-append (λ (p : PhraseState). phrase_within (length entries) p && phrase_kept entries p) j.found ts ∙ rw (j.within, within) refl;
+  whole = j.whole ∙ ap (joined_terms (Ok j.found)) (left_is ∙ ap (λ (terms : Terms). joined_terms terms rest) is) ∙ joined_on j.found ts rest;
+}
+
+-- Terms of the fields so far were added, and those of the fields that are left come after them.
+abbrev pub IsGathering : FieldTexts → List ℕ → List ℕ → List ℕ → List PhraseState → List PhraseState → Type 0
+IsGathering q phrase all fields old now = IsJoining q.entries (default_terms q phrase all) (default_terms q phrase fields) old now
+
 -- nothing was added so far
 pub gathers_none : (q : FieldTexts) (phrase all : List ℕ) (old : List PhraseState) → IsGathering q phrase all all old old
-gathers_none q phrase all old = record { found = []; now_is = sym (append-nil old); within = refl; whole = nothing_in_front (default_terms q phrase all) }
+gathers_none q phrase all old = joins_none q.entries (default_terms q phrase all) old
 
 field_at : (all : List ℕ) (i field : ℕ) → i < length all → field ≡ get_or all i field → drop i all ≡ field ∷ drop (i + 1) all
 field_at all i field inside is = drop-cons all i field inside ∙ rw (← is, add-one i) refl
@@ -58,21 +74,14 @@ field_at all i field inside is = drop-cons all i field inside ∙ rw (← is, ad
 pub gathers_more : (q : FieldTexts) (phrase all : List ℕ) (i field : ℕ) (old now new ts : List PhraseState) → i < length all → field ≡ get_or all i field → IsGathering q phrase all (drop i all) old now
     → left_out (terms_in_field (in_field q field) field [] phrase) ≡ Ok ts → new ≡ now ++ ts → are_in q.entries ts ≡ true → IsGathering q phrase all (drop (i + 1) all) old new
 gathers_more q phrase all i field old now new ts inside here g is new_is within =
-    let left = drop (i + 1) all in
-    record {
-      found = g.found ++ ts;
-      now_is = new_is ∙ ap (λ (ps : List PhraseState). ps ++ ts) g.now_is ∙ append_assoc old g.found ts;
-      within = list_all-append (λ (p : PhraseState). phrase_within (length q.entries) p && phrase_kept q.entries p) g.found ts ∙ rw (g.within, within) refl;
-      whole = g.whole ∙ ap (λ (fields : List ℕ). joined_terms (Ok g.found) (default_terms q phrase fields)) (field_at all i field inside here)
-          ∙ ap (λ (terms : Terms). joined_terms (Ok g.found) (joined_terms terms (default_terms q phrase left))) is ∙ joined_on g.found ts (default_terms q phrase left);
-    }
+    joins_more q.entries (default_terms q phrase all) _ (left_out (terms_in_field (in_field q field) field [] phrase)) _ old now new ts (ap (default_terms q phrase) (field_at all i field inside here)) g is new_is within
 
 -- the first error of the default fields
 some_defaults : (q : FieldTexts) (phrase all : List ℕ) (i : ℕ) → i < length all → some_default q phrase all ≡ some_left (get_or all 0 0) (default_terms q phrase all)
 some_defaults q phrase [] i inside = absurd (omega arith)
 some_defaults q phrase (field ∷ fields) i inside = refl
 
-why_joined : (first : List PhraseState) (terms others all : Terms) (e : QueryParserError) → all ≡ joined_terms (Ok first) (joined_terms terms others) → IsWhyRefused (refused terms) e → IsWhyRefused (refused all) e
+pub why_joined : (first : List PhraseState) (terms others all : Terms) (e : QueryParserError) → all ≡ joined_terms (Ok first) (joined_terms terms others) → IsWhyRefused (refused terms) e → IsWhyRefused (refused all) e
 why_joined first terms others all e is (inl memory) = inl memory
 why_joined first (Err f) others all e is (inr why) = inr (ap refused is ∙ why)
 why_joined first (Ok ts) others all e is (inr why) = absurd (cc)
@@ -82,7 +91,7 @@ why_left field terms e (inl memory) = inl memory
 why_left field (Err f) e (inr why) = inr why
 why_left field (Ok ts) e (inr why) = absurd (cc)
 
-why_of : (refusal : Option QueryParserError) (old new : List PhraseState) (e : QueryParserError) → IsRefusedAs refusal old new e → IsWhyRefused refusal e
+pub why_of : (refusal : Option QueryParserError) (old new : List PhraseState) (e : QueryParserError) → IsRefusedAs refusal old new e → IsWhyRefused refusal e
 why_of refusal old new e (inl memory) = inl memory
 why_of refusal old new e (inr why) = inr why.0
 
@@ -290,17 +299,23 @@ all_split f g (p ∷ ps) all =
     let later = all_split f g ps parts.1 in
     (rw here.0 later.0, rw here.1 later.1)
 
--- what a word or a phrase means
-pub leaf_means : (q : AnalyzedFields) (l : Literal) (query : Query) (terms : List PhraseState) → Adds (terms_of q l) q.texts.entries [] terms (Ok tt) → ((ts : List IndexToken) (doc : ℕ) → matches query ts doc ≡ has_term l.delimiter ts doc terms)
-    → ((n : ℕ) → has_fields n query ≡ list_all (phrase_within n) terms) → ((entries : List SchemaEntry) → keeps_positions entries query ≡ list_all (phrase_kept entries) terms) → Means q (leaf l) query
-leaf_means q l query terms (ts, is, new_is, within) means fields positions =
+-- what terms mean that a tree is looked up by
+pub terms_mean : (q : AnalyzedFields) (ast : Ast) (delimiter : Delimiter) (found : Terms) (query : Query) (terms : List PhraseState) → ast_refusal q ast ≡ refused found → ((ts : List IndexToken) (doc : ℕ) → ast_matches q ast ts doc ≡ has_one delimiter ts doc found)
+    → Adds found q.texts.entries [] terms (Ok tt) → ((ts : List IndexToken) (doc : ℕ) → matches query ts doc ≡ has_term delimiter ts doc terms)
+    → ((n : ℕ) → has_fields n query ≡ list_all (phrase_within n) terms) → ((entries : List SchemaEntry) → keeps_positions entries query ≡ list_all (phrase_kept entries) terms) → Means q ast query
+terms_mean q ast delimiter found query terms taken exact (ts, is, new_is, within) means fields positions =
     let all = all_split (phrase_within (length q.texts.entries)) (phrase_kept q.texts.entries) ts within in
     record {
-      taken = ap refused is;
-      exact = λ tokens doc. means tokens doc ∙ ap (has_term l.delimiter tokens doc) new_is ∙ sym (ap (has_one l.delimiter tokens doc) is);
+      taken = taken ∙ ap refused is;
+      exact = λ tokens doc. means tokens doc ∙ ap (has_term delimiter tokens doc) new_is ∙ sym (exact tokens doc ∙ ap (has_one delimiter tokens doc) is);
       fields = fields (length q.texts.entries) ∙ ap (list_all (phrase_within (length q.texts.entries))) new_is ∙ all.0;
       positions = positions q.texts.entries ∙ ap (list_all (phrase_kept q.texts.entries)) new_is ∙ all.1;
     }
+
+-- what a word or a phrase means
+pub leaf_means : (q : AnalyzedFields) (l : Literal) (query : Query) (terms : List PhraseState) → Adds (terms_of q l) q.texts.entries [] terms (Ok tt) → ((ts : List IndexToken) (doc : ℕ) → matches query ts doc ≡ has_term l.delimiter ts doc terms)
+    → ((n : ℕ) → has_fields n query ≡ list_all (phrase_within n) terms) → ((entries : List SchemaEntry) → keeps_positions entries query ≡ list_all (phrase_kept entries) terms) → Means q (leaf l) query
+leaf_means q l query terms adds means fields positions = terms_mean q (leaf l) l.delimiter (terms_of q l) query terms refl (λ ts doc. refl) adds means fields positions
 
 -- Each of the terms before a place may be a prefix.
 pub record ArePrefixes (entries : List SchemaEntry) (terms : List PhraseState) (i : ℕ) : Type 0 where

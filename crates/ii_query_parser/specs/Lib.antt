@@ -1,3 +1,4 @@
+pub mod Bounded
 pub mod ParserErrors
 pub mod Queries
 pub mod QueryTexts

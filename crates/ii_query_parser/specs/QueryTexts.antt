@@ -12,13 +12,14 @@ use Rattle.ii_base.specs.Terms.{TermState}
 use Rattle.ii_base.specs.ValueTypes.{code_of}
 use Rattle.ii_base.specs.Values.{flipped, number_of_bool, text_key, u64_bytes}
 use Rattle.ii_base.specs.Words.{Word}
+use Rattle.ii_base.specs.declared.doc_id.TheConstants.{TERMINATED}
 use Rattle.ii_base.specs.declared.schema.value_type.ValueType.{ValueType}
 use Rattle.ii_base.specs.declared.schema.value_type.ValueType.TheVariants as types
 use Rattle.ii_json.specs.FastValues.{bool_in, fast_value_in, i64_in, u64_in}
 use Rattle.ii_definitions.specs.JsonKeys.{is_json}
 use Rattle.ii_definitions.specs.Tokens.{IndexToken}
 use Rattle.ii_query_grammar.specs.Parsed.{parsed}
-use Rattle.ii_query_grammar.specs.Trees.{Ast, Asts, Bound, Literal, Range, all_of, and_asts, any_of, exclusive, inclusive, leaf, no_asts, ranged, unbounded, without}
+use Rattle.ii_query_grammar.specs.Trees.{Ast, Asts, Bound, Literal, Range, ValueSet, all_of, and_asts, any_of, everything, exclusive, in_set, inclusive, leaf, no_asts, ranged, unbounded, without}
 use Rattle.ii_query_grammar.specs.declared.parse_error.ParseError.{ParseError}
 use Rattle.ii_query_grammar.specs.declared.user_input_ast.Delimiter.{Delimiter}
 use Rattle.ii_query_grammar.specs.declared.user_input_ast.Delimiter.TheVariants as delimiters
@@ -253,6 +254,35 @@ delimited_terms entries (Ok terms) delimiters.Star = prefix_terms terms (no_pref
 abbrev pub terms_of : AnalyzedFields → Literal → Terms
 terms_of q l = delimited_terms q.texts.entries (literal_terms q.texts q.defaults l.field_name l.phrase) l.delimiter
 
+-- whether a field has JSON values, if there is one
+abbrev pub names_json : List SchemaEntry → Option ℕ → Bool
+names_json entries None = false
+names_json entries (Some field) = has_json_values (slice_get entries field)
+
+-- whether a name is that of a field of JSON values and a path after its first dot, which is at this place
+abbrev pub names_path : List SchemaEntry → List ℕ → Option ℕ → Bool
+names_path entries name None = false
+names_path entries name (Some i) = names_json entries (field_named entries (take i name))
+
+-- whether a name is that of a field, or of one of JSON values and a path after a dot
+abbrev pub names_field : List SchemaEntry → List ℕ → Option ℕ → Bool
+names_field entries name (Some field) = true
+names_field entries name None = names_path entries name (position (λ b. b == 46) name)
+
+-- the terms of a set without values: none, if there is such a field
+abbrev pub no_terms : Bool → Terms
+no_terms true = Ok []
+no_terms false = Err errors.FieldDoesNotExist
+
+-- the terms of the values of a set, each as those of a text after its name
+abbrev pub values_terms : FieldTexts → List ℕ → List (List ℕ) → Terms
+values_terms q name [] = no_terms (names_field q.entries name (field_named q.entries name))
+values_terms q name (value ∷ values) = joined_terms (named_terms q name value (field_named q.entries name)) (values_terms q name values)
+
+-- the terms of a set of a tree
+abbrev pub set_terms : FieldTexts → ValueSet → Terms
+set_terms q s = values_terms q s.field_name s.values
+
 -- the key of a term that has to be alone
 abbrev pub alone_key : ℕ → PhraseState → Result (List ℕ) QueryParserError
 alone_key field p = if is_alone p then Ok p.first.value else Err (errors.UnsupportedBound field)
@@ -270,11 +300,12 @@ text_bound_key analyze prefix text type =
     if is_json type then only_key prefix.field (text_terms prefix.field true None (words_phrase prefix (analyze text)))
     else only_key prefix.field (typed_terms (record { analyze = analyze; entries = [] }) prefix.field true false [] text type)
 
--- a bound of keys by the key of its text
+-- a bound of keys that has the key of its text
 abbrev pub inclusive_bound : Result (List ℕ) QueryParserError → Result Bound QueryParserError
 inclusive_bound (Err e) = Err e
 inclusive_bound (Ok key) = Ok (inclusive key)
 
+-- a bound of keys without the key of its text
 abbrev pub exclusive_bound : Result (List ℕ) QueryParserError → Result Bound QueryParserError
 exclusive_bound (Err e) = Err e
 exclusive_bound (Ok key) = Ok (exclusive key)
@@ -449,11 +480,13 @@ abbrev pub are_some : Asts → Bool
 are_some no_asts = false
 are_some (and_asts t ts) = true
 
--- Whether a document matches the tree of a text; whether it matches each of some trees, of which there has to be one; or any of them.
+-- Whether a document matches the tree of a text, where no document is `TERMINATED` or above; whether it matches each of some trees, of which there has to be one; or any of them.
 abbrev mutual
   pub ast_matches : AnalyzedFields → Ast → List IndexToken → ℕ → Bool
+  ast_matches q everything ts doc = nat_lt doc TERMINATED
   ast_matches q (leaf l) ts doc = has_one l.delimiter ts doc (terms_of q l)
   ast_matches q (ranged r) ts doc = has_keys ts doc (range_keys q.texts r)
+  ast_matches q (in_set s) ts doc = has_one delimiters.None ts doc (set_terms q.texts s)
   ast_matches q (all_of us) ts doc = are_some us && all_match q us ts doc
   ast_matches q (any_of us) ts doc = any_matches q us ts doc
   ast_matches q (without first other) ts doc = ast_matches q first ts doc && not (ast_matches q other ts doc)
@@ -466,16 +499,18 @@ abbrev mutual
   any_matches q no_asts ts doc = false
   any_matches q (and_asts a us) ts doc = ast_matches q a ts doc || any_matches q us ts doc
 
--- the error of a literal, if it has one
+-- the error of a literal or a set, if it has one
 abbrev pub refused : Terms → Option QueryParserError
 refused (Err e) = Some e
 refused (Ok terms) = None
 
--- the error of a tree: that of its first word, phrase or range that has one
+-- the error of a tree: that of its first word, phrase, range or value of a set that has one
 abbrev mutual
   pub ast_refusal : AnalyzedFields → Ast → Option QueryParserError
+  ast_refusal q everything = None
   ast_refusal q (leaf l) = refused (terms_of q l)
   ast_refusal q (ranged r) = range_refusal (range_keys q.texts r)
+  ast_refusal q (in_set s) = refused (set_terms q.texts s)
   ast_refusal q (all_of us) = asts_refusal q us
   ast_refusal q (any_of us) = asts_refusal q us
   ast_refusal q (without first other) = option_or (ast_refusal q first) (ast_refusal q other)
@@ -534,19 +569,23 @@ abbrev pub IsQueryOfTextBy : AnalyzedFields → List ℕ → Result Query QueryP
 IsQueryOfTextBy q text (Ok query) = MeansTextBy q text query
 IsQueryOfTextBy q text (Err e) = IsWhyRefused (text_refusal_by q text) e
 
--- The same where all fields have one analyzer: whether a document matches a text, the error of a text, and what a query means.
+-- whether a document matches a text, where all fields have one analyzer
 abbrev pub text_matches : QueryFields → List ℕ → List IndexToken → ℕ → Bool
 text_matches q text ts doc = text_matches_by (by_one q) text ts doc
 
+-- the error of a text, where all fields have one analyzer
 abbrev pub text_refusal : QueryFields → List ℕ → Option QueryParserError
 text_refusal q text = text_refusal_by (by_one q) text
 
+-- A query matches what a text says, where all fields have one analyzer.
 abbrev pub MeansText : QueryFields → List ℕ → Query → Type 0
 MeansText q text query = MeansTextBy (by_one q) text query
 
+-- A result is the query of a tree or its error, where all fields have one analyzer.
 abbrev pub IsQueryOf : QueryFields → Ast → Result Query QueryParserError → Type 0
 IsQueryOf q ast result = IsQueryBy (by_one q) ast result
 
+-- A result is the query of a text or its error, where all fields have one analyzer.
 abbrev pub IsQueryOfText : QueryFields → List ℕ → Result Query QueryParserError → Type 0
 IsQueryOfText q text result = IsQueryOfTextBy (by_one q) text result
 
@@ -650,22 +689,7 @@ pub record HasPushed (delimiter : Delimiter) (old new : List Query) (words : Phr
   pub within : (n : ℕ) → list_all (has_fields n) new ≡ (list_all (has_fields n) old && phrase_within n words)
   pub kept : (entries : List SchemaEntry) → list_all (keeps_positions entries) new ≡ (list_all (keeps_positions entries) old && phrase_kept entries words)
 
--- whether a field has JSON values, if there is one
-abbrev pub names_json : List SchemaEntry → Option ℕ → Bool
-names_json entries None = false
-names_json entries (Some field) = has_json_values (slice_get entries field)
-
--- whether a name is that of a field of JSON values and a path after its first dot, which is at this place
-abbrev pub names_path : List SchemaEntry → List ℕ → Option ℕ → Bool
-names_path entries name None = false
-names_path entries name (Some i) = names_json entries (field_named entries (take i name))
-
--- whether a name is that of a field, or of one of JSON values and a path after a dot
-abbrev pub names_field : List SchemaEntry → List ℕ → Option ℕ → Bool
-names_field entries name (Some field) = true
-names_field entries name None = names_path entries name (position (λ b. b == 46) name)
-
--- the name of a literal or a range that is neither
+-- the name of a literal, a range or a set that is neither
 abbrev pub unknown_name : List SchemaEntry → Option (List ℕ) → Option (List ℕ)
 unknown_name entries None = None
 unknown_name entries (Some name) = if names_field entries name (field_named entries name) then None else Some name
@@ -673,8 +697,10 @@ unknown_name entries (Some name) = if names_field entries name (field_named entr
 -- the first name in a tree that is neither
 abbrev mutual
   pub unknown_in : List SchemaEntry → Ast → Option (List ℕ)
+  unknown_in entries everything = None
   unknown_in entries (leaf l) = unknown_name entries l.field_name
   unknown_in entries (ranged r) = unknown_name entries (Some r.field_name)
+  unknown_in entries (in_set s) = unknown_name entries (Some s.field_name)
   unknown_in entries (all_of us) = unknown_among entries us
   unknown_in entries (any_of us) = unknown_among entries us
   unknown_in entries (without first other) = option_or (unknown_in entries first) (unknown_in entries other)

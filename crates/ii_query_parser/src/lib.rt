@@ -12,8 +12,8 @@ pub mod term_range;
 mod unknown_field;
 
 pub use ii_query_grammar::{
-    Delimiter, Expected, Feature, MAX_NESTING, ParseError, UserInputAst, UserInputBound,
-    UserInputLiteral, UserInputRange, can_name, parse, spell_name,
+    Delimiter, Expected, Feature, MAX_NESTING, MAX_SET_VALUES, ParseError, UserInputAst,
+    UserInputBound, UserInputLiteral, UserInputRange, UserInputSet, can_name, parse, spell_name,
 };
 pub use literal::field_named;
 pub use query::{PhraseTerm, Query};

@@ -3,16 +3,17 @@ ghost use Rattle.ii_io.specs.Faults.{OnlyMemory};
 ghost use Rattle.ii_base.specs.Options.{has_positions};
 ghost use Rattle.ii_base.specs.Values.{text_key};
 ghost use Rattle.ii_base.specs.declared.schema.value_type.ValueType.TheVariants as types;
-ghost use Rattle.ii_query_grammar.specs.Trees.{literal_of};
+ghost use Rattle.ii_query_grammar.specs.Trees.{literal_of, set_of};
 ghost use Rattle.ii_query_parser.specs.declared.query_parser_error.QueryParserError.TheVariants as errors;
-ghost use Rattle.ii_query_parser.specs.QueryTexts.{Adds, AddsIn, AddsOrKeeps, AddsMaybe, AddsText, AreAlone, CutsAtDot, delimited_terms, field_named, has_json_values, holds_texts, is_alone, left_out, literal_terms, may_be_prefix, named_terms, no_prefix, prefix_terms, some_default, terms_in_field, terms_of, typed_terms, words_phrase};
+ghost use Rattle.ii_query_parser.specs.QueryTexts.{Adds, AddsIn, AddsOrKeeps, AddsMaybe, AddsText, AreAlone, CutsAtDot, delimited_terms, field_named, has_json_values, holds_texts, is_alone, left_out, literal_terms, may_be_prefix, named_terms, no_prefix, prefix_terms, set_terms, some_default, terms_in_field, terms_of, typed_terms, words_phrase};
 ghost use Rattle.std.specs.List.{list_all};
 
 use crate::phrase_words::{PhraseWords, words_phrase};
 use crate::query_parser_error::QueryParserError;
+use crate::unknown_field::names_field;
 use ii_base::{Fault, Field, IndexRecordOption, Schema, Term, TextAnalyzer, ValueType};
 use ii_json::{bool_term, convert_to_fast_value_and_append_to_json_term, i64_term, u64_term};
-use ii_query_grammar::{Delimiter, UserInputLiteral};
+use ii_query_grammar::{Delimiter, UserInputLiteral, UserInputSet};
 use ii_tokenizers::FieldAnalyzers;
 use std::alloc::Global;
 
@@ -34,6 +35,29 @@ pub(crate) fn push_literal<F: FieldAnalyzers>(
         Ok(()) => check_delimiter(schema, literal.delimiter, terms),
         Err(error) => Err(error),
     }
+}
+
+/// Appends the terms and phrases of the values of a set. A document matches if it has any of them.
+pub(crate) fn push_set<F: FieldAnalyzers>(
+    alloc: Global,
+    schema: &Schema,
+    analyzers: &F,
+    set: &UserInputSet,
+    terms: &mut Vec<PhraseWords>,
+) -> Result<(), QueryParserError>
+    ensures { Adds (set_terms (record { analyze = F.words analyzers.now; entries = schema.now }) (set_of set.now)) schema.now terms.old.items terms.new.items result }
+{
+    let name = set.field_name.as_str();
+    for value in &set.values {
+        match push_named(alloc, schema, analyzers, name, value.as_str(), terms) {
+            Ok(()) => {}
+            Err(error) => return Err(error),
+        }
+    }
+    if !names_field(schema, name) {
+        return Err(QueryParserError::FieldDoesNotExist);
+    }
+    Ok(())
 }
 
 // Returns an error if terms are prefixes and one of them may be none.

@@ -1,8 +1,9 @@
-ghost use Rattle.std.specs.Prelude.{◌≡◌, ◌&&◌, ◌||◌, ◌==◌, ◌∷◌, [], ℕ, List, IfOk, length, nat_eq, nat_lt, not, true};
+ghost use Rattle.std.specs.Prelude.{◌≡◌, ◌<◌, ◌&&◌, ◌||◌, ◌==◌, ◌∷◌, [], ℕ, List, IfOk, length, nat_eq, nat_lt, not, true};
 ghost use Rattle.std.specs.List.{list_all, list_any, starts_with};
 ghost use Rattle.ii_io.specs.Faults.{OnlyMemory};
 ghost use Rattle.ii_base.specs.Schema.{SchemaEntry};
 ghost use Rattle.ii_definitions.specs.Tokens.{IndexToken};
+ghost use Rattle.ii_query_parser.specs.Bounded.{bounded, each_bounded};
 ghost use Rattle.ii_query_parser.specs.Queries.{any_of, each_of, has_fields, has_positions_in, is_token_in, keeps_positions, matches, no_tree, one_range, tree, tree_of, trees_of, without};
 
 use crate::term_range::TermRange;
@@ -142,6 +143,20 @@ impl Query {
         Query::Or(queries)
     }
 
+    /// Bounds what the query says of all documents: each part that matches all documents below a number matches
+    /// those of them that are below `num_docs`. For these documents the query matches what it did. A search of an
+    /// index with so many documents then passes no more of them: without a bound, a part for all documents has
+    /// 2^31 - 1.
+    #[tactic(auto, using(crate::proofs::BoundLemmas::same_below, crate::proofs::BoundLemmas::bounded_holds))]
+    pub fn bound(&mut self, num_docs: DocId)
+        ensures tree { tree_of self.new ≡ bounded num_docs (tree_of self.old) }
+        ensures same { (ts : List IndexToken) (doc : ℕ) → doc < num_docs → matches self.new ts doc ≡ matches self.old ts doc }
+        ensures fields { (n : ℕ) → has_fields n self.new ≡ has_fields n self.old }
+        ensures positions { (entries : List SchemaEntry) → keeps_positions entries self.new ≡ keeps_positions entries self.old }
+    {
+        bound_query(self, num_docs);
+    }
+
     /// Returns whether each term belongs to a field of the schema.
     #[cycle(has_fields)]
     #[tactic(auto, using(crate::proofs::QueryLemmas::nothing_fields, crate::proofs::QueryLemmas::all_fields, crate::proofs::QueryLemmas::term_fields, crate::proofs::QueryLemmas::phrase_fields, crate::proofs::QueryLemmas::range_fields, crate::proofs::QueryLemmas::and_fields, crate::proofs::QueryLemmas::or_fields, crate::proofs::QueryLemmas::and_not_fields))]
@@ -180,6 +195,37 @@ impl Query {
                 first.keeps_positions(schema) && other.keeps_positions(schema)
             }
         }
+    }
+}
+
+// Bounds the parts of a query that match all documents. It recurses once for each level of nesting.
+#[cycle(bound_query)]
+#[tactic(auto, using(crate::proofs::QueryLemmas::nothing_tree, crate::proofs::QueryLemmas::all_tree, crate::proofs::QueryLemmas::term_tree, crate::proofs::QueryLemmas::phrase_tree, crate::proofs::QueryLemmas::range_tree, crate::proofs::QueryLemmas::and_tree, crate::proofs::QueryLemmas::or_tree, crate::proofs::QueryLemmas::and_not_tree))]
+fn bound_query(query: &mut Query, num_docs: DocId)
+    ensures { tree_of query.new ≡ bounded num_docs (tree_of query.old) }
+{
+    match query {
+        Query::Empty => {}
+        Query::All(limit) => *limit = (*limit).min(num_docs),
+        Query::Term(_) => {}
+        Query::Phrase(_, _) => {}
+        Query::Range(_) => {}
+        Query::And(queries) => bound_each(queries.as_mut_slice(), num_docs),
+        Query::Or(queries) => bound_each(queries.as_mut_slice(), num_docs),
+        Query::AndNot(first, other) => {
+            bound_query(first, num_docs);
+            bound_query(other, num_docs);
+        }
+    }
+}
+
+// Bounds the parts of each query that match all documents.
+#[cycle(bound_query)]
+fn bound_each(queries: &mut [Query], num_docs: DocId)
+    ensures { trees_of queries.new ≡ each_bounded num_docs (trees_of queries.old) }
+{
+    for query in queries.iter_mut() {
+        bound_query(query, num_docs);
     }
 }
 

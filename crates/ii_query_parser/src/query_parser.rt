@@ -4,19 +4,21 @@ ghost use Rattle.std.specs.List.{list_all, list_any};
 ghost use Rattle.ii_io.specs.Faults.{OnlyMemory};
 ghost use Rattle.ii_base.specs.Schema.{SchemaEntry};
 ghost use Rattle.ii_definitions.specs.Tokens.{IndexToken};
-ghost use Rattle.ii_query_grammar.specs.Trees.{Ast, Asts, all_of, any_of, ast_of, asts_from, leaf, literal_of, range_of, ranged, without};
+ghost use Rattle.ii_query_grammar.specs.Trees.{Ast, Asts, all_of, any_of, ast_of, asts_from, in_set, leaf, literal_of, range_of, ranged, set_of, without};
 ghost use Rattle.ii_query_parser.specs.Queries.{has_fields, keeps_positions, matches};
 ghost use Rattle.ii_query_parser.specs.Ranges.{keys_of, ranges_of};
 ghost use Rattle.ii_query_parser.specs.QueryTexts.{AnalyzedFields, AreAlone, AreQueriesOf, HasPushed, IsQueryBy, IsQueryOf, AreInside, IsInside, IsQueryOfText, IsQueryOfTextBy, has_between, has_delimited, has_keys, has_term, has_words, is_alone, is_token_under, phrase_kept, phrase_within};
 
-use crate::literal::push_literal;
+use crate::literal::{push_literal, push_set};
 use crate::phrase_words::PhraseWords;
 use crate::query::Query;
 use crate::query_parser_error::QueryParserError;
 use crate::range_text::{TermRanges, range_keys};
 use crate::term_range::TermRange;
-use ii_base::{Fault, Field, Schema, TextAnalyzer};
-use ii_query_grammar::{Delimiter, UserInputAst, UserInputLiteral, UserInputRange, parse};
+use ii_base::{Fault, Field, Schema, TERMINATED, TextAnalyzer};
+use ii_query_grammar::{
+    Delimiter, UserInputAst, UserInputLiteral, UserInputRange, UserInputSet, parse,
+};
 use ii_tokenizers::{FieldAnalyzers, OneAnalyzer};
 use std::alloc::Global;
 
@@ -91,6 +93,9 @@ pub fn query_of<A: TextAnalyzer>(
 ///   bounds in the wrong order. A bound is a value as above; in a text field, a text of which the field's analyzer
 ///   makes one token, otherwise `UnsupportedBound`. At a JSON path, bounds that are all integers are between
 ///   integers; other bounds are between the tokens of texts.
+/// - A set matches the documents that one of its values matches, each as a text in quotes after the set's name. It
+///   matches none if it has no values.
+/// - `*` matches all documents. Its query is `Query::All(TERMINATED)`, which no number of documents exceeds.
 /// - `UnsupportedType` for a text or a bound in a field of dates, bytes or addresses.
 ///
 /// # Errors
@@ -107,12 +112,14 @@ pub fn query_of_by<F: FieldAnalyzers>(
     ensures { IsQueryBy (record { texts = record { analyze = F.words analyzers.now; entries = schema.now }; defaults = default_fields.now }) (ast_of ast.now) result }
 {
     match ast {
+        UserInputAst::All => Ok(Query::All(TERMINATED)),
         UserInputAst::Leaf(literal) => {
             literal_query(alloc, schema, default_fields, analyzers, literal)
         }
         UserInputAst::Range(range) => {
             range_query(alloc, schema, default_fields, analyzers, range)
         }
+        UserInputAst::Set(set) => set_query(alloc, schema, default_fields, analyzers, set),
         UserInputAst::And(parts) => {
             and_query(queries_of(alloc, schema, default_fields, analyzers, parts))
         }
@@ -203,6 +210,23 @@ fn literal_query<F: FieldAnalyzers>(
         &mut terms,
     ) {
         Ok(()) => Ok(any_of(alloc, terms, literal.delimiter)?),
+        Err(error) => Err(error),
+    }
+}
+
+// The query of a set.
+fn set_query<F: FieldAnalyzers>(
+    alloc: Global,
+    schema: &Schema,
+    default_fields: &[Field],
+    analyzers: &F,
+    set: &UserInputSet,
+) -> Result<Query, QueryParserError>
+    ensures { IsQueryBy (record { texts = record { analyze = F.words analyzers.now; entries = schema.now }; defaults = default_fields.now }) (in_set (set_of set.now)) result }
+{
+    let mut terms = Vec::new(alloc);
+    match push_set(alloc, schema, analyzers, set, &mut terms) {
+        Ok(()) => Ok(any_of(alloc, terms, Delimiter::None)?),
         Err(error) => Err(error),
     }
 }

@@ -14,8 +14,10 @@ pub fn unknown_field_name<'a>(schema: &Schema, ast: &'a UserInputAst) -> Option<
     ensures { option_copied result ≡ unknown_in schema.now (ast_of ast.now) }
 {
     match ast {
+        UserInputAst::All => None,
         UserInputAst::Leaf(literal) => unknown_name(schema, literal),
         UserInputAst::Range(range) => unless_named(schema, range.field_name.as_str()),
+        UserInputAst::Set(set) => unless_named(schema, set.field_name.as_str()),
         UserInputAst::And(parts) => unknown_among(schema, parts),
         UserInputAst::Or(parts) => unknown_among(schema, parts),
         UserInputAst::AndNot(first, other) => match unknown_field_name(schema, first) {
@@ -58,8 +60,8 @@ fn unless_named<'a>(schema: &Schema, name: &'a str) -> Option<&'a str>
     Some(name)
 }
 
-// Whether a name is that of a field, or of one of JSON values and a path after a dot.
-fn names_field(schema: &Schema, name: &str) -> bool
+/// Returns whether a name is that of a field, or of one of JSON values and a path after a dot.
+pub(crate) fn names_field(schema: &Schema, name: &str) -> bool
     ensures { result ≡ names_field schema.now name.now (field_named schema.now name.now) }
 {
     if field_named(schema, name).is_some() {

@@ -55,13 +55,6 @@ any_none s index all old fields = record { many = refl; each = λ doc inside. re
 pub next_fields : (n : ℕ) (left others : List Query) (q : Query) → left ≡ q ∷ others → list_all (has_fields n) left ≡ true → has_fields n q ≡ true
 next_fields n left others q is fields = (and_parts (has_fields n q) (list_all (has_fields n) others) (rw is at fields)).0
 
-later_fields : (n : ℕ) (left others : List Query) (q : Query) → left ≡ q ∷ others → list_all (has_fields n) left ≡ true → list_all (has_fields n) others ≡ true
-later_fields n left others q is fields = (and_parts (has_fields n q) (list_all (has_fields n) others) (rw is at fields)).1
-
--- one query that opened is no cause
-later_sound : (index : OpenIndexState) (left others : List Query) (q : Query) → left ≡ q ∷ others → query_damage index q ≡ None → trees_damage index (trees_of others) ≡ trees_damage index (trees_of left)
-later_sound index left others q is sound = ap (λ (d : Option Part). first_of d (trees_damage index (trees_of others))) (sym sound) ∙ ap (λ (qs : List Query). trees_damage index (trees_of qs)) (sym is)
-
 pub any_all : (s : Scored) (index : OpenIndexState) (all left : List Query) (old new : List (Option ℕ)) → IsAddingAny s index all left old new → left ≡ [] → Adds (λ (doc : ℕ). any_of (tree_scores s (trees_of all) doc)) old new
 any_all s index all left old new a none = record {
   many = a.many;

@@ -28,6 +28,7 @@ use Rattle.ii_layout.specs.Written.{block_of}
 use Rattle.ii_layout.specs.TermList.{list_of, positions_if}
 use Rattle.ii_layout.proofs.BlockDocs.{get_or-block_of}
 use Rattle.ii_check.specs.declared.freq_reading_option.FreqReadingOption.{FreqReadingOption}
+use Rattle.ii_check.specs.CheckedPositions.{PositionCounts}
 use Rattle.ii_check.specs.CheckedPostings.{CheckedPostingsState, HasDocuments, IsAtBlock, SeeksFreq, excludes, is_passed, is_read}
 use Rattle.ii_check.specs.DecodedBlocks.{DecodesAllowed, DecodesLater}
 use Rattle.ii_check.proofs.DecodedBlocksLaws.{allowed_all, allowed_last, allowed_none, allowed_on}
@@ -452,10 +453,10 @@ looking_on target least from old_place place old now next l all goes later lands
     }
 
 -- what a cursor over entries did
-pub went_with_freq : (least : ℕ) (old new : BlockSegmentPostingsState) (rest rest' : List Entry) (decodes : ℕ) → LooksFor least old new
-    → WentLazily (record { rest = rest; doc_freq = length old.docs; freq_reading = old.freq_reading; bounds = trusted old.freq_reading old.bounds; block = old.block; doc_blocks = old.doc_blocks; freq_blocks = old.freq_blocks; doc_decodes = old.doc_decodes; freq_decodes = old.freq_decodes; entries_read = old.entries_read; position_decodes = decodes; checked = old.checked })
-    (record { rest = rest'; doc_freq = length new.docs; freq_reading = new.freq_reading; bounds = trusted new.freq_reading new.bounds; block = new.block; doc_blocks = new.doc_blocks; freq_blocks = new.freq_blocks; doc_decodes = new.doc_decodes; freq_decodes = new.freq_decodes; entries_read = new.entries_read; position_decodes = decodes; checked = new.checked })
-went_with_freq least old new rest rest' decodes l =
+pub went_with_freq : (least : ℕ) (old new : BlockSegmentPostingsState) (rest rest' : List Entry) (decodes : ℕ) (counts : PositionCounts) → LooksFor least old new
+    → WentLazily (record { rest = rest; doc_freq = length old.docs; freq_reading = old.freq_reading; bounds = trusted old.freq_reading old.bounds; block = old.block; doc_blocks = old.doc_blocks; freq_blocks = old.freq_blocks; doc_decodes = old.doc_decodes; freq_decodes = old.freq_decodes; entries_read = old.entries_read; position_decodes = decodes; checked = old.checked; positions_checked = counts })
+    (record { rest = rest'; doc_freq = length new.docs; freq_reading = new.freq_reading; bounds = trusted new.freq_reading new.bounds; block = new.block; doc_blocks = new.doc_blocks; freq_blocks = new.freq_blocks; doc_decodes = new.doc_decodes; freq_decodes = new.freq_decodes; entries_read = new.entries_read; position_decodes = decodes; checked = new.checked; positions_checked = counts })
+went_with_freq least old new rest rest' decodes counts l =
     let few = few_blocks least old.block new.block old.bounds in
     let forward = l.forward in
     let docs = l.doc_decodes in
@@ -465,6 +466,7 @@ went_with_freq least old new rest rest' decodes l =
       freq_reading = l.freq_reading;
       bounds = λ j. trusted (l.freq_reading j) (l.bounds j);
       checked = l.checked;
+      positions_checked = refl;
       forward = forward;
       doc_blocks = l.doc_blocks.later;
       freq_blocks = l.freq_blocks.later;

@@ -5,6 +5,7 @@ use Rattle.ii_base.specs.Options.{downgrade, has_positions}
 use Rattle.ii_layout.specs.PositionReader.{PositionReaderState}
 use Rattle.ii_layout.specs.TermList.{list_of}
 use Rattle.ii_check.specs.declared.validation.Validation.{Validation}
+use Rattle.ii_check.specs.CheckedPositions.{PositionCounts}
 use Rattle.ii_check.specs.Positions.{deltas_read}
 use Rattle.ii_reader.specs.BlockSegmentPostings.{BlockSegmentPostingsState, first_decodes}
 use Rattle.ii_reader.specs.SegmentPostings.{FitCursor, OpensList, OpensParts, postings_from}
@@ -14,9 +15,9 @@ use Rattle.ii_reader.proofs.PositionLemmas.{fits_found, list_opened}
 
 module _ (validation : Validation) (recorded requested : IndexRecordOption) (doc_freq : ℕ) (postings : List ℕ) (positions : Option (List ℕ)) where
   -- both parts give the list
-  pub opens_list : (cursor : BlockSegmentPostingsState) (reader : Option PositionReaderState) (place : ℕ) → place ≡ 128 * cursor.block → OpensParts validation recorded requested doc_freq postings positions cursor reader
-      → OpensList validation recorded requested doc_freq postings positions (postings_from place cursor reader)
-  opens_list cursor reader place at parts =
+  pub opens_list : (cursor : BlockSegmentPostingsState) (reader : Option PositionReaderState) (counts : PositionCounts) (place : ℕ) → place ≡ 128 * cursor.block → OpensParts validation recorded requested doc_freq postings positions cursor reader counts
+      → OpensList validation recorded requested doc_freq postings positions (postings_from place cursor reader counts)
+  opens_list cursor reader counts place at parts =
       let docs = parts.docs in
       let zero_more : 128 * cursor.block + 0 ≡ place = omega (arith, at) in
       let listed = list_opened recorded requested doc_freq cursor.block postings cursor.docs cursor.freqs positions (deltas_read reader) docs.docs parts.deltas docs.first in
@@ -40,6 +41,7 @@ module _ (validation : Validation) (recorded requested : IndexRecordOption) (doc
         entries_read = omega arith;
         position_decodes = omega arith;
         checked = docs.checked;
+        positions_checked = parts.checked;
       }
     where
       by_freqs : (o : Option (List ℕ)) (n : ℕ) → n ≡ first_decodes o doc_freq → n ≤ 1
@@ -47,7 +49,7 @@ module _ (validation : Validation) (recorded requested : IndexRecordOption) (doc
       by_freqs (Some freqs) n e = omega arith
 
   -- the deltas fit the documents
-  pub parts_fit : (cursor : BlockSegmentPostingsState) (reader : Option PositionReaderState) → OpensParts validation recorded requested doc_freq postings positions cursor reader → FitCursor cursor (deltas_read reader)
-  parts_fit cursor reader parts =
+  pub parts_fit : (cursor : BlockSegmentPostingsState) (reader : Option PositionReaderState) (counts : PositionCounts) → OpensParts validation recorded requested doc_freq postings positions cursor reader counts → FitCursor cursor (deltas_read reader)
+  parts_fit cursor reader counts parts =
       let docs = parts.docs in
       fits_found cursor positions (deltas_read reader) (has_positions (downgrade cursor.recorded cursor.requested)) refl (rw (docs.recorded_is, docs.requested_is) parts.deltas)

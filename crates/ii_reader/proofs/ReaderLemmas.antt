@@ -150,6 +150,7 @@ opens_term validation reader requested info cursor lie opened =
       entries_read = opened.entries_read;
       position_decodes = opened.position_decodes;
       checked = opened.checked;
+      positions_checked = opened.positions_checked;
     }
 
 pub list_is : (reader : InvertedIndexReaderState) (field : ℕ) (key : List ℕ) (requested : IndexRecordOption) (ts : List IndexToken) (info : TermInfo) (rest : List Entry)

@@ -16,6 +16,7 @@ use Rattle.ii_termdict.specs.Dictionary.{info_under}
 use Rattle.ii_check.specs.declared.validation.Validation.{Validation}
 use Rattle.ii_check.specs.declared.validation.Validation.TheVariants.{Complete, Skipped}
 use Rattle.ii_check.specs.CheckedBlocks.{counts_checked}
+use Rattle.ii_check.specs.CheckedPositions.{ChecksPositions, no_position_blocks}
 use Rattle.ii_check.specs.DecodedBlocks.{logged}
 use Rattle.ii_check.specs.FreqReading.{freq_reading}
 use Rattle.ii_definitions.specs.Tokens.{IndexToken}
@@ -108,6 +109,7 @@ pub record OpensTerm (validation : Validation) (reader : InvertedIndexReaderStat
   pub entries_read : cursor.entries_read ≤ 1
   pub position_decodes : cursor.position_decodes ≤ 1
   pub checked : cursor.checked ≡ counts_checked validation cursor.freq_reading info.doc_freq
+  pub positions_checked : ChecksPositions validation info.doc_freq (given_if (reads_positions reader requested) (bytes_in reader.positions info.positions_range)) no_position_blocks cursor.positions_checked
 
 -- A block cursor was opened at the first block of a term's documents. Besides validation, it decoded no other.
 pub record OpensBlocks (validation : Validation) (postings : List ℕ) (recorded requested : IndexRecordOption) (info : TermInfo) (cursor : BlockSegmentPostingsState) : Type 0 where

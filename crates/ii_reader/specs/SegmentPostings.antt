@@ -10,6 +10,7 @@ use Rattle.ii_layout.specs.TermList.{deltas_if, list_of, term_list}
 use Rattle.ii_base.specs.declared.schema.index_record_option.IndexRecordOption.{IndexRecordOption}
 use Rattle.ii_check.specs.declared.validation.Validation.{Validation}
 use Rattle.ii_check.specs.CheckedBlocks.{BlockCounts, counts_checked, no_blocks}
+use Rattle.ii_check.specs.CheckedPositions.{ChecksPositions, PositionCounts, no_position_blocks}
 use Rattle.ii_check.specs.DecodedBlocks.{AreDecoded, DecodesLast, DecodesLater, logged}
 use Rattle.ii_check.specs.FreqReading.{freq_reading, reading_of_none}
 use Rattle.ii_check.specs.Positions.{deltas_read}
@@ -17,7 +18,7 @@ use Rattle.ii_check.specs.declared.freq_reading_option.FreqReadingOption.{FreqRe
 use Rattle.ii_reader.specs.Bounds.{bounds_trusted, trusted}
 use Rattle.ii_reader.specs.BlockSegmentPostings.{BlockSegmentPostingsState, OpensDocs, first_freqs}
 
--- a cursor: remaining documents, `doc_freq`, validated bounds, current block, which blocks it decoded, how often it decoded and read, and what was decoded to validate the list
+-- a cursor: remaining documents, `doc_freq`, validated bounds, current block, which blocks it decoded, how often it decoded and read, and what was decoded to validate the list and its positions
 pub record SegmentPostingsState : Type 0 where
   pub rest : List Entry
   pub doc_freq : ℕ
@@ -31,19 +32,20 @@ pub record SegmentPostingsState : Type 0 where
   pub entries_read : ℕ
   pub position_decodes : ℕ
   pub checked : BlockCounts
+  pub positions_checked : PositionCounts
 
 -- a cursor over no documents, by the recorded and the requested option
 abbrev pub postings_of_none : IndexRecordOption → IndexRecordOption → SegmentPostingsState
-postings_of_none recorded requested = record { rest = []; doc_freq = 0; freq_reading = reading_of_none recorded requested; bounds = []; block = 0; doc_blocks = []; freq_blocks = []; doc_decodes = 0; freq_decodes = 0; entries_read = 0; position_decodes = 0; checked = no_blocks }
+postings_of_none recorded requested = record { rest = []; doc_freq = 0; freq_reading = reading_of_none recorded requested; bounds = []; block = 0; doc_blocks = []; freq_blocks = []; doc_decodes = 0; freq_decodes = 0; entries_read = 0; position_decodes = 0; checked = no_blocks; positions_checked = no_position_blocks }
 
 -- how often positions were decoded
 abbrev pub decodes_read : Option PositionReaderState → ℕ
 decodes_read None = 0
 decodes_read (Some reader) = reader.decodes
 
--- the cursor over the documents of a block cursor from a place on, with the positions of a reader
-abbrev pub postings_from : ℕ → BlockSegmentPostingsState → Option PositionReaderState → SegmentPostingsState
-postings_from place cursor reader = record { rest = drop place (list_of cursor.docs cursor.freqs (deltas_read reader)); doc_freq = length cursor.docs; freq_reading = cursor.freq_reading; bounds = trusted cursor.freq_reading cursor.bounds; block = cursor.block; doc_blocks = cursor.doc_blocks; freq_blocks = cursor.freq_blocks; doc_decodes = cursor.doc_decodes; freq_decodes = cursor.freq_decodes; entries_read = cursor.entries_read; position_decodes = decodes_read reader; checked = cursor.checked }
+-- the cursor over the documents of a block cursor from a place on, with the positions of a reader and what was decoded to validate these
+abbrev pub postings_from : ℕ → BlockSegmentPostingsState → Option PositionReaderState → PositionCounts → SegmentPostingsState
+postings_from place cursor reader counts = record { rest = drop place (list_of cursor.docs cursor.freqs (deltas_read reader)); doc_freq = length cursor.docs; freq_reading = cursor.freq_reading; bounds = trusted cursor.freq_reading cursor.bounds; block = cursor.block; doc_blocks = cursor.doc_blocks; freq_blocks = cursor.freq_blocks; doc_decodes = cursor.doc_decodes; freq_decodes = cursor.freq_decodes; entries_read = cursor.entries_read; position_decodes = decodes_read reader; checked = cursor.checked; positions_checked = counts }
 
 -- A cursor was opened at the first document of a list, given by its bytes. Besides validation, it decoded no block but the first.
 pub record OpensList (validation : Validation) (recorded requested : IndexRecordOption) (doc_freq : ℕ) (postings : List ℕ) (positions : Option (List ℕ)) (cursor : SegmentPostingsState) : Type 0 where
@@ -60,6 +62,7 @@ pub record OpensList (validation : Validation) (recorded requested : IndexRecord
   pub entries_read : cursor.entries_read ≤ 1
   pub position_decodes : cursor.position_decodes ≤ 1
   pub checked : cursor.checked ≡ counts_checked validation cursor.freq_reading doc_freq
+  pub positions_checked : ChecksPositions validation doc_freq positions no_position_blocks cursor.positions_checked
 
 -- Deltas are the positions of documents with these frequencies: matching in number, and of 32 bits each.
 pub record HasDeltas (freqs deltas : List ℕ) : Type 0 where
@@ -78,10 +81,11 @@ FitCursor cursor None = ⊤
 FitCursor cursor (Some deltas) = (has_positions (downgrade cursor.recorded cursor.requested) ≡ true) × AreGivenDeltas cursor.freqs (Some deltas)
 
 -- A block cursor and a reader of positions were opened over a list, given by its bytes.
-pub record OpensParts (validation : Validation) (recorded requested : IndexRecordOption) (doc_freq : ℕ) (postings : List ℕ) (positions : Option (List ℕ)) (cursor : BlockSegmentPostingsState) (reader : Option PositionReaderState) : Type 0 where
+pub record OpensParts (validation : Validation) (recorded requested : IndexRecordOption) (doc_freq : ℕ) (postings : List ℕ) (positions : Option (List ℕ)) (cursor : BlockSegmentPostingsState) (reader : Option PositionReaderState) (counts : PositionCounts) : Type 0 where
   pub docs : OpensDocs validation recorded requested doc_freq postings cursor
   pub deltas : deltas_if (has_positions (downgrade recorded requested)) cursor.freqs positions ≡ Some (deltas_read reader)
   pub decodes : decodes_read reader ≤ 1
+  pub checked : ChecksPositions validation doc_freq positions no_position_blocks counts
 
 -- The cursor moved forward. It decoded only later blocks, up to the new one, each at most once, and no positions.
 pub record WentLazily (old new : SegmentPostingsState) : Type 0 where
@@ -89,6 +93,7 @@ pub record WentLazily (old new : SegmentPostingsState) : Type 0 where
   pub freq_reading : new.freq_reading ≡ old.freq_reading
   pub bounds : new.bounds ≡ old.bounds
   pub checked : new.checked ≡ old.checked
+  pub positions_checked : new.positions_checked ≡ old.positions_checked
   pub forward : old.block ≤ new.block
   pub doc_blocks : DecodesLater old.block new.block old.doc_blocks new.doc_blocks
   pub freq_blocks : DecodesLater old.block new.block old.freq_blocks new.freq_blocks
@@ -102,6 +107,7 @@ pub record SpentLazily (asked counts : ℕ) (old new : SegmentPostingsState) : T
   pub freq_reading : new.freq_reading ≡ old.freq_reading
   pub bounds : new.bounds ≡ old.bounds
   pub checked : new.checked ≡ old.checked
+  pub positions_checked : new.positions_checked ≡ old.positions_checked
   pub forward : old.block ≤ new.block
   pub doc_blocks : DecodesLater old.block new.block old.doc_blocks new.doc_blocks
   pub freq_blocks : DecodesLater old.block new.block old.freq_blocks new.freq_blocks

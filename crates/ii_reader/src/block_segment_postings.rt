@@ -6,6 +6,7 @@ ghost use Rattle.ii_base.specs.Options.{downgrade, has_positions};
 ghost use Rattle.ii_layout.specs.TermList.{deltas_if, docs_and_freqs};
 ghost use Rattle.ii_layout.specs.Written.{block_of};
 ghost use Rattle.ii_layout.specs.Frequencies.{bounds_counts};
+ghost use Rattle.ii_check.specs.CheckedPositions.{ChecksPositions};
 ghost use Rattle.ii_check.specs.CheckedPostings.{SeeksBlock, excludes, is_read};
 ghost use Rattle.ii_check.specs.FreqReading.{freq_reading};
 ghost use Rattle.ii_check.specs.Positions.{deltas_read};
@@ -16,7 +17,8 @@ ghost use Rattle.ii_reader.specs.SegmentPostings.{decodes_read};
 use bytes::Bytes;
 use ii_base::{Fault, IndexRecordOption, LayoutFault, Part};
 use ii_check::{
-    CheckedBlocks, CheckedPostings, DecodedBlocks, FreqReadingOption, NO_FREQ, Validation,
+    CheckedBlocks, CheckedPositions, CheckedPostings, DecodedBlocks, FreqReadingOption, NO_FREQ,
+    Validation,
 };
 use ii_codes::{BlockDecoder, COMPRESSION_BLOCK_SIZE};
 use ii_docset::{DocId, TERMINATED};
@@ -347,11 +349,13 @@ impl BlockSegmentPostings {
         &self,
         bytes: Option<Bytes>,
         validation: Validation,
+        checked_positions: &mut CheckedPositions,
     ) -> Result<Option<PositionReader>, LayoutFault>
         requires { validation ≡ Validation.Skipped → IsSome (deltas_if (has_positions (downgrade self.now.recorded self.now.requested)) self.now.freqs bytes) }
         ensures ok { IfOk result (λ opened. deltas_if (has_positions (downgrade self.now.recorded self.now.requested)) self.now.freqs bytes
             ≡ Some (deltas_read opened)) }
         ensures decodes { IfOk result (λ opened. decodes_read opened ≤ 1) }
+        ensures checked { OnOk result (ChecksPositions validation (length self.now.docs) bytes checked_positions.old checked_positions.new) }
         ensures refused { OnErr result (deltas_if (has_positions (downgrade self.now.recorded self.now.requested)) self.now.freqs bytes ≡ None) }
         ensures err { IfErr result (λ fault. fault ≡ LayoutFault.Damaged Part.Positions) }
     {
@@ -359,11 +363,14 @@ impl BlockSegmentPostings {
             let freqs = self.freq_decoder.output_array();
             if freqs.len() < COMPRESSION_BLOCK_SIZE {
                 if freqs.len() == self.checked.doc_freq() as usize {
-                    return self.checked.open_counted_positions(bytes, freqs);
+                    return self
+                        .checked
+                        .open_counted_positions(bytes, freqs, checked_positions);
                 }
             }
         }
-        self.checked.open_positions(bytes, validation)
+        self.checked
+            .open_positions(bytes, validation, checked_positions)
     }
 
     /// Moves to the first block, from the current one on, whose last document is at least `target`, or else

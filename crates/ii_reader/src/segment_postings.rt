@@ -8,6 +8,7 @@ ghost use Rattle.ii_docset.specs.Cursor.{doc_at, from_doc, position_before, posi
 ghost use Rattle.ii_base.specs.Options.{downgrade, has_positions};
 ghost use Rattle.ii_layout.specs.TermList.{deltas_if, list_of, term_list};
 ghost use Rattle.ii_check.specs.CheckedBlocks.{no_blocks};
+ghost use Rattle.ii_check.specs.CheckedPositions.{ChecksPositions, no_position_blocks};
 ghost use Rattle.ii_check.specs.DecodedBlocks.{DecodesAllowed};
 ghost use Rattle.ii_check.specs.CheckedPostings.{is_read};
 ghost use Rattle.ii_check.specs.Positions.{deltas_read};
@@ -18,7 +19,7 @@ ghost use Rattle.ii_reader.specs.SegmentPostings.{DecodesOnce, DecodesPositions,
 use super::block_segment_postings::BlockSegmentPostings;
 use bytes::Bytes;
 use ii_base::{AliveBitSet, Fault, HasLen, IndexRecordOption, LayoutFault, Part};
-use ii_check::{FreqReadingOption, Validation};
+use ii_check::{CheckedPositions, FreqReadingOption, Validation};
 use ii_codes::COMPRESSION_BLOCK_SIZE;
 use ii_docset::{DocId, DocSet, Postings, SeekOnce, TERMINATED};
 use ii_layout::PositionReader;
@@ -29,6 +30,7 @@ pub struct SegmentPostings {
     block_cursor: BlockSegmentPostings,
     cur: usize,
     position_reader: Option<PositionReader>,
+    checked_positions: CheckedPositions,
 }
 
 // A drop has to be a call.
@@ -38,6 +40,7 @@ impl Drop for SegmentPostings {
             block_cursor: _,
             cur: _,
             position_reader: _,
+            checked_positions: _,
         } = self;
     }
 }
@@ -66,6 +69,7 @@ impl Model for SegmentPostings {
       entries_read = s.block_cursor.entries_read;
       position_decodes = decodes_read s.position_reader;
       checked = s.block_cursor.checked;
+      positions_checked = s.checked_positions;
     } };
 
     ghost invariant = { λ s. (s.cur < 128)
@@ -80,9 +84,11 @@ impl SegmentPostings {
     /// requested option, and opens a cursor over it. Returns the first corrupt part.
     ///
     /// Validates all documents, then all term frequencies if they are read, and then all positions. Each block
-    /// of documents and of term frequencies is decoded once for that, before the positions. Positions are
-    /// ignored unless both options have them, term frequencies are read, and bytes of positions are
-    /// given. Ignores the bytes after the list. Never allocates.
+    /// of documents and of term frequencies is decoded once for the former. The positions need each of their
+    /// blocks once more, and the last block of documents and of term frequencies; if the sum of all deltas
+    /// exceeds 32 bits, all of these blocks again. Positions are ignored unless both options have them, term
+    /// frequencies are read, and bytes of positions are given. Ignores the bytes after the list. Never
+    /// allocates.
     pub fn open(
         doc_freq: u32,
         postings: Bytes,
@@ -95,9 +101,11 @@ impl SegmentPostings {
     {
         let mut block_cursor = BlockSegmentPostings::empty_by(record_option, requested_option);
         let mut position_reader = None;
+        let mut checked_positions = CheckedPositions::none();
         if let Err(fault) = fill(
             &mut block_cursor,
             &mut position_reader,
+            &mut checked_positions,
             doc_freq,
             postings,
             positions,
@@ -105,7 +113,7 @@ impl SegmentPostings {
         ) {
             return Err(fault);
         }
-        Ok(SegmentPostings::from_block_postings(block_cursor, position_reader))
+        Ok(SegmentPostings::from_parts(block_cursor, position_reader, checked_positions))
     }
 
     /// Opens a cursor over known postings and positions, by the recorded and the requested option. `postings`
@@ -125,9 +133,11 @@ impl SegmentPostings {
     {
         let mut block_cursor = BlockSegmentPostings::empty_by(record_option, requested_option);
         let mut position_reader = None;
+        let mut checked_positions = CheckedPositions::none();
         let Ok(()) = fill(
             &mut block_cursor,
             &mut position_reader,
+            &mut checked_positions,
             doc_freq,
             postings,
             positions,
@@ -135,7 +145,7 @@ impl SegmentPostings {
         ) else {
             unreachable!()
         };
-        SegmentPostings::from_block_postings(block_cursor, position_reader)
+        SegmentPostings::from_parts(block_cursor, position_reader, checked_positions)
     }
 
     /// Replaces the list, as `open` does with the same arguments: by the list of `doc_freq` documents at the
@@ -155,10 +165,12 @@ impl SegmentPostings {
     {
         self.cur = 0;
         self.position_reader = None;
+        self.checked_positions = CheckedPositions::none();
         self.block_cursor.clear_by(record_option, requested_option);
         fill(
             &mut self.block_cursor,
             &mut self.position_reader,
+            &mut self.checked_positions,
             doc_freq,
             postings,
             positions,
@@ -176,12 +188,13 @@ impl SegmentPostings {
     {
         self.cur = 0;
         self.position_reader = None;
+        self.checked_positions = CheckedPositions::none();
         self.block_cursor.clear_by(record_option, requested_option);
     }
 
     /// Opens a cursor over no documents.
     pub fn empty() -> SegmentPostings
-        ensures { result ≡ record { rest = []; doc_freq = 0; freq_reading = FreqReadingOption.NoFreq; bounds = []; block = 0; doc_blocks = []; freq_blocks = []; doc_decodes = 0; freq_decodes = 0; entries_read = 0; position_decodes = 0; checked = no_blocks } }
+        ensures { result ≡ record { rest = []; doc_freq = 0; freq_reading = FreqReadingOption.NoFreq; bounds = []; block = 0; doc_blocks = []; freq_blocks = []; doc_decodes = 0; freq_decodes = 0; entries_read = 0; position_decodes = 0; checked = no_blocks; positions_checked = no_position_blocks } }
     {
         SegmentPostings::from_block_postings(BlockSegmentPostings::empty(), None)
     }
@@ -196,15 +209,33 @@ impl SegmentPostings {
         position_reader: Option<PositionReader>,
     ) -> SegmentPostings
         requires { FitCursor segment_block_postings (deltas_read position_reader) }
-        ensures { result ≡ postings_from (128 * segment_block_postings.block) segment_block_postings position_reader }
+        ensures { result ≡ postings_from (128 * segment_block_postings.block) segment_block_postings position_reader no_position_blocks }
+    {
+        SegmentPostings::from_parts(
+            segment_block_postings,
+            position_reader,
+            CheckedPositions::none(),
+        )
+    }
+
+    // Opens a cursor as `from_block_postings` does, given what was decoded to validate the positions.
+    #[inline(always)]
+    fn from_parts(
+        block_cursor: BlockSegmentPostings,
+        position_reader: Option<PositionReader>,
+        checked_positions: CheckedPositions,
+    ) -> SegmentPostings
+        requires { FitCursor block_cursor (deltas_read position_reader) }
+        ensures { result ≡ postings_from (128 * block_cursor.block) block_cursor position_reader checked_positions }
     {
         // What the cursor gives about its list and its block.
-        let _docs = segment_block_postings.docs();
-        let _reading = segment_block_postings.freq_reading_option();
+        let _docs = block_cursor.docs();
+        let _reading = block_cursor.freq_reading_option();
         SegmentPostings {
-            block_cursor: segment_block_postings,
+            block_cursor,
             cur: 0,
             position_reader,
+            checked_positions,
         }
     }
 
@@ -223,6 +254,7 @@ impl SegmentPostings {
             block_cursor,
             cur: self.cur,
             position_reader,
+            checked_positions: self.checked_positions.same(),
         })
     }
 
@@ -461,6 +493,7 @@ impl Postings for SegmentPostings {
 fn fill(
     block_cursor: &mut BlockSegmentPostings,
     position_reader: &mut Option<PositionReader>,
+    checked_positions: &mut CheckedPositions,
     doc_freq: u32,
     postings: Bytes,
     positions: Option<Bytes>,
@@ -468,10 +501,11 @@ fn fill(
 ) -> Result<(), LayoutFault>
     requires none { block_cursor.old ≡ cursor_of_none block_cursor.old.recorded block_cursor.old.requested }
     requires no_reader { position_reader.old ≡ None }
+    requires unchecked { checked_positions.old ≡ no_position_blocks }
     requires known { validation ≡ Validation.Skipped → IsOk (term_list block_cursor.old.recorded block_cursor.old.requested doc_freq postings positions) }
-    ensures opened { OnOk result (OpensParts validation block_cursor.old.recorded block_cursor.old.requested doc_freq postings positions block_cursor.new position_reader.new) }
+    ensures opened { OnOk result (OpensParts validation block_cursor.old.recorded block_cursor.old.requested doc_freq postings positions block_cursor.new position_reader.new checked_positions.new) }
     ensures err { IfErr result (λ fault. term_list block_cursor.old.recorded block_cursor.old.requested doc_freq postings positions ≡ Err (part_of fault)) }
-    ensures emptied { OnErr result ((block_cursor.new ≡ cursor_of_none block_cursor.old.recorded block_cursor.old.requested) × (position_reader.new ≡ None)) }
+    ensures emptied { OnErr result ((block_cursor.new ≡ cursor_of_none block_cursor.old.recorded block_cursor.old.requested) × (position_reader.new ≡ None) × (checked_positions.new ≡ no_position_blocks)) }
 {
     if let Err(fault) = block_cursor.fill(doc_freq, postings, validation) {
         return Err(fault);
@@ -479,32 +513,42 @@ fn fill(
     if positions.is_none() {
         return Ok(());
     }
-    fill_positions(block_cursor, position_reader, positions, validation)
+    fill_positions(
+        block_cursor,
+        position_reader,
+        checked_positions,
+        positions,
+        validation,
+    )
 }
 
 // Opens the positions of a block cursor's list, if they are read.
 fn fill_positions(
     block_cursor: &mut BlockSegmentPostings,
     position_reader: &mut Option<PositionReader>,
+    checked_positions: &mut CheckedPositions,
     positions: Option<Bytes>,
     validation: Validation,
 ) -> Result<(), LayoutFault>
     requires no_reader { position_reader.old ≡ None }
+    requires unchecked { checked_positions.old ≡ no_position_blocks }
     requires known { validation ≡ Validation.Skipped → IsSome (deltas_if (has_positions (downgrade block_cursor.old.recorded block_cursor.old.requested)) block_cursor.old.freqs positions) }
     ensures same { OnOk result (block_cursor.new ≡ block_cursor.old) }
     ensures deltas { OnOk result (deltas_if (has_positions (downgrade block_cursor.old.recorded block_cursor.old.requested)) block_cursor.old.freqs positions ≡ Some (deltas_read position_reader.new)) }
     ensures decodes { OnOk result (decodes_read position_reader.new ≤ 1) }
+    ensures checked { OnOk result (ChecksPositions validation (length block_cursor.old.docs) positions no_position_blocks checked_positions.new) }
     ensures refused { OnErr result (deltas_if (has_positions (downgrade block_cursor.old.recorded block_cursor.old.requested)) block_cursor.old.freqs positions ≡ None) }
     ensures err { IfErr result (λ fault. fault ≡ LayoutFault.Damaged Part.Positions) }
-    ensures emptied { OnErr result ((block_cursor.new ≡ cursor_of_none block_cursor.old.recorded block_cursor.old.requested) × (position_reader.new ≡ None)) }
+    ensures emptied { OnErr result ((block_cursor.new ≡ cursor_of_none block_cursor.old.recorded block_cursor.old.requested) × (position_reader.new ≡ None) × (checked_positions.new ≡ no_position_blocks)) }
 {
-    match block_cursor.open_positions(positions, validation) {
+    match block_cursor.open_positions(positions, validation, checked_positions) {
         Ok(opened) => {
             *position_reader = opened;
             Ok(())
         }
         Err(fault) => {
             block_cursor.clear();
+            *checked_positions = CheckedPositions::none();
             Err(fault)
         }
     }

@@ -7,8 +7,9 @@ use Rattle.ii_base.specs.declared.schema.value_type.ValueType.TheVariants as val
 use Rattle.ii_tokenizers.specs.declared.analyzer.Analyzer.TheVariants.{Ascii, Default, Raw, Whitespace}
 use Rattle.ii_tokenizers.specs.Tokenizers.{analyzer_named}
 use Rattle.ii_schema_text.specs.declared.faults.FieldKey.TheVariants as keys
+use Rattle.ii_schema_text.specs.declared.unknown_keys.UnknownKeys.TheVariants.{Ignore, Refuse}
 use Rattle.ii_schema_text.specs.Settings.{option_named, settings_in, type_named}
-use Rattle.ii_schema_text.specs.SchemaText.{default_in, entry_in, field_in, is_known_key, no_fields, other_unicode, stores_source_in, table_schema, tokenizer_in, unicode_in, unknown_field_key, unknown_field_tokenizer, unknown_key, unknown_tokenizer, wrong_key, wrong_store_source}
+use Rattle.ii_schema_text.specs.SchemaText.{default_in, entry_in, field_in, is_known_key, no_fields, other_unicode, stores_source_in, table_schema, tokenizer_in, unicode_in, unknown_field_key, unknown_field_tokenizer, unknown_key, unknown_keys_in, unknown_keys_named, unknown_tokenizer, wrong_key, wrong_store_source, wrong_unknown}
 
 -- a field of texts alone has positions and norms
 text_field : table_schema (member (codes "field") (array (item (table (member (codes "name") (string (codes "a")) (member (codes "type") (string (codes "text")) no_members))) no_items)) no_members)
@@ -23,6 +24,7 @@ text_field : table_schema (member (codes "field") (array (item (table (member (c
       } ∷ [];
       tokenizers = Ascii ∷ [];
       stores_source = false;
+      unknown_keys = Refuse;
     })
 unfolding table_schema field_in entry_in settings_in type_named option_named is_known_key
 text_field = refl
@@ -87,6 +89,7 @@ stored_field : table_schema (member (codes "field") (array (item (table (member 
       } ∷ [];
       tokenizers = Ascii ∷ [];
       stores_source = true;
+      unknown_keys = Refuse;
     })
 unfolding table_schema field_in entry_in settings_in type_named option_named is_known_key
 stored_field = refl
@@ -95,6 +98,43 @@ stored_field = refl
 stored_first : table_schema (member (codes "store_source") (integer (pos 1)) no_members) ≡ Err wrong_store_source
 unfolding table_schema is_known_key
 stored_first = refl
+
+-- unknown keys are refused unless the text says otherwise
+refused : unknown_keys_in None ≡ Ok Refuse
+refused = refl
+
+refused_too : unknown_keys_in (Some (string (codes "refuse"))) ≡ Ok Refuse
+unfolding unknown_keys_named
+refused_too = refl
+
+ignored : unknown_keys_in (Some (string (codes "ignore"))) ≡ Ok Ignore
+unfolding unknown_keys_named
+ignored = refl
+
+ignored_as_a_boolean : unknown_keys_in (Some (boolean true)) ≡ Err wrong_unknown
+ignored_as_a_boolean = refl
+
+kept : unknown_keys_in (Some (string (codes "keep"))) ≡ Err wrong_unknown
+unfolding unknown_keys_named
+kept = refl
+
+-- a text that ignores unknown keys
+ignoring_field : table_schema (member (codes "field") (array (item (table (member (codes "name") (string (codes "a")) (member (codes "type") (string (codes "bool")) no_members))) no_items)) (member (codes "unknown") (string (codes "ignore")) no_members))
+    ≡ Ok (record {
+      schema = record {
+        name = codes "a";
+        value_type = values.Bool;
+        option = Basic;
+        is_indexed = true;
+        has_fieldnorms = false;
+        expands_dots = false;
+      } ∷ [];
+      tokenizers = Ascii ∷ [];
+      stores_source = false;
+      unknown_keys = Ignore;
+    })
+unfolding table_schema field_in entry_in settings_in type_named option_named is_known_key unknown_keys_named
+ignoring_field = refl
 
 -- a field's own tokenizer, that of the text, and that of a text that names none
 own : tokenizer_in 3 Default true (Some (string (codes "raw"))) ≡ Ok Raw

@@ -19,14 +19,17 @@ use Rattle.ii_schema_text.specs.declared.field_type.FieldType.TheVariants as typ
 use Rattle.ii_schema_text.specs.declared.keys.KnownKeys.{KnownKeys}
 use Rattle.ii_schema_text.specs.declared.keys.KnownKeys.TheVariants.{OfText, OfField}
 use Rattle.ii_schema_text.specs.declared.settings.Settings.{Settings}
+use Rattle.ii_schema_text.specs.declared.unknown_keys.UnknownKeys.{UnknownKeys}
+use Rattle.ii_schema_text.specs.declared.unknown_keys.UnknownKeys.TheVariants.{Ignore, Refuse}
 use Rattle.ii_schema_text.specs.Settings.{has_texts, is_json_type, named, settings_in}
 use Rattle.ii_schema_text.specs.Steps.{◌>>=◌}
 
--- A schema, the tokenizer of each of its fields, and whether the lines of documents are stored.
+-- A schema, the tokenizer of each of its fields, whether the lines of documents are stored, and what happens to their unknown keys.
 pub record TextSchemaState : Type 0 where
   pub schema : List SchemaEntry
   pub tokenizers : List Analyzer
   pub stores_source : Bool
+  pub unknown_keys : UnknownKeys
 
 -- Why a text is not a valid schema.
 pub data Refusal : Type 0 where
@@ -35,6 +38,7 @@ pub data Refusal : Type 0 where
   wrong_tokenizer : Refusal
   unknown_tokenizer : List ℕ → Refusal
   wrong_store_source : Refusal
+  wrong_unknown : Refusal
   no_fields : Refusal
   too_many_fields : Refusal
   unknown_field_key : ℕ → List ℕ → Refusal
@@ -51,6 +55,7 @@ told_of_text (faults.UnknownKey key) = Some (unknown_key (string_bytes key))
 told_of_text faults.WrongTokenizer = Some wrong_tokenizer
 told_of_text (faults.UnknownTokenizer name) = Some (unknown_tokenizer (string_bytes name))
 told_of_text faults.WrongStoreSource = Some wrong_store_source
+told_of_text faults.WrongUnknown = Some wrong_unknown
 told_of_text faults.NoFields = Some no_fields
 told_of_text faults.TooManyFields = Some too_many_fields
 told_of_text (faults.UnknownFieldKey place key) = Some (unknown_field_key place (string_bytes key))
@@ -71,7 +76,7 @@ AnswersFromText view (Err e) wanted = TellsOfText (told_of_text e) wanted
 
 -- whether a key is allowed in the text, or in a field's table
 unfoldable pub is_known_key : KnownKeys → List ℕ → Bool
-is_known_key OfText key = bytes_eq key (codes "field") || (bytes_eq key (codes "tokenizer") || (bytes_eq key (codes "unicode") || bytes_eq key (codes "store_source")))
+is_known_key OfText key = bytes_eq key (codes "field") || (bytes_eq key (codes "tokenizer") || (bytes_eq key (codes "unicode") || (bytes_eq key (codes "store_source") || bytes_eq key (codes "unknown"))))
 is_known_key OfField key =
     bytes_eq key (codes "name") || (bytes_eq key (codes "type") || (bytes_eq key (codes "indexed")
     || (bytes_eq key (codes "record") || (bytes_eq key (codes "fieldnorms") || (bytes_eq key (codes "expand_dots") || bytes_eq key (codes "tokenizer"))))))
@@ -176,9 +181,9 @@ abbrev pub fields_from : Analyzer → TextSchemaState → Items → Result TextS
 fields_from otherwise before no_items = Ok before
 fields_from otherwise before (item d ds) = field_in otherwise before d >>= λ s. fields_from otherwise s ds
 
--- no fields, of a text that stores lines or doesn't
-abbrev pub without_fields : Bool → TextSchemaState
-without_fields stores = record { schema = []; tokenizers = []; stores_source = stores }
+-- no fields, of a text that stores lines or doesn't, and says what happens to unknown keys
+abbrev pub without_fields : Bool → UnknownKeys → TextSchemaState
+without_fields stores unknown = record { schema = []; tokenizers = []; stores_source = stores; unknown_keys = unknown }
 
 -- fails if there are 2^32 fields or more
 abbrev pub few : TextSchemaState → Result TextSchemaState Refusal
@@ -204,6 +209,18 @@ abbrev pub stores_source_in : Option Data → Result Bool Refusal
 stores_source_in None = Ok false
 stores_source_in (Some d) = ok_or (as_bool d) wrong_store_source
 
+-- what a text names
+unfoldable pub unknown_keys_named : List ℕ → Option UnknownKeys
+unknown_keys_named name =
+    if bytes_eq name (codes "refuse") then Some Refuse
+    else if bytes_eq name (codes "ignore") then Some Ignore
+    else None
+
+-- what happens to unknown keys: what a text names, or documents with one are refused
+abbrev pub unknown_keys_in : Option Data → Result UnknownKeys Refusal
+unknown_keys_in None = Ok Refuse
+unknown_keys_in (Some d) = ok_or (named unknown_keys_named (as_str d)) wrong_unknown
+
 -- fails if a tokenizer follows another version of Unicode than this one
 abbrev pub same_unicode : List Analyzer → Option (List ℕ) → Result (Unit {0}) Refusal
 same_unicode tokenizers None = Err wrong_unicode
@@ -214,14 +231,15 @@ abbrev pub unicode_in : List Analyzer → Option Data → Result (Unit {0}) Refu
 unicode_in tokenizers None = Ok tt
 unicode_in tokenizers (Some d) = same_unicode tokenizers (as_str d)
 
--- the schema that a table describes, with its tokenizers, and whether lines are stored
+-- the schema that a table describes, with its tokenizers, whether lines are stored, and what happens to unknown keys
 unfoldable pub table_schema : Members → Result TextSchemaState Refusal
 table_schema ms = do
   _ ← knows_keys unknown_key (unknown_key_in OfText ms)
   otherwise ← default_in (get_member (codes "tokenizer") ms)
   stores ← stores_source_in (get_member (codes "store_source") ms)
+  unknown ← unknown_keys_in (get_member (codes "unknown") ms)
   fields ← ok_or (fields_in (get_member (codes "field") ms)) no_fields
-  read ← fields_from otherwise (without_fields stores) fields
+  read ← fields_from otherwise (without_fields stores unknown) fields
   s ← few read
   _ ← unicode_in s.tokenizers (get_member (codes "unicode") ms)
   Ok s
@@ -230,7 +248,7 @@ table_schema ms = do
 abbrev pub text_table : List ℕ → Result Members Refusal
 text_table text = ok_or (parse_document text) not_toml
 
--- the schema that a text describes, with its tokenizers, and whether lines are stored
+-- the schema that a text describes, with its tokenizers, whether lines are stored, and what happens to unknown keys
 unfoldable pub tokenized_schema : List ℕ → Result TextSchemaState Refusal
 tokenized_schema text = text_table text >>= table_schema
 

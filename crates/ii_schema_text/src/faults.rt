@@ -64,8 +64,8 @@ pub enum SchemaFault {
     /// The text isn't TOML.
     #[error("{0}")]
     NotToml(TomlError),
-    /// There is a key other than `field`, `tokenizer`, `unicode` and `store_source`.
-    #[error("unknown key {0}: a schema has tables [[field]], and the keys tokenizer, unicode and store_source")]
+    /// There is a key other than `field`, `tokenizer`, `unicode`, `store_source` and `unknown`.
+    #[error("unknown key {0}: a schema has tables [[field]], and the keys tokenizer, unicode, store_source and unknown")]
     UnknownKey(String),
     /// The key `tokenizer` of the schema is no text.
     #[error("tokenizer: one of default, raw, whitespace, ascii")]
@@ -76,6 +76,9 @@ pub enum SchemaFault {
     /// The key `store_source` is no boolean.
     #[error("store_source: true or false")]
     WrongStoreSource,
+    /// The key `unknown` is neither `refuse` nor `ignore`.
+    #[error("unknown: refuse or ignore")]
+    WrongUnknown,
     /// There is no table `[[field]]`.
     #[error("no table [[field]]")]
     NoFields,

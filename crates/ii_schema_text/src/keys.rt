@@ -53,7 +53,10 @@ fn is_text_key(key: &str) -> bool
     if key == "unicode" {
         return true;
     }
-    key == "store_source"
+    if key == "store_source" {
+        return true;
+    }
+    key == "unknown"
 }
 
 // Returns whether a key is allowed in a field's table.

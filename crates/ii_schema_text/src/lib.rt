@@ -9,8 +9,10 @@ pub mod schema_text;
 pub mod settings;
 pub mod text_schema;
 mod tokenizers;
+pub mod unknown_keys;
 
 pub use faults::{FieldKey, SchemaFault};
 pub use field_type::type_name;
 pub use schema_text::{field_name_at, new_schema_text, read_schema, read_text_schema};
 pub use text_schema::TextSchema;
+pub use unknown_keys::UnknownKeys;

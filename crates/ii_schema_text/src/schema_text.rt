@@ -9,12 +9,13 @@ use crate::faults::SchemaFault;
 use crate::keys::KnownKeys;
 use crate::text_schema::{ReadFields, TextSchema};
 use crate::tokenizers::{check_unicode, default_of};
+use crate::unknown_keys::{UnknownKeys, unknown_keys_of};
 use ii_base::Schema;
 use ii_tokenizers::Analyzer;
 use std::alloc::Global;
 use toml::{Table, Value};
 
-/// Reads a schema, its tokenizers, and whether lines are stored, from TOML: a table `[[field]]` for each field, in order, with these keys:
+/// Reads a schema, its tokenizers, whether lines are stored, and what happens to unknown keys, from TOML: a table `[[field]]` for each field, in order, with these keys:
 /// - `name`: a text that isn't empty and differs from the names before it,
 /// - `type`: `text`, `u64`, `i64`, `bool`, `bytes`, `ip_addr` or `json`,
 /// - `indexed`: whether it is indexed; the default is `true`,
@@ -27,13 +28,15 @@ use toml::{Table, Value};
 ///
 /// Before the tables, `tokenizer` names the tokenizer of fields that name none, `ascii` if it is missing;
 /// `unicode` names the version of Unicode that the words of an index follow; `store_source` says whether the lines
-/// of documents are stored, `false` if it is missing.
+/// of documents are stored, `false` if it is missing; `unknown` says whether a document with a key that is no field's
+/// name is refused (`refuse`, also if it is missing), or read without its member (`ignore`).
 ///
 /// # Errors
 ///
 /// The first fault: `NotToml`; `UnknownKey` for the first key, in byte order, that isn't one of the text;
-/// `WrongTokenizer` or `UnknownTokenizer`; `WrongStoreSource`; `NoFields`; then for each field `UnknownFieldKey`, or
-/// `WrongKey` for the first invalid key in the order of `FieldKey`, or `UnknownFieldTokenizer`; `TooManyFields`;
+/// `WrongTokenizer` or `UnknownTokenizer`; `WrongStoreSource`; `WrongUnknown`; `NoFields`; then for each field
+/// `UnknownFieldKey`, or `WrongKey` for the first invalid key in the order of `FieldKey`, or `UnknownFieldTokenizer`;
+/// `TooManyFields`;
 /// `WrongUnicode`, or `OtherUnicode` for another version than this program's if a tokenizer depends on it.
 /// `OutOfMemory` if allocation fails.
 #[tactic(auto, unfolding(crate::specs::SchemaText::tokenized_schema))]
@@ -128,10 +131,11 @@ fn schema_of(alloc: Global, table: &Table) -> Result<TextSchema, SchemaFault>
     }
     let default = default_of(alloc, member(table, "tokenizer"))?;
     let stores_source = stores_source_of(member(table, "store_source"))?;
+    let unknown_keys = unknown_keys_of(member(table, "unknown"))?;
     let Some(fields) = fields_of(table) else {
         return Err(SchemaFault::NoFields);
     };
-    let read = fields_from(alloc, default, stores_source, fields)?;
+    let read = fields_from(alloc, default, stores_source, unknown_keys, fields)?;
     let schema = read.into_schema()?;
     check_unicode(
         alloc,
@@ -176,11 +180,12 @@ fn fields_from(
     alloc: Global,
     default: Analyzer,
     stores_source: bool,
+    unknown_keys: UnknownKeys,
     fields: &Vec<Value>,
 ) -> Result<ReadFields, SchemaFault>
-    ensures { AnswersFromText (λ (s : TextSchemaState). s) result (fields_from default (without_fields stores_source) (items_view fields.now.items)) }
+    ensures { AnswersFromText (λ (s : TextSchemaState). s) result (fields_from default (without_fields stores_source unknown_keys) (items_view fields.now.items)) }
 {
-    let mut read = ReadFields::new(alloc, stores_source);
+    let mut read = ReadFields::new(alloc, stores_source, unknown_keys);
     for field in fields {
         read.read(alloc, default, field)?;
     }

@@ -6,19 +6,22 @@ ghost use Rattle.ii_schema_text.specs.SchemaText.{AnswersFromText, TextSchemaSta
 use crate::entry_table::entry_of;
 use crate::faults::SchemaFault;
 use crate::tokenizers::{takes_texts, tokenizer_of};
+use crate::unknown_keys::UnknownKeys;
 use ii_base::{FieldEntry, Schema};
 use ii_tokenizers::{Analyzer, FieldTokenizers};
 use std::alloc::Global;
 use std::marker::Model;
 use toml::Value;
 
-/// A schema, the tokenizer of each of its fields, and whether the lines of documents are stored.
+/// A schema, the tokenizer of each of its fields, whether the lines of documents are stored, and what happens to
+/// their unknown keys.
 ///
-/// Its model is the entries of the schema, the tokenizers, and that.
+/// Its model is the entries of the schema, the tokenizers, and these two.
 pub struct TextSchema {
     schema: Schema,
     tokenizers: FieldTokenizers,
     stores_source: bool,
+    unknown_keys: UnknownKeys,
 }
 
 // Makes each drop a call.
@@ -28,6 +31,7 @@ impl Drop for TextSchema {
             schema: _,
             tokenizers: _,
             stores_source: _,
+            unknown_keys: _,
         } = self;
     }
 }
@@ -37,7 +41,7 @@ impl Model for TextSchema {
 
     ghost Value = { TextSchemaState };
 
-    ghost view = { λ s. record { schema = s.schema; tokenizers = s.tokenizers; stores_source = s.stores_source } };
+    ghost view = { λ s. record { schema = s.schema; tokenizers = s.tokenizers; stores_source = s.stores_source; unknown_keys = s.unknown_keys } };
 }
 
 impl TextSchema {
@@ -62,6 +66,13 @@ impl TextSchema {
         self.stores_source
     }
 
+    /// Returns what happens to members of documents whose keys are no names of fields.
+    pub fn unknown_keys(&self) -> UnknownKeys
+        ensures { result ≡ self.now.unknown_keys }
+    {
+        self.unknown_keys
+    }
+
     /// Returns the schema and the tokenizers of its fields.
     pub fn into_parts(self) -> (Schema, FieldTokenizers)
         ensures schema { result.0 ≡ self.schema }
@@ -71,6 +82,7 @@ impl TextSchema {
             schema,
             tokenizers,
             stores_source: _,
+            unknown_keys: _,
         } = self;
         (schema, tokenizers)
     }
@@ -81,6 +93,7 @@ pub(crate) struct ReadFields {
     entries: Vec<FieldEntry>,
     tokenizers: FieldTokenizers,
     stores_source: bool,
+    unknown_keys: UnknownKeys,
 }
 
 // Makes each drop a call.
@@ -90,6 +103,7 @@ impl Drop for ReadFields {
             entries: _,
             tokenizers: _,
             stores_source: _,
+            unknown_keys: _,
         } = self;
     }
 }
@@ -99,18 +113,19 @@ impl Model for ReadFields {
 
     ghost Value = { TextSchemaState };
 
-    ghost view = { λ s. record { schema = s.entries.items; tokenizers = s.tokenizers; stores_source = s.stores_source } };
+    ghost view = { λ s. record { schema = s.entries.items; tokenizers = s.tokenizers; stores_source = s.stores_source; unknown_keys = s.unknown_keys } };
 }
 
 impl ReadFields {
-    // Creates an empty list, of a text that stores lines or doesn't.
-    pub(crate) fn new(alloc: Global, stores_source: bool) -> ReadFields
-        ensures { result ≡ without_fields stores_source }
+    // Creates an empty list, of a text that stores lines or doesn't, and says what happens to unknown keys.
+    pub(crate) fn new(alloc: Global, stores_source: bool, unknown_keys: UnknownKeys) -> ReadFields
+        ensures { result ≡ without_fields stores_source unknown_keys }
     {
         ReadFields {
             entries: Vec::new(alloc),
             tokenizers: FieldTokenizers::new(alloc),
             stores_source,
+            unknown_keys,
         }
     }
 
@@ -141,6 +156,7 @@ impl ReadFields {
             entries,
             tokenizers,
             stores_source,
+            unknown_keys,
         } = self;
         if entries.len() >= 1 << 32 {
             return Err(SchemaFault::TooManyFields);
@@ -149,6 +165,7 @@ impl ReadFields {
             schema: Schema::new(entries),
             tokenizers,
             stores_source,
+            unknown_keys,
         })
     }
 }

@@ -84,6 +84,11 @@ abbrev pub GivesFound : {T : Type 0} → Query → List Segment → Result (Chai
 GivesFound query ss (Ok cursor) = AreFound query ss (chained living_rest cursor.cursors cursor.current)
 GivesFound query ss (Err fault) = fault ≡ OutOfMemory
 
+-- A number is that of the documents that match, of an index of segments; a search fails only with OutOfMemory.
+abbrev pub GivesNumber : Query → List Segment → Result ℕ Fault → Type 0
+GivesNumber query ss (Ok n) = n ≡ length (filter (matches query (index_tokens ss)) (range_with_len 0 (num_docs_of ss)))
+GivesNumber query ss (Err fault) = fault ≡ OutOfMemory
+
 -- What a query says of all documents reaches each document.
 pub record Reaches (query : Query) (ss : List Segment) : Type 0 where
   pub limit : ℕ

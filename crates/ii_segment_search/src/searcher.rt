@@ -11,7 +11,7 @@ ghost use Rattle.ii_segments.specs.Segments.{Segment, living_entries};
 ghost use Rattle.ii_living_docs.specs.Chain.{chained};
 ghost use Rattle.ii_living_docs.specs.LivingDocs.{AreNumbered};
 ghost use Rattle.ii_segment_search.specs.SegmentSearch.{covers_docs};
-ghost use Rattle.ii_segment_search.specs.Searcher.{AddsFound, AreFew, FailsForMemory, GivesFound, HaveFields, MayAsk, Reaches, SegmentsHold, found_from, living_rest, total_living};
+ghost use Rattle.ii_segment_search.specs.Searcher.{AddsFound, AreFew, FailsForMemory, GivesFound, GivesNumber, HaveFields, MayAsk, Reaches, SegmentsHold, found_from, living_rest, total_living};
 
 use ii_alive::AliveBits;
 use ii_base::{DocId, Fault};
@@ -45,6 +45,20 @@ impl OpenSegment {
         ensures { result ≡ record { index = index; alive = alive } }
     {
         OpenSegment { index, alive }
+    }
+
+    /// Returns the index.
+    pub fn index(&self) -> &OpenIndex
+        ensures { result.now ≡ self.now.index }
+    {
+        &self.index
+    }
+
+    /// Returns which of the documents are alive.
+    pub fn alive(&self) -> &AliveBits
+        ensures { result.now ≡ self.now.alive }
+    {
+        &self.alive
     }
 }
 
@@ -80,6 +94,14 @@ impl Searcher {
             return None;
         }
         Some(Searcher { segments })
+    }
+
+    /// Returns the segments, in the order of their documents.
+    pub fn segments(&self) -> &[OpenSegment]
+        ensures same { result.now ≡ self.now }
+        ensures few { AreFew self.now }
+    {
+        self.segments.as_slice()
     }
 
     /// Returns the number of documents, deleted ones not counted.
@@ -118,6 +140,20 @@ impl Searcher {
             base += segment.alive.num_living();
         }
         Ok(Chain::new(cursors))
+    }
+
+    /// Returns how many living documents match a query. See `search` for the requirements and the errors.
+    pub fn count(&self, alloc: Global, query: &Query) -> Result<u32, Fault>
+        requires fields { HaveFields query.now self.now }
+        ensures listed { IfOk result (λ count. (es : List Entry) × (found_from query.now 0 self.now ≡ Ok es) × (count ≡ length es)) }
+        ensures refused { IfErr result (IsRefusal (found_from query.now 0 self.now)) }
+        // where the segments hold tokens
+        ensures holds { (entries : List SchemaEntry) (ss : List Segment) → SegmentsHold entries self.now ss → MayAsk entries query.now → Reaches query.now ss → GivesNumber query.now ss result }
+    {
+        match self.search(alloc, query) {
+            Ok(mut found) => Ok(found.count_including_deleted()),
+            Err(fault) => Err(fault),
+        }
     }
 }
 

@@ -1,5 +1,5 @@
 -- What an index holds, before and after a commit.
-use Rattle.std.proofs.Common.{◌≡◌, inl, inr, ⊎_elim, ℕ, zero, suc, ◌<◌, ◌≤◌, ◌==◌, ◌-◌, length, take, drop, bytes_eq, nat_lt, Bool, true, false, not, List, [], ◌∷◌, ◌++◌, Option, None, Some, Result, Ok, Err, refl, sym, ap, subst, ◌∙◌, arith, if◌then◌else◌}
+use Rattle.std.proofs.Common.{◌≡◌, inl, ⊎_elim, ℕ, zero, suc, ◌<◌, ◌≤◌, ◌==◌, ◌-◌, length, take, drop, bytes_eq, nat_lt, Bool, true, false, not, List, [], ◌∷◌, ◌++◌, Option, None, Some, Result, Ok, Err, refl, sym, ap, subst, ◌∙◌, arith, if◌then◌else◌}
 use Rattle.std.specs.Prelude.{IfSome, map, replicate}
 use Rattle.std.specs.List.{AllByRecursion, find, list_all}
 use Rattle.ii_alive.proofs.RankLemmas.{all_living}
@@ -22,10 +22,11 @@ use Rattle.ii_store.specs.Index.{◌>>=◌, Index, index_at, index_in, index_of,
 use Rattle.ii_store.specs.IndexMeta.{MetaState, SegmentState, checked_list, file_meta, is_consistent, is_segment, list_at, meta_of, segment_view}
 use Rattle.ii_directory.specs.Names.{other_slot}
 use Rattle.ii_store.specs.Segments.{list_in, listed_bytes}
-use Rattle.ii_directory.proofs.Elapsing.{elapses_implies, elapses_none}
+use Rattle.ii_directory.proofs.Elapsing.{elapses_none}
 use Rattle.ii_store.proofs.SaveLaws.{index_outside}
-use Rattle.ii_segment_store.specs.Commits.{HasFileIf, HasSegment, HaveIdsBelow, HoldsOldOr, IsCommitted, IsFresh, KeepsUncommitted, LeavesOneIndex, MayBeCommitted, emptied, index_of_segment, listed_if, listed_segment, next_list}
+use Rattle.ii_segment_store.specs.Commits.{HasFileIf, HasSegment, HaveIdsBelow, HoldsOldOr, IsFresh, LeavesOneIndex, emptied, index_of_segment, listed_if, listed_segment}
 use Rattle.ii_segment_store.specs.Contents.{IndexContents, SegmentContents, alive_file, bytes_if_listed, contents_at, contents_in, index_contents, file_of, bytes_of_component, flags_with, list_contents, one_segment, only_segment, segment_in, all_contents, with_segment}
+use Rattle.ii_segment_store.specs.Pending.{with_next}
 
 -- lists that a `meta` file holds
 
@@ -280,41 +281,10 @@ with_more : (schema : List ℕ) (rs : Result (List SegmentContents) IndexFault) 
 with_more schema (Ok cs) z = refl
 with_more schema (Err fault) z = refl
 
-list_more : (m : MetaState) (s : SegmentContents) (files : Files) → s.alive ≡ replicate s.num_docs true → HasSegment m.next_segment_id s files → list_contents (next_list m s) files ≡ with_segment s (list_contents m files)
+pub list_more : (m : MetaState) (s : SegmentContents) (files : Files) → s.alive ≡ replicate s.num_docs true → HasSegment m.next_segment_id s files → list_contents (with_next m s) files ≡ with_segment s (list_contents m files)
 unfolding list_contents
 list_more m s files all there =
     rw (segments_more m.segments (listed_segment m.next_segment_id s) files s (segment_again m.next_segment_id s files all there)) (with_more m.schema (all_contents m.segments files) s)
-
--- a commit
-
-module _ (m : MetaState) (s : SegmentContents) (old : Files) (below : HaveIdsBelow m.next_segment_id m.segments) (all : s.alive ≡ replicate s.num_docs true) where
-  committed_below : (c : Files) → IsCommitted m.next_segment_id (next_list m s) s old c → KeepsBelow m.next_segment_id old c
-  committed_below c done i component lt = done.keeps (Segment i component) (λ other e. omega (arith, lt, name_id_of i component other e)) (λ e. absurd cc) (λ e. absurd cc)
-    where
-      name_id_of : (i : ℕ) (component other : SegmentComponent) → Segment i component ≡ Segment m.next_segment_id other → i ≡ m.next_segment_id
-      name_id_of i component other e = cc
-
-  -- the new list holds the segments of the old one, and the new one
-  pub committed_contents : (c : Files) → IsCommitted m.next_segment_id (next_list m s) s old c → index_contents c ≡ with_segment s (list_contents m old)
-  unfolding list_contents
-  committed_contents c done =
-      let again = segments_same m.next_segment_id m.next_segment_id m.segments old c (omega arith) (committed_below c done) below in
-      listed_contents (next_list m s) c done.meta ∙ list_more m s c all done.there
-      ∙ ap (λ (r : Result (List SegmentContents) IndexFault). with_segment s (r >>= λ segments. Ok (record { schema = m.schema; segments = segments }))) again
-
-uncommitted_same : (id : ℕ) (old c : Files) → KeepsUncommitted id old c → SameBelow id old c
-uncommitted_same id old c keeps = record {
-  meta = keeps Meta (λ component e. absurd cc) (λ e. absurd cc);
-  slots = λ slot kind. keeps (File slot kind) (λ component e. absurd cc) (λ e. absurd cc);
-  segments = λ i component lt. keeps (Segment i component) (λ other e. omega (arith, lt, id_of i component other e)) (λ e. absurd cc);
-}
-  where
-    id_of : (i : ℕ) (component other : SegmentComponent) → Segment i component ≡ Segment id other → i ≡ id
-    id_of i component other e = cc
-
-pub may_hold : (m : MetaState) (s : SegmentContents) (old c : Files) → HaveIdsBelow m.next_segment_id m.segments → s.alive ≡ replicate s.num_docs true → IsFresh m.next_segment_id old → MayBeCommitted m.next_segment_id (next_list m s) s old c
-    → HoldsOldOr (with_segment s (list_contents m old)) old c
-may_hold m s old c below all fresh may = ⊎_elim (λ kept. inl (same_contents m.next_segment_id old c (uncommitted_same m.next_segment_id old c kept) fresh)) (λ done. inr (committed_contents m s old below all c done)) may
 
 -- the same files hold the same index
 
@@ -346,13 +316,6 @@ module _ {D : Type 0} (moment : D → ℕ) (left_since : D → ℕ → Files →
   -- nothing was called yet
   pub holds_none : (wanted : Result IndexContents IndexFault) → Elapses (moment old) (moment old) (left_since old) (left_since old) (HoldsOldOr wanted (seen old))
   holds_none wanted = elapses_none moment left_since old (HoldsOldOr wanted (seen old))
-
-  -- a segment was committed, or not
-  pub commit_time : (m : MetaState) (s : SegmentContents) (new : D) → HaveIdsBelow m.next_segment_id m.segments → s.alive ≡ replicate s.num_docs true → IsFresh m.next_segment_id (seen old)
-      → Elapses (moment old) (moment new) (left_since old) (left_since new) (MayBeCommitted m.next_segment_id (next_list m s) s (seen old))
-      → Elapses (moment old) (moment new) (left_since old) (left_since new) (HoldsOldOr (with_segment s (list_contents m (seen old))) (seen old))
-  commit_time m s new below all fresh time = elapses_implies moment left_since old new (MayBeCommitted m.next_segment_id (next_list m s) s (seen old)) (HoldsOldOr (with_segment s (list_contents m (seen old))) (seen old)) time
-      (λ c may. may_hold m s (seen old) c below all fresh may)
 
 -- a list without segments, which replaces an index
 

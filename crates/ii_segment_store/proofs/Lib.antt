@@ -1,8 +1,8 @@
 mod LoadLaws
 mod KeptLaws
 mod WantedLaws
-mod PutLaws
-mod CommitLaws
+pub mod CommitLaws
+mod PendingLaws
 mod FlagLaws
 mod OrderLaws
 mod ClearLaws

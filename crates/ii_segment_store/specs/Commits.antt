@@ -6,7 +6,7 @@ use Rattle.ii_store.specs.declared.index_meta.FileMeta.{FileMeta}
 use Rattle.ii_directory.specs.declared.name.Kind.{Kind}
 use Rattle.ii_directory.specs.declared.name.Kind.TheVariants as kinds
 use Rattle.ii_directory.specs.declared.name.Name.{Name}
-use Rattle.ii_directory.specs.declared.name.Name.TheVariants.{File, Meta, NewMeta, Segment}
+use Rattle.ii_directory.specs.declared.name.Name.TheVariants.{File, Meta, Segment}
 use Rattle.ii_directory.specs.declared.name.SegmentComponent.{SegmentComponent}
 use Rattle.ii_directory.specs.declared.name.Slot.{Slot}
 use Rattle.ii_directory.specs.declared.name.SegmentComponent.TheVariants.{Counts, FieldNorms, Positions, Postings, Store, Terms}
@@ -78,20 +78,6 @@ pub record HasSegment (id : ℕ) (s : SegmentContents) (files : Files) : Type 0 
   pub fieldnorms : files (Segment id FieldNorms) ≡ Some s.fieldnorms
   pub counts : HasFileIf id Counts s.counts files
   pub store : HasFileIf id Store s.store files
-
--- all files are the same, but those of one segment and the next `meta`
-abbrev pub KeepsUncommitted : ℕ → Files → Files → Type 0
-KeepsUncommitted id old new = (name : Name) → ((component : SegmentComponent) → name ≡ Segment id component → ⊥) → (name ≡ NewMeta → ⊥) → new name ≡ old name
-
--- A list and the files of its new segment are there, and all other files are the same, but the metas.
-pub record IsCommitted (id : ℕ) (m : MetaState) (s : SegmentContents) (old new : Files) : Type 0 where
-  pub meta : list_in (new Meta) ≡ Ok m
-  pub there : HasSegment id s new
-  pub keeps : (name : Name) → ((component : SegmentComponent) → name ≡ Segment id component → ⊥) → (name ≡ Meta → ⊥) → (name ≡ NewMeta → ⊥) → new name ≡ old name
-
--- a segment was committed, or nothing of the old index was changed
-abbrev pub MayBeCommitted : ℕ → MetaState → SegmentContents → Files → Files → Type 0
-MayBeCommitted id m s old new = KeepsUncommitted id old new ⊎ IsCommitted id m s old new
 
 -- Why a segment isn't added to a list: there is no list, or it would hold too much.
 abbrev pub IsCommitFault : CommitFault → Result MetaState IndexFault → SegmentContents → Type 0

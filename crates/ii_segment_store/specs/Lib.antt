@@ -3,3 +3,4 @@ pub mod Commits
 pub mod Changes
 pub mod Joins
 pub mod WantedFiles
+pub mod Pending

@@ -1,13 +1,16 @@
-//! Removes the files of version 1 once an index is of version 2.
-ghost use Rattle.std.specs.Prelude.{◌≡◌, IfErr, OnOk};
+//! Removes the files of version 1 once an index is of version 2, and those that an index doesn't have any more.
+ghost use Rattle.std.specs.Prelude.{◌≡◌, IfErr, IfOk, Ok, OnOk};
 ghost use Rattle.ii_directory.specs.declared.name.Name.TheVariants.{Meta};
 ghost use Rattle.ii_directory.specs.declared.name.Slot.TheVariants.{First, Second};
 ghost use Rattle.ii_directory.specs.Directory.{Elapses};
+ghost use Rattle.ii_store.specs.Collect.{CountsGarbage, HasNoGarbage, KeepsOthers};
 ghost use Rattle.ii_store.specs.Index.{Fails};
+ghost use Rattle.ii_store.specs.IndexMeta.{MetaState};
 ghost use Rattle.ii_store.specs.Segments.{list_in};
 ghost use Rattle.ii_segment_store.specs.Commits.{HasNoLists, HasNoSlot, KeepsButSlot, KeepsButSlots, LeavesOneIndex};
 ghost use Rattle.ii_segment_store.specs.Contents.{index_contents};
 
+use ii_store::collect::collect;
 use ii_store::segments::load_meta;
 use ii_store::{Directory, DirectoryFault, Kind, Name, Slot, StoreFault};
 use std::alloc::Global;
@@ -31,6 +34,29 @@ pub fn remove_slots<D: Directory>(alloc: Global, directory: &mut D) -> Result<()
     match remove_both(directory) {
         Ok(()) => Ok(()),
         Err(fault) => Err(StoreFault::Directory(fault)),
+    }
+}
+
+/// Removes the files that no list of segments has any more (`collect` of `ii_store`), and returns how many there were.
+/// What the index holds doesn't change, wherever this is stopped. Returns the errors of `load_meta`, and then removes
+/// nothing.
+pub fn collect_garbage<D: Directory>(alloc: Global, directory: &mut D) -> Result<u64, StoreFault>
+    ensures known { D.is_known directory.old → OnOk result (D.is_known directory.new) }
+    ensures removed { D.is_known directory.old → IfOk result (λ _. (m : MetaState) → list_in (D.seen directory.old Meta) ≡ Ok m → HasNoGarbage m (D.seen directory.new)) }
+    ensures keeps { D.is_known directory.old → IfOk result (λ _. (m : MetaState) → list_in (D.seen directory.old Meta) ≡ Ok m → KeepsOthers m (D.seen directory.old) (D.seen directory.new)) }
+    ensures count { D.is_known directory.old → IfOk result (λ count. (m : MetaState) → list_in (D.seen directory.old Meta) ≡ Ok m → CountsGarbage m (D.seen directory.old) count) }
+    ensures same { D.is_known directory.old → OnOk result (index_contents (D.seen directory.new) ≡ index_contents (D.seen directory.old)) }
+    ensures leaves_same { D.is_known directory.old → LeavesOneIndex D.moment D.left_since D.seen directory.old directory.new (index_contents (D.seen directory.old)) }
+    ensures fault { D.is_known directory.old → IfErr result (λ e. Fails e (list_in (D.seen directory.old Meta))) }
+{
+    let list = match load_meta(alloc, directory) {
+        Ok(list) => list,
+        Err(fault) => return Err(fault),
+    };
+    drop(list);
+    match collect(alloc, directory) {
+        Ok(count) => Ok(count),
+        Err(fault) => Err(fault),
     }
 }
 

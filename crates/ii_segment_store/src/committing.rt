@@ -6,13 +6,13 @@ ghost use Rattle.ii_directory.specs.Directory.{Elapses, Elsewhere};
 ghost use Rattle.ii_store.specs.Index.{index_of, view};
 ghost use Rattle.ii_store.specs.IndexMeta.{IsValidMeta, meta_view, segment_view};
 ghost use Rattle.ii_store.specs.Segments.{list_in};
-ghost use Rattle.ii_segment_store.specs.Commits.{HasFileIf, HasList, HasSegment, HaveIdsBelow, HoldsOldOr, IsCommitFault, IsCommitted, IsFresh, KeepsButSegment, LeavesOneIndex, MayBeCommitted, listed_if, listed_segment, next_list};
+ghost use Rattle.ii_segment_store.specs.Commits.{HasFileIf, HasList, HasSegment, HaveIdsBelow, HoldsOldOr, IsCommitFault, IsFresh, KeepsButSegment, LeavesOneIndex, listed_if, listed_segment, next_list};
 ghost use Rattle.ii_segment_store.specs.Contents.{index_contents, list_contents, files_contents, with_segment};
 
 use crate::faults::CommitFault;
+use crate::pending::PendingSegments;
 use crate::stored_segments::SegmentFiles;
-use ii_store::commit_check::is_valid;
-use ii_store::segments::{load_meta, replace_list};
+use ii_store::segments::load_meta;
 use ii_store::{
     Directory, DirectoryFault, FileMeta, IndexFault, IndexMeta, Name, SegmentComponent, SegmentId,
     SegmentMeta, StoreFault, StoredIndex, load,
@@ -129,46 +129,18 @@ pub(crate) fn commit_segment<D: Directory>(
     ensures time { D.is_known directory.old → IsFresh list.next_segment_id (D.seen directory.old) → HaveIdsBelow list.next_segment_id (meta_view list).segments → Elapses (D.moment directory.old) (D.moment directory.new) (D.left_since directory.old) (D.left_since directory.new) (HoldsOldOr (with_segment (files_contents segment.now) (list_contents (meta_view list) (D.seen directory.old))) (D.seen directory.old)) }
     ensures fault { IfErr result (λ e. IsCommitFault e (Ok (meta_view list)) (files_contents segment.now)) }
 {
-    let id = list.next_segment_id;
-    let next = match with_listed(alloc, list, segment) {
-        Ok(next) => next,
+    let pending = match PendingSegments::of_list(list) {
+        Ok(pending) => pending,
         Err(fault) => return Err(fault),
     };
-    match put_segment(alloc, directory, id, &next, segment) {
-        Ok(()) => Ok(()),
-        Err(fault) => Err(CommitFault::from(fault)),
+    match pending.add(alloc, directory, segment) {
+        Ok(pending) => pending.commit(alloc, directory),
+        Err(fault) => Err(fault),
     }
-}
-
-// Returns a list with one segment more, or `TooMany` if no `meta` can hold it.
-fn with_listed(
-    alloc: Global,
-    list: IndexMeta,
-    segment: &SegmentFiles,
-) -> Result<IndexMeta, CommitFault>
-    ensures next { IfOk result (λ m. meta_view m ≡ next_list (meta_view list) (files_contents segment.now)) }
-    ensures valid { IfOk result (λ m. IsValidMeta (meta_view m)) }
-    ensures fault { IfErr result (λ e. IsCommitFault e (Ok (meta_view list)) (files_contents segment.now)) }
-{
-    let mut next = list;
-    if next.generation == u64::MAX {
-        return Err(CommitFault::TooMany);
-    }
-    if next.next_segment_id == u64::MAX {
-        return Err(CommitFault::TooMany);
-    }
-    let listed = listed_segment(alloc, next.next_segment_id, segment)?;
-    next.segments.push(listed)?;
-    next.generation += 1;
-    next.next_segment_id += 1;
-    if !is_valid(&next) {
-        return Err(CommitFault::TooMany);
-    }
-    Ok(next)
 }
 
 // Returns a segment, as `meta` lists it.
-fn listed_segment(
+pub(crate) fn listed_segment(
     alloc: Global,
     id: SegmentId,
     segment: &SegmentFiles,
@@ -204,25 +176,8 @@ fn push_if_some(
     }
 }
 
-// Writes the files of a segment, and puts a list in the place of the current one.
-fn put_segment<D: Directory>(
-    alloc: Global,
-    directory: &mut D,
-    id: SegmentId,
-    list: &IndexMeta,
-    segment: &SegmentFiles,
-) -> Result<(), DirectoryFault>
-    requires { IsValidMeta (meta_view list.now) }
-    ensures known { D.is_known directory.old → OnOk result (D.is_known directory.new) }
-    ensures committed { D.is_known directory.old → OnOk result (IsCommitted id (meta_view list.now) (files_contents segment.now) (D.seen directory.old) (D.seen directory.new)) }
-    ensures time { D.is_known directory.old → Elapses (D.moment directory.old) (D.moment directory.new) (D.left_since directory.old) (D.left_since directory.new) (MayBeCommitted id (meta_view list.now) (files_contents segment.now) (D.seen directory.old)) }
-{
-    write_segment(directory, id, segment)?;
-    replace_list(alloc, directory, list)
-}
-
 // Writes the files of a segment.
-fn write_segment<D: Directory>(
+pub(crate) fn write_segment<D: Directory>(
     directory: &mut D,
     id: SegmentId,
     segment: &SegmentFiles,

@@ -17,11 +17,11 @@ ghost use Rattle.ii_segment_store.specs.Contents.{files_contents, index_contents
 use crate::committing::commit_segment;
 use crate::faults::{CommitFault, memory_fault};
 use crate::loading::{file_of, load_flags};
+use crate::pending::PendingSegments;
 use crate::stored_segments::SegmentFiles;
 use ii_alive::AliveBits;
 use ii_base::{CountingWriter, DocId};
-use ii_store::commit_check::is_valid;
-use ii_store::segments::{load_meta, replace_list};
+use ii_store::segments::load_meta;
 use ii_store::{
     Directory, DirectoryFault, FileMeta, Generation, IndexMeta, Name, SegmentComponent, SegmentId,
     SegmentMeta, StoreFault,
@@ -97,17 +97,9 @@ fn commit_list<D: Directory>(
     ensures time { D.is_known directory.old → Elapses (D.moment directory.old) (D.moment directory.new) (D.left_since directory.old) (D.left_since directory.new) (HoldsOldOr (list_contents (meta_view list) (D.seen directory.old)) (D.seen directory.old)) }
     ensures fault { IfErr result (λ e. IsListFault e (meta_view list)) }
 {
-    let mut next = list;
-    if next.generation == u64::MAX {
-        return Err(CommitFault::TooMany);
-    }
-    next.generation += 1;
-    if !is_valid(&next) {
-        return Err(CommitFault::TooMany);
-    }
-    match replace_list(alloc, directory, &next) {
-        Ok(()) => Ok(()),
-        Err(fault) => Err(CommitFault::from(fault)),
+    match PendingSegments::of_list(list) {
+        Ok(pending) => pending.commit(alloc, directory),
+        Err(fault) => Err(fault),
     }
 }
 

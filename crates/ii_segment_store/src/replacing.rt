@@ -42,7 +42,7 @@ pub fn replace_index<D: Directory>(
 }
 
 // Returns a list without segments. Its numbers continue those of the directory's list, if there is one.
-fn empty_list<D: Directory>(
+pub(crate) fn empty_list<D: Directory>(
     alloc: Global,
     directory: &D,
     schema: Vec<u8>,

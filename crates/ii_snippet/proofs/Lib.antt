@@ -1,5 +1,7 @@
+mod FieldTextLemmas
 mod FragmentLemmas
 mod MarkLemmas
+mod ObjectSnippetLemmas
 mod PlaceLemmas
 mod TokenLemmas
 mod WantedLemmas

@@ -1,15 +1,10 @@
 -- Laws of windows of tokens.
 use Rattle.std.proofs.Common.{◌≡◌, ◌∙◌, ℕ, zero, suc, ◌+◌, ◌-◌, ◌*◌, ◌<◌, ◌≤◌, Bool, true, false, List, [], ◌∷◌, ap, arith, drop, drop-cons, get_or, length, length-drop, nat_eq, refl, sym, take}
 use Rattle.std.proofs.lemmas.List.{take_all}
-use Rattle.std.specs.Prelude.{None, Option, Some, if◌then◌else◌}
+use Rattle.std.specs.Prelude.{None, Option, Some}
 use Rattle.std.specs.List.{list_any}
 use Rattle.ii_snippet.specs.declared.windows.SnippetToken.{SnippetToken}
 use Rattle.ii_snippet.specs.Windows.{IsFirstGreatest, num_different, weight, words_in}
-
--- what a list of numbers weighs with one more in front
-pub weighs_with : (n : ℕ) (ns : List ℕ) (again : Bool) → list_any (nat_eq n) ns ≡ again → weight (n ∷ ns) ≡ (if again then 1 else 4294967297) + weight ns
-weighs_with n ns true is = rw is (omega arith)
-weighs_with n ns false is = rw is (omega arith)
 
 pub few_different : (ns : List ℕ) → num_different ns ≤ length ns
 few_different [] = omega arith
@@ -62,19 +57,3 @@ first_alone number = record {
     by_zero : (place : ℕ) → place < 1 → number place ≤ number 0
     by_zero zero within = omega arith
     by_zero (suc place) within = absurd (omega (arith, within))
-
--- the best place stays, if the next one isn't better
-pub stays_greatest : (number : ℕ → ℕ) (n best : ℕ) → IsFirstGreatest number n best → number n ≤ number best → IsFirstGreatest number (n + 1) best
-stays_greatest number n best so_far no_better = record {
-  below = omega (arith, so_far.below);
-  greatest = λ place within. grind (arith, so_far.greatest place, within, no_better);
-  first = so_far.first;
-}
-
--- the next place is the best one, if it is better
-pub becomes_greatest : (number : ℕ → ℕ) (n best : ℕ) → IsFirstGreatest number n best → number best < number n → IsFirstGreatest number (n + 1) n
-becomes_greatest number n best so_far better = record {
-  below = omega arith;
-  greatest = λ place within. grind (arith, so_far.greatest place, within, better);
-  first = λ place before. omega (arith, so_far.greatest place before, better);
-}

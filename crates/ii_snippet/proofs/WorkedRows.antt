@@ -1,6 +1,8 @@
 -- Worked rows: the tokens of `the sea and the old sea`, of which `sea` and `old` are wanted.
 use Rattle.std.proofs.Common.{◌≡◌, ◌∷◌, [], List, None, Some, false, true, codes, map, refl}
+use Rattle.serde_json.specs.Data.{Items, array, item, no_items, null, string}
 use Rattle.ii_snippet.specs.declared.windows.SnippetToken.{SnippetToken}
+use Rattle.ii_snippet.specs.FieldTexts.{texts_of}
 use Rattle.ii_snippet.specs.Fragments.{Piece, cut, is_boundary, pieces_of}
 use Rattle.ii_snippet.specs.Marks.{html_char, terminal_char}
 use Rattle.ii_snippet.specs.Windows.{num_different, shown_from, span, weight, window, window_weight}
@@ -60,3 +62,16 @@ cuts = refl
 characters : (html_char 60 ∷ html_char 97 ∷ terminal_char 27 ∷ terminal_char 155 ∷ []) ≡ ((38 ∷ 108 ∷ 116 ∷ 59 ∷ []) ∷ (97 ∷ []) ∷ (239 ∷ 191 ∷ 189 ∷ []) ∷ (239 ∷ 191 ∷ 189 ∷ []) ∷ [])
 unfolding lib.Utf8.encode
 characters = refl
+
+-- an array of two texts, and null
+abbrev old_and_sea : Items
+old_and_sea = item (string (codes "old")) (item null (item (string (codes "sea")) no_items))
+
+texts_of_an_array : texts_of (Some (array old_and_sea)) ≡ codes "old" ∷ codes "sea" ∷ []
+texts_of_an_array = refl
+
+texts_of_a_text : texts_of (Some (string (codes "old"))) ≡ codes "old" ∷ []
+texts_of_a_text = refl
+
+texts_of_no_value : texts_of None ≡ []
+texts_of_no_value = refl

@@ -1,9 +1,9 @@
 -- How a snippet is written.
-use Rattle.std.specs.Prelude.{ℕ, ◌==◌, List, ◌∷◌, ◌++◌, chars, codes, if◌then◌else◌}
+use Rattle.std.specs.Prelude.{ℕ, ◌==◌, List, [], ◌∷◌, ◌++◌, chars, codes, if◌then◌else◌}
 use Rattle.std.specs.Char.{encode_utf8, is_control}
 use Rattle.std.specs.List.{flat_map}
 use Rattle.ii_snippet.specs.declared.marks.MarkStyle.{MarkStyle}
-use Rattle.ii_snippet.specs.declared.marks.MarkStyle.TheVariants.{Html, Terminal}
+use Rattle.ii_snippet.specs.declared.marks.MarkStyle.TheVariants.{Html, Plain, Terminal}
 use Rattle.ii_snippet.specs.Fragments.{Piece}
 
 -- a character as HTML
@@ -24,15 +24,19 @@ terminal_char c = if is_control c then encode_utf8 65533 else encode_utf8 c
 abbrev pub written_char : MarkStyle → ℕ → List ℕ
 written_char Html c = html_char c
 written_char Terminal c = terminal_char c
+written_char Plain c = terminal_char c
 
--- what is written before and after a wanted word
+-- what is written before a wanted word
 abbrev pub opening : MarkStyle → List ℕ
 opening Html = codes "<b>"
 opening Terminal = 27 ∷ codes "[1m"
+opening Plain = []
 
+-- what is written after a wanted word
 abbrev pub closing : MarkStyle → List ℕ
 closing Html = codes "</b>"
 closing Terminal = 27 ∷ codes "[0m"
+closing Plain = []
 
 -- a text as it is written
 abbrev pub written_text : MarkStyle → List ℕ → List ℕ

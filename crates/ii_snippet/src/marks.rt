@@ -15,6 +15,8 @@ pub enum MarkStyle {
     Html,
     /// For a terminal: wanted words in bold, and U+FFFD for each control character.
     Terminal,
+    /// As a line of text: no word is marked, and U+FFFD for each control character.
+    Plain,
 }
 
 impl<'t> Snippet<'t> {
@@ -63,7 +65,7 @@ fn push_char(style: MarkStyle, c: char, out: &mut String) -> Result<(), Fault>
 {
     match style {
         MarkStyle::Html => push_html_char(c, out),
-        MarkStyle::Terminal => push_terminal_char(c, out),
+        MarkStyle::Terminal | MarkStyle::Plain => push_terminal_char(c, out),
     }
 }
 
@@ -100,6 +102,7 @@ fn opening(style: MarkStyle) -> &'static str
     match style {
         MarkStyle::Html => "<b>",
         MarkStyle::Terminal => "\u{1b}[1m",
+        MarkStyle::Plain => "",
     }
 }
 
@@ -110,5 +113,6 @@ fn closing(style: MarkStyle) -> &'static str
     match style {
         MarkStyle::Html => "</b>",
         MarkStyle::Terminal => "\u{1b}[0m",
+        MarkStyle::Plain => "",
     }
 }

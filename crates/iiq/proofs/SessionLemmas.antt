@@ -89,8 +89,9 @@ kept_then kept n (Some found) s call none knows may low = absurd (cc)
 pub indexed_now : (kept more : List IndexCall) (n : ℕ) (index : Option (Result OpenIndexState Fault)) (s : Session) (found : Result OpenIndexState Fault) → is_some index ≡ false → KnowsIndex kept n index s → GivesIndex (map (call_of fields) kept) found
     → (t : Session) × Indexes s t × KnowsIndex more n (Some found) t
 indexed_now kept more n None s (Ok readers) none knows gives =
-    let indexed = subst (λ (calls : List Call). IsIndexed calls (opened gives.0)) knows.2.calls_are gives.1 in
-    (opened gives.0, subst (λ (t : Session). Indexes t (opened gives.0)) (sym knows.1) indexed, (gives.0, refl, gives.2))
+    let indexed : IsIndexed knows.0 (opened (num_docs_of knows.0) gives.0) = subst (λ (calls : List Call). IsIndexed calls (opened (num_docs_of calls) gives.0)) knows.2.calls_are gives.1 in
+    let at : IsIndexed knows.0 (opened n gives.0) = subst (λ (m : ℕ). IsIndexed knows.0 (opened m gives.0)) (sym knows.2.num_docs_is) indexed in
+    (opened n gives.0, subst (λ (t : Session). Indexes t (opened n gives.0)) (sym knows.1) at, (gives.0, refl, gives.2, knows.2.most))
 indexed_now kept more n None s (Err fault) none knows gives =
     let indexed = subst (λ (calls : List Call). IsIndexed calls (refused fault)) knows.2.calls_are gives in
     (refused fault, subst (λ (t : Session). Indexes t (refused fault)) (sym knows.1) indexed, refl)
@@ -140,7 +141,7 @@ gives_index schema n kept found schema_is n_is holds many known fault =
         → IfSome why (λ fault. (found ≡ Err fault) ⊎ (found ≡ Err OutOfMemory))
         → (why ≡ None → IfErr found (λ e. (e ≡ OutOfMemory) ⊎ IsRamFault fields n (tokens_of ascii_words calls) e))
         → GivesIndex calls found
-    gives_cases n calls (Ok index) None n_is why holds many known fault = (tokens_of ascii_words calls, (why, refl), record { many = many; num_docs = n; holds = holds })
+    gives_cases n calls (Ok index) None n_is why holds many known fault = (tokens_of ascii_words calls, (why, refl, refl), record { many = many; num_docs = n; holds = holds })
     gives_cases n calls (Ok index) (Some f) n_is why holds many known fault = absurd (⊎_elim (λ e. ok_no_err (Ok index) index f refl e) (λ e. ok_no_err (Ok index) index OutOfMemory refl e) known)
     gives_cases n calls (Err e) None n_is why holds many known fault =
         ⊎_elim inl (λ limit. inr (inr (why, subst (λ (m : ℕ). IsRamFault fields m (tokens_of ascii_words calls) e) n_is limit))) (fault refl)
@@ -152,5 +153,5 @@ pub looked_up : {E : Type 0} (kept : SessionKept) (t : Session) (index : OpenInd
     → ((ts : List IndexToken) → IsOpen index ts → IfOk r (λ text. string_bytes text ≡ term_text requested term ts))
     → IfOk r (λ text. string_bytes text ≡ look_up_text t requested term)
 looked_up kept t index requested term r is knows text =
-    let o : (ts : List IndexToken) × (t ≡ opened ts) × IsOpen index ts = rw is at knows in
+    let o : (ts : List IndexToken) × (t ≡ opened kept.num_docs ts) × IsOpen index ts × (kept.num_docs ≤ TERMINATED) = rw is at knows in
     rw o.1 (text o.0 o.2)

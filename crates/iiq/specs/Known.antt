@@ -1,5 +1,5 @@
 -- The program's records, and their models.
-use Rattle.std.specs.Prelude.{◌≡◌, ℕ, ◌<◌, ◌≤◌, false, true, Bool, List, [], ◌∷◌, length, map, ◌++◌, codes, decimal, is_none, Option, None, Some, MatchOption, Result, Ok, Err, unwrap_or}
+use Rattle.std.specs.Prelude.{◌≡◌, ℕ, ◌<◌, ◌≤◌, ◌&&◌, nat_lt, false, true, Bool, List, [], ◌∷◌, length, map, ◌++◌, codes, decimal, is_none, Option, None, Some, MatchOption, Result, Ok, Err, unwrap_or}
 use Rattle.std.specs.Option.{option_map}
 use Rattle.ii_io.specs.Faults.{number_of}
 use Rattle.ii_io.specs.declared.faults.Fault.{Fault}
@@ -21,7 +21,9 @@ use Rattle.iiq.specs.declared.leaves.LeafValue.{LeafValue}
 use Rattle.iiq.specs.declared.leaves.LeafValue.TheVariants.{Null, Signed, Text, Truth, Unsigned}
 use Rattle.iiq.specs.declared.leaves.PathValue.{PathValue}
 use Rattle.iiq.specs.declared.session.Session.{Session as SessionKept}
-use Rattle.ii_search.specs.Found.{AreMatches}
+use Rattle.ii_docset.specs.Cursor.{IsAscending}
+use Rattle.ii_docset.specs.Intersection.{has_doc}
+use Rattle.ii_query_parser.specs.Queries.{matches}
 use Rattle.ii_query_parser.specs.QueryTexts.{MeansText, text_refusal}
 use Rattle.ii_query_parser.specs.declared.query.Query.{Query as QueryOf}
 use Rattle.iiq.specs.Commands.{Command, asked, index_call, leaf_key, leaf_under, look_up, open_list}
@@ -82,7 +84,7 @@ pub record IsOpen (index : OpenIndexState) (ts : List IndexToken) : Type 0 where
 -- The session if no index was requested, or it is open, or was refused.
 abbrev pub KnowsIndex : List IndexCall → ℕ → Option (Result OpenIndexState Fault) → Session → Type 0
 KnowsIndex kept num_docs None s = (calls : List Call) × (s ≡ gathering calls) × GathersCalls kept num_docs calls
-KnowsIndex kept num_docs (Some (Ok index)) s = (ts : List IndexToken) × (s ≡ opened ts) × IsOpen index ts
+KnowsIndex kept num_docs (Some (Ok index)) s = (ts : List IndexToken) × (s ≡ opened num_docs ts) × IsOpen index ts × (num_docs ≤ TERMINATED)
 KnowsIndex kept num_docs (Some (Err fault)) s = s ≡ refused fault
 
 -- This session is the model of the program's session.
@@ -99,7 +101,7 @@ Keeps s c new taken = MatchOption (kept_with s c) ((taken ≡ false) × Knows ne
 
 -- The index of calls is open, or was refused.
 abbrev pub GivesIndex : List Call → Result OpenIndexState Fault → Type 0
-GivesIndex calls (Ok index) = (ts : List IndexToken) × IsIndexed calls (opened ts) × IsOpen index ts
+GivesIndex calls (Ok index) = (ts : List IndexToken) × IsIndexed calls (opened (num_docs_of calls) ts) × IsOpen index ts
 GivesIndex calls (Err fault) = IsIndexed calls (refused fault)
 
 -- the reply to a line that opens a list
@@ -128,10 +130,14 @@ pub record IsReply (commands : CommandSet) (old : Session) (line : List ℕ) (no
   pub answers : AnswersLine commands old line new texts
   pub text_is : text ≡ with_ends texts
 
--- A query finds exactly its matches, once there is an index; if indexing failed, the reply is the fault.
+-- A reply is exactly the matches of a query below a number, in ascending order.
+abbrev pub FindsBelow : ℕ → List IndexToken → QueryOf → List ℕ → Type 0
+FindsBelow num_docs ts query reply = (es : List Entry) × IsAscending es × ((doc : ℕ) → has_doc es doc ≡ (matches query ts doc && nat_lt doc num_docs)) × (reply ≡ found_text es)
+
+-- A query finds exactly its matches among the documents, once there is an index; if indexing failed, the reply is the fault.
 abbrev pub FindsDocs : Session → QueryOf → List ℕ → Type 0
 FindsDocs (gathering calls) query reply = reply ≡ []
-FindsDocs (opened ts) query reply = (es : List Entry) × AreMatches query ts es × (reply ≡ found_text es)
+FindsDocs (opened num_docs ts) query reply = FindsBelow num_docs ts query reply
 FindsDocs (refused fault) query reply = reply ≡ codes "error " ++ decimal (number_of fault)
 
 -- The query of a text, if it is one.

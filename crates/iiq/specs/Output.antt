@@ -1,5 +1,5 @@
 -- What the program writes for the bytes that it reads.
-use Rattle.std.specs.Prelude.{◌≡◌, ℕ, Bool, not, ◌⊎◌, nat_eq, List, [], ◌∷◌, ◌++◌, map, if◌then◌else◌, Option, Some, None, MatchOption, Result, Ok, Err, codes, decimal, flat_map, unwrap_or}
+use Rattle.std.specs.Prelude.{◌≡◌, ℕ, Bool, not, ◌&&◌, ◌⊎◌, nat_eq, nat_lt, List, [], ◌∷◌, ◌++◌, map, if◌then◌else◌, Option, Some, None, MatchOption, Result, Ok, Err, codes, decimal, flat_map, unwrap_or}
 use Rattle.std.specs.List.{join_with_byte, list_all, starts_with}
 use Rattle.std.specs.Str.{is_utf8}
 use Rattle.std.specs.Io.KnownBytes.{Appends}
@@ -71,7 +71,7 @@ term_text requested (Some term) ts = key_text requested term.field term.value ts
 -- the reply to a lookup, once there is an index
 abbrev pub look_up_text : Session → IndexRecordOption → Option TermState → List ℕ
 look_up_text (gathering calls) requested term = []
-look_up_text (opened ts) requested term = term_text requested term ts
+look_up_text (opened num_docs ts) requested term = term_text requested term ts
 look_up_text (refused fault) requested term = codes "error " ++ decimal (number_of fault)
 
 -- the documents that were found, or `none`
@@ -79,17 +79,17 @@ abbrev pub found_text : List Entry → List ℕ
 found_text [] = codes "none"
 found_text (e ∷ es) = list_text Basic (e ∷ es)
 
--- The reply to a search is exactly the documents that match its text, in ascending order.
-pub record FindsMatches (text : List ℕ) (ts : List IndexToken) (reply : List ℕ) : Type 0 where
+-- The reply to a search is exactly the documents of the index that match its text, in ascending order.
+pub record FindsMatches (text : List ℕ) (num_docs : ℕ) (ts : List IndexToken) (reply : List ℕ) : Type 0 where
   pub docs : List Entry
   pub ascending : IsAscending docs
-  pub exact : (doc : ℕ) → has_doc docs doc ≡ text_matches asked text ts doc
+  pub exact : (doc : ℕ) → has_doc docs doc ≡ (text_matches asked text ts doc && nat_lt doc num_docs)
   pub reply_is : reply ≡ found_text docs
 
 -- `FindsMatches` holds once there is an index; if indexing failed, the reply is the fault.
 abbrev pub FindsText : Session → List ℕ → List ℕ → Type 0
 FindsText (gathering calls) text reply = reply ≡ []
-FindsText (opened ts) text reply = FindsMatches text ts reply
+FindsText (opened num_docs ts) text reply = FindsMatches text num_docs ts reply
 FindsText (refused fault) text reply = reply ≡ codes "error " ++ decimal (number_of fault)
 
 -- the reply to documents: their bytes, and the list of them

@@ -20,10 +20,10 @@ fields =
     ∷ record { name = codes "leaf"; value_type = Json; option = WithFreqsAndPositions; is_indexed = true; has_fieldnorms = false; expands_dots = false }
     ∷ []
 
--- Calls are gathered until the first lookup; from then on there is the index of their tokens, or its fault.
+-- Calls are gathered until the first lookup; from then on there is the index of their documents and tokens, or its fault.
 pub data Session : Type 0 where
   gathering : List Call → Session
-  opened : List IndexToken → Session
+  opened : ℕ → List IndexToken → Session
   refused : Fault → Session
 
 -- the number of documents of calls in order: one more than the last document
@@ -33,7 +33,7 @@ num_docs_of calls = fold (λ (n : ℕ) (c : Call). c.doc + 1) 0 calls
 -- what is kept after one more call: nothing if there is an index, or if the call's document is below the last
 abbrev pub kept_with : Session → Call → Option Session
 kept_with (gathering calls) c = if nat_le (num_docs_of calls) (c.doc + 1) then Some (gathering (calls ++ c ∷ [])) else None
-kept_with (opened ts) c = None
+kept_with (opened num_docs ts) c = None
 kept_with (refused fault) c = None
 
 -- why calls are refused, apart from allocation failures
@@ -49,11 +49,11 @@ IsIndexRefusal calls fault =
 -- There is an index of these calls, or its fault.
 abbrev pub IsIndexed : List Call → Session → Type 0
 IsIndexed calls (gathering more) = ⊥
-IsIndexed calls (opened ts) = (refusal_of calls ≡ None) × (ts ≡ tokens_of ascii_words calls)
+IsIndexed calls (opened num_docs ts) = (refusal_of calls ≡ None) × (num_docs ≡ num_docs_of calls) × (ts ≡ tokens_of ascii_words calls)
 IsIndexed calls (refused fault) = IsIndexRefusal calls fault
 
 -- A session changes to one whose calls are indexed.
 abbrev pub Indexes : Session → Session → Type 0
 Indexes (gathering calls) new = IsIndexed calls new
-Indexes (opened ts) new = new ≡ opened ts
+Indexes (opened num_docs ts) new = new ≡ opened num_docs ts
 Indexes (refused fault) new = new ≡ refused fault

@@ -158,7 +158,7 @@ fn search_reply(
     let Some(query) = query_of_text(alloc, text.as_str())? else {
         return Ok(None);
     };
-    let mut reply = session.search(alloc, &query)?;
+    let mut reply = session.search(alloc, query)?;
     reply.push('\n')?;
     Ok(Some(reply))
 }

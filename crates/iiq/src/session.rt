@@ -4,7 +4,7 @@ ghost use Rattle.ii_base.specs.declared.doc_id.TheConstants.{TERMINATED};
 ghost use Rattle.ii_definitions.specs.Tokens.{IndexToken};
 ghost use Rattle.ii_definitions.specs.IndexCalls.{MayAllBeIndexed, call_of};
 ghost use Rattle.ii_query_parser.specs.Queries.{has_fields, keeps_positions};
-ghost use Rattle.iiq.specs.Known.{FindsDocs, GivesIndex, IsCall, IsOpen, IsQuery, IsSession, Keeps, Knows};
+ghost use Rattle.iiq.specs.Known.{FindsBelow, FindsDocs, GivesIndex, IsCall, IsOpen, IsQuery, IsSession, Keeps, Knows};
 ghost use Rattle.iiq.specs.Output.{key_text, look_up_text, term_text};
 ghost use Rattle.iiq.specs.Session.{Session as SessionState, gathering, opened, Indexes, fields, num_docs_of};
 
@@ -78,17 +78,18 @@ impl Session {
 
     /// Searches: returns the documents that match a query, or `none`. If indexing failed, returns
     /// `error` and the fault's number.
-    pub fn search(&mut self, alloc: Global, query: &nequllpa::Query) -> Result<String, AllocError>
+    pub fn search(&mut self, alloc: Global, query: nequllpa::Query) -> Result<String, AllocError>
         requires session { IsSession self.old }
-        requires fields { has_fields (length fields) query.now ≡ true }
-        requires positions { keeps_positions fields query.now ≡ true }
+        requires fields { has_fields (length fields) query ≡ true }
+        requires positions { keeps_positions fields query ≡ true }
         ensures { (s : SessionState) → Knows self.old s → (t : SessionState) × Indexes s t × Knows self.new t
-            × IfOk result (λ text. FindsDocs t query.now (string_bytes text)) }
+            × IfOk result (λ text. FindsDocs t query (string_bytes text)) }
     {
         self.open(alloc);
+        let num_docs = self.num_docs;
         match &self.index {
             None => Ok(String::new(alloc)),
-            Some(Ok(index)) => found_text(alloc, index, query),
+            Some(Ok(index)) => found_text(alloc, index, query, num_docs),
             Some(Err(refusal)) => error_text(alloc, *refusal),
         }
     }
@@ -171,19 +172,43 @@ fn list_text(
     }
 }
 
-// Returns the documents of an index that match a query, or `none`.
+// Returns the documents of an index that match a query and are below a number, or `none`. It passes no documents
+// that aren't below the number.
 fn found_text(
     alloc: Global,
     index: &OpenIndex,
-    query: &nequllpa::Query,
+    query: nequllpa::Query,
+    num_docs: DocId,
 ) -> Result<String, AllocError>
     requires many { length index.now.readers ≡ length fields }
-    requires fields { has_fields (length fields) query.now ≡ true }
-    requires positions { keeps_positions fields query.now ≡ true }
-    ensures { (ts : List IndexToken) → IsOpen index.now ts
-        → IfOk result (λ text. FindsDocs (opened ts) query.now (string_bytes text)) }
+    requires fields { has_fields (length fields) query ≡ true }
+    requires positions { keeps_positions fields query ≡ true }
+    ensures { (ts : List IndexToken) → IsOpen index.now ts → num_docs ≤ TERMINATED
+        → IfOk result (λ text. FindsBelow num_docs ts query (string_bytes text)) }
 {
-    match search(alloc, index, query) {
+    let mut query = query;
+    query.bound(num_docs);
+    found_below(alloc, index, query, num_docs)
+}
+
+// Returns the documents of an index that match a query and are below a number, or `none`.
+fn found_below(
+    alloc: Global,
+    index: &OpenIndex,
+    query: nequllpa::Query,
+    num_docs: DocId,
+) -> Result<String, AllocError>
+    requires many { length index.now.readers ≡ length fields }
+    requires fields { has_fields (length fields) query ≡ true }
+    requires positions { keeps_positions fields query ≡ true }
+    ensures { (ts : List IndexToken) → IsOpen index.now ts → num_docs ≤ TERMINATED
+        → IfOk result (λ text. FindsBelow num_docs ts query (string_bytes text)) }
+{
+    let all = nequllpa::Query::All(num_docs);
+    let Ok(bounded) = nequllpa::Query::and(alloc, query, all) else {
+        return Err(AllocError);
+    };
+    match search(alloc, index, &bounded) {
         Ok(mut cursor) => {
             let mut text = String::new(alloc);
             push_found(&mut text, &mut cursor)?;

@@ -1,17 +1,16 @@
 //! The commands `add` and `upgrade`.
 use crate::commands::{PROGRAM, REFUSED, refuse, refuse_path, tell_no_index};
-use crate::indexing::{Intake, begun, documents_for, take_inputs, target_of, tell_long_words};
+use crate::indexing::{Intake, Kept, Target, begun, take_inputs, target_of, tell_long_words};
 use crate::keyed_lines::KeyedLines;
+use crate::memory::{Budget, budget_given};
 use crate::merging::settle;
+use crate::new_segments::{Former, NewSegments};
 use crate::replacing::replace_keys;
 use clap::ArgMatches;
 use ii_base::{Schema, ValueType};
 use ii_query_parser::field_named;
 use ii_schema_text::TextSchema;
-use ii_segment_store::{
-    CommitFault, SegmentFiles, append_segment, load_latest, remove_slots, upgrade,
-};
-use ii_store::collect::collect;
+use ii_segment_store::{CommitFault, load_latest, remove_slots, upgrade};
 use ii_store::segments::load_meta;
 use ii_store::{Folder, IndexFault, StoreFault};
 use nequllpa_folder::text_schema_of;
@@ -27,15 +26,22 @@ pub fn answer_add(
         Ok(target) => target,
         Err(status) => return Ok(ExitCode::from(status)),
     };
-    let added = added(rt, path, given);
-    drop(target);
-    added
+    added(rt, path, given, target)
 }
 
 // Does it, once the folder is locked.
-fn added(rt: &HostRuntime, path: &str, given: &ArgMatches<'_>) -> anyhow::Result<ExitCode> {
-    let schema = match current_schema(rt, path)? {
-        Ok(schema) => schema,
+fn added(
+    rt: &HostRuntime,
+    path: &str,
+    given: &ArgMatches<'_>,
+    target: Target<'_>,
+) -> anyhow::Result<ExitCode> {
+    let budget = match budget_given(rt, given)? {
+        Ok(budget) => budget,
+        Err(status) => return Ok(ExitCode::from(status)),
+    };
+    let (bytes, schema) = match current_schema(rt, path)? {
+        Ok(read) => read,
         Err(status) => return Ok(ExitCode::from(status)),
     };
     let keyed = match keyed_by(rt, given, schema.schema())? {
@@ -43,16 +49,21 @@ fn added(rt: &HostRuntime, path: &str, given: &ArgMatches<'_>) -> anyhow::Result
         Err(status) => return Ok(ExitCode::from(status)),
     };
     let replaces = keyed.is_some();
-    let (documents, tokenizers) = documents_for(rt.alloc(), schema);
-    let mut intake = begun(rt, given, documents, tokenizers, keyed)?;
+    let segments = NewSegments::new(target, Former::Kept, bytes);
+    let mut intake = begun(rt, given, segments, schema, budget, keyed)?;
     if let Err(status) = take_inputs(rt, given, &mut intake)? {
+        intake.discard(rt);
         return Ok(ExitCode::from(status));
     }
-    let status = add_segment(rt, path, intake, replaces)?;
-    if status == ExitCode::SUCCESS && !given.get_flag("no-merge") {
-        settle(rt, path)?;
+    let merges = if given.get_flag("no-merge") {
+        None
+    } else {
+        Some(budget)
+    };
+    if replaces {
+        return replace_with(rt, path, intake, merges);
     }
-    Ok(status)
+    add_segments(rt, path, intake, merges)
 }
 
 // Returns what keeps lines whose documents replace others, if the option is given. Returns the status if documents
@@ -79,15 +90,18 @@ fn keyed_by(
     Ok(Ok(Some(KeyedLines::new(rt.alloc(), field))))
 }
 
-// Reads the schema of an index, or returns the status if there is none.
-fn current_schema(rt: &HostRuntime, path: &str) -> anyhow::Result<Result<TextSchema, u8>> {
+// Reads the schema of an index, and its bytes, or returns the status if there is none.
+fn current_schema(
+    rt: &HostRuntime,
+    path: &str,
+) -> anyhow::Result<Result<(Vec<u8>, TextSchema), u8>> {
     let bytes = match schema_bytes(rt, path) {
         Ok(bytes) => bytes,
         Err(StoreFault::Index(fault)) => return Ok(Err(tell_no_index(rt, path, fault)?)),
         Err(StoreFault::Directory(fault)) => return Ok(Err(refuse_path(rt, path, fault)?)),
     };
     match text_schema_of(rt.alloc(), bytes.as_slice()) {
-        Ok(schema) => Ok(Ok(schema)),
+        Ok(schema) => Ok(Ok((bytes, schema))),
         Err(fault) => Ok(Err(refuse_path(rt, path, fault)?)),
     }
 }
@@ -107,40 +121,65 @@ fn schema_bytes(rt: &HostRuntime, path: &str) -> Result<Vec<u8>, StoreFault> {
     }
 }
 
-// Indexes the documents that were read, and adds them to the index.
-fn add_segment(
+// Adds the documents that were read, and then merges segments if that is wanted.
+fn add_segments(
     rt: &HostRuntime,
     path: &str,
-    intake: Intake,
-    replaces: bool,
+    intake: Intake<'_>,
+    merges: Option<Budget>,
 ) -> anyhow::Result<ExitCode> {
-    let (documents, tokenizers, bad_lines, keys) = match intake.into_documents(rt.alloc()) {
-        Ok(parts) => parts,
+    let taken = match intake.finish(rt)? {
+        Ok(taken) => taken,
+        Err(status) => return Ok(ExitCode::from(status)),
+    };
+    tell_left_out(rt, taken.num_docs, "", taken.bad_lines)?;
+    if let Some(budget) = merges {
+        settle(rt, path, budget)?;
+    }
+    Ok(ExitCode::SUCCESS)
+}
+
+// Adds the documents that were read in the place of those with the same keys, and then merges segments if that is
+// wanted.
+fn replace_with(
+    rt: &HostRuntime,
+    path: &str,
+    intake: Intake<'_>,
+    merges: Option<Budget>,
+) -> anyhow::Result<ExitCode> {
+    let is_quiet = intake.is_quiet();
+    let Kept {
+        segments,
+        documents,
+        tokenizers,
+        bad_lines,
+        keys,
+    } = match intake.into_kept(rt.alloc()) {
+        Ok(kept) => kept,
         Err(fault) => return Ok(ExitCode::from(refuse(rt, fault)?)),
     };
     match documents.num_long_words(rt.alloc(), &tokenizers) {
-        Ok(count) => tell_long_words(rt, count)?,
+        Ok(count) => tell_long_words(rt, is_quiet, count)?,
         Err(fault) => return Ok(ExitCode::from(refuse(rt, fault)?)),
     }
     let segment = match documents.into_segment(rt.alloc(), &tokenizers) {
         Ok(segment) => segment,
         Err(fault) => return Ok(ExitCode::from(refuse(rt, fault)?)),
     };
-    if replaces {
-        return replace_keys(rt, path, segment, keys, bad_lines);
+    let status = replace_keys(rt, path, segment, keys, bad_lines)?;
+    if status == ExitCode::SUCCESS {
+        if let Some(budget) = merges {
+            settle(rt, path, budget)?;
+        }
     }
-    let num_docs = segment.num_docs;
-    if let Err(fault) = put(rt, path, segment) {
-        return Ok(ExitCode::from(refuse_commit(rt, path, fault)?));
-    }
-    tell_left_out(rt, num_docs, "", bad_lines)?;
-    Ok(ExitCode::SUCCESS)
+    drop(segments);
+    Ok(status)
 }
 
 /// Prints how many documents were added, what else was done, and how many lines were left out.
 pub fn tell_left_out(
     rt: &HostRuntime,
-    num_docs: u32,
+    num_docs: u64,
     also: &str,
     bad_lines: u64,
 ) -> anyhow::Result<()> {
@@ -149,18 +188,6 @@ pub fn tell_left_out(
     } else {
         println!(rt; "{num_docs} documents added{also}")?;
     }
-    Ok(())
-}
-
-// Adds a segment that has documents, and removes the files that no list has.
-fn put(rt: &HostRuntime, path: &str, segment: SegmentFiles) -> Result<(), CommitFault> {
-    let mut folder = Folder::new(rt, path);
-    upgrade(rt.alloc(), &mut folder)?;
-    if segment.num_docs > 0 {
-        append_segment(rt.alloc(), &mut folder, &segment)?;
-    }
-    collect(rt.alloc(), &mut folder)?;
-    remove_slots(rt.alloc(), &mut folder)?;
     Ok(())
 }
 

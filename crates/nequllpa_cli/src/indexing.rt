@@ -3,28 +3,27 @@ ghost use Rattle.std.specs.Prelude.{◌≡◌, [], None, Some, if◌then◌else�
 
 use crate::commands::{NO, PROGRAM, REFUSED, refuse, refuse_file, refuse_path};
 use crate::keyed_lines::{KeyedLines, LineRefusal};
+use crate::memory::{Budget, budget_given};
+use crate::new_segments::{Former, NewSegments};
 use crate::orphans::refuse_orphan;
 use clap::ArgMatches;
 use ii_base::{Field, Term, ValueType};
 use ii_documents::{LineFault, ValueFault};
 use ii_schema_text::{SchemaFault, TextSchema, field_name_at, new_schema_text, read_text_schema};
-use ii_segment_store::{CommitFault, SegmentFiles, remove_slots, replace_index};
-use ii_store::collect::collect;
-use ii_store::{Folder, FolderLock};
+use ii_store::FolderLock;
 use ii_tokenizers::FieldTokenizers;
+use nequllpa_folder::text_schema_of;
 use nequllpa_indexing::{Documents, InputFault, MAX_TOKEN_LEN, add_line};
 use serde_json::Error as JsonError;
 use std::alloc::Global;
 use std::fs;
 use std::io::{BufRead, BufReader, Input};
+use std::mem::replace;
 use std::process::ExitCode;
 use std::time::Instant;
 
 // The number of input bytes between two lines of progress.
 const STEP: u64 = 16 << 20;
-
-// About how many bytes of memory indexing takes per byte of input, for its lines and then the index.
-const MEMORY_MULTIPLE: u32 = 5;
 
 // The file name for standard input.
 const STANDARD_INPUT: &str = "-";
@@ -37,12 +36,20 @@ const BYTE_ORDER_MARK: &[u8] = &[0xef, 0xbb, 0xbf];
 
 /// The state while input is read.
 #[derive(Drop)]
-pub struct Intake {
+pub struct Intake<'a> {
+    segments: NewSegments<'a>,
+    // how many bytes the lines of a segment may have
+    most_bytes: u64,
+    // the documents of lines that are in no segment yet, and the bytes of these lines
     documents: Documents,
+    unwritten: u64,
     tokenizers: FieldTokenizers,
+    long_words: u64,
     // the lines, if their documents replace others
     keyed: Option<KeyedLines>,
     skips_bad: bool,
+    // whether neither progress nor counts are printed
+    is_quiet: bool,
     bad_lines: u64,
     bytes: u64,
     reported: u64,
@@ -70,30 +77,44 @@ pub fn answer_index(
         Ok(schema) => schema,
         Err(status) => return Ok(ExitCode::from(status)),
     };
+    let budget = match budget_given(rt, given)? {
+        Ok(budget) => budget,
+        Err(status) => return Ok(ExitCode::from(status)),
+    };
     let target = match target_of(rt, path, given.get_flag("force"))? {
         Ok(target) => target,
         Err(status) => return Ok(ExitCode::from(status)),
     };
-    let (documents, tokenizers) = documents_for(rt.alloc(), schema);
-    let mut intake = begun(rt, given, documents, tokenizers, None)?;
+    let segments = NewSegments::new(target, Former::Replaced, text.into_bytes());
+    let mut intake = begun(rt, given, segments, schema, budget, None)?;
     if let Err(status) = take_inputs(rt, given, &mut intake)? {
+        intake.discard(rt);
         return Ok(ExitCode::from(status));
     }
-    save_index(rt, target, intake, text.into_bytes())
+    match intake.finish(rt)? {
+        Ok(taken) => {
+            tell_indexed(rt, taken.num_docs, taken.bad_lines)?;
+            Ok(ExitCode::SUCCESS)
+        }
+        Err(status) => Ok(ExitCode::from(status)),
+    }
 }
 
-/// Returns an empty list of documents, whose lines are stored if the schema's text says so, and the tokenizers of
-/// their fields.
+/// Returns an empty list of documents, whose lines are stored, and whose unknown keys are ignored, if the schema's text
+/// says so, and the tokenizers of their fields.
 pub fn documents_for(alloc: Global, schema: TextSchema) -> (Documents, FieldTokenizers)
-    ensures documents { result.0 ≡ record { schema = schema.schema; num_docs = 0; calls = []; lines = if schema.stores_source then Some [] else None } }
+    ensures documents { result.0 ≡ record { schema = schema.schema; num_docs = 0; calls = []; lines = if schema.stores_source then Some [] else None; unknown_keys = schema.unknown_keys } }
     ensures tokenizers { result.1 ≡ schema.tokenizers }
 {
     let stores_source = schema.stores_source();
+    let unknown = schema.unknown_keys();
     let (schema, tokenizers) = schema.into_parts();
     if stores_source {
-        return (Documents::storing(alloc, schema), tokenizers);
+        let documents = Documents::storing(alloc, schema);
+        return (documents.with_unknown_keys(unknown), tokenizers);
     }
-    (Documents::new(alloc, schema), tokenizers)
+    let documents = Documents::new(alloc, schema);
+    (documents.with_unknown_keys(unknown), tokenizers)
 }
 
 /// The folder in which an index is saved, with its lock if it exists.
@@ -110,24 +131,32 @@ pub fn target_of<'a>(
     path: &'a str,
     replaces_orphans: bool,
 ) -> anyhow::Result<Result<Target<'a>, u8>> {
-    let target = Target {
+    let mut target = Target {
         path,
         replaces_orphans,
         lock: None,
     };
     match fs::exists(rt, path) {
-        Ok(true) => target.locked(rt),
+        Ok(true) => match target.lock(rt)? {
+            Ok(()) => Ok(Ok(target)),
+            Err(status) => Ok(Err(status)),
+        },
         Ok(false) => Ok(Ok(target)),
         Err(e) => Ok(Err(refuse_path(rt, path, e.kind())?)),
     }
 }
 
 impl<'a> Target<'a> {
-    // Takes the lock of the folder, unless it is held already. Returns the status if another program holds
-    // it, or if files would be lost.
-    fn locked(self, rt: &HostRuntime) -> anyhow::Result<Result<Target<'a>, u8>> {
+    /// Returns the path of the folder.
+    pub fn path(&self) -> &'a str {
+        self.path
+    }
+
+    /// Takes the lock of the folder, unless it is held already. Returns the status if another program holds
+    /// it, or if files would be lost.
+    pub fn lock(&mut self, rt: &HostRuntime) -> anyhow::Result<Result<(), u8>> {
         if self.lock.is_some() {
-            return Ok(Ok(self));
+            return Ok(Ok(()));
         }
         let path = self.path;
         let lock = match FolderLock::try_lock(rt, path) {
@@ -143,37 +172,57 @@ impl<'a> Target<'a> {
                 return Ok(Err(status));
             }
         }
-        Ok(Ok(Target {
-            path,
-            replaces_orphans: self.replaces_orphans,
-            lock: Some(lock),
-        }))
+        self.lock = Some(lock);
+        Ok(Ok(()))
     }
 }
 
-/// Prints how much memory indexing takes, and returns the initial state: lines are added to `documents`, or kept
-/// if their documents replace those with the same key in a field.
-pub fn begun(
+/// Prints how much memory indexing takes, unless that is unwanted, and returns the initial state: lines are added to
+/// segments, or kept if their documents replace those with the same key in a field.
+pub fn begun<'a>(
     rt: &HostRuntime,
     given: &ArgMatches<'_>,
-    documents: Documents,
-    tokenizers: FieldTokenizers,
+    segments: NewSegments<'a>,
+    schema: TextSchema,
+    budget: Budget,
     keyed: Option<KeyedLines>,
-) -> anyhow::Result<Intake> {
+) -> anyhow::Result<Intake<'a>> {
     let begun = Instant::now(rt)?;
-    eprintln!(rt;
-        "{PROGRAM}: this takes up to about {MEMORY_MULTIPLE} bytes of memory for each byte of input"
-    )?;
+    let is_quiet = given.get_flag("quiet");
+    if !is_quiet {
+        tell_memory(rt, budget, keyed.is_some())?;
+    }
+    let (documents, tokenizers) = documents_for(rt.alloc(), schema);
     Ok(Intake {
+        segments,
+        most_bytes: budget.bytes_of_lines(),
         documents,
+        unwritten: 0,
         tokenizers,
+        long_words: 0,
         keyed,
         skips_bad: given.get_flag("skip-bad"),
+        is_quiet,
         bad_lines: 0,
         bytes: 0,
         reported: 0,
         begun,
     })
+}
+
+// Prints how much memory lines take.
+fn tell_memory(rt: &HostRuntime, budget: Budget, keeps_lines: bool) -> anyhow::Result<()> {
+    if keeps_lines {
+        eprintln!(rt;
+            "{PROGRAM}: all lines are kept in memory, since their documents replace others"
+        )?;
+        return Ok(());
+    }
+    eprintln!(rt;
+        "{PROGRAM}: lines that take about {} MB of memory become a segment; --memory sets that",
+        budget.megabytes()
+    )?;
+    Ok(())
 }
 
 // Returns the text of the schema of the new index.
@@ -221,7 +270,7 @@ fn refuse_schema(
 pub fn take_inputs(
     rt: &HostRuntime,
     given: &ArgMatches<'_>,
-    intake: &mut Intake,
+    intake: &mut Intake<'_>,
 ) -> anyhow::Result<Result<(), u8>> {
     let Some(files) = given.get_strs("FILE") else {
         return take_standard_input(rt, intake);
@@ -235,7 +284,11 @@ pub fn take_inputs(
 }
 
 // Reads the lines of a file, or of standard input for `-`.
-fn take_file(rt: &HostRuntime, file: &str, intake: &mut Intake) -> anyhow::Result<Result<(), u8>> {
+fn take_file(
+    rt: &HostRuntime,
+    file: &str,
+    intake: &mut Intake<'_>,
+) -> anyhow::Result<Result<(), u8>> {
     if file == STANDARD_INPUT {
         return take_standard_input(rt, intake);
     }
@@ -247,7 +300,10 @@ fn take_file(rt: &HostRuntime, file: &str, intake: &mut Intake) -> anyhow::Resul
     take_lines(rt, file, &mut reader, intake)
 }
 
-fn take_standard_input(rt: &HostRuntime, intake: &mut Intake) -> anyhow::Result<Result<(), u8>> {
+fn take_standard_input(
+    rt: &HostRuntime,
+    intake: &mut Intake<'_>,
+) -> anyhow::Result<Result<(), u8>> {
     let mut reader = BufReader::new(rt.alloc(), rt.reader())?;
     take_lines(rt, STANDARD_INPUT, &mut reader, intake)
 }
@@ -257,7 +313,7 @@ fn take_lines<R: BufRead>(
     rt: &HostRuntime,
     name: &str,
     reader: &mut R,
-    intake: &mut Intake,
+    intake: &mut Intake<'_>,
 ) -> anyhow::Result<Result<(), u8>> {
     let mut line = Vec::new(rt.alloc());
     for number in 1..u64::MAX {
@@ -276,37 +332,114 @@ fn take_lines<R: BufRead>(
     Ok(Ok(()))
 }
 
-impl Intake {
-    /// Returns the documents, the tokenizers of their fields, the number of lines that were left out, and the
-    /// keys of the documents, if they replace others.
-    pub fn into_documents(
-        self,
-        alloc: Global,
-    ) -> Result<(Documents, FieldTokenizers, u64, Vec<Term>), InputFault> {
+/// Documents that replace those with the same keys.
+#[derive(Drop)]
+pub struct Kept<'a> {
+    /// No segments yet; the folder is locked for them.
+    pub segments: NewSegments<'a>,
+    pub documents: Documents,
+    pub tokenizers: FieldTokenizers,
+    pub bad_lines: u64,
+    pub keys: Vec<Term>,
+}
+
+/// What was taken of the input.
+#[derive(Clone, Copy)]
+pub struct Taken {
+    pub num_docs: u64,
+    pub bad_lines: u64,
+}
+
+impl<'a> Intake<'a> {
+    /// Adds all documents to the index, at once. Prints why that fails, and returns the status then.
+    pub fn finish(self, rt: &HostRuntime) -> anyhow::Result<Result<Taken, u8>> {
+        let mut intake = self;
+        if !intake.segments.is_left_out(&intake.documents) {
+            if let Err(status) = intake.write_segment(rt)? {
+                intake.discard(rt);
+                return Ok(Err(status));
+            }
+        }
+        tell_long_words(rt, intake.is_quiet, intake.long_words)?;
+        match intake.segments.commit(rt)? {
+            Ok(()) => Ok(Ok(Taken {
+                num_docs: intake.segments.num_docs(),
+                bad_lines: intake.bad_lines,
+            })),
+            Err(status) => Ok(Err(status)),
+        }
+    }
+
+    /// Removes what was written of the input.
+    pub fn discard(self, rt: &HostRuntime) {
+        self.segments.discard(rt);
+    }
+
+    // Writes the documents of the lines since the last segment as the next one, and begins with none.
+    fn write_segment(&mut self, rt: &HostRuntime) -> anyhow::Result<Result<(), u8>> {
+        match self.documents.num_long_words(rt.alloc(), &self.tokenizers) {
+            Ok(count) => self.long_words = self.long_words.saturating_add(count),
+            Err(fault) => return Ok(Err(refuse(rt, fault)?)),
+        }
+        let schema = match text_schema_of(rt.alloc(), self.segments.schema()) {
+            Ok(schema) => schema,
+            Err(fault) => return Ok(Err(refuse(rt, fault)?)),
+        };
+        let (none, _) = documents_for(rt.alloc(), schema);
+        let documents = replace(&mut self.documents, none);
+        self.unwritten = 0;
+        self.segments.add(rt, documents, &self.tokenizers)
+    }
+
+    // Returns whether a line of this many bytes belongs to the next segment.
+    fn is_full(&self, len: u64) -> bool {
+        if self.documents.num_docs() == 0 {
+            return false;
+        }
+        self.unwritten.saturating_add(len) > self.most_bytes
+    }
+
+    /// Returns the documents of lines that were kept, since they replace others. Of lines with the same key the last
+    /// one counts.
+    pub fn into_kept(self, alloc: Global) -> Result<Kept<'a>, InputFault> {
         let Intake {
+            segments,
+            most_bytes: _,
             documents,
+            unwritten: _,
             tokenizers,
+            long_words: _,
             keyed,
             skips_bad: _,
+            is_quiet: _,
             bad_lines,
             bytes: _,
             reported: _,
             begun: _,
         } = self;
         let mut documents = documents;
-        match keyed {
-            Some(keyed) => match keyed.add_to(alloc, &mut documents) {
-                Ok(keys) => Ok((documents, tokenizers, bad_lines, keys)),
-                Err(fault) => Err(fault),
-            },
-            None => Ok((documents, tokenizers, bad_lines, Vec::new(alloc))),
-        }
+        let keys = match keyed {
+            Some(keyed) => keyed.add_to(alloc, &mut documents)?,
+            None => Vec::new(alloc),
+        };
+        Ok(Kept {
+            segments,
+            documents,
+            tokenizers,
+            bad_lines,
+            keys,
+        })
+    }
+
+    /// Returns whether neither progress nor counts are printed.
+    pub fn is_quiet(&self) -> bool {
+        self.is_quiet
     }
 
     // Adds the document of a line, or keeps the line.
     fn put_line(&mut self, alloc: Global, line: &[u8]) -> Result<(), LineRefusal> {
         if let Some(keyed) = &mut self.keyed {
-            return keyed.take(alloc, self.documents.schema(), &self.tokenizers, line);
+            return keyed.take(alloc, &self.documents, &self.tokenizers, line);
         }
         match add_line(alloc, &mut self.documents, line) {
             Ok(_) => Ok(()),
@@ -325,8 +458,17 @@ impl Intake {
         self.bytes = self.bytes.saturating_add(line.len() as u64);
         if self.bytes.saturating_sub(self.reported) >= STEP {
             self.reported = self.bytes;
-            self.report(rt)?;
+            if !self.is_quiet {
+                self.report(rt)?;
+            }
         }
+        let len = line.len() as u64;
+        if self.is_full(len) {
+            if let Err(status) = self.write_segment(rt)? {
+                return Ok(Err(status));
+            }
+        }
+        self.unwritten = self.unwritten.saturating_add(len);
         match self.put_line(rt.alloc(), line) {
             Ok(()) => Ok(Ok(())),
             Err(fault) => {
@@ -406,7 +548,8 @@ impl Intake {
             Some(keyed) => keyed.len() as u64,
             None => 0,
         };
-        let num_docs = u64::from(self.documents.num_docs()).saturating_add(kept);
+        let read = u64::from(self.documents.num_docs()).saturating_add(kept);
+        let num_docs = self.segments.num_docs().saturating_add(read);
         let rate = self.bytes as u128 / millis;
         eprintln!(rt;
             "{PROGRAM}: {num_docs} documents, {} MB, {}.{} MB/s",
@@ -465,9 +608,9 @@ fn nesting(line: &[u8]) -> u32 {
     most
 }
 
-/// Prints how many words are too long to be indexed, if there are any.
-pub fn tell_long_words(rt: &HostRuntime, count: u64) -> anyhow::Result<()> {
-    if count > 0 {
+/// Prints how many words are too long to be indexed, if there are any, unless that is unwanted.
+pub fn tell_long_words(rt: &HostRuntime, is_quiet: bool, count: u64) -> anyhow::Result<()> {
+    if count > 0 && !is_quiet {
         eprintln!(rt;
             "{PROGRAM}: {count} words of more than {MAX_TOKEN_LEN} bytes are not indexed"
         )?;
@@ -475,80 +618,12 @@ pub fn tell_long_words(rt: &HostRuntime, count: u64) -> anyhow::Result<()> {
     Ok(())
 }
 
-// Builds the index of the documents and saves it.
-fn save_index(
-    rt: &HostRuntime,
-    target: Target<'_>,
-    intake: Intake,
-    schema: Vec<u8>,
-) -> anyhow::Result<ExitCode> {
-    let (documents, tokenizers, bad_lines, _) = match intake.into_documents(rt.alloc()) {
-        Ok(parts) => parts,
-        Err(fault) => return Ok(ExitCode::from(refuse(rt, fault)?)),
-    };
-    match documents.num_long_words(rt.alloc(), &tokenizers) {
-        Ok(count) => tell_long_words(rt, count)?,
-        Err(fault) => return Ok(ExitCode::from(refuse(rt, fault)?)),
-    }
-    let segment = match documents.into_segment(rt.alloc(), &tokenizers) {
-        Ok(segment) => segment,
-        Err(fault) => return Ok(ExitCode::from(refuse(rt, fault)?)),
-    };
-    if let Err(status) = save_at(rt, target, schema, &segment)? {
-        return Ok(ExitCode::from(status));
-    }
-    tell_indexed(rt, segment.num_docs, bad_lines)?;
-    Ok(ExitCode::SUCCESS)
-}
-
-// Saves an index in a folder, which is created if it doesn't exist. Returns the status if that fails.
-fn save_at(
-    rt: &HostRuntime,
-    target: Target<'_>,
-    schema: Vec<u8>,
-    segment: &SegmentFiles,
-) -> anyhow::Result<Result<(), u8>> {
-    let path = target.path;
-    if let Err(e) = fs::create_dir_all(rt, path) {
-        return Ok(Err(refuse_path(rt, path, e.kind())?));
-    }
-    let target = match target.locked(rt)? {
-        Ok(target) => target,
-        Err(status) => return Ok(Err(status)),
-    };
-    let saved = put_index(rt, path, schema, segment);
-    drop(target);
-    let Err(fault) = saved else {
-        return Ok(Ok(()));
-    };
-    let status = refuse_path(rt, path, fault)?;
-    eprintln!(rt;
-        "{PROGRAM}: the folder still has its complete index, if it had one; free some space, or make the folder writable, and index again"
-    )?;
-    Ok(Err(status))
-}
-
 // Prints how many documents were indexed and how many lines were skipped.
-fn tell_indexed(rt: &HostRuntime, num_docs: u32, bad_lines: u64) -> anyhow::Result<()> {
+fn tell_indexed(rt: &HostRuntime, num_docs: u64, bad_lines: u64) -> anyhow::Result<()> {
     if bad_lines > 0 {
         println!(rt; "{num_docs} documents indexed, {bad_lines} lines left out")?;
     } else {
         println!(rt; "{num_docs} documents indexed")?;
     }
-    Ok(())
-}
-
-// Saves an index of one segment, and removes the files of the previous index.
-fn put_index(
-    rt: &HostRuntime,
-    path: &str,
-    schema: Vec<u8>,
-    segment: &SegmentFiles,
-) -> Result<(), CommitFault> {
-    let mut folder = Folder::new(rt, path);
-    folder.begin_first_save()?;
-    replace_index(rt.alloc(), &mut folder, schema, segment)?;
-    collect(rt.alloc(), &mut folder)?;
-    remove_slots(rt.alloc(), &mut folder)?;
     Ok(())
 }

@@ -1,7 +1,7 @@
 //! Lines whose documents replace others: those that have the same key, the one value of a field.
-use ii_base::{Fault, Field, Schema, Term, TextAnalyzer, TokenStream};
+use ii_base::{Fault, Field, Term, TextAnalyzer, TokenStream};
 use ii_definitions::IndexCall;
-use ii_documents::{LineFault, line_calls};
+use ii_documents::{LineFault, line_calls_by};
 use ii_tokenizers::{Analyzer, FieldAnalyzers, FieldTokenizers};
 use indexmap::IndexMap;
 use nequllpa_indexing::{Documents, InputFault, MAX_TOKEN_LEN, add_line};
@@ -57,11 +57,11 @@ impl KeyedLines {
         self.lines.len()
     }
 
-    /// Adds a line, unless it has only white space. Returns why it isn't taken.
+    /// Adds a line, unless it has only white space. It is read as `documents` read lines. Returns why it isn't taken.
     pub fn take(
         &mut self,
         alloc: Global,
-        schema: &Schema,
+        documents: &Documents,
         tokenizers: &FieldTokenizers,
         line: &[u8],
     ) -> Result<(), LineRefusal> {
@@ -72,7 +72,8 @@ impl KeyedLines {
         if text.is_empty() {
             return Ok(());
         }
-        let calls = match line_calls(alloc, schema, 0, text) {
+        let unknown = documents.unknown_keys();
+        let calls = match line_calls_by(alloc, documents.schema(), unknown, 0, text) {
             Ok(calls) => calls,
             Err(fault) => return Err(LineRefusal::Input(InputFault::Line(fault))),
         };

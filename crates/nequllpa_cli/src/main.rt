@@ -2,17 +2,22 @@
 #![tactic(auto)]
 
 mod adding;
+mod batch;
 mod checking;
 mod commands;
 mod deleting;
 mod getting;
 mod indexing;
 mod keyed_lines;
+mod memory;
 mod merging;
+mod new_segments;
 mod orphans;
 mod query_texts;
 mod replacing;
 mod searching;
+mod snippet_style;
+mod timing;
 mod usage;
 
 use adding::{answer_add, answer_upgrade};

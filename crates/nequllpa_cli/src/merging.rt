@@ -2,13 +2,14 @@
 use crate::adding::refuse_commit;
 use crate::commands::{NO, PROGRAM, loaded_at, refuse_path, tell_no_index};
 use crate::indexing::target_of;
+use crate::memory::Budget;
 use ii_segment_store::loading::file_of;
 use ii_segment_store::{StoredSegments, WantedFiles};
 use ii_store::collect::collect;
 use ii_store::segments::load_meta;
-use ii_store::{Folder, IndexFault, IndexMeta, SegmentComponent, StoreFault};
+use ii_store::{Folder, IndexFault, IndexMeta, SegmentComponent, SegmentMeta, StoreFault};
 use nequllpa_folder::schema_of;
-use nequllpa_merging::{JoinFault, MergeFault, first_to_merge, merge_last};
+use nequllpa_merging::{JoinFault, MergeFault, first_to_merge, first_within, merge_last};
 use std::alloc::{AllocError, Global};
 use std::process::ExitCode;
 
@@ -133,10 +134,10 @@ fn refuse_merge(rt: &HostRuntime, path: &str, fault: MergeFault) -> anyhow::Resu
     Ok(NO)
 }
 
-/// Merges the last segments of an index that have as many documents together as the one before them or more. If
-/// they can't be merged, prints why on standard error: the index stays as it is.
-pub fn settle(rt: &HostRuntime, path: &str) -> anyhow::Result<()> {
-    if let Err(fault) = settled(rt, path) {
+/// Merges the last segments of an index that have as many documents together as the one before them or more, as far
+/// as the memory allows. If they can't be merged, prints why on standard error: the index stays as it is.
+pub fn settle(rt: &HostRuntime, path: &str, budget: Budget) -> anyhow::Result<()> {
+    if let Err(fault) = settled(rt, path, budget) {
         eprintln!(rt;
             "{PROGRAM}: the documents were added, but segments were not merged: {fault}"
         )?;
@@ -144,13 +145,19 @@ pub fn settle(rt: &HostRuntime, path: &str) -> anyhow::Result<()> {
     Ok(())
 }
 
-// Does it, of the segments behind the last one without counts: in one with them these could not be deleted any more.
-fn settled(rt: &HostRuntime, path: &str) -> anyhow::Result<()> {
+// Does it, of the last segments whose files may be merged.
+fn settled(rt: &HostRuntime, path: &str, budget: Budget) -> anyhow::Result<()> {
     let mut folder = Folder::new(rt, path);
     let list = load_meta(rt.alloc(), &folder)?;
-    let counts = counts_behind(rt.alloc(), &list)?;
-    let kept = list.segments.len().saturating_sub(counts.len());
-    let first = kept.saturating_add(first_to_merge(counts.as_slice()));
+    let counted = Counted::behind(rt.alloc(), &list)?;
+    let kept = list.segments.len().saturating_sub(counted.lens.len());
+    let from = first_within(counted.lens.as_slice(), budget.bytes_to_merge());
+    let Some(counts) = counted.num_living.as_slice().get(from..) else {
+        return Ok(());
+    };
+    let first = kept
+        .saturating_add(from)
+        .saturating_add(first_to_merge(counts));
     if first == list.segments.len() {
         return Ok(());
     }
@@ -160,15 +167,38 @@ fn settled(rt: &HostRuntime, path: &str) -> anyhow::Result<()> {
     Ok(())
 }
 
-// Returns the number of living documents of each segment behind the last one without counts.
-fn counts_behind(alloc: Global, list: &IndexMeta) -> Result<Vec<u32>, AllocError> {
-    let mut counts = Vec::new(alloc);
-    for segment in &list.segments {
-        if file_of(segment.files.as_slice(), SegmentComponent::Counts).is_none() {
-            counts.clear();
-        } else {
-            counts.push(segment.num_living)?;
+// The segments behind the last one without counts: in one with it no documents could be deleted any more.
+#[derive(Drop)]
+struct Counted {
+    // how many documents of each are alive
+    num_living: Vec<u32>,
+    // how many bytes the files of each have
+    lens: Vec<u64>,
+}
+
+impl Counted {
+    // Reads them in a list.
+    fn behind(alloc: Global, list: &IndexMeta) -> Result<Counted, AllocError> {
+        let mut num_living = Vec::new(alloc);
+        let mut lens = Vec::new(alloc);
+        for segment in &list.segments {
+            if file_of(segment.files.as_slice(), SegmentComponent::Counts).is_none() {
+                num_living.clear();
+                lens.clear();
+            } else {
+                num_living.push(segment.num_living)?;
+                lens.push(len_of_files(segment))?;
+            }
         }
+        Ok(Counted { num_living, lens })
     }
-    Ok(counts)
+}
+
+// Returns how many bytes the files of a segment have.
+fn len_of_files(segment: &SegmentMeta) -> u64 {
+    let mut len = 0u64;
+    for file in &segment.files {
+        len = len.saturating_add(file.len);
+    }
+    len
 }

@@ -1,10 +1,10 @@
 //! Messages about a query text: why it is refused, and which fields a phrase is not searched in.
-use crate::commands::{PROGRAM, REFUSED, refuse_path};
+use crate::commands::{PROGRAM, refuse_path};
 use ii_base::{Fault, Field, TextAnalyzer, TokenStream};
 use ii_query_parser::{QueryParserError, UserInputAst, parse, unknown_field_name};
 use ii_tokenizers::{Analyzer, FieldAnalyzers};
 use nequllpa_folder::OpenedIndex;
-use std::alloc::Global;
+use std::alloc::{AllocError, Global};
 
 /// Prints why a text is no query, with the name of the field concerned. Returns the status.
 pub(crate) fn refuse_query(
@@ -13,41 +13,58 @@ pub(crate) fn refuse_query(
     text: &str,
     error: QueryParserError,
 ) -> anyhow::Result<u8> {
+    let reason = reason_of(rt.alloc(), opened, text, error)?;
+    refuse_path(rt, text, reason)
+}
+
+/// Returns why a text is no query, with the name of the field concerned.
+pub(crate) fn reason_of(
+    alloc: Global,
+    opened: &OpenedIndex,
+    text: &str,
+    error: QueryParserError,
+) -> Result<String, AllocError> {
     if error == QueryParserError::FieldDoesNotExist {
-        return refuse_name(rt, opened, text, error);
+        return reason_of_name(alloc, opened, text, error);
     }
     let schema = opened.schema();
     match error.field() {
         Some(field) if (field.field_id() as usize) < schema.num_fields() => {
             let name = schema.get_field_entry(field).name();
-            eprintln!(rt; "{PROGRAM}: {text}: field {name}: {error}")?;
-            Ok(REFUSED)
+            format!(in alloc; "field {name}: {error}")
         }
-        _ => refuse_path(rt, text, error),
+        _ => format!(in alloc; "{error}"),
     }
 }
 
 // Does the same for a text with an unknown field name.
-fn refuse_name(
-    rt: &HostRuntime,
+fn reason_of_name(
+    alloc: Global,
     opened: &OpenedIndex,
     text: &str,
     error: QueryParserError,
-) -> anyhow::Result<u8> {
-    let Ok(ast) = parse(rt.alloc(), text) else {
-        return refuse_path(rt, text, error);
+) -> Result<String, AllocError> {
+    let Ok(ast) = parse(alloc, text) else {
+        return format!(in alloc; "{error}");
     };
-    let status = match unknown_field_name(opened.schema(), &ast) {
-        Some(name) => {
-            eprintln!(rt;
-                "{PROGRAM}: {text}: no field {name}; the command fields lists them. In quotes, or after a backslash, a colon is a character"
-            )?;
-            REFUSED
-        }
-        None => refuse_path(rt, text, error)?,
+    let reason = match unknown_field_name(opened.schema(), &ast) {
+        Some(name) => format!(in alloc;
+            "no field {name}; the command fields lists them. In quotes, or after a backslash, a colon is a character"
+        ),
+        None => format!(in alloc; "{error}"),
     };
     drop(ast);
-    Ok(status)
+    reason
+}
+
+/// Returns the byte of a query that an error is about, if it is about one.
+pub(crate) fn byte_of(error: QueryParserError) -> Option<usize> {
+    match error {
+        QueryParserError::SyntaxError(_, byte) | QueryParserError::Unsupported(_, byte) => {
+            Some(byte)
+        }
+        _ => None,
+    }
 }
 
 /// Prints which default fields keep no positions, if the text has a phrase that is searched only in the
@@ -107,7 +124,7 @@ fn has_default_phrase(
             }
             has_words(alloc, analyzer, literal.phrase.as_str())
         }
-        UserInputAst::Range(_) => Ok(false),
+        UserInputAst::All | UserInputAst::Range(_) | UserInputAst::Set(_) => Ok(false),
         UserInputAst::And(parts) => have_default_phrase(alloc, analyzer, parts),
         UserInputAst::Or(parts) => have_default_phrase(alloc, analyzer, parts),
         UserInputAst::AndNot(first, other) => {

@@ -36,7 +36,7 @@ pub fn replace_keys(
         return Ok(ExitCode::from(refuse_commit(rt, path, fault)?));
     }
     let also = format!(in rt.alloc(); ", {count} replaced")?;
-    tell_left_out(rt, segment.num_docs, also.as_str(), bad_lines)?;
+    tell_left_out(rt, u64::from(segment.num_docs), also.as_str(), bad_lines)?;
     Ok(ExitCode::SUCCESS)
 }
 

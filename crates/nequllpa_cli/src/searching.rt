@@ -1,17 +1,32 @@
 //! The command `search`.
+use crate::batch::answer_batch;
 use crate::commands::{PROGRAM, REFUSED, ended, field_named, number_given, opened_at, refuse};
 use crate::getting::NOT_STORED;
 use crate::query_texts::{refuse_query, tell_left_out};
+use crate::snippet_style::style_given;
+use crate::timing::Timing;
 use clap::ArgMatches;
 use ii_base::{Field, ValueType};
 use ii_query_parser::Query;
 use ii_segment_store::WantedFiles;
 use nequllpa_folder::{
-    BestListing, CountFormat, Listing, OpenedIndex, StoredPart, are_stored, id_field_of_all,
-    write_best, write_count, write_listing,
+    AnswerFault, BestListing, CountFormat, Listing, OpenedIndex, RowFormat, StoredPart, are_stored,
+    id_field_of_all, write_best, write_count, write_listing,
 };
+use std::alloc::Global;
 use std::io::{self, BufWriter, Write};
 use std::process::ExitCode;
+
+/// What is printed of the documents that match a query.
+#[derive(Clone, Copy)]
+pub enum Wanted<'a, 'n> {
+    /// Their number.
+    Count(CountFormat),
+    /// The best ones.
+    Best(BestListing<'a, 'n>),
+    /// The first ones.
+    Found(Listing<'a, 'n>),
+}
 
 /// Prints the documents that match a query.
 pub fn answer_search(
@@ -23,8 +38,16 @@ pub fn answer_search(
         Ok(limit) => limit.unwrap_or(u32::MAX),
         Err(status) => return Ok(ExitCode::from(status)),
     };
+    if given.get_flag("batch") == given.get_str("QUERY").is_some() {
+        let status = refuse(rt, "search needs a query, or --batch")?;
+        return Ok(ExitCode::from(status));
+    }
+    let timing = Timing::begin(rt, given)?;
     match opened_at(rt, path, wanted_by(given))? {
-        Ok(opened) => search(rt, path, &opened, given, limit),
+        Ok(opened) => {
+            timing.tell(rt, "opening")?;
+            search(rt, path, &opened, given, limit)
+        }
         Err(status) => Ok(ExitCode::from(status)),
     }
 }
@@ -48,6 +71,9 @@ fn option_of_line(given: &ArgMatches<'_>) -> Option<&'static str> {
     if given.get_str("fields").is_some() {
         return Some("fields");
     }
+    if given.get_flag("snippet") {
+        return Some("snippet");
+    }
     None
 }
 
@@ -59,45 +85,131 @@ fn search(
     given: &ArgMatches<'_>,
     limit: u32,
 ) -> anyhow::Result<ExitCode> {
-    let query = match query_given(rt, opened, given)? {
+    let fields = match default_fields(rt, opened, given)? {
+        Ok(fields) => fields,
+        Err(status) => return Ok(ExitCode::from(status)),
+    };
+    match given.get_str("QUERY") {
+        Some(text) => search_one(rt, path, opened, given, limit, &fields, text),
+        None => search_each(rt, opened, given, limit, &fields),
+    }
+}
+
+// Prints the matching documents of a query.
+fn search_one(
+    rt: &HostRuntime,
+    path: &str,
+    opened: &OpenedIndex,
+    given: &ArgMatches<'_>,
+    limit: u32,
+    fields: &[Field],
+    text: &str,
+) -> anyhow::Result<ExitCode> {
+    let timing = Timing::begin(rt, given)?;
+    let query = match query_of(rt, opened, fields, text)? {
         Ok(query) => query,
         Err(status) => return Ok(ExitCode::from(status)),
     };
-    if !query.has_fields(opened.schema()) {
-        return Ok(ExitCode::from(REFUSED));
-    }
-    let as_json = given.get_flag("json");
-    if given.get_str("top").is_some() && has_other_choice(given) {
-        let status = refuse(rt, "--top stands without --limit, --count and --positions")?;
-        return Ok(ExitCode::from(status));
-    }
-    let names = match line_given(rt, opened, given)? {
+    let names = match names_given(rt, opened, given)? {
         Ok(names) => names,
         Err(status) => return Ok(ExitCode::from(status)),
     };
+    let status = match wanted_given(rt, opened, given, limit, &names) {
+        Ok(Ok(wanted)) => print_wanted(rt, path, opened, &query, &wanted)?,
+        Ok(Err(status)) => return Ok(ExitCode::from(status)),
+        Err(error) => return Err(error),
+    };
+    timing.tell(rt, "search")?;
+    Ok(status)
+}
+
+// Answers each query of standard input.
+fn search_each(
+    rt: &HostRuntime,
+    opened: &OpenedIndex,
+    given: &ArgMatches<'_>,
+    limit: u32,
+    fields: &[Field],
+) -> anyhow::Result<ExitCode> {
+    let names = match names_given(rt, opened, given)? {
+        Ok(names) => names,
+        Err(status) => return Ok(ExitCode::from(status)),
+    };
+    match wanted_given(rt, opened, given, limit, &names) {
+        Ok(Ok(wanted)) => answer_batch(rt, opened, given, fields, &wanted),
+        Ok(Err(status)) => Ok(ExitCode::from(status)),
+        Err(error) => Err(error),
+    }
+}
+
+// Returns the fields of stored lines that are printed, or the status if options don't go together.
+fn names_given<'a>(
+    rt: &HostRuntime,
+    opened: &OpenedIndex,
+    given: &'a ArgMatches<'_>,
+) -> anyhow::Result<Result<Vec<&'a str>, u8>> {
+    if given.get_str("top").is_some() && has_other_choice(given) {
+        let status = refuse(rt, "--top stands without --limit, --count and --positions")?;
+        return Ok(Err(status));
+    }
+    line_given(rt, opened, given)
+}
+
+// Returns what is printed of matching documents, at most `limit`, given the fields of stored lines that are printed.
+fn wanted_given<'a, 'n>(
+    rt: &HostRuntime,
+    opened: &OpenedIndex,
+    given: &ArgMatches<'_>,
+    limit: u32,
+    names: &'a [&'n str],
+) -> anyhow::Result<Result<Wanted<'a, 'n>, u8>> {
+    let stored = match part_given(rt, given, names)? {
+        Ok(stored) => stored,
+        Err(status) => return Ok(Err(status)),
+    };
     if given.get_flag("count") {
-        let format = if as_json {
-            CountFormat::Json
-        } else {
-            CountFormat::Number
-        };
-        return print_count(rt, path, opened, &query, format);
+        return Ok(Ok(Wanted::Count(count_format(given))));
     }
     let ids = match ids_given(rt, opened, given)? {
         Ok(ids) => ids,
-        Err(status) => return Ok(ExitCode::from(status)),
+        Err(status) => return Ok(Err(status)),
     };
-    if given.get_str("top").is_some() {
-        return search_best(rt, path, opened, &query, given, ids, &names);
+    let format = format_given(given);
+    match number_given(rt, given, "top")? {
+        Ok(Some(limit)) => Ok(Ok(Wanted::Best(BestListing {
+            limit,
+            format,
+            ids,
+            stored,
+        }))),
+        Ok(None) => Ok(Ok(Wanted::Found(Listing {
+            limit,
+            format,
+            with_positions: given.get_flag("positions"),
+            ids,
+            stored,
+        }))),
+        Err(status) => Ok(Err(status)),
     }
-    let how = Listing {
-        limit,
-        as_json,
-        with_positions: given.get_flag("positions"),
-        ids,
-        stored: part_given(given, &names),
-    };
-    print_found(rt, path, opened, &query, &how)
+}
+
+// Returns how a document is printed.
+fn format_given(given: &ArgMatches<'_>) -> RowFormat {
+    if given.get_flag("batch") {
+        return RowFormat::JsonItem;
+    }
+    if given.get_flag("json") {
+        return RowFormat::JsonLine;
+    }
+    RowFormat::Words
+}
+
+// Returns how the number of documents is printed: in a batch as a value of JSON.
+fn count_format(given: &ArgMatches<'_>) -> CountFormat {
+    if given.get_flag("json") && !given.get_flag("batch") {
+        return CountFormat::Json;
+    }
+    CountFormat::Number
 }
 
 // Returns whether an option is given that --top doesn't go with.
@@ -117,6 +229,10 @@ fn line_given<'a>(
     };
     if given.get_flag("count") || given.get_flag("positions") || given.get_flag("ids") {
         eprintln!(rt; "{PROGRAM}: --{option} stands without --count, --positions and --ids")?;
+        return Ok(Err(REFUSED));
+    }
+    if given.get_flag("snippet") && option != "snippet" {
+        eprintln!(rt; "{PROGRAM}: --{option} stands without --snippet")?;
         return Ok(Err(REFUSED));
     }
     let Some(text) = given.get_str("fields") else {
@@ -171,80 +287,54 @@ fn is_one_of(name: &str, names: &[&str]) -> bool {
     false
 }
 
-// Returns what is printed of stored lines.
-fn part_given<'a, 'n>(given: &ArgMatches<'_>, names: &'a [&'n str]) -> StoredPart<'a, 'n> {
+// Returns what is printed of stored lines, or the status if --color has no value that it may have.
+fn part_given<'a, 'n>(
+    rt: &HostRuntime,
+    given: &ArgMatches<'_>,
+    names: &'a [&'n str],
+) -> anyhow::Result<Result<StoredPart<'a, 'n>, u8>> {
+    if given.get_flag("snippet") {
+        return match style_given(rt, given) {
+            Some(style) => Ok(Ok(StoredPart::Snippet(style))),
+            None => Ok(Err(refuse(rt, "--color is always, never or auto")?)),
+        };
+    }
     if given.get_flag("source") {
-        return StoredPart::Line;
+        return Ok(Ok(StoredPart::Line));
     }
     if names.is_empty() {
-        return StoredPart::Nothing;
+        return Ok(Ok(StoredPart::Nothing));
     }
-    StoredPart::Fields(names)
+    Ok(Ok(StoredPart::Fields(names)))
 }
 
-// Prints the best of the matching documents, as many as are given.
-fn search_best(
+// Prints what is wanted of the matching documents.
+fn print_wanted(
     rt: &HostRuntime,
     path: &str,
     opened: &OpenedIndex,
     query: &Query,
-    given: &ArgMatches<'_>,
-    ids: Option<Field>,
-    names: &[&str],
-) -> anyhow::Result<ExitCode> {
-    let limit = match number_given(rt, given, "top")? {
-        Ok(limit) => limit.unwrap_or(u32::MAX),
-        Err(status) => return Ok(ExitCode::from(status)),
-    };
-    let how = BestListing {
-        limit,
-        as_json: given.get_flag("json"),
-        ids,
-        stored: part_given(given, names),
-    };
-    print_best(rt, path, opened, query, &how)
-}
-
-// Prints the best of the matching documents.
-fn print_best(
-    rt: &HostRuntime,
-    path: &str,
-    opened: &OpenedIndex,
-    query: &Query,
-    how: &BestListing<'_, '_>,
+    wanted: &Wanted<'_, '_>,
 ) -> anyhow::Result<ExitCode> {
     let mut out = BufWriter::new(rt.alloc(), io::writer(rt))?;
-    let written = write_best(rt.alloc(), &mut out, opened, query, how);
+    let written = write_wanted(rt.alloc(), &mut out, opened, query, wanted);
     out.flush()?;
     ended(rt, path, written)
 }
 
-// Prints the number of matching documents.
-fn print_count(
-    rt: &HostRuntime,
-    path: &str,
+/// Writes what is wanted of the matching documents. Returns whether any matches.
+pub fn write_wanted<W: Write>(
+    alloc: Global,
+    out: &mut W,
     opened: &OpenedIndex,
     query: &Query,
-    format: CountFormat,
-) -> anyhow::Result<ExitCode> {
-    let mut out = BufWriter::new(rt.alloc(), io::writer(rt))?;
-    let written = write_count(rt.alloc(), &mut out, opened, query, format);
-    out.flush()?;
-    ended(rt, path, written)
-}
-
-// Prints the matching documents.
-fn print_found(
-    rt: &HostRuntime,
-    path: &str,
-    opened: &OpenedIndex,
-    query: &Query,
-    how: &Listing<'_, '_>,
-) -> anyhow::Result<ExitCode> {
-    let mut out = BufWriter::new(rt.alloc(), io::writer(rt))?;
-    let written = write_listing(rt.alloc(), &mut out, opened, query, how);
-    out.flush()?;
-    ended(rt, path, written)
+    wanted: &Wanted<'_, '_>,
+) -> Result<bool, AnswerFault> {
+    match wanted {
+        Wanted::Count(format) => write_count(alloc, out, opened, query, *format),
+        Wanted::Best(how) => write_best(alloc, out, opened, query, how),
+        Wanted::Found(how) => write_listing(alloc, out, opened, query, how),
+    }
 }
 
 // Returns the field whose values are printed instead of document numbers, if requested, or the status if the
@@ -264,22 +354,17 @@ fn ids_given(
     }
 }
 
-// Parses the query.
-fn query_given(
+// Returns the query of a text, or the status if it is none.
+fn query_of(
     rt: &HostRuntime,
     opened: &OpenedIndex,
-    given: &ArgMatches<'_>,
+    fields: &[Field],
+    text: &str,
 ) -> anyhow::Result<Result<Query, u8>> {
-    let Some(text) = given.get_str("QUERY") else {
-        return Ok(Err(REFUSED));
-    };
-    let fields = match default_fields(rt, opened, given)? {
-        Ok(fields) => fields,
-        Err(status) => return Ok(Err(status)),
-    };
-    match opened.parse_query(rt.alloc(), &fields, text) {
-        Ok(query) => {
-            tell_left_out(rt, opened, &fields, text)?;
+    match opened.parse_query(rt.alloc(), fields, text) {
+        Ok(mut query) => {
+            tell_left_out(rt, opened, fields, text)?;
+            opened.bound(&mut query);
             Ok(Ok(query))
         }
         Err(error) => Ok(Err(refuse_query(rt, opened, text, error)?)),

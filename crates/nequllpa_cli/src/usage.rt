@@ -1,6 +1,10 @@
 //! The commands and their `--help`.
+use crate::commands::PROGRAM;
 use clap::{Arg, ArgAction, Command};
 use std::alloc::{AllocError, Global};
+
+/// The version of the program.
+const VERSION: &str = "0.1.0";
 
 // How an argument is given.
 #[derive(Clone, Copy)]
@@ -11,6 +15,8 @@ enum Given {
     WordOrNumber,
     // all remaining arguments
     Words,
+    // a positional argument that may be missing
+    OptionalWord,
     // an option without a value
     Flag,
     // an option with a value of this name
@@ -45,7 +51,7 @@ static FOLDER: Word = Word {
 static USAGES: [Usage; 12] = [
     Usage {
         name: "index",
-        about: "Indexes JSON lines: the index replaces the one that the folder had. Takes 3 to 5 bytes of memory for each byte of input, up to 16 for numbers that all differ",
+        about: "Indexes JSON lines: the index replaces the one that the folder had. Input that takes more memory than --memory becomes several segments",
         words: &[
             Word {
                 name: "FILE",
@@ -63,6 +69,16 @@ static USAGES: [Usage; 12] = [
                 help: "Leaves out lines that are no documents, prints why for each, and counts them",
             },
             Word {
+                name: "memory",
+                given: Given::Value("SIZE"),
+                help: "About how much memory lines take before they are written as a segment, as 256MB, in B, KB, MB or GB (512MB unless given)",
+            },
+            Word {
+                name: "quiet",
+                given: Given::Flag,
+                help: "Prints no progress, no need of memory and no counts on standard error; why lines are left out is printed all the same",
+            },
+            Word {
                 name: "force",
                 given: Given::Flag,
                 help: "Replaces files with names of an index in a folder that has no meta",
@@ -71,7 +87,7 @@ static USAGES: [Usage; 12] = [
     },
     Usage {
         name: "add",
-        about: "Adds JSON lines to an index, by its schema: their documents come after those that it has. Takes as much memory as index, for the new lines alone. Then merges the last segments if they have as many documents together as the one before them",
+        about: "Adds JSON lines to an index, by its schema: their documents come after those that it has. Takes as much memory as index, for the new lines alone. Then merges the last segments if they have as many documents together as the one before them, as far as the memory allows",
         words: &[
             Word {
                 name: "FILE",
@@ -79,9 +95,19 @@ static USAGES: [Usage; 12] = [
                 help: "Files of JSON lines, an object on each line; - is standard input, which is read if no file is given",
             },
             Word {
+                name: "memory",
+                given: Given::Value("SIZE"),
+                help: "About how much memory lines take before they are written as a segment, and then the segments that are merged, as 256MB, in B, KB, MB or GB (512MB unless given)",
+            },
+            Word {
                 name: "no-merge",
                 given: Given::Flag,
                 help: "Merges no segments",
+            },
+            Word {
+                name: "quiet",
+                given: Given::Flag,
+                help: "Prints no progress, no need of memory and no counts on standard error; why lines are left out is printed all the same",
             },
             Word {
                 name: "replace-by",
@@ -127,8 +153,13 @@ static USAGES: [Usage; 12] = [
         words: &[
             Word {
                 name: "QUERY",
-                given: Given::Word,
+                given: Given::OptionalWord,
                 help: "Words, also after the name of a field and a colon, with AND, OR, NOT or -, and parentheses: sea AND -title:\"new\"",
+            },
+            Word {
+                name: "batch",
+                given: Given::Flag,
+                help: "Answers each line of standard input as a query, by a line of JSON: an object with query, and docs, an array of the objects that --json prints, or count with --count, or error and its byte of the query; status 0 where all are answered",
             },
             Word {
                 name: "field",
@@ -171,9 +202,24 @@ static USAGES: [Usage; 12] = [
                 help: "Prints of the stored line of a document only the members of these fields, as a JSON object, in this order; stands where --source does, and not with it",
             },
             Word {
+                name: "snippet",
+                given: Given::Flag,
+                help: "Prints after each document, and a tab, of each text of its stored line that has a word of the query the best 30 words; stands where --source does, and not with it or --fields",
+            },
+            Word {
+                name: "color",
+                given: Given::Value("WHEN"),
+                help: "Whether --snippet prints the words of the query in bold: always, never, or auto, which is on a terminal (auto if it is not given)",
+            },
+            Word {
+                name: "timing",
+                given: Given::Flag,
+                help: "Prints on standard error how long opening the index took, and each search",
+            },
+            Word {
                 name: "json",
                 given: Given::Flag,
-                help: "Prints a JSON object for each document: doc, its number; with --ids id; with --source source, its line; with --fields fields, these members; with --positions terms, each with field, term and positions; with --count one object with count",
+                help: "Prints a JSON object for each document: doc, its number; with --ids id; with --source source, its line; with --fields fields, these members; with --snippet snippet, as HTML with the words of the query in <b> elements; with --positions terms, each with field, term and positions; with --count one object with count",
             },
         ],
     },
@@ -247,7 +293,8 @@ static USAGES: [Usage; 12] = [
 
 /// Builds the command line of the program.
 pub fn command<'a>(alloc: Global) -> Result<Command<'a>, AllocError> {
-    let mut command = Command::new(alloc, "nequllpa")
+    let mut command = Command::new(alloc, PROGRAM)
+        .version(VERSION)
         .about(
             "Indexes JSON lines into a folder, searches the index and inspects it. Status 0: done; 1: no document, no such term, a bad line, no index, or a damaged one; 2: usage or the system",
         )
@@ -292,6 +339,7 @@ fn argument<'a>(alloc: Global, word: &Word) -> Arg<'a> {
             .required(true)
             .action(ArgAction::Set)
             .allow_negative_numbers(true),
+        Given::OptionalWord => argument.action(ArgAction::Set),
         Given::Words => argument.action(ArgAction::Append).num_args(0..),
         Given::Flag => argument.long(word.name).action(ArgAction::SetTrue),
         Given::Value(value) => argument

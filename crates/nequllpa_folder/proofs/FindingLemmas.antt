@@ -62,6 +62,22 @@ taking_ended alive limit all rest doc docs end h =
     let all_of : docs ≡ living_of alive all = sym (append-nil docs) ∙ ap (λ (es : List Entry). docs ++ living_of alive es) (sym none) ∙ h.whole in
     all_of ∙ sym (take_all limit (living_of alive all) (omega (arith, h.few, ap length all_of)))
 
+dead_past : (alive : List Bool) (doc : ℕ) → length alive ≤ doc → is_living alive doc ≡ false
+dead_past [] zero past = refl
+dead_past [] (suc doc) past = refl
+dead_past (b ∷ bs) zero past = absurd (omega (arith, past))
+dead_past (b ∷ bs) (suc doc) past = dead_past bs doc (omega (arith, past))
+
+none_past : (alive : List Bool) (es : List Entry) → IsAscending es → length alive ≤ doc_at es → living_of alive es ≡ []
+none_past alive [] ascending past = refl
+none_past alive (e ∷ es) ascending past = rw (dead_past alive e.doc past) (let next = ascending.0 in none_past alive es ascending.1 (omega (arith, past, next)))
+
+pub taking_past : (alive : List Bool) (limit : ℕ) (all rest : List Entry) (doc : ℕ) (docs : List ℕ) → length alive ≤ doc → IsTaking alive limit all rest doc docs → docs ≡ take limit (living_of alive all)
+taking_past alive limit all rest doc docs past h =
+    let none : living_of alive rest ≡ [] = none_past alive rest h.sound.ascending (omega (arith, past, h.here)) in
+    let all_of : docs ≡ living_of alive all = sym (append-nil docs) ∙ ap (λ (ds : List ℕ). docs ++ ds) (sym none) ∙ h.whole in
+    all_of ∙ sym (take_all limit (living_of alive all) (omega (arith, h.few, ap length all_of)))
+
 pub taking_full : (alive : List Bool) (limit : ℕ) (all rest : List Entry) (doc : ℕ) (docs : List ℕ) → limit ≤ length docs → IsTaking alive limit all rest doc docs → docs ≡ take limit (living_of alive all)
 taking_full alive limit all rest doc docs full h = sym (ap (take limit) (sym h.whole) ∙ take_at docs (living_of alive rest) limit (omega (arith, full, h.few)))
 

@@ -1,6 +1,10 @@
 -- Segments that are opened one after the other.
-use Rattle.std.proofs.Common.{◌≡◌, List, [], ◌∷◌, ◌++◌, ap, append-nil, append_assoc, subst, sym, ◌∙◌}
-use Rattle.std.specs.List.{AllZip}
+use Rattle.std.proofs.Common.{◌≡◌, ◌<◌, ◌≤◌, ℕ, List, [], ◌∷◌, ◌++◌, ap, append-nil, append_assoc, arith, length, max, subst, sym, ◌∙◌}
+use Rattle.std.specs.List.{AllByRecursion, AllZip}
+use Rattle.ii_definitions.specs.Tokens.{IndexToken}
+use Rattle.ii_query_parser.specs.declared.query.Query.{Query}
+use Rattle.ii_query_parser.specs.Queries.{matches}
+use Rattle.nequllpa_folder.specs.declared.opened.Opened.{Opened}
 
 zip_push : {A B : Type 0} (R : A → B → Type 0) (xs : List A) (ys : List B) (x : A) (y : B) → AllZip R xs ys → R x y → AllZip R (xs ++ x ∷ []) (ys ++ y ∷ [])
 zip_push R [] [] x y zip holds = (holds, tt)
@@ -26,3 +30,23 @@ pub making_ends : {A B : Type 0} (R : A → B → Type 0) (all taken rest : List
 making_ends R all taken rest made none so_far =
     let e : taken ≡ all = sym (append-nil taken) ∙ ap (λ (r : List _). taken ++ r) (sym none) ∙ so_far.whole in
     subst (λ (xs : List _). AllZip R xs made) e so_far.zip
+
+-- a query that matches the same documents below a number does so in each segment that has no more
+pub bounded_in_each : (old new : Query) (most : ℕ) (segments : List Opened) → ((ts : List IndexToken) (doc : ℕ) → doc < most → matches new ts doc ≡ matches old ts doc) → AllByRecursion (λ (s : Opened). length s.alive ≤ most) segments
+    → AllByRecursion (λ (s : Opened). (ts : List IndexToken) (doc : ℕ) → doc < length s.alive → matches new ts doc ≡ matches old ts doc) segments
+bounded_in_each old new most [] same few = few
+bounded_in_each old new most (s ∷ ss) same few = ((λ ts doc below. same ts doc (omega (arith, below, few.0))), bounded_in_each old new most ss same few.1)
+
+-- If the segments left have no more documents than a number, all have.
+abbrev pub AreFewer : List Opened → ℕ → List Opened → Type 0
+AreFewer all most left = (n : ℕ) → most ≤ n → AllByRecursion (λ (s : Opened). length s.alive ≤ n) left → AllByRecursion (λ (s : Opened). length s.alive ≤ n) all
+
+pub fewer_first : (all left : List Opened) (most : ℕ) → left ≡ all → AreFewer all most left
+fewer_first all left most is = λ n up few. subst (AllByRecursion (λ (s : Opened). length s.alive ≤ n)) is few
+
+pub fewer_next : (all left rest : List Opened) (s : Opened) (most next : ℕ) → left ≡ s ∷ rest → next ≡ max most (length s.alive) → AreFewer all most left → AreFewer all next rest
+fewer_next all left rest s most next is greatest fewer = λ n up few.
+    fewer n (omega (arith, up, greatest)) (subst (AllByRecursion (λ (o : Opened). length o.alive ≤ n)) (sym is) ((omega (arith, up, greatest)), few))
+
+pub fewer_all : (all left : List Opened) (most : ℕ) → left ≡ [] → AreFewer all most left → AllByRecursion (λ (s : Opened). length s.alive ≤ most) all
+fewer_all all left most none fewer = fewer most (omega arith) (subst (AllByRecursion (λ (s : Opened). length s.alive ≤ most)) (sym none) tt)

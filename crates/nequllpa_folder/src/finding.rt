@@ -96,7 +96,7 @@ pub fn first_docs(
 }
 
 // Returns at most `limit` of the remaining documents of a cursor, those that are alive.
-#[tactic(auto, using(crate::proofs::FindingLemmas::taking_first, crate::proofs::FindingLemmas::taking_next, crate::proofs::FindingLemmas::taking_ended, crate::proofs::FindingLemmas::taking_full))]
+#[tactic(auto, using(crate::proofs::FindingLemmas::taking_first, crate::proofs::FindingLemmas::taking_next, crate::proofs::FindingLemmas::taking_ended, crate::proofs::FindingLemmas::taking_past, crate::proofs::FindingLemmas::taking_full))]
 pub(crate) fn take_docs<C: DocSet>(
     alloc: Global,
     cursor: &mut C,
@@ -110,6 +110,10 @@ pub(crate) fn take_docs<C: DocSet>(
     let mut doc = cursor.doc();
     while doc < TERMINATED {
         if docs.len() >= limit as usize {
+            return Ok(docs);
+        }
+        // a query for all documents has also those past the last one
+        if doc >= alive.num_docs() {
             return Ok(docs);
         }
         push_living(&mut docs, alive, doc)?;

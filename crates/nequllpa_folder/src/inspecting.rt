@@ -59,13 +59,35 @@ pub fn count_all(alloc: Global, segments: &[Opened], query: &Query) -> Result<u6
 fn count_in(alloc: Global, segment: &Opened, query: &Query) -> Result<u64, Fault>
     requires { has_fields (length segment.now.schema) query.now ≡ true }
 {
-    if !segment.has_deletes() {
+    if !segment.has_deletes() && !has_all(query) {
         return Ok(u64::from(count(alloc, segment.index(), query)?));
     }
     let docs = first_docs(alloc, segment.index(), segment.alive(), query, u32::MAX)?;
     let many = docs.len() as u64;
     drop(docs);
     Ok(many)
+}
+
+// Returns whether a part of a query is for all documents, which has also those past the last one of a segment.
+#[cycle(has_all)]
+fn has_all(query: &Query) -> bool {
+    match query {
+        Query::All(_) => true,
+        Query::Empty | Query::Term(_) | Query::Phrase(..) | Query::Range(_) => false,
+        Query::And(queries) => have_all(queries),
+        Query::Or(queries) => have_all(queries),
+        Query::AndNot(first, other) => has_all(first) || has_all(other),
+    }
+}
+
+#[cycle(has_all)]
+fn have_all(queries: &Vec<Query>) -> bool {
+    for query in queries {
+        if has_all(query) {
+            return true;
+        }
+    }
+    false
 }
 
 /// The terms of a field to write.

@@ -28,7 +28,7 @@ pub fn fields_of_line(alloc: Global, line: &str, names: &[&str]) -> Result<Strin
 }
 
 // Returns the value of a line, null if it isn't JSON.
-fn read_line(alloc: Global, line: &str) -> Result<Value, Fault>
+pub(crate) fn read_line(alloc: Global, line: &str) -> Result<Value, Fault>
     ensures value { IfOk result (λ value. view value ≡ value_of_line line.now) }
     ensures only { OnlyMemory result }
 {

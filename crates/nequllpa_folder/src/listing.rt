@@ -10,7 +10,8 @@ use crate::inspecting::count_all;
 use crate::line_fields::quoted;
 use crate::opened::Opened;
 use crate::opened_index::{Bases, OpenedIndex};
-use crate::stored_part::{StoredPart, write_stored, write_stored_member};
+use crate::row_format::RowFormat;
+use crate::stored_part::{StoredPart, StoredParts, words_for};
 use ii_base::{Fault, Field, Term};
 use ii_docset::DocId;
 use ii_search::Query;
@@ -18,13 +19,13 @@ use ii_term_text::push_key;
 use std::alloc::Global;
 use std::io::Write;
 
-/// How found documents are written, one per line.
+/// How found documents are written, one after the other.
 #[derive(Clone, Copy, Debug)]
 pub struct Listing<'a, 'n> {
     /// The maximum number of documents.
     pub limit: u32,
-    /// Whether lines are JSON objects or words.
-    pub as_json: bool,
+    /// How each is written.
+    pub format: RowFormat,
     /// Whether the positions of the terms that the query wants are written.
     pub with_positions: bool,
     /// The field whose value is written instead of a document's number.
@@ -33,7 +34,7 @@ pub struct Listing<'a, 'n> {
     pub stored: StoredPart<'a, 'n>,
 }
 
-/// Writes the documents that match a query, one per line. Returns whether any document matches, even if the
+/// Writes the documents that match a query, in lines or as JSON objects with a comma after each. Returns whether any document matches, even if the
 /// limit is 0.
 ///
 /// A line of words has the document's number, or instead its id, `-` if it has none. The terms that occur in
@@ -41,7 +42,8 @@ pub struct Listing<'a, 'n> {
 /// `doc`; with `id` (a string or null) if ids are requested; and with `terms` if positions are, each with
 /// `field`, `term` and `positions`. If stored documents are requested, a line of words is the document alone, and
 /// a JSON line has it as `source`; the first that can't be read ends the listing. If fields of them are, these are in
-/// its place, and the member of a JSON line is `fields`.
+/// its place, and the member of a JSON line is `fields`. If snippets are, a line of words has the document's number, and
+/// after a tab the snippet of the document (`snippet_of_line`), which is the member `snippet` of a JSON line.
 pub fn write_listing<W: Write>(
     alloc: Global,
     out: &mut W,
@@ -172,17 +174,50 @@ fn write_all_rows<W: Write>(
     how: &Listing<'_, '_>,
     rows: &Vec<SegmentRows>,
 ) -> Result<(), AnswerFault> {
+    match how.stored {
+        StoredPart::Nothing => write_words_of_all(alloc, out, opened, query, how, rows),
+        _ => write_sources_of_all(alloc, out, opened, query, how, rows),
+    }
+}
+
+// Writes a line for each found document of all segments.
+fn write_words_of_all<W: Write>(
+    alloc: Global,
+    out: &mut W,
+    opened: &OpenedIndex,
+    query: &Query,
+    how: &Listing<'_, '_>,
+    rows: &Vec<SegmentRows>,
+) -> Result<(), AnswerFault> {
     let texts = texts_of(alloc, opened, query)?;
     let mut written = Ok(());
     for segment in rows {
         if written.is_ok() {
-            written = match how.stored {
-                StoredPart::Nothing => write_rows(alloc, out, how, segment, &texts),
-                _ => write_sources(alloc, out, opened, how, segment),
-            };
+            written = write_rows(alloc, out, how, segment, &texts);
         }
     }
     drop(texts);
+    written
+}
+
+// Writes what is requested of each found document of all segments.
+fn write_sources_of_all<W: Write>(
+    alloc: Global,
+    out: &mut W,
+    opened: &OpenedIndex,
+    query: &Query,
+    how: &Listing<'_, '_>,
+    rows: &Vec<SegmentRows>,
+) -> Result<(), AnswerFault> {
+    let words = words_for(alloc, how.stored, query)?;
+    let parts = StoredParts::new(opened, how.stored, how.format, &words);
+    let mut written = Ok(());
+    for segment in rows {
+        if written.is_ok() {
+            written = write_sources(alloc, out, opened, &parts, segment);
+        }
+    }
+    drop(words);
     written
 }
 
@@ -218,7 +253,7 @@ fn write_rows<W: Write>(
             id: rows.ids.at(place),
             place,
         };
-        if how.as_json {
+        if how.format.is_json() {
             row.write_json(alloc, out, texts, &rows.found.places, how)?;
         } else {
             row.write_words(out, texts, &rows.found.places, how)?;
@@ -227,12 +262,12 @@ fn write_rows<W: Write>(
     Ok(())
 }
 
-// Writes the stored document of each found document of a segment.
+// Writes what is requested of each found document of a segment.
 fn write_sources<W: Write>(
     alloc: Global,
     out: &mut W,
     opened: &OpenedIndex,
-    how: &Listing<'_, '_>,
+    parts: &StoredParts<'_, '_>,
     rows: &SegmentRows,
 ) -> Result<(), AnswerFault> {
     let Some(segment) = opened.segments().get(rows.segment) else {
@@ -243,7 +278,7 @@ fn write_sources<W: Write>(
     for (doc, number) in rows.found.docs.iter().zip(&rows.numbers) {
         if written.is_ok() {
             written = match stored.get(*doc) {
-                Ok(document) => write_source(alloc, out, how, *number, document),
+                Ok(document) => write_source(alloc, out, parts, *number, document),
                 Err(fault) => Err(AnswerFault::Document(fault)),
             };
         }
@@ -252,21 +287,24 @@ fn write_sources<W: Write>(
     written
 }
 
-// Writes what is requested of a stored document, as a line or as a member of a JSON object.
+// Writes what is requested of a stored document, as a line of words or of JSON.
 fn write_source<W: Write>(
     alloc: Global,
     out: &mut W,
-    how: &Listing<'_, '_>,
+    parts: &StoredParts<'_, '_>,
     number: u64,
     document: &[u8],
 ) -> Result<(), AnswerFault> {
-    if how.as_json {
+    if parts.format.is_json() {
         write!(out, "{{\"doc\":{number}")?;
-        write_stored_member(alloc, out, how.stored, document)?;
-        write!(out, "}}")?;
-    } else {
-        write_stored(alloc, out, how.stored, document)?;
+        parts.write_member(alloc, out, document)?;
+        write!(out, "}}{}", parts.format.end())?;
+        return Ok(());
     }
+    if parts.has_number() {
+        write!(out, "{number}\t")?;
+    }
+    parts.write(alloc, out, document)?;
     writeln!(out)?;
     Ok(())
 }
@@ -361,7 +399,7 @@ impl Row<'_> {
             self.write_terms(alloc, out, texts, places)?;
             write!(out, "]")?;
         }
-        writeln!(out, "}}")?;
+        write!(out, "}}{}", how.format.end())?;
         Ok(())
     }
 

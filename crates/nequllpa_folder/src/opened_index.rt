@@ -1,8 +1,11 @@
 //! An open index of several segments.
-ghost use Rattle.std.specs.Prelude.{◌≡◌, ◌<◌, IfOk, IfSome, IsOkAnd, None, Ok, Some, length};
+ghost use Rattle.std.specs.Prelude.{◌≡◌, ◌<◌, ◌≤◌, ℕ, IfOk, IfSome, IsOkAnd, List, None, Ok, Some, length};
 ghost use Rattle.std.specs.Option.{option_map};
 ghost use Rattle.ii_io.specs.Composite.{composite};
-ghost use Rattle.std.specs.List.{AllZip};
+ghost use Rattle.std.specs.List.{AllByRecursion, AllZip};
+ghost use Rattle.ii_base.specs.Schema.{SchemaEntry};
+ghost use Rattle.ii_definitions.specs.Tokens.{IndexToken};
+ghost use Rattle.ii_query_parser.specs.Queries.{has_fields, keeps_positions, matches};
 ghost use Rattle.ii_query_parser.specs.QueryTexts.{IsQueryOfTextBy, field_named};
 ghost use Rattle.ii_schema_text.specs.SchemaText.{text_schema, tokenized_schema};
 ghost use Rattle.ii_tokenizers.specs.Tokenizers.{analyzed_in};
@@ -10,7 +13,7 @@ ghost use Rattle.nequllpa_folder.specs.OpenedSegments.{OpensAs};
 
 use crate::faults::OpenFault;
 use crate::opened::{Opened, text_schema_of};
-use ii_base::{Field, FieldEntry, Schema};
+use ii_base::{DocId, Field, FieldEntry, Schema};
 use ii_query_parser::{Query, QueryParserError, field_named, parse_query_by};
 use ii_reader::InvertedIndexReader;
 use ii_segment_store::{SegmentFiles, StoredSegment, StoredSegments};
@@ -92,6 +95,17 @@ impl OpenedIndex {
         parse_query_by(alloc, &self.schema, default_fields, &self.tokenizers, text)
     }
 
+    /// Bounds what a query says of all documents by those of the largest segment (`Query::bound`), so that a search
+    /// passes no more. In each segment the query matches what it did.
+    #[tactic(auto, using(crate::proofs::OpenLemmas::bounded_in_each))]
+    pub fn bound(&self, query: &mut Query)
+        ensures same { AllByRecursion (λ s. (ts : List IndexToken) (doc : ℕ) → doc < length s.alive → matches query.new ts doc ≡ matches query.old ts doc) self.now.segments.items }
+        ensures fields { (n : ℕ) → has_fields n query.new ≡ has_fields n query.old }
+        ensures positions { (entries : List SchemaEntry) → keeps_positions entries query.new ≡ keeps_positions entries query.old }
+    {
+        query.bound(most_docs(&self.segments));
+    }
+
     /// Returns the segments, in the order of their documents.
     pub fn segments(&self) -> &[Opened]
         ensures { result.now ≡ self.now.segments.items }
@@ -113,6 +127,17 @@ impl OpenedIndex {
     {
         field_named(&self.schema, name)
     }
+}
+
+// Returns how many documents the largest segment has, living and dead; 0 if there is no segment.
+fn most_docs(segments: &Vec<Opened>) -> DocId
+    ensures { AllByRecursion (λ s. length s.alive ≤ result) segments.now.items }
+{
+    let mut most = 0;
+    for segment in segments {
+        most = most.max(segment.alive().num_docs());
+    }
+    most
 }
 
 // Opens segments with a schema, given as bytes.

@@ -12,7 +12,8 @@ use crate::inspecting::count_all;
 use crate::listing::write_id;
 use crate::opened::Opened;
 use crate::opened_index::OpenedIndex;
-use crate::stored_part::{StoredPart, write_stored, write_stored_member};
+use crate::row_format::RowFormat;
+use crate::stored_part::{StoredPart, StoredParts, words_for};
 use ii_base::{Fault, Field, Term};
 use ii_docset::DocId;
 use ii_ranking::{GatheredStatistics, RankedSegment, Score, TopDocs, search_segments};
@@ -20,27 +21,28 @@ use ii_search::Query;
 use std::alloc::Global;
 use std::io::Write;
 
-/// How the best documents are written, one per line.
+/// How the best documents are written, one after the other.
 #[derive(Clone, Copy, Debug)]
 pub struct BestListing<'a, 'n> {
     /// The maximum number of documents.
     pub limit: u32,
-    /// Whether lines are JSON objects or words.
-    pub as_json: bool,
+    /// How each is written.
+    pub format: RowFormat,
     /// The field whose value is written instead of a document's number.
     pub ids: Option<Field>,
     /// What of the stored document is written instead of its number.
     pub stored: StoredPart<'a, 'n>,
 }
 
-/// Writes the best documents that match a query, one per line, the best first. Returns whether any document matches,
-/// even if the limit is 0.
+/// Writes the best documents that match a query, the best first, in lines or as JSON objects with a comma after each.
+/// Returns whether any document matches, even if the limit is 0.
 ///
 /// A line of words has the document's number, or instead its id, `-` if it has none, and after a tab its score with
 /// four decimals. A JSON line is an object with `doc`; with `id` (a string or null) if ids are requested; with
 /// `score`, and `units`, which is the score in units of 2^-38. If stored documents are requested, a line of words has
 /// the document in place of its number, and a JSON line has it as `source`, at its end. If fields of them are, these are
-/// in its place, and the member is `fields`.
+/// in its place, and the member is `fields`. If snippets are, a line of words has the snippet of the document
+/// (`snippet_of_line`) after its score and a tab, and the member is `snippet`.
 pub fn write_best<W: Write>(
     alloc: Global,
     out: &mut W,
@@ -69,7 +71,7 @@ pub fn write_best<W: Write>(
     };
     let written = match how.stored {
         StoredPart::Nothing => write_rows(alloc, out, how, &best, &ids),
-        _ => write_sources(alloc, out, opened, how, &best),
+        _ => write_parts(alloc, out, opened, query, how, &best),
     };
     drop(ids);
     drop(best);
@@ -275,12 +277,28 @@ fn doc_of_number(segment: &Opened, base: u32, number: DocId) -> Option<DocId> {
     Some(segment.alive().select(rank))
 }
 
-// Writes the stored document and the score of each of the best documents.
+// Writes what is requested of each of the best documents.
+fn write_parts<W: Write>(
+    alloc: Global,
+    out: &mut W,
+    opened: &OpenedIndex,
+    query: &Query,
+    how: &BestListing<'_, '_>,
+    best: &[(Score, DocId)],
+) -> Result<(), AnswerFault> {
+    let words = words_for(alloc, how.stored, query)?;
+    let parts = StoredParts::new(opened, how.stored, how.format, &words);
+    let written = write_sources(alloc, out, opened, &parts, best);
+    drop(words);
+    written
+}
+
+// Writes what is requested of the stored document, and the score, of each of the best documents.
 fn write_sources<W: Write>(
     alloc: Global,
     out: &mut W,
     opened: &OpenedIndex,
-    how: &BestListing<'_, '_>,
+    parts: &StoredParts<'_, '_>,
     best: &[(Score, DocId)],
 ) -> Result<(), AnswerFault> {
     let stores = segment_stores(alloc, opened)?;
@@ -288,7 +306,7 @@ fn write_sources<W: Write>(
     for pair in best {
         if written.is_ok() {
             written = match document(&stores, u64::from(pair.1)) {
-                Ok(document) => write_source(alloc, out, how, *pair, document),
+                Ok(document) => write_source(alloc, out, parts, *pair, document),
                 Err(fault) => Err(AnswerFault::Document(fault)),
             };
         }
@@ -301,23 +319,29 @@ fn write_sources<W: Write>(
 fn write_source<W: Write>(
     alloc: Global,
     out: &mut W,
-    how: &BestListing<'_, '_>,
+    parts: &StoredParts<'_, '_>,
     best: (Score, DocId),
     document: &[u8],
 ) -> Result<(), AnswerFault> {
     let (score, doc) = best;
-    let parts = (u128::from(score) * 10_000 + (1 << 37)) >> 38;
-    let (whole, part) = (parts / 10_000, parts % 10_000);
-    if how.as_json {
+    let rounded = (u128::from(score) * 10_000 + (1 << 37)) >> 38;
+    let (whole, part) = (rounded / 10_000, rounded % 10_000);
+    if parts.format.is_json() {
         write!(
             out,
             "{{\"doc\":{doc},\"score\":{whole}.{part:04},\"units\":{score}"
         )?;
-        write_stored_member(alloc, out, how.stored, document)?;
-        writeln!(out, "}}")?;
+        parts.write_member(alloc, out, document)?;
+        write!(out, "}}{}", parts.format.end())?;
         return Ok(());
     }
-    write_stored(alloc, out, how.stored, document)?;
+    if parts.has_number() {
+        write!(out, "{doc}\t{whole}.{part:04}\t")?;
+        parts.write(alloc, out, document)?;
+        writeln!(out)?;
+        return Ok(());
+    }
+    parts.write(alloc, out, document)?;
     writeln!(out, "\t{whole}.{part:04}")?;
     Ok(())
 }
@@ -360,12 +384,13 @@ fn write_row<W: Write>(
 ) -> Result<(), AnswerFault> {
     let parts = (u128::from(score) * 10_000 + (1 << 37)) >> 38;
     let (whole, part) = (parts / 10_000, parts % 10_000);
-    if how.as_json {
+    if how.format.is_json() {
         write!(out, "{{\"doc\":{doc}")?;
         if how.ids.is_some() {
             write_id(alloc, out, id)?;
         }
-        writeln!(out, ",\"score\":{whole}.{part:04},\"units\":{score}}}")?;
+        let end = how.format.end();
+        write!(out, ",\"score\":{whole}.{part:04},\"units\":{score}}}{end}")?;
         return Ok(());
     }
     if how.ids.is_some() {

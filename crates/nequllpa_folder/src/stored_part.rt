@@ -1,8 +1,17 @@
 //! Writes what is requested of stored documents.
 use crate::faults::AnswerFault;
-use crate::line_fields::fields_of_line;
+use crate::line_fields::{fields_of_line, quoted};
+use crate::line_snippets::snippet_of_line;
+use crate::opened_index::OpenedIndex;
+use crate::row_format::RowFormat;
+use ii_base::Fault;
+use ii_search::Query;
+use ii_snippet::{MarkStyle, SnippetRules, WantedWord, wanted_words};
 use std::alloc::Global;
 use std::io::Write;
+
+// The maximum number of words of a text that a snippet shows.
+const SNIPPET_WORDS: u32 = 30;
 
 /// What is written of a stored document.
 #[derive(Clone, Copy, Debug)]
@@ -13,46 +22,127 @@ pub enum StoredPart<'a, 'n> {
     Line,
     /// An object of the members with these names.
     Fields(&'a [&'n str]),
+    /// The snippets of its texts, in this style.
+    Snippet(MarkStyle),
 }
 
-// Writes what is requested of a stored document.
-pub(crate) fn write_stored<W: Write>(
+// Returns what a query wants, if snippets are requested.
+pub(crate) fn words_for<'q>(
     alloc: Global,
-    out: &mut W,
     part: StoredPart<'_, '_>,
-    document: &[u8],
-) -> Result<(), AnswerFault> {
+    query: &'q Query,
+) -> Result<Vec<WantedWord<'q>>, Fault> {
     match part {
-        StoredPart::Nothing => Ok(()),
-        StoredPart::Line => Ok(out.write_all(document)?),
-        StoredPart::Fields(names) => write_fields_of(alloc, out, document, names),
+        StoredPart::Snippet(_) => wanted_words(alloc, query),
+        _ => Ok(Vec::new(alloc)),
     }
 }
 
-// Writes what is requested of a stored document as a member of a JSON object.
-pub(crate) fn write_stored_member<W: Write>(
-    alloc: Global,
-    out: &mut W,
-    part: StoredPart<'_, '_>,
-    document: &[u8],
-) -> Result<(), AnswerFault> {
-    match part {
-        StoredPart::Nothing => return Ok(()),
-        StoredPart::Line => write!(out, ",\"source\":")?,
-        StoredPart::Fields(_) => write!(out, ",\"fields\":")?,
-    }
-    write_stored(alloc, out, part, document)
+// What is written of stored documents, with what snippets of them need.
+#[derive(Clone, Copy)]
+pub(crate) struct StoredParts<'a, 'n> {
+    // How the documents are written.
+    pub(crate) format: RowFormat,
+    part: StoredPart<'a, 'n>,
+    rules: SnippetRules<'a>,
 }
 
-// Writes an object of the members of a stored document with these names; it has none if it isn't UTF-8.
-fn write_fields_of<W: Write>(
-    alloc: Global,
-    out: &mut W,
-    document: &[u8],
-    names: &[&str],
-) -> Result<(), AnswerFault> {
-    let line = std::str::from_utf8(document).unwrap_or("");
-    let text = fields_of_line(alloc, line, names)?;
+impl<'a, 'n> StoredParts<'a, 'n> {
+    // Returns what is written of the stored documents of an index, given what a query wants.
+    pub(crate) fn new(
+        opened: &'a OpenedIndex,
+        part: StoredPart<'a, 'n>,
+        format: RowFormat,
+        words: &'a [WantedWord<'a>],
+    ) -> StoredParts<'a, 'n> {
+        let style = match part {
+            StoredPart::Snippet(style) => style,
+            _ => MarkStyle::Plain,
+        };
+        let rules = SnippetRules {
+            schema: opened.schema(),
+            tokenizers: opened.tokenizers(),
+            words,
+            limit: SNIPPET_WORDS,
+            style,
+        };
+        StoredParts {
+            format,
+            part,
+            rules,
+        }
+    }
+
+    // Returns whether the number of a document is written before what is requested of it.
+    pub(crate) fn has_number(&self) -> bool {
+        match self.part {
+            StoredPart::Nothing | StoredPart::Snippet(_) => true,
+            StoredPart::Line | StoredPart::Fields(_) => false,
+        }
+    }
+
+    // Writes what is requested of a stored document.
+    pub(crate) fn write<W: Write>(
+        &self,
+        alloc: Global,
+        out: &mut W,
+        document: &[u8],
+    ) -> Result<(), AnswerFault> {
+        match self.part {
+            StoredPart::Nothing => Ok(()),
+            StoredPart::Line => Ok(out.write_all(document)?),
+            StoredPart::Fields(names) => {
+                write_text(out, fields_of_line(alloc, line_of(document), names)?)
+            }
+            StoredPart::Snippet(_) => {
+                write_text(out, snippet_of_line(alloc, &self.rules, line_of(document))?)
+            }
+        }
+    }
+
+    // Writes what is requested of a stored document as a member of a JSON object.
+    pub(crate) fn write_member<W: Write>(
+        &self,
+        alloc: Global,
+        out: &mut W,
+        document: &[u8],
+    ) -> Result<(), AnswerFault> {
+        match self.part {
+            StoredPart::Nothing => return Ok(()),
+            StoredPart::Line => write!(out, ",\"source\":")?,
+            StoredPart::Fields(_) => write!(out, ",\"fields\":")?,
+            StoredPart::Snippet(_) => {
+                write!(out, ",\"snippet\":")?;
+                return self.write_quoted_snippet(alloc, out, document);
+            }
+        }
+        self.write(alloc, out, document)
+    }
+
+    // Writes the snippets of a stored document as a JSON string.
+    fn write_quoted_snippet<W: Write>(
+        &self,
+        alloc: Global,
+        out: &mut W,
+        document: &[u8],
+    ) -> Result<(), AnswerFault> {
+        let snippet = snippet_of_line(alloc, &self.rules, line_of(document))?;
+        let text = quoted(alloc, snippet.as_str());
+        drop(snippet);
+        match text {
+            Ok(text) => write_text(out, text),
+            Err(fault) => Err(AnswerFault::Index(fault)),
+        }
+    }
+}
+
+// Returns a stored document as a text, which is empty if it isn't UTF-8.
+fn line_of(document: &[u8]) -> &str {
+    std::str::from_utf8(document).unwrap_or("")
+}
+
+// Writes a text.
+fn write_text<W: Write>(out: &mut W, text: String) -> Result<(), AnswerFault> {
     let written = out.write_all(text.as_bytes());
     drop(text);
     Ok(written?)

@@ -13,7 +13,7 @@ use Rattle.ii_definitions.specs.Tokens.{Call}
 use Rattle.ii_definitions.specs.declared.index_call.IndexCall.{IndexCall}
 use Rattle.nequllpa_indexing.specs.Documents.{DocumentsState, may_be_stored, next_calls, with_line}
 use Rattle.nequllpa_indexing.specs.StoredLines.{AreLinesOf, AreShort}
-use Rattle.ii_documents.specs.JsonLines.{IsOf, line_calls}
+use Rattle.ii_documents.specs.JsonLines.{IsOf, line_calls_by}
 
 -- a call that may be made may be made where there are more documents
 more_docs : (es : List SchemaEntry) (n : ℕ) (calls : List IndexCall) → AllByRecursion (MayBeIndexed es n) calls → AllByRecursion (MayBeIndexed es (n + 1)) calls
@@ -45,7 +45,7 @@ may_more es n old new may of =
     record { each = each_more es n old new each of; ordered = ordered_more es n old new each may.ordered of }
 
 -- the calls of one document more
-pub adds_line : (s : DocumentsState) (cs : List Call) (line : List ℕ) → nat_lt s.num_docs TERMINATED ≡ true → may_be_stored s.lines line ≡ true → line_calls s.schema s.num_docs line ≡ Ok cs → next_calls s line ≡ Ok cs
+pub adds_line : (s : DocumentsState) (cs : List Call) (line : List ℕ) → nat_lt s.num_docs TERMINATED ≡ true → may_be_stored s.lines line ≡ true → line_calls_by s.unknown_keys s.schema s.num_docs line ≡ Ok cs → next_calls s line ≡ Ok cs
 adds_line s cs line room short said = rw (room, short, said) refl
 
 -- one line more

@@ -5,13 +5,15 @@ use Rattle.ii_base.specs.declared.doc_id.TheConstants.{TERMINATED}
 use Rattle.ii_definitions.specs.IndexCalls.{MayAllBeIndexed, call_of}
 use Rattle.ii_definitions.specs.Tokens.{Call}
 use Rattle.ii_definitions.specs.declared.index_call.IndexCall.{IndexCall}
-use Rattle.ii_documents.specs.JsonLines.{Refusal, line_calls, too_long, too_many_documents}
+use Rattle.ii_documents.specs.JsonLines.{Refusal, line_calls_by, too_long, too_many_documents}
+use Rattle.ii_schema_text.specs.declared.unknown_keys.UnknownKeys.{UnknownKeys}
 
 pub record DocumentsState : Type 0 where
   pub schema : List SchemaEntry
   pub num_docs : ℕ
   pub calls : List Call
   pub lines : Option (List (List ℕ))
+  pub unknown_keys : UnknownKeys
 
 -- whether a line is short enough to be stored, if lines are
 abbrev pub may_be_stored : Option (List (List ℕ)) → List ℕ → Bool
@@ -21,7 +23,7 @@ may_be_stored (Some lines) line = nat_lt (length line) (2 ^ 31)
 -- the calls of one more document, if there is room for it and for its line
 abbrev pub next_calls : DocumentsState → List ℕ → Result (List Call) Refusal
 next_calls s line =
-    if nat_lt s.num_docs TERMINATED then (if may_be_stored s.lines line then line_calls s.schema s.num_docs line else Err too_long)
+    if nat_lt s.num_docs TERMINATED then (if may_be_stored s.lines line then line_calls_by s.unknown_keys s.schema s.num_docs line else Err too_long)
     else Err too_many_documents
 
 -- the lines and one more, if lines are stored

@@ -22,8 +22,9 @@ use crate::long_words::count_long_words;
 use ii_base::{Fault, LimitName, Schema, TextAnalyzer};
 use ii_counts::CountsWriter;
 use ii_docset::{DocId, TERMINATED};
-use ii_documents::{LineFault, line_calls};
+use ii_documents::{LineFault, line_calls_by};
 use ii_indexing::{IndexCall, IndexWriters, Indexer, write_index};
+use ii_schema_text::UnknownKeys;
 use ii_segment_store::SegmentFiles;
 use ii_tokenizers::FieldAnalyzers;
 use std::alloc::Global;
@@ -32,12 +33,13 @@ use std::marker::Model;
 
 /// Documents to be indexed, as the index calls of their lines, and the lines themselves if they are stored.
 ///
-/// Its model is the schema, the number of documents, the calls, and the lines.
+/// Its model is the schema, the number of documents, the calls, the lines, and what happens to unknown keys.
 pub struct Documents {
     schema: Schema,
     num_docs: DocId,
     calls: Vec<IndexCall>,
     lines: Option<Vec<String>>,
+    unknown_keys: UnknownKeys,
 }
 
 // Makes each drop a call.
@@ -48,6 +50,7 @@ impl Drop for Documents {
             num_docs: _,
             calls: _,
             lines: _,
+            unknown_keys: _,
         } = self;
     }
 }
@@ -66,34 +69,49 @@ impl Model for Documents {
       num_docs = d.num_docs;
       calls = map (call_of d.schema) d.calls.items;
       lines = lines_view d.lines;
+      unknown_keys = d.unknown_keys;
     } };
 
     ghost invariant = { λ d. (d.num_docs ≤ TERMINATED) × MayAllBeIndexed d.schema d.num_docs d.calls.items × AreLinesOf d.num_docs (lines_view d.lines) };
 }
 
 impl Documents {
-    /// Creates an empty list of documents, with the fields of a schema. Lines aren't stored.
+    /// Creates an empty list of documents, with the fields of a schema. Lines aren't stored, and those with unknown
+    /// keys are refused.
     pub fn new(alloc: Global, schema: Schema) -> Documents
-        ensures { result ≡ record { schema = schema; num_docs = 0; calls = []; lines = None } }
+        ensures { result ≡ record { schema = schema; num_docs = 0; calls = []; lines = None; unknown_keys = UnknownKeys.Refuse } }
     {
         Documents {
             schema,
             num_docs: 0,
             calls: Vec::new(alloc),
             lines: None,
+            unknown_keys: UnknownKeys::Refuse,
         }
     }
 
-    /// Creates an empty list of documents, with the fields of a schema. Each line is stored.
+    /// Creates an empty list of documents, with the fields of a schema. Each line is stored, and those with unknown
+    /// keys are refused.
     pub fn storing(alloc: Global, schema: Schema) -> Documents
-        ensures { result ≡ record { schema = schema; num_docs = 0; calls = []; lines = Some [] } }
+        ensures { result ≡ record { schema = schema; num_docs = 0; calls = []; lines = Some []; unknown_keys = UnknownKeys.Refuse } }
     {
         Documents {
             schema,
             num_docs: 0,
             calls: Vec::new(alloc),
             lines: Some(Vec::new(alloc)),
+            unknown_keys: UnknownKeys::Refuse,
         }
+    }
+
+    /// Returns the same documents. In lines that are added from now on, members whose keys are no names of fields are
+    /// refused or ignored.
+    pub fn with_unknown_keys(self, unknown_keys: UnknownKeys) -> Documents
+        ensures { result ≡ record self { unknown_keys = unknown_keys } }
+    {
+        let mut documents = self;
+        documents.unknown_keys = unknown_keys;
+        documents
     }
 
     /// Returns the schema.
@@ -101,6 +119,13 @@ impl Documents {
         ensures { result.now ≡ self.now.schema }
     {
         &self.schema
+    }
+
+    /// Returns what happens to members whose keys are no names of fields.
+    pub fn unknown_keys(&self) -> UnknownKeys
+        ensures { result ≡ self.now.unknown_keys }
+    {
+        self.unknown_keys
     }
 
     /// Returns the number of documents, at most `TERMINATED`. The documents' calls may be indexed in
@@ -112,7 +137,7 @@ impl Documents {
         self.num_docs
     }
 
-    /// Adds the document of a line of JSON (`line_calls`), and the line if lines are stored.
+    /// Adds the document of a line of JSON (`line_calls_by`), and the complete line if lines are stored.
     ///
     /// Returns `TooManyDocuments` if there are `TERMINATED` documents; `TooLong` for 2^31 bytes or more, if lines are
     /// stored; else the fault of the line, or `OutOfMemory` if an allocation fails. The documents are then unchanged.
@@ -127,7 +152,7 @@ impl Documents {
         if !may_be_stored(&self.lines, line) {
             return Err(LineFault::TooLong);
         }
-        let mut calls = line_calls(alloc, &self.schema, self.num_docs, line)?;
+        let mut calls = line_calls_by(alloc, &self.schema, self.unknown_keys, self.num_docs, line)?;
         push_line(alloc, &mut self.lines, line)?;
         if self.calls.append(&mut calls).is_err() {
             pop_line(&mut self.lines);
@@ -165,6 +190,7 @@ impl Documents {
             num_docs,
             calls,
             lines: _,
+            unknown_keys: _,
         } = self;
         index_counted(alloc, schema, num_docs, calls, analyzers)
     }
@@ -191,6 +217,7 @@ impl Documents {
             num_docs,
             calls,
             lines: _,
+            unknown_keys: _,
         } = self;
         write_index(alloc, schema, num_docs, calls, analyzer, writers)
     }

@@ -5,7 +5,7 @@ use Rattle.std.proofs.Math.Pow.{pow_mono}
 use Rattle.std.proofs.Math.Nat.{pow-succ'}
 use Rattle.std.proofs.lemmas.Bool.{leb-false, leb-true, lt-leb, ltb-false, ltb-true, lt-ltb}
 use Rattle.std.proofs.lemmas.List.Sums.{sum_by-append, sum_by-cons, sum_by-take-drop}
-use Rattle.nequllpa_merging.specs.MergePolicy.{IsSettled, MergeSettles, SettledAreFew, first_outgrown, is_outgrown}
+use Rattle.nequllpa_merging.specs.MergePolicy.{IsSettled, MergeSettles, SettledAreFew, first_fitting, first_outgrown, is_outgrown}
 
 sum_first : (n : ℕ) (ns : List ℕ) → sum (n ∷ ns) ≡ n + sum ns
 sum_first n ns = sum_by-cons (λ (x : ℕ). x) n ns
@@ -92,3 +92,9 @@ pub record IsScanning (counts : List ℕ) (place first behind : ℕ) : Type 0 wh
   pub within : place ≤ length counts
   pub first_is : first ≡ place + first_outgrown (drop place counts)
   pub behind_is : behind ≡ min (2 ^ 64 - 1) (sum (drop place counts))
+
+-- The lengths of segments from a place on were added, from the last one.
+pub record IsAdding (limit : ℕ) (lens : List ℕ) (place first total : ℕ) : Type 0 where
+  pub within : place ≤ length lens
+  pub first_is : first ≡ place + first_fitting limit (drop place lens)
+  pub total_is : total ≡ min (2 ^ 128 - 1) (sum (drop place lens))

@@ -11,6 +11,11 @@ abbrev pub first_outgrown : List ℕ → ℕ
 first_outgrown [] = 0
 first_outgrown (n ∷ behind) = if is_outgrown n behind then 0 else suc (first_outgrown behind)
 
+-- the place of the first number that is at most a limit with all behind it, or how many numbers there are
+abbrev pub first_fitting : ℕ → List ℕ → ℕ
+first_fitting limit [] = 0
+first_fitting limit (n ∷ behind) = if nat_le (sum (n ∷ behind)) limit then 0 else suc (first_fitting limit behind)
+
 -- Each segment has more documents than those behind it together.
 abbrev pub IsSettled : List ℕ → Type 0
 IsSettled [] = ⊤

@@ -44,6 +44,12 @@ living_total field index None alive = if num_living alive == length alive then t
 abbrev pub living_totals : ℕ → OpenIndexState → Option (List Body) → List Bool → Result (List ℕ) Part
 living_totals n index counts alive = all_or_first (map (λ (field : ℕ). ok_or (living_total field index counts alive) TokenCount) (range_with_len 0 n))
 
+-- the same by the bytes of a file of counts, if there is one, or the first corrupt part
+abbrev pub totals_by_file : ℕ → OpenIndexState → Option (List ℕ) → List Bool → Result (List ℕ) Part
+totals_by_file n index file alive = do
+  counts ← bodies_of_counts file
+  living_totals n index counts alive
+
 -- a segment over its files, or its first damaged part: lists and norms come before counts
 unfoldable pub opened_from : List SchemaEntry → SegmentContents → Result OpenedSegmentState Part
 opened_from entries c = do

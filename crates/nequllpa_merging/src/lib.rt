@@ -12,5 +12,6 @@ mod totals;
 
 pub use faults::{JoinFault, MergeFault};
 pub use joining::merge_last;
-pub use merge_policy::first_to_merge;
+pub use merge_policy::{first_to_merge, first_within};
 pub use merging::merge_segments;
+pub use totals::count_living_tokens;

@@ -187,7 +187,10 @@ impl TermFiles {
 }
 
 // Opens a file of counts, if there is one.
-fn open_counts(alloc: Global, counts: Option<Vec<u8>>) -> Result<Option<CountReaders>, Fault>
+pub(crate) fn open_counts(
+    alloc: Global,
+    counts: Option<Vec<u8>>,
+) -> Result<Option<CountReaders>, Fault>
     ensures ok { IfOk result (λ found. bodies_of_counts (option_map (λ v. v.items) counts) ≡ Ok found) }
     ensures err { IfErr result (IsRefusal (bodies_of_counts (option_map (λ v. v.items) counts))) }
 {

@@ -1,20 +1,49 @@
 //! How many tokens the living documents of segments have.
 ghost use Rattle.std.specs.Prelude.{◌≡◌, ◌<◌, ◌≤◌, ◌⊎◌, ◌^◌, IfErr, IfOk, None, Ok, Some, length, map};
 ghost use Rattle.std.specs.List.{AllByRecursion};
+ghost use Rattle.std.specs.Option.{option_map};
 ghost use Rattle.ii_base.specs.declared.doc_id.TheConstants.{TERMINATED};
 ghost use Rattle.ii_merger.specs.MergedIndex.{all_living};
 ghost use Rattle.ii_reader.specs.InvertedIndexReader.{IsRefusal};
 ghost use Rattle.nequllpa_merging.specs.MergedSegments.{HasTooManyTokens, merge_source, total_of, totals_of};
-ghost use Rattle.nequllpa_merging.specs.OpenedSegments.{living_total, living_totals, opened_view};
+ghost use Rattle.nequllpa_merging.specs.OpenedSegments.{living_total, living_totals, opened_view, totals_by_file};
 
 use crate::faults::MergeFault;
-use crate::opening::OpenedSegment;
+use crate::opening::{OpenedSegment, open_counts};
 use ii_alive::AliveBits;
 use ii_base::{DocId, Fault, Field, LimitName, Part, Schema, TERMINATED};
 use ii_counts::CountReaders;
 use ii_counts_merger::{CountsSource, count_tokens};
 use ii_reader::OpenIndex;
 use std::alloc::Global;
+
+/// Returns how many tokens the living documents of a segment have in each field, by its file of counts if it has one.
+/// Without counts they are known if no document was deleted. The index must have a reader for each field.
+///
+/// # Errors
+///
+/// `Damaged(Composite)` if the table of the file is corrupt; `Damaged(TokenCount)` if it doesn't have a count for each
+/// document, or there is no file, and a document was deleted; `OutOfMemory` if an allocation fails.
+pub fn count_living_tokens(
+    alloc: Global,
+    schema: &Schema,
+    index: &OpenIndex,
+    counts: Option<Vec<u8>>,
+    alive: &AliveBits,
+) -> Result<Vec<u64>, Fault>
+    requires many { length index.now.readers ≡ length schema.now }
+    ensures ok { IfOk result (λ v. totals_by_file (length schema.now) index.now (option_map (λ f. f.items) counts) alive.now ≡ Ok v.items) }
+    ensures err { IfErr result (IsRefusal (totals_by_file (length schema.now) index.now (option_map (λ f. f.items) counts) alive.now)) }
+{
+    let counts = match open_counts(alloc, counts) {
+        Ok(counts) => counts,
+        Err(fault) => return Err(fault),
+    };
+    match living_totals(alloc, schema, index, &counts, alive) {
+        Ok(totals) => Ok(totals),
+        Err(fault) => Err(fault),
+    }
+}
 
 // Returns how many tokens the living documents of a segment have in each field.
 pub(crate) fn living_totals(

@@ -94,18 +94,19 @@ impl PositionBlocks {
         num_blocks as u128 * COMPRESSION_BLOCK_SIZE as u128 + self.rest_len as u128
     }
 
-    /// Returns whether the sum of all deltas fits in 32 bits. Decodes each block, and keeps none of them.
-    pub(crate) fn has_small_sum(&self) -> bool
-        ensures { result ≡ nat_lt (sum self.now.deltas) (2 ^ 32) }
+    /// Returns whether the sum of all deltas fits in 32 bits. Decodes each block in `block_decoder`, but not
+    /// the one that is held.
+    pub(crate) fn has_small_sum(&self, block_decoder: &mut BlockDecoder) -> bool
+        ensures small { result ≡ nat_lt (sum self.now.deltas) (2 ^ 32) }
+        ensures decodes { self.now.block ≡ length self.now.deltas / 128 → block_decoder.new.decodes ≤ block_decoder.old.decodes + length self.now.deltas / 128 }
     {
         let bytes = self.bytes.as_slice();
         let widths = &bytes[self.widths..self.body];
         let body = bytes_from(bytes, self.body);
-        let mut block_decoder = BlockDecoder::with_val(0);
         let mut place = 0;
         let mut sum = 0;
         for block in 0..widths.len() {
-            decode(widths, body, block, place, &mut block_decoder);
+            decode(widths, body, block, place, block_decoder);
             sum += sum_of(block_decoder.output_array());
             if sum > u64::from(u32::MAX) {
                 return false;
@@ -115,7 +116,7 @@ impl PositionBlocks {
         if self.block == widths.len() {
             return sum + sum_of(self.block_decoder.output_array()) <= u64::from(u32::MAX);
         }
-        decode(widths, body, widths.len(), place, &mut block_decoder);
+        decode(widths, body, widths.len(), place, block_decoder);
         sum + sum_of(block_decoder.output_array()) <= u64::from(u32::MAX)
     }
 

@@ -1,13 +1,13 @@
 ghost use Rattle.std.specs.Prelude.{◌≡◌, ◌+◌, ◌/◌, ◌^◌, ◌≤◌, length, take, drop, nat_lt, Some, None, IfOk, IfErr, OnErr};
 ghost use Rattle.std.specs.List.{sum};
 ghost use Rattle.ii_io.specs.Faults.{OnlyMemory};
-ghost use Rattle.ii_layout.specs.PositionReader.{LieInBlock, block_kept};
+ghost use Rattle.ii_layout.specs.PositionReader.{DecodesEachOnce, LieInBlock, block_kept};
 ghost use Rattle.ii_layout.specs.Positions.{position_deltas};
 
 use super::blocks::PositionBlocks;
 use super::copy_into;
 use bytes::Bytes;
-use ii_codes::COMPRESSION_BLOCK_SIZE;
+use ii_codes::{BlockDecoder, COMPRESSION_BLOCK_SIZE};
 use ii_io::{Fault, LayoutFault, Part};
 use std::marker::Model;
 
@@ -68,11 +68,13 @@ impl PositionReader {
     }
 
     /// Returns whether the sum of all deltas fits in 32 bits. If so, each position does, however the deltas
-    /// are divided among documents. Decodes each block once, and doesn't change the reader.
-    pub fn has_small_sum(&self) -> bool
-        ensures { result ≡ nat_lt (sum self.now.deltas) (2 ^ 32) }
+    /// are divided among documents. Decodes each full block at most once, in `block_decoder`, and doesn't
+    /// change the reader.
+    pub fn has_small_sum(&self, block_decoder: &mut BlockDecoder) -> bool
+        ensures small { result ≡ nat_lt (sum self.now.deltas) (2 ^ 32) }
+        ensures decodes { self.now.block ≡ length self.now.deltas / 128 → block_decoder.new.decodes ≤ block_decoder.old.decodes + length self.now.deltas / 128 }
     {
-        self.blocks.has_small_sum()
+        self.blocks.has_small_sum(block_decoder)
     }
 
     /// Fills `output` with the deltas from `offset` on, all of which must exist. Decodes only the blocks that
@@ -83,6 +85,7 @@ impl PositionReader {
         ensures deltas { self.new.deltas ≡ self.old.deltas }
         ensures decodes { self.new.decodes ≤ self.old.decodes + length output.old / 128 + 2 }
         ensures kept { self.old.decodes ≤ self.new.decodes }
+        ensures once { DecodesEachOnce offset (length output.old) self.old self.new }
         // The block that the reader keeps.
         ensures held { LieInBlock self.old.block offset (length output.old) → self.new.decodes ≡ self.old.decodes }
         ensures block { self.new.block ≡ block_kept self.old.block offset (length output.old) }

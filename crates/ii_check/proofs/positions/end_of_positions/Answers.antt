@@ -17,7 +17,7 @@ returns-then-from-len c =
     let here = c.from-in-loop-freq.ensures in
     let few = lt-leb c.from.result (length deltas - (c.args.start + sum (take i freqs))) (omega arith) in
     let none = next_suffices freqs deltas i c.args.start c.from.result false false c.loop-freq-test.true c.from.ensures l.invariant.enough few (λ e. absurd (cc)) (λ e. refl) in
-    record { end = rw (none_suffices freqs (drop c.args.start deltas) (i + 1) none) refl; deltas = l.invariant.same }
+    record { end = rw (none_suffices freqs (drop c.args.start deltas) (i + 1) none) refl; deltas = l.invariant.same; decodes = tt }
 
 pub returns-then-not-position_fits-clause-end : goal.returns-then-not-position_fits-clause-end
 returns-then-not-position_fits-clause-end c =
@@ -55,4 +55,5 @@ loop-freq-preserved c =
       len_is = len;
       end_is = omega arith;
       enough = next_suffices freqs deltas i c.args.start (get_or freqs i 0) true true c.loop-freq-test.true refl l.invariant.enough many (λ e. fits) (λ e. absurd (cc));
+      decodes = λ before some. rw added (c.position_fits.ensures.decodes c.if-not-position_fits.false before (l.invariant.decodes before some));
     }

@@ -1,5 +1,6 @@
-use Rattle.std.proofs.Common.{◌≡◌, ◌+◌, ◌∙◌, arith}
+use Rattle.std.proofs.Common.{◌≡◌, ◌+◌, refl, ◌∙◌, arith}
 use Rattle.ii_check.proofs.PositionLemmas.{sum_more, part_read, part_size, fits_not, fits_all}
+use Rattle.ii_check.proofs.SpentLemmas.{spends_read}
 use Rattle.ii_check.proofs.positions.position_fits.Goals as goal
 
 pub returns-then-position-from-clause-fits : goal.returns-then-position-from-clause-fits
@@ -33,6 +34,7 @@ loop-done-preserved c =
       total = omega arith;
       low = omega arith;
       size = part_size c.args.reader.now.deltas c.read.new.output l.buffer (c.args.start + l.done) c.min-count.result read (omega arith) l.invariant.size (omega arith);
+      decodes = λ before some. spends_read before c.args.start l.done c.min-count.result c.from.result (c.args.start + (l.done + c.min-count.result)) l.buffer l.reader c.read.new.self (l.invariant.decodes before some) (omega arith) l.invariant.size (omega arith) c.from.ensures c.read.ensures.once c.read.ensures.block refl;
     }
 
 pub returns-clause-fits : goal.returns-clause-fits
@@ -44,3 +46,11 @@ returns-clause-fits c =
     let total = l.invariant.total in
     let low = l.invariant.low in
     fits_all c.args.reader.now.deltas c.args.start c.args.freq (rw (← end, ← total) low)
+
+pub returns-clause-decodes : goal.returns-clause-decodes
+returns-clause-decodes c = λ fits before some.
+    let l = c.loop-done in
+    let over = c.loop-done-test.false in
+    let within = l.invariant.within in
+    let end : l.done ≡ c.args.freq = omega arith in
+    rw (← end) (l.invariant.decodes before some)

@@ -1,5 +1,6 @@
-use Rattle.std.proofs.Common.{◌-◌, ◌≡◌, ◌^◌, ◌<◌, ◌≤◌, length, take, drop}
+use Rattle.std.proofs.Common.{ℕ, ◌+◌, ◌-◌, ◌≡◌, ◌^◌, ◌<◌, ◌≤◌, length, take, drop}
 use Rattle.std.specs.List.{sum}
+use Rattle.ii_check.specs.CheckedPositions.{SpendsTo}
 use Rattle.ii_check.proofs.positions.position_fits.Given as goal
 
 abbrev pub invariant-loop-done : goal.invariant-loop-done
@@ -9,6 +10,7 @@ invariant-loop-done l = record {
   total : l.position ≡ sum (take l.done (drop l.start l.fn.reader.deltas));
   low : l.position < 2 ^ 32;
   size : length l.buffer ≡ 128;
+  decodes : (before : ℕ) → SpendsTo before l.start l.fn.reader → SpendsTo before (l.start + l.done) l.reader;
 }
 
 abbrev pub decreases-loop-done : goal.decreases-loop-done

@@ -4,7 +4,7 @@ use Rattle.ii_promises.proofs.cursors.known_lists_are_never_refused.Goals as goa
 pub returns-clause-no_validation : goal.returns-clause-no_validation
 returns-clause-no_validation c =
     let opened = c.open_known.ensures in
-    none_of_known c.open_known.result.freq_reading c.args.doc_freq c.open_known.result.checked opened.checked
+    none_of_known c.args.doc_freq c.args.positions c.open_known.result opened.checked opened.positions_checked
 
 pub returns-clause-list : goal.returns-clause-list
 returns-clause-list c = c.open_known.ensures.list

@@ -1,3 +1,4 @@
+use Rattle.ii_query_grammar.specs.Parsed.{stack_of}
 use Rattle.ii_query_grammar.proofs.query_grammar.read_one.Goals as goal
 
 pub returns-in-Opening : goal.returns-in-Opening
@@ -11,3 +12,6 @@ returns-in-And c = rw (c.in-And.is) (c.after_sign-in-And.ensures _ _ c.put_and.e
 
 pub returns-in-Or : goal.returns-in-Or
 returns-in-Or c = rw (c.in-Or.is) (c.after_sign-in-Or.ensures _ _ c.put_or.ensures.put c.put_or.ensures.only)
+
+pub returns-in-Set : goal.returns-in-Set
+returns-in-Set c = rw (c.in-Set.is) (c.put_set.ensures (stack_of c.args.opened.now.items) c.args.token.at)

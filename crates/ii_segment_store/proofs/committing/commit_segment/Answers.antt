@@ -1,42 +1,36 @@
-use Rattle.std.proofs.Common.{refl, subst}
-use Rattle.ii_directory.specs.Directory.{Elapses}
+use Rattle.std.proofs.Common.{◌≡◌, ◌∙◌, Result, ap, subst, sym}
+use Rattle.std.specs.Prelude.{OnOk}
+use Rattle.ii_store.specs.declared.faults.IndexFault.{IndexFault}
 use Rattle.ii_store.specs.IndexMeta.{MetaState, meta_view}
-use Rattle.ii_segment_store.specs.Commits.{IsCommitted, MayBeCommitted}
-use Rattle.ii_segment_store.specs.Contents.{files_contents, list_contents, with_segment}
-use Rattle.ii_segment_store.proofs.CommitLaws.{commit_time, committed_contents, holds_none}
+use Rattle.ii_segment_store.specs.Commits.{HaveIdsBelow}
+use Rattle.ii_segment_store.specs.Contents.{IndexContents, files_contents, index_contents, list_contents, with_segment}
+use Rattle.ii_segment_store.specs.Pending.{IsPending, begun}
+use Rattle.ii_segment_store.proofs.PendingLaws.{begun_same, pending_time}
 use Rattle.ii_segment_store.proofs.committing.commit_segment.Goals as goal
 
-pub returns-in-Ok-put_segment-clause-committed : goal.returns-in-Ok-put_segment-clause-committed
-returns-in-Ok-put_segment-clause-committed g c = λ known below.
+pub returns-in-Ok-add-clause-committed : goal.returns-in-Ok-add-clause-committed
+returns-in-Ok-add-clause-committed g c = λ known below.
     let d = g.D.Directory in
-    let l = meta_view c.args.list in
+    let m = meta_view c.args.list in
     let s = files_contents c.args.segment.now in
     let old = d.seen c.args.directory.now in
-    let new = d.seen c.put_segment.new.directory in
-    let done = subst (λ (n : MetaState). IsCommitted l.next_segment_id n s old new) c.in-Ok.ensures.next (c.in-Ok-put_segment.ensures.committed known) in
-    committed_contents l s old below refl new done
+    let new = d.seen c.commit.new.directory in
+    let is = c.in-Ok.ensures.list in
+    let below_next = subst (λ (l : MetaState). HaveIdsBelow l.next_segment_id l.segments) (sym is) below in
+    let holds = c.in-Ok-add.ensures.holds known below_next ∙ ap (λ (l : MetaState). with_segment s (list_contents l old)) is ∙ ap (with_segment s) (begun_same m old) in
+    subst (λ (r : Result IndexContents IndexFault). OnOk c.commit.result (index_contents new ≡ r)) holds (c.commit.ensures.committed (c.in-Ok-add.ensures.known known))
 
-pub returns-in-Ok-put_segment-clause-time : goal.returns-in-Ok-put_segment-clause-time
-returns-in-Ok-put_segment-clause-time g c = λ known fresh below.
+pub returns-in-Ok-add-clause-time : goal.returns-in-Ok-add-clause-time
+returns-in-Ok-add-clause-time g c = λ known fresh below.
     let d = g.D.Directory in
-    let l = meta_view c.args.list in
+    let m = meta_view c.args.list in
     let s = files_contents c.args.segment.now in
     let old = c.args.directory.now in
-    let new = c.put_segment.new.directory in
-    let time = subst (λ (n : MetaState). Elapses (d.moment old) (d.moment new) (d.left_since old) (d.left_since new) (MayBeCommitted l.next_segment_id n s (d.seen old))) c.in-Ok.ensures.next (c.put_segment.ensures.time known) in
-    commit_time d.moment d.left_since d.seen old l s new below refl fresh time
-
-pub returns-clause-time : goal.returns-clause-time
-returns-clause-time g c = λ known fresh below.
-    let d = g.D.Directory in
-    let l = meta_view c.args.list in
-    let s = files_contents c.args.segment.now in
-    let old = c.args.directory.now in
-    let new = c.put_segment.new.directory in
-    let time = subst (λ (n : MetaState). Elapses (d.moment old) (d.moment new) (d.left_since old) (d.left_since new) (MayBeCommitted l.next_segment_id n s (d.seen old))) c.in-Ok.ensures.next (c.put_segment.ensures.time known) in
-    commit_time d.moment d.left_since d.seen old l s new below refl fresh time
-
-pub returns-in-Err-clause-time : goal.returns-in-Err-clause-time
-returns-in-Err-clause-time g c = λ known fresh below.
-    let d = g.D.Directory in
-    holds_none d.moment d.left_since d.seen c.args.directory.now (with_segment (files_contents c.args.segment.now) (list_contents (meta_view c.args.list) (d.seen c.args.directory.now)))
+    let mid = c.add.new.directory in
+    let new = c.commit.new.directory in
+    let is = c.in-Ok.ensures.list in
+    let next : IsPending (begun m) (d.seen old) = record { fresh = fresh; below = below } in
+    let pending = subst (λ (l : MetaState). IsPending l (d.seen old)) (sym is) next in
+    let holds = c.in-Ok-add.ensures.holds known pending.below ∙ ap (λ (l : MetaState). with_segment s (list_contents l (d.seen old))) is ∙ ap (with_segment s) (begun_same m (d.seen old)) in
+    pending_time d.moment d.left_since d.seen old mid new (with_segment s (list_contents m (d.seen old))) (list_contents c.in-Ok-add.pending (d.seen mid)) (c.in-Ok-add.ensures.same known pending) holds
+    (c.add.ensures.leaves_same known pending).time (c.commit.ensures.leaves_one (c.in-Ok-add.ensures.known known)).time

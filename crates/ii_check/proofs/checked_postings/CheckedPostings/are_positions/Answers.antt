@@ -1,8 +1,10 @@
-use Rattle.std.proofs.Common.{◌*◌, drop, eqb, length, ap, subst, refl, ◌∙◌, arith}
+use Rattle.std.proofs.Common.{◌*◌, drop, eqb, eqb-true, length, ap, subst, refl, ◌∙◌, arith}
+use Rattle.ii_codes.specs.BlockDecoder.{BlockDecoderState}
 use Rattle.ii_check.specs.CheckedPostings.{HasDocuments}
 use Rattle.ii_check.specs.Positions.{suffice}
 use Rattle.ii_check.proofs.CheckedPostingsLemmas.{asked, are_given, has_documents}
 use Rattle.ii_check.proofs.PositionLemmas.{suffices_first, row_is, end_low, no_end, an_end, none_there, goes_on, all_are}
+use Rattle.ii_check.proofs.SpentLemmas.{one_block, one_freqs, spends_all}
 use Rattle.ii_check.proofs.checked_postings.CheckedPostings.are_positions.Goals as goal
 
 pub loop-block-init : goal.loop-block-init
@@ -12,6 +14,9 @@ loop-block-init c =
       block = c.skip_reader-skip.ensures.first;
       same = refl;
       to = suffices_first c.args.self.now.postings.freqs c.args.reader.now.deltas c.skip_reader-skip.result.block c.requires c.skip_reader-skip.ensures.first;
+      spends = record { nothing = λ e. omega arith; decodes = λ on. absurd (omega arith); block = λ on. absurd (omega arith) };
+      docs = omega (arith, ap (λ (d : BlockDecoderState). d.decodes) c.with_val-doc_decoder.ensures);
+      freqs = omega (arith, ap (λ (d : BlockDecoderState). d.decodes) c.with_val-freq_decoder.ensures);
     }
 
 pub end_of_positions-requires-clause-low : goal.end_of_positions-requires-clause-low
@@ -51,6 +56,9 @@ loop-block-preserved c =
       block = omega arith;
       same = c.end_of_positions.ensures.deltas ∙ l.invariant.same;
       to = goes_on p.freqs l.skip.block l.end c.in-Some.next c.advance.new.skip.block c.args.reader.now.deltas c.output_array.result.now to row (rw l.invariant.same at found.0) found.1 (omega arith);
+      spends = c.in-Some.ensures.decodes _ l.invariant.spends;
+      docs = omega (arith, l.invariant.docs, one_block _ _ _ _ _ c.load_block.ensures.loads.docs_are);
+      freqs = omega (arith, l.invariant.freqs, one_freqs _ _ _ _ c.load_block.ensures.loads.freqs_are);
     }
 
 pub returns-clause-are : goal.returns-clause-are
@@ -67,3 +75,21 @@ returns-clause-are c =
     let all = all_are to.counts c.args.reader.now.deltas (128 * l.skip.block) l.end (omega arith) to.enough to.end_is in
     let len = c.len.ensures ∙ ap length l.invariant.same in
     rw to.are ((λ j. eqb (c.from.ensures j) (len j)) ∙ all)
+
+pub returns-clause-decodes : goal.returns-clause-decodes
+returns-clause-decodes c = λ are.
+    let l = c.loop-block in
+    let end = c.from.ensures in
+    let len = c.len.ensures ∙ ap length l.invariant.same in
+    let same = eqb-true c.from.result c.len.result are in
+    spends_all _ _ _ _ l.invariant.spends (omega arith)
+
+pub returns-clause-docs_checked : goal.returns-clause-docs_checked
+returns-clause-docs_checked c = λ are.
+    let freq = ap (λ p. p.doc_freq) c.self.view_is in
+    omega (arith, c.loop-block.invariant.docs, c.add_lists.ensures.docs)
+
+pub returns-clause-freqs_checked : goal.returns-clause-freqs_checked
+returns-clause-freqs_checked c = λ are.
+    let freq = ap (λ p. p.doc_freq) c.self.view_is in
+    omega (arith, c.loop-block.invariant.freqs, c.add_lists.ensures.freqs)

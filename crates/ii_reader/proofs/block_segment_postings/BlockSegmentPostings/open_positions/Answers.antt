@@ -9,3 +9,8 @@ open_counted_positions-requires c =
     let all = c.if-freqs-doc_freq.true in
     let count = c.doc_freq.ensures in
     last_held s.checked.postings.freqs s.checked.doc_freq s.skip.block c.output_array-freqs.result.now s.freq_decoder c.self.invariant.freqs_held c.self.invariant.has.freqs c.output_array-freqs.ensures.values (omega arith) (omega arith)
+
+pub returns-clause-checked : goal.returns-clause-checked
+returns-clause-checked c =
+    let many = c.self.invariant.has.many in
+    rw (← c.self.view_is) (rw many c.open_positions.ensures.checked)

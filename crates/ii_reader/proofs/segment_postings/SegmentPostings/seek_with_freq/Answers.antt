@@ -17,7 +17,7 @@ returns-then-is_read-clause-rest c =
 pub returns-then-is_read-clause-work : goal.returns-then-is_read-clause-work
 returns-then-is_read-clause-work c =
     let s = c.self.inside in
-    rw (← c.self.view_is) (went_with_freq c.args.least s.block_cursor c.seek_with_freq-self-inside.new.self _ _ (decodes_read s.position_reader) c.seek_with_freq-self-inside.ensures.looks)
+    rw (← c.self.view_is) (went_with_freq c.args.least s.block_cursor c.seek_with_freq-self-inside.new.self _ _ (decodes_read s.position_reader) s.checked_positions c.seek_with_freq-self-inside.ensures.looks)
 
 pub returns-then-least-le1-clause-rest : goal.returns-then-least-le1-clause-rest
 returns-then-least-le1-clause-rest c =

@@ -83,4 +83,4 @@ returns-clause-work c =
     ∙ ap (λ (t : Bool). term_freq_at (not t) (drop (128 * b.block + s.cur) (list_of b.docs b.freqs deltas))) c.self.invariant.2 in
     let before = ap decodes_read c.in-Some.is in
     let more = c.append_positions.ensures.decodes in
-    rw (← c.self.view_is, ← count) (record { doc_freq = refl; freq_reading = refl; bounds = refl; checked = refl; forward = omega arith; doc_blocks = later_none s.block_cursor.block s.block_cursor.doc_blocks; freq_blocks = later_none s.block_cursor.block s.block_cursor.freq_blocks; doc_decodes = omega arith; freq_decodes = omega arith; position_decodes = omega arith })
+    rw (← c.self.view_is, ← count) (record { doc_freq = refl; freq_reading = refl; bounds = refl; checked = refl; positions_checked = refl; forward = omega arith; doc_blocks = later_none s.block_cursor.block s.block_cursor.doc_blocks; freq_blocks = later_none s.block_cursor.block s.block_cursor.freq_blocks; doc_decodes = omega arith; freq_decodes = omega arith; position_decodes = omega arith })

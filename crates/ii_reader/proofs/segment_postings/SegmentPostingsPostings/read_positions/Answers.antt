@@ -134,7 +134,7 @@ returns-clause-work c =
     let deltas = deltas_read s.position_reader in
     let before = ap decodes_read c.in-Some.is in
     let more = c.read_piece.ensures.decodes in
-    rw (← c.self.view_is) (record { doc_freq = refl; freq_reading = refl; bounds = refl; checked = refl; forward = omega arith; doc_blocks = later_none s.block_cursor.block s.block_cursor.doc_blocks; freq_blocks = later_none s.block_cursor.block s.block_cursor.freq_blocks; doc_decodes = omega arith; freq_decodes = omega arith; position_decodes = omega arith })
+    rw (← c.self.view_is) (record { doc_freq = refl; freq_reading = refl; bounds = refl; checked = refl; positions_checked = refl; forward = omega arith; doc_blocks = later_none s.block_cursor.block s.block_cursor.doc_blocks; freq_blocks = later_none s.block_cursor.block s.block_cursor.freq_blocks; doc_decodes = omega arith; freq_decodes = omega arith; position_decodes = omega arith })
 
 pub returns-clause-decodes : goal.returns-clause-decodes
 returns-clause-decodes c =

@@ -27,6 +27,6 @@ returns-clause-ok c =
     let short : may_be_stored (lines_view s.lines) c.args.line.now ≡ true = search rules in
     let lines : lines_view c.push_line.new.lines ≡ with_line (lines_view s.lines) c.args.line.now = c.in_ok-push_line.ensures.ok in (
       cs,
-      rw (← c.self.view_is) (adds_line (record { schema = s.schema; num_docs = s.num_docs; calls = map (call_of s.schema) s.calls.items; lines = lines_view s.lines }) cs c.args.line.now room short c.in_ok-calls.ensures.gives),
+      rw (← c.self.view_is) (adds_line (record { schema = s.schema; num_docs = s.num_docs; calls = map (call_of s.schema) s.calls.items; lines = lines_view s.lines; unknown_keys = s.unknown_keys }) cs c.args.line.now room short c.in_ok-calls.ensures.gives),
       rw (← c.self.view_is, calls, lines, map-append) refl,
     )

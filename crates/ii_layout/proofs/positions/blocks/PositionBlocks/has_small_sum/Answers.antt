@@ -16,27 +16,36 @@ decode-requires-clause-valid c =
     let blocks = are_blocks i.bytes _ _ i.anchors _ i.widths i.body i.stride i.block i.place i.rest_len c.self.invariant (cut i.widths i.body _ i.bytes c.as_slice-bytes.ensures) (after i.body _ i.bytes c.as_slice-bytes.ensures c.bytes_from-body.ensures) in
     there_is _ _ _ _ _ c.loop-block.block blocks (omega arith)
 
-pub returns-then-sum-from : goal.returns-then-sum-from
-returns-then-sum-from c =
+pub decode-requires-2-clause-valid : goal.decode-requires-2-clause-valid
+decode-requires-2-clause-valid c =
     let i = c.self.inside in
     let blocks = are_blocks i.bytes _ _ i.anchors _ i.widths i.body i.stride i.block i.place i.rest_len c.self.invariant (cut i.widths i.body _ i.bytes c.as_slice-bytes.ensures) (after i.body _ i.bytes c.as_slice-bytes.ensures c.bytes_from-body.ensures) in
-    let sums = rw (← c.self.view_is) at c.loop-block.invariant in
+    there_is _ _ _ _ _ _ blocks (omega arith)
+
+pub returns-then-sum-from-clause-small : goal.returns-then-sum-from-clause-small
+returns-then-sum-from-clause-small c =
+    let i = c.self.inside in
+    let blocks = are_blocks i.bytes _ _ i.anchors _ i.widths i.body i.stride i.block i.place i.rest_len c.self.invariant (cut i.widths i.body _ i.bytes c.as_slice-bytes.ensures) (after i.body _ i.bytes c.as_slice-bytes.ensures c.bytes_from-body.ensures) in
+    let sums = rw (← c.self.view_is) at c.loop-block.invariant.0 in
     rw (← c.self.view_is) (large_sum _ _ _ c.output_array.result.now _ _ c.loop-block.block c.loop-block.place c.loop-block.sum c.sum_of-sum.result blocks sums (omega arith) (rw (← c.output_array.ensures.values) at c.decode.ensures.held) c.sum_of-sum.ensures.sum (omega arith))
 
 pub loop-block-preserved : goal.loop-block-preserved
 loop-block-preserved c =
     let i = c.self.inside in
     let blocks = are_blocks i.bytes _ _ i.anchors _ i.widths i.body i.stride i.block i.place i.rest_len c.self.invariant (cut i.widths i.body _ i.bytes c.as_slice-bytes.ensures) (after i.body _ i.bytes c.as_slice-bytes.ensures c.bytes_from-body.ensures) in
-    let sums = rw (← c.self.view_is) at c.loop-block.invariant in
-    rw (← c.self.view_is)
-    (next_sum _ _ _ c.output_array.result.now _ _ c.loop-block.block c.loop-block.place c.loop-block.sum c.sum_of-sum.result c.compressed_block_size-place.result blocks sums (omega arith) (rw (← c.output_array.ensures.values) at c.decode.ensures.held) c.sum_of-sum.ensures.sum (omega arith)
-    (omega arith))
+    let sums = rw (← c.self.view_is) at c.loop-block.invariant.0 in
+    let counted = c.loop-block.invariant.1 in (
+      rw (← c.self.view_is)
+          (next_sum _ _ _ c.output_array.result.now _ _ c.loop-block.block c.loop-block.place c.loop-block.sum c.sum_of-sum.result c.compressed_block_size-place.result blocks sums (omega arith) (rw (← c.output_array.ensures.values) at c.decode.ensures.held) c.sum_of-sum.ensures.sum (omega arith)
+          (omega arith)),
+      omega arith,
+    )
 
-pub returns-then-self-widths : goal.returns-then-self-widths
-returns-then-self-widths c =
+pub returns-then-self-widths-clause-small : goal.returns-then-self-widths-clause-small
+returns-then-self-widths-clause-small c =
     let i = c.self.inside in
     let blocks = are_blocks i.bytes _ _ i.anchors _ i.widths i.body i.stride i.block i.place i.rest_len c.self.invariant (cut i.widths i.body _ i.bytes c.as_slice-bytes.ensures) (after i.body _ i.bytes c.as_slice-bytes.ensures c.bytes_from-body.ensures) in
-    let sums = rw (← c.self.view_is) at c.loop-block.invariant in
+    let sums = rw (← c.self.view_is) at c.loop-block.invariant.0 in
     let over = c.loop-block-test.false in
     let most = c.loop-block.auto.block-end in
     let here = c.if-self-widths.true in
@@ -44,11 +53,11 @@ returns-then-self-widths c =
     let held = c.output_array-then-self-widths.ensures.values ∙ c.self.invariant.held_is ∙ ap (block_of (deltas_of i.bytes)) (sym end) in
     rw (← c.self.view_is) (last_sum _ _ c.output_array-then-self-widths.result.now _ _ c.loop-block.block c.loop-block.place c.loop-block.sum c.sum_of.result _ blocks.widths blocks.len blocks.few sums (omega arith) held c.sum_of.ensures.sum (omega arith))
 
-pub returns : goal.returns
-returns c =
+pub returns-clause-small : goal.returns-clause-small
+returns-clause-small c =
     let i = c.self.inside in
     let blocks = are_blocks i.bytes _ _ i.anchors _ i.widths i.body i.stride i.block i.place i.rest_len c.self.invariant (cut i.widths i.body _ i.bytes c.as_slice-bytes.ensures) (after i.body _ i.bytes c.as_slice-bytes.ensures c.bytes_from-body.ensures) in
-    let sums = rw (← c.self.view_is) at c.loop-block.invariant in
+    let sums = rw (← c.self.view_is) at c.loop-block.invariant.0 in
     let over = c.loop-block-test.false in
     let most = c.loop-block.auto.block-end in
     rw (← c.self.view_is) (last_read _ _ _ c.output_array-2.result.now _ _ c.loop-block.block c.loop-block.place c.loop-block.sum c.sum_of-2.result _ blocks sums (omega arith) (rw (← c.output_array-2.ensures.values) at c.decode-2.ensures.held) c.sum_of-2.ensures.sum (omega arith))

@@ -35,7 +35,7 @@ loop-done-preserved c =
     in
     let keeps = keeps_more c.args.self.now.block c.args.self.now.decodes c.loop-done.self-inside.blocks.block c.loop-done.self-inside.blocks.decodes c.args.offset (length c.loop-done.output)
     c.loop-done.block c.loop-done.start c.loop-done.done c.load.new.self.block c.load.new.self.decodes c.copy_into-done.result (length c.held.result.now) c.loop-done.invariant.2
-    (c.loop-done.invariant.1.place (omega arith)) c.loop-done.invariant.1.low (omega arith) c.load.ensures.block c.load.ensures.kept c.copy_into-done.ensures.count within
+    (c.loop-done.invariant.1.place (omega arith)) c.loop-done.invariant.1.low (omega arith) c.load.ensures.block c.load.ensures.kept c.load.ensures.decodes c.copy_into-done.ensures.count within
     (block_few c.args.self.now.deltas c.held.result.now c.loop-done.block held)
     in
     (c.load.ensures.deltas ∙ c.loop-done.invariant.0, rw same more, rw same keeps)
@@ -46,3 +46,14 @@ returns-clause-block c =
     let some = r.some in
     keeps_all c.args.self.now.block c.args.self.now.decodes c.loop-done.self-inside.blocks.block c.loop-done.self-inside.blocks.decodes c.args.offset (length c.args.output.now) c.loop-done.done
     (search rules) (omega arith) (omega arith)
+
+pub returns-clause-once : goal.returns-clause-once
+returns-clause-once c =
+    let r = c.loop-done.invariant.1 in
+    let some = r.some in
+    let keeps = c.loop-done.invariant.2 in
+    let counted : length c.args.output.now ≡ c.loop-done.done = omega arith in
+    record {
+      once = λ on. keeps.once (omega arith);
+      forward = λ order. keeps.forward order;
+    }

@@ -1,0 +1,176 @@
+//! Segments that are written one by one, and added to an index all at once.
+ghost use Rattle.std.specs.Prelude.{◌≡◌, ◌+◌, ◌≤◌, ◌^◌, IfErr, IfOk, Ok, OnOk};
+ghost use Rattle.ii_directory.specs.declared.name.Name.TheVariants.{Meta};
+ghost use Rattle.ii_store.specs.IndexMeta.{IsValidMeta, MetaState, meta_view};
+ghost use Rattle.ii_store.specs.Segments.{KeepsOtherFiles, list_in};
+ghost use Rattle.ii_segment_store.specs.Commits.{HaveIdsBelow, KeepsButSegment, LeavesOneIndex, emptied};
+ghost use Rattle.ii_segment_store.specs.Contents.{files_contents, index_contents, list_contents, with_segment};
+ghost use Rattle.ii_segment_store.specs.Pending.{IsBeginFault, IsPending, IsPendingFault, begun, with_next};
+
+use crate::committing::{listed_segment, write_segment};
+use crate::faults::CommitFault;
+use crate::replacing::empty_list;
+use crate::stored_segments::SegmentFiles;
+use ii_store::commit_check::is_valid;
+use ii_store::segments::{load_meta, replace_list};
+use ii_store::{Directory, IndexMeta};
+use std::alloc::Global;
+use std::marker::Model;
+
+/// The next list of the segments of a directory's index. Its new segments are in the directory, but the directory's
+/// index doesn't have them before `commit`.
+///
+/// Its model is the list. Use it with one directory, and change the directory by it alone until `commit`. If it is
+/// dropped, the files of its segments remain until `collect`.
+#[derive(Drop)]
+pub struct PendingSegments {
+    list: IndexMeta,
+}
+
+impl Model for PendingSegments {
+    ghost use Rattle.ii_store.specs.IndexMeta.{MetaState, meta_view};
+
+    ghost Value = { MetaState };
+
+    ghost view = { λ s. meta_view s.list };
+}
+
+impl PendingSegments {
+    /// Begins with the segments of an index of version 2: those that are added come after them.
+    ///
+    /// # Errors
+    ///
+    /// The errors of `load_meta`, `OtherVersion` for an index of version 1 (see `upgrade`); `TooMany` if the index
+    /// is of the last generation.
+    pub fn begin<D: Directory>(alloc: Global, directory: &D) -> Result<PendingSegments, CommitFault>
+        ensures list { D.is_known directory.now → IfOk result (λ p. (m : MetaState) × (list_in (D.seen directory.now Meta) ≡ Ok m) × (p ≡ begun m)) }
+        ensures pending { D.is_known directory.now → IfOk result (λ p. IsPending p (D.seen directory.now)) }
+        ensures holds { D.is_known directory.now → IfOk result (λ p. list_contents p (D.seen directory.now) ≡ index_contents (D.seen directory.now)) }
+        ensures fault { D.is_known directory.now → IfErr result (λ e. IsBeginFault e (list_in (D.seen directory.now Meta))) }
+    {
+        match load_meta(alloc, directory) {
+            Ok(list) => PendingSegments::of_list(list),
+            Err(fault) => Err(CommitFault::Store(fault)),
+        }
+    }
+
+    /// Begins with a schema and no segments. The new index replaces that of the directory, if there is one: of
+    /// either version, also a damaged one.
+    ///
+    /// # Errors
+    ///
+    /// `TooMany` if the directory's list is of the last generation.
+    pub fn begin_new<D: Directory>(
+        alloc: Global,
+        directory: &D,
+        schema: Vec<u8>,
+    ) -> Result<PendingSegments, CommitFault>
+        ensures list { D.is_known directory.now → IfOk result (λ p. p ≡ begun (emptied schema.items (list_in (D.seen directory.now Meta)))) }
+        ensures pending { D.is_known directory.now → IfOk result (λ p. IsPending p (D.seen directory.now)) }
+        ensures fault { D.is_known directory.now → IfErr result (λ e. IsBeginFault e (Ok (emptied schema.items (list_in (D.seen directory.now Meta))))) }
+    {
+        match empty_list(alloc, directory, schema) {
+            Ok(list) => PendingSegments::of_list(list),
+            Err(fault) => Err(CommitFault::from(fault)),
+        }
+    }
+
+    // Returns a list of the next generation.
+    pub(crate) fn of_list(list: IndexMeta) -> Result<PendingSegments, CommitFault>
+        ensures list { IfOk result (λ p. p ≡ begun (meta_view list)) }
+        ensures fault { IfErr result (λ e. (e ≡ CommitFault.TooMany) × (2 ^ 64 ≤ list.generation + 1)) }
+    {
+        let mut list = list;
+        if list.generation == u64::MAX {
+            return Err(CommitFault::TooMany);
+        }
+        list.generation += 1;
+        Ok(PendingSegments { list })
+    }
+
+    /// Writes the files of a segment under an id that no segment had. The directory holds the same index, wherever
+    /// this is stopped.
+    ///
+    /// After an error the segments that were added before are dropped as well.
+    ///
+    /// # Errors
+    ///
+    /// `TooMany` if the index would have too many documents or segments: nothing is written then.
+    pub fn add<D: Directory>(
+        self,
+        alloc: Global,
+        directory: &mut D,
+        segment: &SegmentFiles,
+    ) -> Result<PendingSegments, CommitFault>
+        ensures known { D.is_known directory.old → OnOk result (D.is_known directory.new) }
+        ensures list { IfOk result (λ p. p ≡ with_next self (files_contents segment.now)) }
+        ensures valid { IfOk result (λ p. IsValidMeta p) }
+        ensures holds { D.is_known directory.old → HaveIdsBelow self.next_segment_id self.segments → IfOk result (λ p. list_contents p (D.seen directory.new) ≡ with_segment (files_contents segment.now) (list_contents self (D.seen directory.old))) }
+        // what stays
+        ensures pending { D.is_known directory.old → IsPending self (D.seen directory.old) → IfOk result (λ p. IsPending p (D.seen directory.new)) }
+        ensures same { D.is_known directory.old → IsPending self (D.seen directory.old) → OnOk result (index_contents (D.seen directory.new) ≡ index_contents (D.seen directory.old)) }
+        ensures keeps { D.is_known directory.old → OnOk result (KeepsButSegment self.next_segment_id (D.seen directory.old) (D.seen directory.new)) }
+        ensures leaves_same { D.is_known directory.old → IsPending self (D.seen directory.old) → LeavesOneIndex D.moment D.left_since D.seen directory.old directory.new (index_contents (D.seen directory.old)) }
+        ensures fault { IfErr result (λ e. IsPendingFault e (with_next self (files_contents segment.now))) }
+    {
+        let id = self.list.next_segment_id;
+        let list = match with_next(alloc, self.list, segment) {
+            Ok(list) => list,
+            Err(fault) => return Err(fault),
+        };
+        match write_segment(directory, id, segment) {
+            Ok(()) => Ok(PendingSegments { list }),
+            Err(fault) => Err(CommitFault::from(fault)),
+        }
+    }
+
+    /// Atomically replaces `meta`: the directory's index has all segments of the list then, and no others.
+    ///
+    /// After a stop or an error the directory holds the old index or the new one. After an error, open the
+    /// directory again. No files of segments are read or written; those that the list doesn't have remain until
+    /// `collect`.
+    ///
+    /// # Errors
+    ///
+    /// `TooMany` if no `meta` can hold the list: its schema has 2^32 bytes or more. Nothing is written then.
+    pub fn commit<D: Directory>(self, alloc: Global, directory: &mut D) -> Result<(), CommitFault>
+        ensures known { D.is_known directory.old → OnOk result (D.is_known directory.new) }
+        ensures listed { D.is_known directory.old → OnOk result (list_in (D.seen directory.new Meta) ≡ Ok self) }
+        ensures committed { D.is_known directory.old → OnOk result (index_contents (D.seen directory.new) ≡ list_contents self (D.seen directory.old)) }
+        ensures keeps { D.is_known directory.old → OnOk result (KeepsOtherFiles (D.seen directory.old) (D.seen directory.new)) }
+        ensures leaves_one { D.is_known directory.old → LeavesOneIndex D.moment D.left_since D.seen directory.old directory.new (list_contents self (D.seen directory.old)) }
+        ensures fault { IfErr result (λ e. IsPendingFault e self) }
+    {
+        let list = self.list;
+        if !is_valid(&list) {
+            return Err(CommitFault::TooMany);
+        }
+        match replace_list(alloc, directory, &list) {
+            Ok(()) => Ok(()),
+            Err(fault) => Err(CommitFault::from(fault)),
+        }
+    }
+}
+
+// Returns a list with one segment more, or `TooMany` if no `meta` can hold it.
+fn with_next(
+    alloc: Global,
+    list: IndexMeta,
+    segment: &SegmentFiles,
+) -> Result<IndexMeta, CommitFault>
+    ensures next { IfOk result (λ m. meta_view m ≡ with_next (meta_view list) (files_contents segment.now)) }
+    ensures valid { IfOk result (λ m. IsValidMeta (meta_view m)) }
+    ensures fault { IfErr result (λ e. IsPendingFault e (with_next (meta_view list) (files_contents segment.now))) }
+{
+    let mut next = list;
+    if next.next_segment_id == u64::MAX {
+        return Err(CommitFault::TooMany);
+    }
+    let listed = listed_segment(alloc, next.next_segment_id, segment)?;
+    next.segments.push(listed)?;
+    next.next_segment_id += 1;
+    if !is_valid(&next) {
+        return Err(CommitFault::TooMany);
+    }
+    Ok(next)
+}

@@ -1,0 +1,27 @@
+//! How found documents are written.
+
+/// How a found document is written.
+#[derive(Clone, Copy, Debug, PartialEq, Eq)]
+pub enum RowFormat {
+    /// As a line of words.
+    Words,
+    /// As a line with a JSON object.
+    JsonLine,
+    /// As a JSON object, followed by a comma.
+    JsonItem,
+}
+
+impl RowFormat {
+    // Returns whether it is a JSON object.
+    pub(crate) fn is_json(self) -> bool {
+        self != RowFormat::Words
+    }
+
+    // Returns what follows it.
+    pub(crate) fn end(self) -> &'static str {
+        match self {
+            RowFormat::Words | RowFormat::JsonLine => "\n",
+            RowFormat::JsonItem => ",",
+        }
+    }
+}
