@@ -78,7 +78,8 @@ def holds(user, folder, docs, segments):
         of = [(place, words) for place, (words, _) in enumerate(docs) if word in words]
         rows = ''.join(f'{place} {words.count(word)} {" ".join(str(i) for i, w in enumerate(words) if w == word)}\n' for place, words in of)
         user.wants(['postings', folder, 'body', word, '--positions'], rows, 0 if of else 1)
-        user.wants(['search', folder, f'{word} OR sea', '--count'], f'{sum(word in words or "sea" in words for words, _ in docs)}\n')
+        found = sum(word in words or 'sea' in words for words, _ in docs)
+        user.wants(['search', folder, f'{word} OR sea', '--count'], f'{found}\n', 0 if found else 1)
     low, high = len(docs) // 3, len(docs) // 2
     found = [place for place, (_, n) in enumerate(docs) if low <= n <= high]
     user.wants(['search', folder, f'n:[{low} TO {high}]'], ''.join(f'{place}\n' for place in found), 0 if found else 1)

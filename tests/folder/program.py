@@ -647,9 +647,10 @@ def quiet(user):
     schema = user.write('quiet.toml', 'tokenizer = "ascii"\n' + IDS)
     short = lines([{'body': f'a {"x" * 65531}', 'id': 1}]).encode() + b'\n[1]\n'
     long = short.replace(b'\n\n', b'\n' + b' ' * (17 << 20) + b'\n')
-    for words, given, steps in ((['index', 'quiet', '--schema', schema], long, [' MB/s\n']), (['add', 'quiet'], short, []), (['add', 'quiet', '--replace-by', 'id'], short, [])):
+    bounded, kept = 'of memory become a segment; --memory sets that\n', 'nequllpa: all lines are kept in memory, since their documents replace others\n'
+    for words, given, steps in ((['index', 'quiet', '--schema', schema], long, [bounded, ' MB/s\n']), (['add', 'quiet'], short, [bounded]), (['add', 'quiet', '--replace-by', 'id'], short, [kept])):
         told = user.run(*words, '--skip-bad', given=given).stderr.decode()
-        for said in ('of memory become a segment; --memory sets that\n', 'nequllpa: 1 words of more than', '-:3: not an object\n', *steps):
+        for said in ('nequllpa: 1 words of more than', '-:3: not an object\n', *steps):
             if said not in told:
                 raise Failed(f'{words}: no {said!r} in {told!r}')
         done = user.run(*words, '--skip-bad', '--quiet', given=given)
