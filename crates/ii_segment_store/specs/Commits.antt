@@ -11,6 +11,7 @@ use Rattle.ii_directory.specs.declared.name.SegmentComponent.{SegmentComponent}
 use Rattle.ii_directory.specs.declared.name.Slot.{Slot}
 use Rattle.ii_directory.specs.declared.name.SegmentComponent.TheVariants.{Counts, FieldNorms, Positions, Postings, Store, Terms}
 use Rattle.ii_directory.specs.Directory.{Elapses, Files}
+use Rattle.ii_store.specs.Faults.{IsRefused}
 use Rattle.ii_store.specs.Index.{Fails}
 use Rattle.ii_store.specs.IndexMeta.{IsValidMeta, MetaState, SegmentState, file_meta}
 use Rattle.ii_store.specs.Segments.{list_in}
@@ -85,6 +86,12 @@ IsCommitFault (faults.Store fault) wanted s = Fails fault wanted
 IsCommitFault (faults.NoCounts id) wanted s = ⊥
 IsCommitFault faults.TooMany (Ok m) s = IsValidMeta (next_list m s) → ⊥
 IsCommitFault faults.TooMany (Err fault) s = ⊥
+
+-- the system refused a call
+abbrev pub IsRefusedCommit : CommitFault → Type 0
+IsRefusedCommit (faults.Store fault) = IsRefused fault
+IsRefusedCommit (faults.NoCounts id) = ⊥
+IsRefusedCommit faults.TooMany = ⊥
 
 -- only files of one slot of version 1 were changed
 abbrev pub KeepsButSlot : Slot → Files → Files → Type 0

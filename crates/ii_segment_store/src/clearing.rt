@@ -2,7 +2,8 @@
 ghost use Rattle.std.specs.Prelude.{◌≡◌, IfErr, IfOk, Ok, OnOk};
 ghost use Rattle.ii_directory.specs.declared.name.Name.TheVariants.{Meta};
 ghost use Rattle.ii_directory.specs.declared.name.Slot.TheVariants.{First, Second};
-ghost use Rattle.ii_directory.specs.Directory.{Elapses};
+ghost use Rattle.ii_directory.specs.Directory.{Elapses, IsRefusal, Obeys};
+ghost use Rattle.ii_store.specs.Faults.{IsRefused};
 ghost use Rattle.ii_store.specs.Collect.{CountsGarbage, HasNoGarbage, KeepsOthers};
 ghost use Rattle.ii_store.specs.Index.{Fails};
 ghost use Rattle.ii_store.specs.IndexMeta.{MetaState};
@@ -19,6 +20,7 @@ use std::alloc::Global;
 /// change, wherever this is stopped. Returns the errors of `load_meta`, and then removes nothing.
 pub fn remove_slots<D: Directory>(alloc: Global, directory: &mut D) -> Result<(), StoreFault>
     ensures known { D.is_known directory.old → OnOk result (D.is_known directory.new) }
+    ensures obeys { Obeys IsRefused (D.may_refuse directory.old) (D.may_refuse directory.new) result }
     ensures first { D.is_known directory.old → OnOk result (HasNoSlot First (D.seen directory.new)) }
     ensures second { D.is_known directory.old → OnOk result (HasNoSlot Second (D.seen directory.new)) }
     ensures keeps { D.is_known directory.old → OnOk result (KeepsButSlots (D.seen directory.old) (D.seen directory.new)) }
@@ -42,6 +44,7 @@ pub fn remove_slots<D: Directory>(alloc: Global, directory: &mut D) -> Result<()
 /// nothing.
 pub fn collect_garbage<D: Directory>(alloc: Global, directory: &mut D) -> Result<u64, StoreFault>
     ensures known { D.is_known directory.old → OnOk result (D.is_known directory.new) }
+    ensures obeys { Obeys IsRefused (D.may_refuse directory.old) (D.may_refuse directory.new) result }
     ensures removed { D.is_known directory.old → IfOk result (λ _. (m : MetaState) → list_in (D.seen directory.old Meta) ≡ Ok m → HasNoGarbage m (D.seen directory.new)) }
     ensures keeps { D.is_known directory.old → IfOk result (λ _. (m : MetaState) → list_in (D.seen directory.old Meta) ≡ Ok m → KeepsOthers m (D.seen directory.old) (D.seen directory.new)) }
     ensures count { D.is_known directory.old → IfOk result (λ count. (m : MetaState) → list_in (D.seen directory.old Meta) ≡ Ok m → CountsGarbage m (D.seen directory.old) count) }
@@ -63,6 +66,7 @@ pub fn collect_garbage<D: Directory>(alloc: Global, directory: &mut D) -> Result
 // Removes the files of both slots.
 fn remove_both<D: Directory>(directory: &mut D) -> Result<(), DirectoryFault>
     ensures known { D.is_known directory.old → OnOk result (D.is_known directory.new) }
+    ensures obeys { Obeys IsRefusal (D.may_refuse directory.old) (D.may_refuse directory.new) result }
     ensures first { D.is_known directory.old → OnOk result (HasNoSlot First (D.seen directory.new)) }
     ensures second { D.is_known directory.old → OnOk result (HasNoSlot Second (D.seen directory.new)) }
     ensures keeps { D.is_known directory.old → OnOk result (KeepsButSlots (D.seen directory.old) (D.seen directory.new)) }
@@ -75,6 +79,7 @@ fn remove_both<D: Directory>(directory: &mut D) -> Result<(), DirectoryFault>
 // Removes the files of a slot.
 fn remove_slot<D: Directory>(directory: &mut D, slot: Slot) -> Result<(), DirectoryFault>
     ensures known { D.is_known directory.old → OnOk result (D.is_known directory.new) }
+    ensures obeys { Obeys IsRefusal (D.may_refuse directory.old) (D.may_refuse directory.new) result }
     ensures gone { D.is_known directory.old → OnOk result (HasNoSlot slot (D.seen directory.new)) }
     ensures keeps { D.is_known directory.old → OnOk result (KeepsButSlot slot (D.seen directory.old) (D.seen directory.new)) }
     ensures time { D.is_known directory.old → Elapses (D.moment directory.old) (D.moment directory.new) (D.left_since directory.old) (D.left_since directory.new) (KeepsButSlot slot (D.seen directory.old)) }
@@ -86,6 +91,7 @@ fn remove_slot<D: Directory>(directory: &mut D, slot: Slot) -> Result<(), Direct
 // Removes the files of a slot, except the schema.
 fn remove_lists<D: Directory>(directory: &mut D, slot: Slot) -> Result<(), DirectoryFault>
     ensures known { D.is_known directory.old → OnOk result (D.is_known directory.new) }
+    ensures obeys { Obeys IsRefusal (D.may_refuse directory.old) (D.may_refuse directory.new) result }
     ensures gone { D.is_known directory.old → OnOk result (HasNoLists slot (D.seen directory.new)) }
     ensures keeps { D.is_known directory.old → OnOk result (KeepsButSlot slot (D.seen directory.old) (D.seen directory.new)) }
     ensures time { D.is_known directory.old → Elapses (D.moment directory.old) (D.moment directory.new) (D.left_since directory.old) (D.left_since directory.new) (KeepsButSlot slot (D.seen directory.old)) }

@@ -2,11 +2,11 @@
 ghost use Rattle.std.specs.Prelude.{◌≡◌, ◌++◌, IfErr, IfOk, Ok, OnOk};
 ghost use Rattle.std.specs.Option.{option_map};
 ghost use Rattle.ii_directory.specs.declared.name.Name.TheVariants.{Meta, Segment};
-ghost use Rattle.ii_directory.specs.Directory.{Elapses, Elsewhere};
+ghost use Rattle.ii_directory.specs.Directory.{Elapses, Elsewhere, IsRefusal, Obeys};
 ghost use Rattle.ii_store.specs.Index.{index_of, view};
 ghost use Rattle.ii_store.specs.IndexMeta.{IsValidMeta, meta_view, segment_view};
 ghost use Rattle.ii_store.specs.Segments.{list_in};
-ghost use Rattle.ii_segment_store.specs.Commits.{HasFileIf, HasList, HasSegment, HaveIdsBelow, HoldsOldOr, IsCommitFault, IsFresh, KeepsButSegment, LeavesOneIndex, listed_if, listed_segment, next_list};
+ghost use Rattle.ii_segment_store.specs.Commits.{HasFileIf, HasList, HasSegment, HaveIdsBelow, HoldsOldOr, IsCommitFault, IsFresh, IsRefusedCommit, KeepsButSegment, LeavesOneIndex, listed_if, listed_segment, next_list};
 ghost use Rattle.ii_segment_store.specs.Contents.{index_contents, list_contents, files_contents, with_segment};
 
 use crate::faults::CommitFault;
@@ -35,6 +35,7 @@ pub fn append_segment<D: Directory>(
     segment: &SegmentFiles,
 ) -> Result<(), CommitFault>
     ensures known { D.is_known directory.old → OnOk result (D.is_known directory.new) }
+    ensures obeys { D.is_known directory.old → Obeys IsRefusedCommit (D.may_refuse directory.old) (D.may_refuse directory.new) result }
     ensures appended { D.is_known directory.old → OnOk result (index_contents (D.seen directory.new) ≡ with_segment (files_contents segment.now) (index_contents (D.seen directory.old))) }
     ensures leaves_one { D.is_known directory.old → LeavesOneIndex D.moment D.left_since D.seen directory.old directory.new (with_segment (files_contents segment.now) (index_contents (D.seen directory.old))) }
     ensures fault { D.is_known directory.old → IfErr result (λ e. IsCommitFault e (list_in (D.seen directory.old Meta)) (files_contents segment.now)) }
@@ -57,6 +58,7 @@ pub fn append_segment<D: Directory>(
 /// `TooMany` if it has 2^31 documents or more, or a schema of 2^32 bytes or more.
 pub fn upgrade<D: Directory>(alloc: Global, directory: &mut D) -> Result<bool, CommitFault>
     ensures known { D.is_known directory.old → OnOk result (D.is_known directory.new) }
+    ensures obeys { D.is_known directory.old → Obeys IsRefusedCommit (D.may_refuse directory.old) (D.may_refuse directory.new) result }
     ensures same { D.is_known directory.old → OnOk result (index_contents (D.seen directory.new) ≡ index_contents (D.seen directory.old)) }
     ensures listed { D.is_known directory.old → OnOk result (HasList (D.seen directory.new)) }
     ensures leaves_same { D.is_known directory.old → LeavesOneIndex D.moment D.left_since D.seen directory.old directory.new (index_contents (D.seen directory.old)) }
@@ -84,6 +86,7 @@ fn upgrade_from<D: Directory>(
 ) -> Result<(), CommitFault>
     requires { D.is_known directory.old → index_of (D.seen directory.old) ≡ Ok (view index) }
     ensures known { D.is_known directory.old → OnOk result (D.is_known directory.new) }
+    ensures obeys { D.is_known directory.old → Obeys IsRefusedCommit (D.may_refuse directory.old) (D.may_refuse directory.new) result }
     ensures same { D.is_known directory.old → OnOk result (index_contents (D.seen directory.new) ≡ index_contents (D.seen directory.old)) }
     ensures listed { D.is_known directory.old → OnOk result (HasList (D.seen directory.new)) }
     ensures time { D.is_known directory.old → Elapses (D.moment directory.old) (D.moment directory.new) (D.left_since directory.old) (D.left_since directory.new) (HoldsOldOr (index_contents (D.seen directory.old)) (D.seen directory.old)) }
@@ -124,6 +127,7 @@ pub(crate) fn commit_segment<D: Directory>(
     segment: &SegmentFiles,
 ) -> Result<(), CommitFault>
     ensures known { D.is_known directory.old → OnOk result (D.is_known directory.new) }
+    ensures obeys { D.is_known directory.old → Obeys IsRefusedCommit (D.may_refuse directory.old) (D.may_refuse directory.new) result }
     ensures committed { D.is_known directory.old → HaveIdsBelow list.next_segment_id (meta_view list).segments → OnOk result (index_contents (D.seen directory.new) ≡ with_segment (files_contents segment.now) (list_contents (meta_view list) (D.seen directory.old))) }
     ensures listed { D.is_known directory.old → OnOk result (list_in (D.seen directory.new Meta) ≡ Ok (next_list (meta_view list) (files_contents segment.now))) }
     ensures time { D.is_known directory.old → IsFresh list.next_segment_id (D.seen directory.old) → HaveIdsBelow list.next_segment_id (meta_view list).segments → Elapses (D.moment directory.old) (D.moment directory.new) (D.left_since directory.old) (D.left_since directory.new) (HoldsOldOr (with_segment (files_contents segment.now) (list_contents (meta_view list) (D.seen directory.old))) (D.seen directory.old)) }
@@ -183,6 +187,7 @@ pub(crate) fn write_segment<D: Directory>(
     segment: &SegmentFiles,
 ) -> Result<(), DirectoryFault>
     ensures known { D.is_known directory.old → OnOk result (D.is_known directory.new) }
+    ensures obeys { Obeys IsRefusal (D.may_refuse directory.old) (D.may_refuse directory.new) result }
     ensures there { D.is_known directory.old → OnOk result (HasSegment id (files_contents segment.now) (D.seen directory.new)) }
     ensures keeps { D.is_known directory.old → OnOk result (KeepsButSegment id (D.seen directory.old) (D.seen directory.new)) }
     ensures time { D.is_known directory.old → Elapses (D.moment directory.old) (D.moment directory.new) (D.left_since directory.old) (D.left_since directory.new) (KeepsButSegment id (D.seen directory.old)) }
@@ -215,6 +220,7 @@ fn write_if_some<D: Directory>(
     bytes: &Option<Vec<u8>>,
 ) -> Result<(), DirectoryFault>
     ensures known { D.is_known directory.old → OnOk result (D.is_known directory.new) }
+    ensures obeys { Obeys IsRefusal (D.may_refuse directory.old) (D.may_refuse directory.new) result }
     ensures there { D.is_known directory.old → OnOk result (HasFileIf id component (option_map (λ v. v.items) bytes.now) (D.seen directory.new)) }
     ensures keeps { D.is_known directory.old → OnOk result (Elsewhere (Segment id component) (D.seen directory.old) (D.seen directory.new)) }
     ensures time { D.is_known directory.old → Elapses (D.moment directory.old) (D.moment directory.new) (D.left_since directory.old) (D.left_since directory.new) (Elsewhere (Segment id component) (D.seen directory.old)) }

@@ -5,13 +5,14 @@ ghost use Rattle.ii_alive.specs.AliveBytes.{alive_bytes};
 ghost use Rattle.ii_store.specs.declared.index_meta.FileMeta.{FileMeta};
 ghost use Rattle.ii_directory.specs.declared.name.Name.TheVariants.{Meta, Segment};
 ghost use Rattle.ii_directory.specs.declared.name.SegmentComponent.TheVariants.{Alive};
-ghost use Rattle.ii_directory.specs.Directory.{Elapses, Elsewhere, IsPut};
+ghost use Rattle.ii_directory.specs.Directory.{Elapses, Elsewhere, IsPut, IsRefusal, Obeys};
+ghost use Rattle.ii_store.specs.Faults.{IsRefused};
 ghost use Rattle.ii_alive.specs.Alive.{num_living};
 ghost use Rattle.ii_store.specs.IndexMeta.{SegmentState, is_segment, meta_view, segment_view};
 ghost use Rattle.ii_directory.specs.Names.{component_number};
 ghost use Rattle.ii_store.specs.Segments.{list_in};
 ghost use Rattle.ii_segment_store.specs.Changes.{AreChanged, FailsForFlags, IsChangeFault, IsChangedTo, IsDeleteFault, IsFlaggedList, IsFlagsFault, IsListFault, KeepsButFlags, KeepsOlder, changed_index, files_with_flags, first_uncounted, index_without, is_uncounted, latest_file, latest_generation, with_flags, without};
-ghost use Rattle.ii_segment_store.specs.Commits.{HoldsOldOr, LeavesOneIndex};
+ghost use Rattle.ii_segment_store.specs.Commits.{HoldsOldOr, IsRefusedCommit, LeavesOneIndex};
 ghost use Rattle.ii_segment_store.specs.Contents.{files_contents, index_contents, list_contents};
 
 use crate::committing::commit_segment;
@@ -48,6 +49,7 @@ pub fn commit_changes<D: Directory>(
     added: Option<&SegmentFiles>,
 ) -> Result<(), CommitFault>
     ensures known { D.is_known directory.old → OnOk result (D.is_known directory.new) }
+    ensures obeys { D.is_known directory.old → Obeys IsRefusedCommit (D.may_refuse directory.old) (D.may_refuse directory.new) result }
     ensures changed { D.is_known directory.old → OnOk result (index_contents (D.seen directory.new) ≡ changed_index (map (λ v. v.items) deleted.now) (option_map (λ f. files_contents f.now) added.entry) (index_contents (D.seen directory.old))) }
     ensures leaves_one { D.is_known directory.old → LeavesOneIndex D.moment D.left_since D.seen directory.old directory.new (changed_index (map (λ v. v.items) deleted.now) (option_map (λ f. files_contents f.now) added.entry) (index_contents (D.seen directory.old))) }
     ensures fault { D.is_known directory.old → IfErr result (λ e. IsChangeFault e (map (λ v. v.items) deleted.now) (option_map (λ f. files_contents f.now) added.entry) (D.seen directory.old)) }
@@ -72,6 +74,7 @@ fn change_list<D: Directory>(
 ) -> Result<(), CommitFault>
     requires listed { D.is_known directory.old → list_in (D.seen directory.old Meta) ≡ Ok (meta_view list) }
     ensures known { D.is_known directory.old → OnOk result (D.is_known directory.new) }
+    ensures obeys { D.is_known directory.old → Obeys IsRefusedCommit (D.may_refuse directory.old) (D.may_refuse directory.new) result }
     ensures changed { D.is_known directory.old → OnOk result (index_contents (D.seen directory.new) ≡ changed_index (map (λ v. v.items) deleted.now) (option_map (λ f. files_contents f.now) added.entry) (index_contents (D.seen directory.old))) }
     ensures time { D.is_known directory.old → Elapses (D.moment directory.old) (D.moment directory.new) (D.left_since directory.old) (D.left_since directory.new) (HoldsOldOr (changed_index (map (λ v. v.items) deleted.now) (option_map (λ f. files_contents f.now) added.entry) (index_contents (D.seen directory.old))) (D.seen directory.old)) }
     ensures fault { D.is_known directory.old → IfErr result (λ e. IsChangeFault e (map (λ v. v.items) deleted.now) (option_map (λ f. files_contents f.now) added.entry) (D.seen directory.old)) }
@@ -93,6 +96,7 @@ fn commit_list<D: Directory>(
     list: IndexMeta,
 ) -> Result<(), CommitFault>
     ensures known { D.is_known directory.old → OnOk result (D.is_known directory.new) }
+    ensures obeys { D.is_known directory.old → Obeys IsRefusedCommit (D.may_refuse directory.old) (D.may_refuse directory.new) result }
     ensures committed { D.is_known directory.old → OnOk result (index_contents (D.seen directory.new) ≡ list_contents (meta_view list) (D.seen directory.old)) }
     ensures time { D.is_known directory.old → Elapses (D.moment directory.old) (D.moment directory.new) (D.left_since directory.old) (D.left_since directory.new) (HoldsOldOr (list_contents (meta_view list) (D.seen directory.old)) (D.seen directory.old)) }
     ensures fault { IfErr result (λ e. IsListFault e (meta_view list)) }
@@ -111,6 +115,7 @@ fn write_deletes<D: Directory>(
     deleted: &[Vec<DocId>],
 ) -> Result<IndexMeta, CommitFault>
     ensures known { D.is_known directory.old → OnOk result (D.is_known directory.new) }
+    ensures obeys { Obeys IsRefusedCommit (D.may_refuse directory.old) (D.may_refuse directory.new) result }
     ensures contents { D.is_known directory.old → IfOk result (λ l. list_contents (meta_view l) (D.seen directory.new) ≡ index_without (map (λ v. v.items) deleted.now) (list_contents (meta_view list) (D.seen directory.old))) }
     ensures flagged { D.is_known directory.old → IfOk result (λ l. IsFlaggedList (map (λ v. v.items) deleted.now) (meta_view list) (meta_view l) (D.seen directory.old)) }
     ensures keeps { D.is_known directory.old → OnOk result (KeepsOlder (latest_generation (meta_view list).segments) (D.seen directory.old) (D.seen directory.new)) }
@@ -149,6 +154,7 @@ fn flag_segments<D: Directory>(
     requires room { latest + length segments.now < 2 ^ 64 }
     requires latest { latest ≡ latest_generation (map segment_view segments.now) }
     ensures known { D.is_known directory.old → OnOk result (D.is_known directory.new) }
+    ensures obeys { Obeys IsRefused (D.may_refuse directory.old) (D.may_refuse directory.new) result }
     ensures many { IfOk result (λ ts. length ts.items ≡ length segments.now) }
     ensures changed { D.is_known directory.old → IfOk result (λ ts. AreChanged (map (λ v. v.items) deleted.now) latest (map segment_view segments.now) (map segment_view ts.items) (D.seen directory.old) (D.seen directory.new)) }
     ensures time { D.is_known directory.old → Elapses (D.moment directory.old) (D.moment directory.new) (D.left_since directory.old) (D.left_since directory.new) (KeepsOlder latest (D.seen directory.old)) }
@@ -174,6 +180,7 @@ fn flag_segment<D: Directory>(
 ) -> Result<SegmentMeta, StoreFault>
     requires later { latest_file segment.now.files.items < generation }
     ensures known { D.is_known directory.old → OnOk result (D.is_known directory.new) }
+    ensures obeys { Obeys IsRefused (D.may_refuse directory.old) (D.may_refuse directory.new) result }
     ensures changed { D.is_known directory.old → IfOk result (λ t. IsChangedTo docs.now generation (segment_view segment.now) (segment_view t) (D.seen directory.old) (D.seen directory.new)) }
     ensures time { D.is_known directory.old → Elapses (D.moment directory.old) (D.moment directory.new) (D.left_since directory.old) (D.left_since directory.new) (KeepsButFlags generation (D.seen directory.old)) }
     ensures fault { D.is_known directory.old → IfErr result (λ e. FailsForFlags e docs.now (segment_view segment.now) (D.seen directory.old)) }
@@ -195,6 +202,7 @@ fn put_flags<D: Directory>(
     generation: Generation,
 ) -> Result<SegmentMeta, DirectoryFault>
     ensures known { D.is_known directory.old → OnOk result (D.is_known directory.new) }
+    ensures obeys { Obeys IsRefusal (D.may_refuse directory.old) (D.may_refuse directory.new) result }
     ensures listed { IfOk result (λ t. segment_view t ≡ with_flags (segment_view segment.now) generation alive.now) }
     ensures put { D.is_known directory.old → OnOk result (IsPut (Segment segment.now.id (Alive generation)) (Some (alive_bytes alive.now)) (D.seen directory.old) (D.seen directory.new)) }
     ensures time { D.is_known directory.old → Elapses (D.moment directory.old) (D.moment directory.new) (D.left_since directory.old) (D.left_since directory.new) (Elsewhere (Segment segment.now.id (Alive generation)) (D.seen directory.old)) }

@@ -1,8 +1,10 @@
 //! Puts a segment in the place of the last ones of an index, so that a stop leaves the old index or the new one.
 ghost use Rattle.std.specs.Prelude.{◌≡◌, IfErr, OnOk, drop, map};
+ghost use Rattle.ii_directory.specs.Directory.{Obeys, is_obeyed};
+ghost use Rattle.ii_store.specs.Faults.{IsRefused};
 ghost use Rattle.ii_store.specs.Index.{AnswersFromFiles};
 ghost use Rattle.ii_store.specs.IndexMeta.{meta_view};
-ghost use Rattle.ii_segment_store.specs.Commits.{IsCommitFault, LeavesOneIndex};
+ghost use Rattle.ii_segment_store.specs.Commits.{IsCommitFault, IsRefusedCommit, LeavesOneIndex};
 ghost use Rattle.ii_segment_store.specs.Contents.{all_contents, files_contents, index_contents, segment_contents, with_segment};
 ghost use Rattle.ii_segment_store.specs.Joins.{first_contents, first_list, first_listed};
 
@@ -24,7 +26,8 @@ pub fn load_last<D: Directory>(
     list: &IndexMeta,
     first: usize,
 ) -> Result<Vec<StoredSegment>, StoreFault>
-    ensures { D.is_known directory.now → AnswersFromFiles (λ v. map segment_contents v.items) result (all_contents (drop first (meta_view list.now).segments) (D.seen directory.now)) }
+    ensures answers { D.is_known directory.now → AnswersFromFiles (λ v. map segment_contents v.items) result (all_contents (drop first (meta_view list.now).segments) (D.seen directory.now)) }
+    ensures obeyed { is_obeyed IsRefused (D.may_refuse directory.now) result }
 {
     match list.segments.as_slice().get(first..) {
         Some(last) => load_each(alloc, directory, last),
@@ -50,6 +53,7 @@ pub fn replace_last<D: Directory>(
     segment: &SegmentFiles,
 ) -> Result<(), CommitFault>
     ensures known { D.is_known directory.old → OnOk result (D.is_known directory.new) }
+    ensures obeys { D.is_known directory.old → Obeys IsRefusedCommit (D.may_refuse directory.old) (D.may_refuse directory.new) result }
     ensures replaced { D.is_known directory.old → OnOk result (index_contents (D.seen directory.new) ≡ with_segment (files_contents segment.now) (first_contents first (D.seen directory.old))) }
     ensures leaves_one { D.is_known directory.old → LeavesOneIndex D.moment D.left_since D.seen directory.old directory.new (with_segment (files_contents segment.now) (first_contents first (D.seen directory.old))) }
     ensures fault { D.is_known directory.old → IfErr result (λ e. IsCommitFault e (first_list first (D.seen directory.old)) (files_contents segment.now)) }

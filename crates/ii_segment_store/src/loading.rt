@@ -1,7 +1,8 @@
 //! Loads all segments of an index.
 ghost use Rattle.std.specs.Prelude.{◌≡◌, IfErr, IfOk, Some, map, replicate, true};
 ghost use Rattle.std.specs.Option.{option_map};
-ghost use Rattle.ii_store.specs.Faults.{of_directory};
+ghost use Rattle.ii_directory.specs.Directory.{is_obeyed};
+ghost use Rattle.ii_store.specs.Faults.{IsRefused, of_directory};
 ghost use Rattle.ii_directory.specs.declared.faults.DirectoryFault.TheVariants.{OutOfMemory};
 ghost use Rattle.ii_store.specs.Index.{AnswersFromFiles, view};
 ghost use Rattle.ii_store.specs.IndexMeta.{segment_view, meta_view};
@@ -36,7 +37,8 @@ pub fn load_segments<D: Directory>(
     alloc: Global,
     directory: &D,
 ) -> Result<StoredSegments, StoreFault>
-    ensures { D.is_known directory.now → AnswersFromFiles contents_view result (index_contents (D.seen directory.now)) }
+    ensures answers { D.is_known directory.now → AnswersFromFiles contents_view result (index_contents (D.seen directory.now)) }
+    ensures obeyed { is_obeyed IsRefused (D.may_refuse directory.now) result }
 {
     load_segments_with(alloc, directory, WantedFiles::All)
 }
@@ -49,7 +51,8 @@ pub fn load_segments_with<D: Directory>(
     directory: &D,
     wanted: WantedFiles,
 ) -> Result<StoredSegments, StoreFault>
-    ensures { D.is_known directory.now → AnswersFromFiles contents_view result (wanted_contents wanted (D.seen directory.now)) }
+    ensures answers { D.is_known directory.now → AnswersFromFiles contents_view result (wanted_contents wanted (D.seen directory.now)) }
+    ensures obeyed { is_obeyed IsRefused (D.may_refuse directory.now) result }
 {
     let Some(meta) = directory.read(alloc, Name::Meta)? else {
         return Err(StoreFault::Index(IndexFault::NoIndex));
@@ -60,7 +63,8 @@ pub fn load_segments_with<D: Directory>(
 /// Loads the index of a directory as `load_segments` does. If another program replaces the index meanwhile, so
 /// that files of the old one are missing or changed, the new one is loaded; so often at most 10 times.
 pub fn load_latest<D: Directory>(alloc: Global, directory: &D) -> Result<StoredSegments, StoreFault>
-    ensures { D.is_known directory.now → AnswersFromFiles contents_view result (index_contents (D.seen directory.now)) }
+    ensures answers { D.is_known directory.now → AnswersFromFiles contents_view result (index_contents (D.seen directory.now)) }
+    ensures obeyed { is_obeyed IsRefused (D.may_refuse directory.now) result }
 {
     load_latest_with(alloc, directory, WantedFiles::All)
 }
@@ -72,7 +76,8 @@ pub fn load_latest_with<D: Directory>(
     directory: &D,
     wanted: WantedFiles,
 ) -> Result<StoredSegments, StoreFault>
-    ensures { D.is_known directory.now → AnswersFromFiles contents_view result (wanted_contents wanted (D.seen directory.now)) }
+    ensures answers { D.is_known directory.now → AnswersFromFiles contents_view result (wanted_contents wanted (D.seen directory.now)) }
+    ensures obeyed { is_obeyed IsRefused (D.may_refuse directory.now) result }
 {
     for _ in 0..MOST_RETRIES {
         let before = directory.read(alloc, Name::Meta)?;
@@ -96,7 +101,8 @@ fn load_by<D: Directory>(
     meta: &[u8],
     wanted: WantedFiles,
 ) -> Result<StoredSegments, StoreFault>
-    ensures { D.is_known directory.now → AnswersFromFiles contents_view result (wanted_at wanted meta.now (D.seen directory.now)) }
+    ensures answers { D.is_known directory.now → AnswersFromFiles contents_view result (wanted_at wanted meta.now (D.seen directory.now)) }
+    ensures obeyed { is_obeyed IsRefused (D.may_refuse directory.now) result }
 {
     let version = version_of(meta)?;
     if version == VERSION {
@@ -143,7 +149,8 @@ fn load_list<D: Directory>(
     directory: &D,
     list: IndexMeta,
 ) -> Result<StoredSegments, StoreFault>
-    ensures { D.is_known directory.now → AnswersFromFiles contents_view result (list_contents (meta_view list) (D.seen directory.now)) }
+    ensures answers { D.is_known directory.now → AnswersFromFiles contents_view result (list_contents (meta_view list) (D.seen directory.now)) }
+    ensures obeyed { is_obeyed IsRefused (D.may_refuse directory.now) result }
 {
     match load_each(alloc, directory, list.segments.as_slice()) {
         Ok(segments) => Ok(StoredSegments {
@@ -160,7 +167,8 @@ pub(crate) fn load_each<D: Directory>(
     directory: &D,
     listed: &[SegmentMeta],
 ) -> Result<Vec<StoredSegment>, StoreFault>
-    ensures { D.is_known directory.now → AnswersFromFiles (λ v. map segment_contents v.items) result (all_contents (map segment_view listed.now) (D.seen directory.now)) }
+    ensures answers { D.is_known directory.now → AnswersFromFiles (λ v. map segment_contents v.items) result (all_contents (map segment_view listed.now) (D.seen directory.now)) }
+    ensures obeyed { is_obeyed IsRefused (D.may_refuse directory.now) result }
 {
     let mut segments = Vec::new(alloc);
     for segment in listed {
@@ -177,7 +185,8 @@ fn load_segment<D: Directory>(
     directory: &D,
     segment: &SegmentMeta,
 ) -> Result<StoredSegment, StoreFault>
-    ensures { D.is_known directory.now → AnswersFromFiles segment_contents result (segment_in (segment_view segment.now) (D.seen directory.now)) }
+    ensures answers { D.is_known directory.now → AnswersFromFiles segment_contents result (segment_in (segment_view segment.now) (D.seen directory.now)) }
+    ensures obeyed { is_obeyed IsRefused (D.may_refuse directory.now) result }
 {
     let terms = load_file(alloc, directory, segment, SegmentComponent::Terms)?;
     let postings = load_file(alloc, directory, segment, SegmentComponent::Postings)?;
@@ -208,7 +217,8 @@ fn load_if_listed<D: Directory>(
     segment: &SegmentMeta,
     component: SegmentComponent,
 ) -> Result<Option<Vec<u8>>, StoreFault>
-    ensures { D.is_known directory.now → AnswersFromFiles (option_map (λ v. v.items)) result (optional_bytes (segment_view segment.now) component (D.seen directory.now)) }
+    ensures answers { D.is_known directory.now → AnswersFromFiles (option_map (λ v. v.items)) result (optional_bytes (segment_view segment.now) component (D.seen directory.now)) }
+    ensures obeyed { is_obeyed IsRefused (D.may_refuse directory.now) result }
 {
     let Some(file) = file_of(segment.files.as_slice(), component) else {
         return Ok(None);
@@ -229,7 +239,8 @@ pub fn load_flags<D: Directory>(
     directory: &D,
     segment: &SegmentMeta,
 ) -> Result<AliveBits, StoreFault>
-    ensures { D.is_known directory.now → AnswersFromFiles (λ alive. alive) result (flags_in (segment_view segment.now) (D.seen directory.now)) }
+    ensures answers { D.is_known directory.now → AnswersFromFiles (λ alive. alive) result (flags_in (segment_view segment.now) (D.seen directory.now)) }
+    ensures obeyed { is_obeyed IsRefused (D.may_refuse directory.now) result }
 {
     let Some(file) = alive_file(segment.files.as_slice()) else {
         let alive = all_alive(alloc, segment.num_docs)?;
@@ -241,7 +252,8 @@ pub fn load_flags<D: Directory>(
 
 // Opens the flags of a segment's documents.
 fn open_flags(alloc: Global, segment: &SegmentMeta, bytes: &[u8]) -> Result<AliveBits, StoreFault>
-    ensures { AnswersFromFiles (λ alive. alive) result (fitting_flags (segment_view segment.now) (alive_of segment.now.num_docs bytes.now)) }
+    ensures answers { AnswersFromFiles (λ alive. alive) result (fitting_flags (segment_view segment.now) (alive_of segment.now.num_docs bytes.now)) }
+    ensures memory { is_obeyed IsRefused ⊥ result }
 {
     match AliveBits::open(alloc, segment.num_docs, bytes) {
         Ok(alive) => fitting_flags(segment, alive),
@@ -251,7 +263,8 @@ fn open_flags(alloc: Global, segment: &SegmentMeta, bytes: &[u8]) -> Result<Aliv
 
 // Returns the flags if they have as many living documents as the segment.
 fn fitting_flags(segment: &SegmentMeta, alive: AliveBits) -> Result<AliveBits, StoreFault>
-    ensures { AnswersFromFiles (λ alive. alive) result (fitting_flags (segment_view segment.now) (Some alive)) }
+    ensures answers { AnswersFromFiles (λ alive. alive) result (fitting_flags (segment_view segment.now) (Some alive)) }
+    ensures memory { is_obeyed IsRefused ⊥ result }
 {
     if alive.num_living() != segment.num_living {
         return Err(StoreFault::Index(IndexFault::DeletedDocuments(segment.id)));
@@ -278,7 +291,8 @@ fn load_file<D: Directory>(
     segment: &SegmentMeta,
     component: SegmentComponent,
 ) -> Result<Vec<u8>, StoreFault>
-    ensures { D.is_known directory.now → AnswersFromFiles (λ v. v.items) result (component_bytes (segment_view segment.now) component (D.seen directory.now)) }
+    ensures answers { D.is_known directory.now → AnswersFromFiles (λ v. v.items) result (component_bytes (segment_view segment.now) component (D.seen directory.now)) }
+    ensures obeyed { is_obeyed IsRefused (D.may_refuse directory.now) result }
 {
     let id = segment.id;
     let Some(file) = file_of(segment.files.as_slice(), component) else {

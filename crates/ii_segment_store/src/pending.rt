@@ -1,9 +1,10 @@
 //! Segments that are written one by one, and added to an index all at once.
 ghost use Rattle.std.specs.Prelude.{◌≡◌, ◌+◌, ◌≤◌, ◌^◌, IfErr, IfOk, Ok, OnOk};
 ghost use Rattle.ii_directory.specs.declared.name.Name.TheVariants.{Meta};
+ghost use Rattle.ii_directory.specs.Directory.{Obeys, is_obeyed};
 ghost use Rattle.ii_store.specs.IndexMeta.{IsValidMeta, MetaState, meta_view};
 ghost use Rattle.ii_store.specs.Segments.{KeepsOtherFiles, list_in};
-ghost use Rattle.ii_segment_store.specs.Commits.{HaveIdsBelow, KeepsButSegment, LeavesOneIndex, emptied};
+ghost use Rattle.ii_segment_store.specs.Commits.{HaveIdsBelow, IsRefusedCommit, KeepsButSegment, LeavesOneIndex, emptied};
 ghost use Rattle.ii_segment_store.specs.Contents.{files_contents, index_contents, list_contents, with_segment};
 ghost use Rattle.ii_segment_store.specs.Pending.{IsBeginFault, IsPending, IsPendingFault, begun, with_next};
 
@@ -47,6 +48,7 @@ impl PendingSegments {
         ensures pending { D.is_known directory.now → IfOk result (λ p. IsPending p (D.seen directory.now)) }
         ensures holds { D.is_known directory.now → IfOk result (λ p. list_contents p (D.seen directory.now) ≡ index_contents (D.seen directory.now)) }
         ensures fault { D.is_known directory.now → IfErr result (λ e. IsBeginFault e (list_in (D.seen directory.now Meta))) }
+        ensures obeyed { is_obeyed IsRefusedCommit (D.may_refuse directory.now) result }
     {
         match load_meta(alloc, directory) {
             Ok(list) => PendingSegments::of_list(list),
@@ -68,6 +70,7 @@ impl PendingSegments {
         ensures list { D.is_known directory.now → IfOk result (λ p. p ≡ begun (emptied schema.items (list_in (D.seen directory.now Meta)))) }
         ensures pending { D.is_known directory.now → IfOk result (λ p. IsPending p (D.seen directory.now)) }
         ensures fault { D.is_known directory.now → IfErr result (λ e. IsBeginFault e (Ok (emptied schema.items (list_in (D.seen directory.now Meta))))) }
+        ensures obeyed { is_obeyed IsRefusedCommit (D.may_refuse directory.now) result }
     {
         match empty_list(alloc, directory, schema) {
             Ok(list) => PendingSegments::of_list(list),
@@ -103,6 +106,7 @@ impl PendingSegments {
         segment: &SegmentFiles,
     ) -> Result<PendingSegments, CommitFault>
         ensures known { D.is_known directory.old → OnOk result (D.is_known directory.new) }
+        ensures obeys { Obeys IsRefusedCommit (D.may_refuse directory.old) (D.may_refuse directory.new) result }
         ensures list { IfOk result (λ p. p ≡ with_next self (files_contents segment.now)) }
         ensures valid { IfOk result (λ p. IsValidMeta p) }
         ensures holds { D.is_known directory.old → HaveIdsBelow self.next_segment_id self.segments → IfOk result (λ p. list_contents p (D.seen directory.new) ≡ with_segment (files_contents segment.now) (list_contents self (D.seen directory.old))) }
@@ -135,6 +139,7 @@ impl PendingSegments {
     /// `TooMany` if no `meta` can hold the list: its schema has 2^32 bytes or more. Nothing is written then.
     pub fn commit<D: Directory>(self, alloc: Global, directory: &mut D) -> Result<(), CommitFault>
         ensures known { D.is_known directory.old → OnOk result (D.is_known directory.new) }
+        ensures obeys { D.is_known directory.old → Obeys IsRefusedCommit (D.may_refuse directory.old) (D.may_refuse directory.new) result }
         ensures listed { D.is_known directory.old → OnOk result (list_in (D.seen directory.new Meta) ≡ Ok self) }
         ensures committed { D.is_known directory.old → OnOk result (index_contents (D.seen directory.new) ≡ list_contents self (D.seen directory.old)) }
         ensures keeps { D.is_known directory.old → OnOk result (KeepsOtherFiles (D.seen directory.old) (D.seen directory.new)) }
@@ -161,6 +166,7 @@ fn with_next(
     ensures next { IfOk result (λ m. meta_view m ≡ with_next (meta_view list) (files_contents segment.now)) }
     ensures valid { IfOk result (λ m. IsValidMeta (meta_view m)) }
     ensures fault { IfErr result (λ e. IsPendingFault e (with_next (meta_view list) (files_contents segment.now))) }
+    ensures memory { is_obeyed IsRefusedCommit ⊥ result }
 {
     let mut next = list;
     if next.next_segment_id == u64::MAX {

@@ -1,9 +1,10 @@
 //! Replaces an index by one of one segment, so that a stop leaves the old index or the new one.
 ghost use Rattle.std.specs.Prelude.{◌≡◌, IfErr, IfOk, Ok, OnOk};
 ghost use Rattle.ii_directory.specs.declared.name.Name.TheVariants.{Meta};
+ghost use Rattle.ii_directory.specs.Directory.{IsRefusal, Obeys, is_obeyed};
 ghost use Rattle.ii_store.specs.IndexMeta.{meta_view};
 ghost use Rattle.ii_store.specs.Segments.{list_in};
-ghost use Rattle.ii_segment_store.specs.Commits.{IsCommitFault, LeavesOneIndex, emptied, index_of_segment};
+ghost use Rattle.ii_segment_store.specs.Commits.{IsCommitFault, IsRefusedCommit, LeavesOneIndex, emptied, index_of_segment};
 ghost use Rattle.ii_segment_store.specs.Contents.{files_contents, index_contents};
 
 use crate::committing::commit_segment;
@@ -31,6 +32,7 @@ pub fn replace_index<D: Directory>(
     segment: &SegmentFiles,
 ) -> Result<(), CommitFault>
     ensures known { D.is_known directory.old → OnOk result (D.is_known directory.new) }
+    ensures obeys { D.is_known directory.old → Obeys IsRefusedCommit (D.may_refuse directory.old) (D.may_refuse directory.new) result }
     ensures replaced { D.is_known directory.old → OnOk result (index_contents (D.seen directory.new) ≡ Ok (index_of_segment schema.items (files_contents segment.now))) }
     ensures leaves_one { D.is_known directory.old → LeavesOneIndex D.moment D.left_since D.seen directory.old directory.new (Ok (index_of_segment schema.items (files_contents segment.now))) }
     ensures fault { D.is_known directory.old → IfErr result (λ e. IsCommitFault e (Ok (emptied schema.items (list_in (D.seen directory.old Meta)))) (files_contents segment.now)) }
@@ -47,7 +49,8 @@ pub(crate) fn empty_list<D: Directory>(
     directory: &D,
     schema: Vec<u8>,
 ) -> Result<IndexMeta, DirectoryFault>
-    ensures { D.is_known directory.now → IfOk result (λ list. meta_view list ≡ emptied schema.items (list_in (D.seen directory.now Meta))) }
+    ensures list { D.is_known directory.now → IfOk result (λ list. meta_view list ≡ emptied schema.items (list_in (D.seen directory.now Meta))) }
+    ensures obeyed { is_obeyed IsRefusal (D.may_refuse directory.now) result }
 {
     match load_meta(alloc, directory) {
         Ok(list) => Ok(IndexMeta {

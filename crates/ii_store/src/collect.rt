@@ -4,7 +4,8 @@ ghost use Rattle.std.specs.List.{count_by, flat_map, list_any};
 ghost use Rattle.ii_directory.specs.declared.name.Name.TheVariants.{Meta};
 ghost use Rattle.ii_store.specs.Collect.{CountsGarbage, HasNoGarbage, IsCollected, IsRemoved, KeepsOthers, is_file, is_garbage};
 ghost use Rattle.ii_store.specs.declared.index_meta.FileMeta.{FileMeta};
-ghost use Rattle.ii_directory.specs.Directory.{Elapses};
+ghost use Rattle.ii_directory.specs.Directory.{Elapses, IsRefusal, Obeys};
+ghost use Rattle.ii_store.specs.Faults.{IsRefused};
 ghost use Rattle.ii_store.specs.Index.{Fails};
 ghost use Rattle.ii_store.specs.IndexMeta.{MetaState, meta_view, segment_view};
 ghost use Rattle.ii_directory.specs.Names.{same_component};
@@ -23,6 +24,7 @@ use std::alloc::Global;
 /// is. Returns the errors of `load_meta`, and then removes nothing.
 pub fn collect<D: Directory>(alloc: Global, directory: &mut D) -> Result<u64, StoreFault>
     ensures known { D.is_known directory.old → OnOk result (D.is_known directory.new) }
+    ensures obeys { Obeys IsRefused (D.may_refuse directory.old) (D.may_refuse directory.new) result }
     ensures removed { D.is_known directory.old → IfOk result (λ _. (m : MetaState) → list_in (D.seen directory.old Meta) ≡ Ok m → HasNoGarbage m (D.seen directory.new)) }
     ensures keeps { D.is_known directory.old → IfOk result (λ _. (m : MetaState) → list_in (D.seen directory.old Meta) ≡ Ok m → KeepsOthers m (D.seen directory.old) (D.seen directory.new)) }
     ensures same { D.is_known directory.old → OnOk result (segments_of (D.seen directory.new) ≡ segments_of (D.seen directory.old)) }
@@ -44,6 +46,7 @@ fn remove_garbage<D: Directory>(
     names: &[Name],
 ) -> Result<u64, DirectoryFault>
     ensures known { D.is_known directory.old → OnOk result (D.is_known directory.new) }
+    ensures obeys { Obeys IsRefusal (D.may_refuse directory.old) (D.may_refuse directory.new) result }
     ensures collected { D.is_known directory.old → OnOk result (IsCollected (meta_view meta.now) names.now (D.seen directory.old) (D.seen directory.new)) }
     ensures count { IfOk result (λ count. count ≡ count_by (is_garbage (meta_view meta.now)) names.now) }
     ensures time { D.is_known directory.old → Elapses (D.moment directory.old) (D.moment directory.new) (D.left_since directory.old) (D.left_since directory.new) (KeepsOthers (meta_view meta.now) (D.seen directory.old)) }
@@ -63,6 +66,7 @@ fn remove_unlisted<D: Directory>(
     name: Name,
 ) -> Result<u64, DirectoryFault>
     ensures known { D.is_known directory.old → OnOk result (D.is_known directory.new) }
+    ensures obeys { Obeys IsRefusal (D.may_refuse directory.old) (D.may_refuse directory.new) result }
     ensures removed { D.is_known directory.old → OnOk result (IsRemoved (meta_view meta.now) name (D.seen directory.old) (D.seen directory.new)) }
     ensures count { IfOk result (λ count. count ≡ (if is_garbage (meta_view meta.now) name then 1 else 0)) }
     ensures time { D.is_known directory.old → Elapses (D.moment directory.old) (D.moment directory.new) (D.left_since directory.old) (D.left_since directory.new) (KeepsOthers (meta_view meta.now) (D.seen directory.old)) }

@@ -3,6 +3,8 @@ ghost use Rattle.std.specs.Prelude.{false, ◌≡◌, ◌+◌, [], ◌∷◌, If
 ghost use Rattle.std.specs.List.{AllByRecursion, flat_map};
 ghost use Rattle.ii_store.specs.declared.index_meta.FileMeta.{FileMeta};
 ghost use Rattle.ii_directory.specs.declared.name.Name.TheVariants.{Meta};
+ghost use Rattle.ii_directory.specs.Directory.{IsRefusal, is_obeyed};
+ghost use Rattle.ii_store.specs.Faults.{IsRefused};
 ghost use Rattle.ii_store.specs.IndexMeta.{FileFits, IsValidMeta, SegmentFits, meta_view, segment_view};
 ghost use Rattle.ii_store.specs.Segments.{AreThere, MayCommit, Reports, files_of_segment, generation_in, list_in};
 
@@ -90,6 +92,7 @@ pub fn may_commit<D: Directory>(
     ensures follows { D.is_known directory.now → IfOk result (λ may. IsTrue may → new.now.generation ≡ generation_in (list_in (D.seen directory.now Meta)) + 1) }
     ensures there { D.is_known directory.now → IfOk result (λ may. IsTrue may → AreThere (meta_view new.now) (D.seen directory.now)) }
     ensures otherwise { D.is_known directory.now → IfOk result (λ may. may ≡ false → MayCommit (meta_view new.now) (D.seen directory.now) → ⊥) }
+    ensures obeyed { is_obeyed IsRefusal (D.may_refuse directory.now) result }
 {
     if !is_valid(new) {
         return Ok(false);
@@ -113,7 +116,8 @@ fn current_generation<D: Directory>(
     alloc: Global,
     directory: &D,
 ) -> Result<Generation, DirectoryFault>
-    ensures { D.is_known directory.now → IfOk result (λ generation. generation ≡ generation_in (list_in (D.seen directory.now Meta))) }
+    ensures generation { D.is_known directory.now → IfOk result (λ generation. generation ≡ generation_in (list_in (D.seen directory.now Meta))) }
+    ensures obeyed { is_obeyed IsRefusal (D.may_refuse directory.now) result }
 {
     match load_meta(alloc, directory) {
         Ok(meta) => Ok(meta.generation),
@@ -128,7 +132,8 @@ fn look_at<D: Directory>(
     directory: &D,
     segments: &[SegmentMeta],
 ) -> Result<(), StoreFault>
-    ensures { D.is_known directory.now → Reports result (flat_map files_of_segment (map segment_view segments.now)) (D.seen directory.now) }
+    ensures reports { D.is_known directory.now → Reports result (flat_map files_of_segment (map segment_view segments.now)) (D.seen directory.now) }
+    ensures obeyed { is_obeyed IsRefused (D.may_refuse directory.now) result }
 {
     for segment in segments {
         look_at_files(alloc, directory, segment.id, segment.files.as_slice())?;
@@ -143,7 +148,8 @@ fn look_at_files<D: Directory>(
     id: SegmentId,
     files: &[FileMeta],
 ) -> Result<(), StoreFault>
-    ensures { D.is_known directory.now → Reports result (map (λ (f : FileMeta). record { id = id; file = f }) files.now) (D.seen directory.now) }
+    ensures reports { D.is_known directory.now → Reports result (map (λ (f : FileMeta). record { id = id; file = f }) files.now) (D.seen directory.now) }
+    ensures obeyed { is_obeyed IsRefused (D.may_refuse directory.now) result }
 {
     for file in files {
         look_at_file(alloc, directory, id, file)?;
@@ -158,7 +164,8 @@ fn look_at_file<D: Directory>(
     id: SegmentId,
     file: &FileMeta,
 ) -> Result<(), StoreFault>
-    ensures { D.is_known directory.now → Reports result (record { id = id; file = file.now } ∷ []) (D.seen directory.now) }
+    ensures reports { D.is_known directory.now → Reports result (record { id = id; file = file.now } ∷ []) (D.seen directory.now) }
+    ensures obeyed { is_obeyed IsRefused (D.may_refuse directory.now) result }
 {
     let _bytes = load_segment_file(alloc, directory, id, file)?;
     Ok(())

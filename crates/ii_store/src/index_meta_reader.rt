@@ -2,6 +2,8 @@
 ghost use Rattle.std.specs.Prelude.{◌≡◌, List, length, map, nat_lt, ◌==◌};
 ghost use Rattle.std.specs.List.{list_all, list_any};
 ghost use Rattle.std.specs.Int.{w16, w32, w64};
+ghost use Rattle.ii_directory.specs.Directory.{is_obeyed};
+ghost use Rattle.ii_store.specs.Faults.{IsRefused};
 ghost use Rattle.ii_store.specs.Index.{AnswersFromFiles};
 ghost use Rattle.ii_store.specs.IndexMeta.{SegmentState, ascend_from, bytes_at, checked_list, component_of, file_at, ids_differ, is_consistent, is_segment, items_at, list_at, meta_of, meta_view, number_at, segment_at, segment_view, total_living};
 
@@ -18,10 +20,11 @@ const MAX_DOCS: u64 = 2_147_483_647;
 ///
 /// Returns `OtherVersion` for a `meta` of another version, and `DamagedMeta` for bytes that are no `meta` or
 /// were changed, and for a list that isn't consistent: ids occur twice or aren't below the next one, more
-/// documents are alive than there are, or there are 2^31 or more.
+/// documents are alive than there are, or there are 2^31 or more. No call of the system is made.
 #[tactic(auto, unfolding(crate::specs::IndexMeta::meta_of))]
 pub fn decode(alloc: Global, bytes: &[u8]) -> Result<IndexMeta, StoreFault>
-    ensures { AnswersFromFiles meta_view result (meta_of bytes.now) }
+    ensures answers { AnswersFromFiles meta_view result (meta_of bytes.now) }
+    ensures memory { is_obeyed IsRefused ⊥ result }
 {
     let version = version_of(bytes)?;
     if version != SEGMENTS_VERSION {
@@ -40,7 +43,8 @@ fn damaged() -> StoreFault
 // Reads the list of segments of a file of this version.
 #[tactic(auto, unfolding(crate::specs::IndexMeta::checked_list))]
 fn checked(alloc: Global, bytes: &[u8]) -> Result<IndexMeta, StoreFault>
-    ensures { AnswersFromFiles meta_view result (checked_list bytes.now) }
+    ensures answers { AnswersFromFiles meta_view result (checked_list bytes.now) }
+    ensures memory { is_obeyed IsRefused ⊥ result }
 {
     if bytes.len() < 44 {
         return Err(damaged());
@@ -60,7 +64,8 @@ fn checked(alloc: Global, bytes: &[u8]) -> Result<IndexMeta, StoreFault>
 // Reads a number of two bytes.
 #[tactic(auto, unfolding(crate::specs::IndexMeta::number_at))]
 fn u16_at(bytes: &[u8]) -> Result<(u16, &[u8]), StoreFault>
-    ensures { AnswersFromFiles (λ x. (x.0, x.1.now)) result (number_at w16 bytes.now) }
+    ensures answers { AnswersFromFiles (λ x. (x.0, x.1.now)) result (number_at w16 bytes.now) }
+    ensures memory { is_obeyed IsRefused ⊥ result }
 {
     if bytes.len() < 2 {
         return Err(damaged());
@@ -73,7 +78,8 @@ fn u16_at(bytes: &[u8]) -> Result<(u16, &[u8]), StoreFault>
 // Reads a number of four bytes.
 #[tactic(auto, unfolding(crate::specs::IndexMeta::number_at))]
 fn u32_at(bytes: &[u8]) -> Result<(u32, &[u8]), StoreFault>
-    ensures { AnswersFromFiles (λ x. (x.0, x.1.now)) result (number_at w32 bytes.now) }
+    ensures answers { AnswersFromFiles (λ x. (x.0, x.1.now)) result (number_at w32 bytes.now) }
+    ensures memory { is_obeyed IsRefused ⊥ result }
 {
     if bytes.len() < 4 {
         return Err(damaged());
@@ -86,7 +92,8 @@ fn u32_at(bytes: &[u8]) -> Result<(u32, &[u8]), StoreFault>
 // Reads a number of eight bytes.
 #[tactic(auto, unfolding(crate::specs::IndexMeta::number_at))]
 fn u64_at(bytes: &[u8]) -> Result<(u64, &[u8]), StoreFault>
-    ensures { AnswersFromFiles (λ x. (x.0, x.1.now)) result (number_at w64 bytes.now) }
+    ensures answers { AnswersFromFiles (λ x. (x.0, x.1.now)) result (number_at w64 bytes.now) }
+    ensures memory { is_obeyed IsRefused ⊥ result }
 {
     if bytes.len() < 8 {
         return Err(damaged());
@@ -101,7 +108,8 @@ fn u64_at(bytes: &[u8]) -> Result<(u64, &[u8]), StoreFault>
 // Reads a SHA-256.
 #[tactic(auto, unfolding(crate::specs::IndexMeta::bytes_at))]
 fn digest_at(bytes: &[u8]) -> Result<([u8; 32], &[u8]), StoreFault>
-    ensures { AnswersFromFiles (λ x. (x.0, x.1.now)) result (bytes_at 32 bytes.now) }
+    ensures answers { AnswersFromFiles (λ x. (x.0, x.1.now)) result (bytes_at 32 bytes.now) }
+    ensures memory { is_obeyed IsRefused ⊥ result }
 {
     let Some((digest, rest)) = bytes.split_first_chunk::<32>() else {
         return Err(damaged());
@@ -112,7 +120,8 @@ fn digest_at(bytes: &[u8]) -> Result<([u8; 32], &[u8]), StoreFault>
 // Copies bytes.
 #[tactic(auto, unfolding(crate::specs::IndexMeta::bytes_at))]
 fn schema_at(alloc: Global, len: u32, bytes: &[u8]) -> Result<(Vec<u8>, &[u8]), StoreFault>
-    ensures { AnswersFromFiles (λ x. (x.0.items, x.1.now)) result (bytes_at len bytes.now) }
+    ensures answers { AnswersFromFiles (λ x. (x.0.items, x.1.now)) result (bytes_at len bytes.now) }
+    ensures memory { is_obeyed IsRefused ⊥ result }
 {
     let len = len as usize;
     if bytes.len() < len {
@@ -125,7 +134,8 @@ fn schema_at(alloc: Global, len: u32, bytes: &[u8]) -> Result<(Vec<u8>, &[u8]), 
 // Returns the component with a number.
 #[tactic(auto, unfolding(crate::specs::IndexMeta::component_of))]
 fn component_at(number: u16, generation: Generation) -> Result<SegmentComponent, StoreFault>
-    ensures { AnswersFromFiles (λ x. x) result (component_of number generation) }
+    ensures answers { AnswersFromFiles (λ x. x) result (component_of number generation) }
+    ensures memory { is_obeyed IsRefused ⊥ result }
 {
     if number == 5 {
         return Ok(SegmentComponent::Alive(generation));
@@ -147,7 +157,8 @@ fn component_at(number: u16, generation: Generation) -> Result<SegmentComponent,
 // Reads a file.
 #[tactic(auto, unfolding(crate::specs::IndexMeta::file_at))]
 fn file_of(bytes: &[u8]) -> Result<(FileMeta, &[u8]), StoreFault>
-    ensures { AnswersFromFiles (λ x. (x.0, x.1.now)) result (file_at bytes.now) }
+    ensures answers { AnswersFromFiles (λ x. (x.0, x.1.now)) result (file_at bytes.now) }
+    ensures memory { is_obeyed IsRefused ⊥ result }
 {
     let (number, rest) = u16_at(bytes)?;
     let (generation, rest) = u64_at(rest)?;
@@ -166,7 +177,8 @@ fn file_of(bytes: &[u8]) -> Result<(FileMeta, &[u8]), StoreFault>
 
 // Reads a number of files.
 fn files_of(alloc: Global, count: u16, bytes: &[u8]) -> Result<(Vec<FileMeta>, &[u8]), StoreFault>
-    ensures { AnswersFromFiles (λ x. (x.0.items, x.1.now)) result (items_at file_at count bytes.now) }
+    ensures answers { AnswersFromFiles (λ x. (x.0.items, x.1.now)) result (items_at file_at count bytes.now) }
+    ensures memory { is_obeyed IsRefused ⊥ result }
 {
     let mut files = Vec::new(alloc);
     let mut rest = bytes;
@@ -181,7 +193,8 @@ fn files_of(alloc: Global, count: u16, bytes: &[u8]) -> Result<(Vec<FileMeta>, &
 // Reads a segment with its files.
 #[tactic(auto, unfolding(crate::specs::IndexMeta::segment_at))]
 fn segment_of(alloc: Global, bytes: &[u8]) -> Result<(SegmentMeta, &[u8]), StoreFault>
-    ensures { AnswersFromFiles (λ x. (segment_view x.0, x.1.now)) result (segment_at bytes.now) }
+    ensures answers { AnswersFromFiles (λ x. (segment_view x.0, x.1.now)) result (segment_at bytes.now) }
+    ensures memory { is_obeyed IsRefused ⊥ result }
 {
     let (id, rest) = u64_at(bytes)?;
     let (num_docs, rest) = u32_at(rest)?;
@@ -205,7 +218,8 @@ fn segments_of(
     count: u16,
     bytes: &[u8],
 ) -> Result<(Vec<SegmentMeta>, &[u8]), StoreFault>
-    ensures { AnswersFromFiles (λ x. (map segment_view x.0.items, x.1.now)) result (items_at segment_at count bytes.now) }
+    ensures answers { AnswersFromFiles (λ x. (map segment_view x.0.items, x.1.now)) result (items_at segment_at count bytes.now) }
+    ensures memory { is_obeyed IsRefused ⊥ result }
 {
     let mut segments = Vec::new(alloc);
     let mut rest = bytes;
@@ -220,7 +234,8 @@ fn segments_of(
 // Reads everything between the version and the checksum.
 #[tactic(auto, unfolding(crate::specs::IndexMeta::list_at))]
 fn list_of(alloc: Global, bytes: &[u8]) -> Result<IndexMeta, StoreFault>
-    ensures { AnswersFromFiles meta_view result (list_at bytes.now) }
+    ensures answers { AnswersFromFiles meta_view result (list_at bytes.now) }
+    ensures memory { is_obeyed IsRefused ⊥ result }
 {
     let (generation, rest) = u64_at(bytes)?;
     let (next_segment_id, rest) = u64_at(rest)?;

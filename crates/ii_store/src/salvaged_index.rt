@@ -1,7 +1,8 @@
 //! The remains of an index whose files may be truncated, changed or missing.
 ghost use Rattle.std.specs.Prelude.{◌≡◌, ◌≤◌, ◌+◌, IfOk, Ok, Some, drop, length};
 ghost use Rattle.ii_directory.specs.declared.name.Name.TheVariants.{File};
-ghost use Rattle.ii_directory.specs.Directory.{Files};
+ghost use Rattle.ii_directory.specs.Directory.{Files, IsRefusal, is_obeyed};
+ghost use Rattle.ii_store.specs.Faults.{IsRefused};
 ghost use Rattle.ii_store.specs.Index.{AnswersFromFiles, Index, index_of, slot_in, view};
 ghost use Rattle.ii_store.specs.SalvagedIndex.{file_of, file_view, salvaged_bytes, salvaged_by, salvaged_in, salvaged, salvaged_view, sound_index};
 
@@ -70,7 +71,8 @@ impl SalvagedIndex {
 /// are no errors.
 #[tactic(auto, unfolding(crate::specs::SalvagedIndex::salvaged))]
 pub fn salvage<D: Directory>(alloc: Global, directory: &D) -> Result<SalvagedIndex, StoreFault>
-    ensures { D.is_known directory.now → AnswersFromFiles salvaged_view result (salvaged (D.seen directory.now)) }
+    ensures answers { D.is_known directory.now → AnswersFromFiles salvaged_view result (salvaged (D.seen directory.now)) }
+    ensures obeyed { is_obeyed IsRefused (D.may_refuse directory.now) result }
 {
     let Some(meta) = directory.read(alloc, Name::Meta)? else {
         return Err(StoreFault::Index(IndexFault::NoIndex));
@@ -85,7 +87,8 @@ fn salvaged_by<D: Directory>(
     directory: &D,
     meta: &[u8],
 ) -> Result<SalvagedIndex, StoreFault>
-    ensures { D.is_known directory.now → AnswersFromFiles salvaged_view result (salvaged_by (Some meta.now) (λ kind. D.seen directory.now (File (slot_in meta.now) kind))) }
+    ensures answers { D.is_known directory.now → AnswersFromFiles salvaged_view result (salvaged_by (Some meta.now) (λ kind. D.seen directory.now (File (slot_in meta.now) kind))) }
+    ensures obeyed { is_obeyed IsRefused (D.may_refuse directory.now) result }
 {
     let num_docs = checked_num_docs(meta)?;
     let slot = slot_named(meta);
@@ -122,7 +125,8 @@ fn salvaged_file<D: Directory>(
     place: usize,
 ) -> Result<SalvagedFile, DirectoryFault>
     requires { place + 40 ≤ length meta.now }
-    ensures { D.is_known directory.now → IfOk result (λ f. file_view f ≡ salvaged_in kind (drop place meta.now) (D.seen directory.now (File slot kind))) }
+    ensures salvaged { D.is_known directory.now → IfOk result (λ f. file_view f ≡ salvaged_in kind (drop place meta.now) (D.seen directory.now (File slot kind))) }
+    ensures obeyed { is_obeyed IsRefusal (D.may_refuse directory.now) result }
 {
     let Some(bytes) = directory.read(alloc, Name::File(slot, kind))? else {
         return Ok(SalvagedFile {

@@ -1,7 +1,8 @@
 //! Commits a list of segments so that a stop leaves either the old list or the new one, and reads it back.
 ghost use Rattle.std.specs.Prelude.{◌≡◌, ◌+◌, Ok, OnOk, Some};
 ghost use Rattle.ii_directory.specs.declared.name.Name.TheVariants.{Meta, Segment};
-ghost use Rattle.ii_directory.specs.Directory.{Elapses};
+ghost use Rattle.ii_directory.specs.Directory.{Elapses, IsRefusal, Obeys, is_obeyed};
+ghost use Rattle.ii_store.specs.Faults.{IsRefused};
 ghost use Rattle.ii_store.specs.Index.{AnswersFromFiles};
 ghost use Rattle.ii_store.specs.IndexMeta.{IsValidMeta, meta_view};
 ghost use Rattle.ii_store.specs.Segments.{AreThere, KeepsOtherFiles, LeavesOneList, ListedFile, MayBeReplaced, generation_in, index_with, list_in, listed_bytes, segments_of};
@@ -28,6 +29,7 @@ pub fn commit<D: Directory>(
     requires follows { D.is_known directory.old → new.now.generation ≡ generation_in (list_in (D.seen directory.old Meta)) + 1 }
     requires there { D.is_known directory.old → AreThere (meta_view new.now) (D.seen directory.old) }
     ensures known { D.is_known directory.old → OnOk result (D.is_known directory.new) }
+    ensures obeys { D.is_known directory.old → Obeys IsRefusal (D.may_refuse directory.old) (D.may_refuse directory.new) result }
     ensures committed { D.is_known directory.old → OnOk result (list_in (D.seen directory.new Meta) ≡ Ok (meta_view new.now)) }
     ensures index { D.is_known directory.old → OnOk result (segments_of (D.seen directory.new) ≡ index_with (meta_view new.now) (D.seen directory.old)) }
     ensures keeps { D.is_known directory.old → OnOk result (KeepsOtherFiles (D.seen directory.old) (D.seen directory.new)) }
@@ -47,6 +49,7 @@ pub fn replace_list<D: Directory>(
 ) -> Result<(), DirectoryFault>
     requires valid { IsValidMeta (meta_view new.now) }
     ensures known { D.is_known directory.old → OnOk result (D.is_known directory.new) }
+    ensures obeys { D.is_known directory.old → Obeys IsRefusal (D.may_refuse directory.old) (D.may_refuse directory.new) result }
     ensures listed { D.is_known directory.old → OnOk result (list_in (D.seen directory.new Meta) ≡ Ok (meta_view new.now)) }
     ensures keeps { D.is_known directory.old → OnOk result (KeepsOtherFiles (D.seen directory.old) (D.seen directory.new)) }
     ensures time { D.is_known directory.old → Elapses (D.moment directory.old) (D.moment directory.new) (D.left_since directory.old) (D.left_since directory.new) (MayBeReplaced (meta_view new.now) (D.seen directory.old)) }
@@ -62,7 +65,8 @@ pub fn replace_list<D: Directory>(
 /// that it lists aren't read.
 #[tactic(auto, unfolding(crate::specs::Segments::list_in))]
 pub fn load_meta<D: Directory>(alloc: Global, directory: &D) -> Result<IndexMeta, StoreFault>
-    ensures { D.is_known directory.now → AnswersFromFiles meta_view result (list_in (D.seen directory.now Meta)) }
+    ensures answers { D.is_known directory.now → AnswersFromFiles meta_view result (list_in (D.seen directory.now Meta)) }
+    ensures obeyed { is_obeyed IsRefused (D.may_refuse directory.now) result }
 {
     let Some(meta) = directory.read(alloc, Name::Meta)? else {
         return Err(StoreFault::Index(IndexFault::NoIndex));
@@ -81,7 +85,8 @@ pub fn load_segment_file<D: Directory>(
     id: SegmentId,
     file: &FileMeta,
 ) -> Result<Vec<u8>, StoreFault>
-    ensures { D.is_known directory.now → AnswersFromFiles (λ v. v.items) result (listed_bytes (record { id = id; file = file.now }) (D.seen directory.now (Segment id file.now.component))) }
+    ensures answers { D.is_known directory.now → AnswersFromFiles (λ v. v.items) result (listed_bytes (record { id = id; file = file.now }) (D.seen directory.now (Segment id file.now.component))) }
+    ensures obeyed { is_obeyed IsRefused (D.may_refuse directory.now) result }
 {
     let Some(bytes) = directory.read(alloc, Name::Segment(id, file.component))? else {
         return Err(StoreFault::Index(IndexFault::MissingFile(id, file.component)));

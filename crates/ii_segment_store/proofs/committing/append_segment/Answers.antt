@@ -22,7 +22,7 @@ returns-clause-appended g c = λ known.
     let old = d.seen c.args.directory.now in
     let new = d.seen c.commit_segment.new.directory in
     let s = files_contents c.args.segment.now in
-    subst (λ (r : Result IndexContents IndexFault). OnOk c.commit_segment.result (index_contents new ≡ with_segment s r)) (sym (listed_contents (meta_view c.in-Ok.list) old (c.in-Ok.ensures known))) (c.commit_segment.ensures.committed known (listed_below (old Meta) (meta_view c.in-Ok.list) (c.in-Ok.ensures known)))
+    subst (λ (r : Result IndexContents IndexFault). OnOk c.commit_segment.result (index_contents new ≡ with_segment s r)) (sym (listed_contents (meta_view c.in-Ok.list) old (c.in-Ok.ensures.answers known))) (c.commit_segment.ensures.committed known (listed_below (old Meta) (meta_view c.in-Ok.list) (c.in-Ok.ensures.answers known)))
 
 pub returns-clause-leaves_one : goal.returns-clause-leaves_one
 returns-clause-leaves_one g c = λ known.
@@ -30,6 +30,6 @@ returns-clause-leaves_one g c = λ known.
     let old = c.args.directory.now in
     let new = c.commit_segment.new.directory in
     let s = files_contents c.args.segment.now in
-    let same = sym (listed_contents (meta_view c.in-Ok.list) (d.seen old) (c.in-Ok.ensures known)) in
-    let time = subst (λ (r : Result IndexContents IndexFault). Elapses (d.moment old) (d.moment new) (d.left_since old) (d.left_since new) (HoldsOldOr (with_segment s r) (d.seen old))) same (c.commit_segment.ensures.time known (fresh_id (meta_view c.in-Ok.list) (d.seen old) (c.in-Ok.ensures known)) (listed_below (d.seen old Meta) (meta_view c.in-Ok.list) (c.in-Ok.ensures known))) in
+    let same = sym (listed_contents (meta_view c.in-Ok.list) (d.seen old) (c.in-Ok.ensures.answers known)) in
+    let time = subst (λ (r : Result IndexContents IndexFault). Elapses (d.moment old) (d.moment new) (d.left_since old) (d.left_since new) (HoldsOldOr (with_segment s r) (d.seen old))) same (c.commit_segment.ensures.time known (fresh_id (meta_view c.in-Ok.list) (d.seen old) (c.in-Ok.ensures.answers known)) (listed_below (d.seen old Meta) (meta_view c.in-Ok.list) (c.in-Ok.ensures.answers known))) in
     leaves_index d.moment d.left_since d.seen old (λ f left. g.met.D.Directory.only_now old f known left) new (with_segment s (index_contents (d.seen old))) time

@@ -18,4 +18,4 @@ returns-clause-changed g c = λ known.
     let new = d.seen c.put_flags.new.directory in
     let put = subst (λ (flags : List Bool). IsPut (Segment s.id (Alive generation)) (Some (alive_bytes flags)) old new) c.delete_docs.ensures (c.in_ok-put_flags.ensures.put known) in
     subst (λ (t : SegmentState). IsChangedTo docs generation s t old new) (sym (c.in_ok-put_flags.ensures.listed ∙ ap (with_flags s generation) c.delete_docs.ensures))
-    (flagged_reads docs s generation c.in_ok-alive.alive old new c.requires.later (c.in_ok-alive.ensures known) put)
+    (flagged_reads docs s generation c.in_ok-alive.alive old new c.requires.later (c.in_ok-alive.ensures.answers known) put)

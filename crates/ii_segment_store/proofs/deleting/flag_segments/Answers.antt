@@ -52,6 +52,7 @@ loop-place-preserved g c =
     let pushed : map segment_view c.push.new.self.items ≡ ts ++ segment_view t ∷ [] = ap (map segment_view) c.in_ok-push.ensures.items ∙ map_push segment_view c.loop-place.flagged.items t in
     record {
       known = λ known. c.in_ok-segment.ensures.known (inv.known known);
+      still = λ may. inv.still (c.flag_segment.ensures.obeys.still may);
       many = omega (arith, inv.many, ap length c.in_ok-push.ensures.items, length-append c.loop-place.flagged.items (t ∷ []));
       changed = λ known.
           let step : IsChangedTo (get_or deleted i []) (c.args.latest + 1 + i) (segment_view s) (segment_view t) mid new =

@@ -9,8 +9,8 @@ use Rattle.ii_segment_store.specs.Contents.{all_contents, segment_contents}
 use Rattle.ii_segment_store.proofs.JoinLaws.{none_left}
 use Rattle.ii_segment_store.proofs.joining.load_last.Goals as goal
 
-pub returns-in-Some : goal.returns-in-Some
-returns-in-Some g c = λ known.
+pub returns-in-Some-clause-answers : goal.returns-in-Some-clause-answers
+returns-in-Some-clause-answers g c = λ known.
     let listed = c.args.list.now.segments.items in
     let first = c.args.first in
     let files = g.D.Directory.seen c.args.directory.now in
@@ -20,10 +20,10 @@ returns-in-Some g c = λ known.
     ∙ ap (λ (xs : List SegmentMeta). slice_range listed first (length listed) ++ xs) (sym (drop_all (length listed) listed (omega arith)))
     ∙ sym (drop_split listed first (length listed) (rw value at c.in-Some.ensures.lookup.0.0)) in
     let last : map segment_view c.in-Some.last.now ≡ drop first (map segment_view listed) = ap (map segment_view) cut ∙ sym (drop-map segment_view first listed) in
-    subst (λ (ss : List SegmentState). AnswersFromFiles (λ v. map segment_contents v.items) c.load_each.result (all_contents ss files)) last (c.load_each.ensures known)
+    subst (λ (ss : List SegmentState). AnswersFromFiles (λ v. map segment_contents v.items) c.load_each.result (all_contents ss files)) last (c.load_each.ensures.answers known)
 
-pub returns-in-None : goal.returns-in-None
-returns-in-None g c = λ known.
+pub returns-in-None-clause-answers : goal.returns-in-None-clause-answers
+returns-in-None-clause-answers g c = λ known.
     let files = g.D.Directory.seen c.args.directory.now in
     let listed = c.args.list.now.segments.items in
     let over : length listed < c.args.first = rw c.as_slice.ensures.value at (past c.in-None.ensures.lookup.0) in

@@ -25,7 +25,7 @@ returns-clause-replaced g c = λ known.
     let new = d.seen c.commit_segment.new.directory in
     let s = files_contents c.args.segment.now in
     let m = meta_view c.in-Ok.list in
-    let listed = c.in-Ok.ensures known in
+    let listed = c.in-Ok.ensures.answers known in
     let below = subst (λ (l : MetaState). HaveIdsBelow l.next_segment_id l.segments) (sym c.first_listed-list.ensures) (first_below c.args.first m.next_segment_id m.segments (listed_below (old Meta) m listed)) in
     let done = subst (λ (l : MetaState). OnOk c.commit_segment.result (index_contents new ≡ with_segment s (list_contents l old))) c.first_listed-list.ensures (c.commit_segment.ensures.committed known below) in
     subst (λ (r : Result IndexContents IndexFault). OnOk c.commit_segment.result (index_contents new ≡ with_segment s r)) (sym (first_is c.args.first old m listed)) done
@@ -37,7 +37,7 @@ returns-clause-leaves_one g c = λ known.
     let new = c.commit_segment.new.directory in
     let s = files_contents c.args.segment.now in
     let m = meta_view c.in-Ok.list in
-    let listed = c.in-Ok.ensures known in
+    let listed = c.in-Ok.ensures.answers known in
     let below = subst (λ (l : MetaState). HaveIdsBelow l.next_segment_id l.segments) (sym c.first_listed-list.ensures) (first_below c.args.first m.next_segment_id m.segments (listed_below (d.seen old Meta) m listed)) in
     let fresh = subst (λ (l : MetaState). IsFresh l.next_segment_id (d.seen old)) (sym c.first_listed-list.ensures) (fresh_id m (d.seen old) listed) in
     let left : MetaState → Type 0 = λ (l : MetaState). Elapses (d.moment old) (d.moment new) (d.left_since old) (d.left_since new) (HoldsOldOr (with_segment s (list_contents l (d.seen old))) (d.seen old)) in

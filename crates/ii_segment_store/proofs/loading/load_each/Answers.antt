@@ -19,16 +19,16 @@ loop-segment-preserved g c = λ known.
     let e : map segment_contents c.push.new.self.items ≡ map segment_contents c.loop-segment.segments.items ++ segment_contents c.in_ok-loaded.loaded ∷ [] =
     ap (map segment_contents) c.in_ok-push.ensures.items ∙ map_push segment_contents c.loop-segment.segments.items c.in_ok-loaded.loaded in
     rw e (goes_on (map segment_contents c.loop-segment.segments.items) c.args.listed.now c.loop-segment.segment-index c.segment-item.result files (segment_contents c.in_ok-loaded.loaded) (all_contents (map segment_view c.args.listed.now) files)
-    c.loop-segment-test.true c.segment-item.is (c.in_ok-loaded.ensures known) (c.loop-segment.invariant known))
+    c.loop-segment-test.true c.segment-item.is (c.in_ok-loaded.ensures.answers known) (c.loop-segment.invariant known))
 
-pub returns-in_err-loaded : goal.returns-in_err-loaded
-returns-in_err-loaded g c = λ known.
+pub returns-in_err-loaded-clause-answers : goal.returns-in_err-loaded-clause-answers
+returns-in_err-loaded-clause-answers g c = λ known.
     let files = g.D.Directory.seen c.args.directory.now in
     let p = err_from_is_err_and c.from_residual.result c.from_residual.ensures.1 in
     rw (p.1, p.2) (ends c.in_err-loaded.field-0.0 (map segment_contents c.loop-segment.segments.items) c.args.listed.now c.loop-segment.segment-index c.segment-item.result files (all_contents (map segment_view c.args.listed.now) files)
-    c.loop-segment-test.true c.segment-item.is (c.in_err-loaded.ensures known) (c.loop-segment.invariant known))
+    c.loop-segment-test.true c.segment-item.is (c.in_err-loaded.ensures.answers known) (c.loop-segment.invariant known))
 
-pub returns : goal.returns
-returns g c = λ known.
+pub returns-clause-answers : goal.returns-clause-answers
+returns-clause-answers g c = λ known.
     let files = g.D.Directory.seen c.args.directory.now in
     is_done (map segment_contents c.loop-segment.segments.items) c.args.listed.now c.loop-segment.segment-index files (all_contents (map segment_view c.args.listed.now) files) c.loop-segment-test.false (c.loop-segment.invariant known)

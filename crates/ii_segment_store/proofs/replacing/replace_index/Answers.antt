@@ -18,8 +18,8 @@ returns-in-Ok-clause-replaced g c = λ known.
     let schema = c.args.schema.items in
     let found = list_in (old Meta) in
     let s = files_contents c.args.segment.now in
-    let below = subst (λ (m : MetaState). HaveIdsBelow m.next_segment_id m.segments) (sym (c.in-Ok.ensures known)) (emptied_below schema found) in
-    let done = subst (λ (m : MetaState). OnOk c.commit_segment.result (index_contents new ≡ with_segment s (list_contents m old))) (c.in-Ok.ensures known) (c.commit_segment.ensures.committed known below) in
+    let below = subst (λ (m : MetaState). HaveIdsBelow m.next_segment_id m.segments) (sym (c.in-Ok.ensures.list known)) (emptied_below schema found) in
+    let done = subst (λ (m : MetaState). OnOk c.commit_segment.result (index_contents new ≡ with_segment s (list_contents m old))) (c.in-Ok.ensures.list known) (c.commit_segment.ensures.committed known below) in
     subst (λ (r : Result IndexContents IndexFault). OnOk c.commit_segment.result (index_contents new ≡ r)) (emptied_contents schema found s old) done
 
 pub returns-in-Ok-clause-leaves_one : goal.returns-in-Ok-clause-leaves_one
@@ -30,10 +30,10 @@ returns-in-Ok-clause-leaves_one g c = λ known.
     let schema = c.args.schema.items in
     let found = list_in (d.seen old Meta) in
     let s = files_contents c.args.segment.now in
-    let fresh = subst (λ (m : MetaState). IsFresh m.next_segment_id (d.seen old)) (sym (c.in-Ok.ensures known)) (emptied_fresh schema (d.seen old)) in
-    let below = subst (λ (m : MetaState). HaveIdsBelow m.next_segment_id m.segments) (sym (c.in-Ok.ensures known)) (emptied_below schema found) in
+    let fresh = subst (λ (m : MetaState). IsFresh m.next_segment_id (d.seen old)) (sym (c.in-Ok.ensures.list known)) (emptied_fresh schema (d.seen old)) in
+    let below = subst (λ (m : MetaState). HaveIdsBelow m.next_segment_id m.segments) (sym (c.in-Ok.ensures.list known)) (emptied_below schema found) in
     let left : MetaState → Type 0 = λ (m : MetaState). Elapses (d.moment old) (d.moment new) (d.left_since old) (d.left_since new) (HoldsOldOr (with_segment s (list_contents m (d.seen old))) (d.seen old)) in
-    let time = subst left (c.in-Ok.ensures known) (c.commit_segment.ensures.time known fresh below) in
+    let time = subst left (c.in-Ok.ensures.list known) (c.commit_segment.ensures.time known fresh below) in
     let wanted = subst (λ (r : Result IndexContents IndexFault). Elapses (d.moment old) (d.moment new) (d.left_since old) (d.left_since new) (HoldsOldOr r (d.seen old))) (emptied_contents schema found s (d.seen old)) time in
     leaves_index d.moment d.left_since d.seen old (λ f left. g.met.D.Directory.only_now old f known left) new (Ok (index_of_segment schema s)) wanted
 

@@ -12,6 +12,7 @@ loop-name-preserved g c =
     let names = c.args.names.now in
     record {
       counted = counted_more m names i _ c.loop-name.removed c.in_ok-count.count c.loop-name-test.true c.loop-name.invariant.counted c.in_ok-count.ensures.count;
+      still = λ may. c.loop-name.invariant.still (c.remove_unlisted.ensures.obeys.still may);
       collecting = λ known.
           let so_far = c.loop-name.invariant.collecting known in
           subst (λ ns. IsCollecting d.moment d.left_since d.is_known d.seen m ns c.args.directory.now c.remove_unlisted.new.directory) (sym (take_more names i _ c.loop-name-test.true))

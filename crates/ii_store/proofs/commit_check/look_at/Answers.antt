@@ -13,11 +13,11 @@ pub loop-segment-preserved : goal.loop-segment-preserved
 loop-segment-preserved g c = λ known.
     let files = g.D.Directory.seen c.args.directory.now in
     more_segments c.args.segments.now c.loop-segment.segment-index c.segment-item.result files c.loop-segment-test.true c.segment-item.is (c.loop-segment.invariant known)
-    (subst (λ fs. HasContents (map (listed_as c.segment-item.result.id) fs) files) c.as_slice.ensures.value (c.in_ok-look_at_files.ensures known))
+    (subst (λ fs. HasContents (map (listed_as c.segment-item.result.id) fs) files) c.as_slice.ensures.value (c.in_ok-look_at_files.ensures.reports known))
 
-pub returns-in_err-look_at_files : goal.returns-in_err-look_at_files
-returns-in_err-look_at_files g c = λ known.
+pub returns-in_err-look_at_files-clause-reports : goal.returns-in_err-look_at_files-clause-reports
+returns-in_err-look_at_files-clause-reports g c = λ known.
     let files = g.D.Directory.seen c.args.directory.now in
     let p = err_from_is_err_and c.from_residual.result c.from_residual.ensures.1 in
-    let failed = subst (λ fs. Fails c.in_err-look_at_files.field-0.0 (contents_of (map (listed_as c.segment-item.result.id) fs) files)) c.as_slice.ensures.value (c.in_err-look_at_files.ensures known) in
+    let failed = subst (λ fs. Fails c.in_err-look_at_files.field-0.0 (contents_of (map (listed_as c.segment-item.result.id) fs) files)) c.as_slice.ensures.value (c.in_err-look_at_files.ensures.reports known) in
     rw (p.1, p.2) (segment_fails c.in_err-look_at_files.field-0.0 c.args.segments.now c.loop-segment.segment-index c.segment-item.result files c.loop-segment-test.true c.segment-item.is (c.loop-segment.invariant known) failed)

@@ -9,10 +9,10 @@ pub returns-in-Ok-clause-pending : goal.returns-in-Ok-clause-pending
 returns-in-Ok-clause-pending g c = λ known.
     let files = g.D.Directory.seen c.args.directory.now in
     let m = meta_view c.in-Ok.list in
-    ok_is (λ (p : MetaState). IsPending p files) (begun m) c.of_list.result c.of_list.ensures.list (begun_pending m files (c.in-Ok.ensures known))
+    ok_is (λ (p : MetaState). IsPending p files) (begun m) c.of_list.result c.of_list.ensures.list (begun_pending m files (c.in-Ok.ensures.answers known))
 
 pub returns-in-Ok-clause-holds : goal.returns-in-Ok-clause-holds
 returns-in-Ok-clause-holds g c = λ known.
     let files = g.D.Directory.seen c.args.directory.now in
     let m = meta_view c.in-Ok.list in
-    ok_is (λ (p : MetaState). list_contents p files ≡ index_contents files) (begun m) c.of_list.result c.of_list.ensures.list (begun_contents m files (c.in-Ok.ensures known))
+    ok_is (λ (p : MetaState). list_contents p files ≡ index_contents files) (begun m) c.of_list.result c.of_list.ensures.list (begun_contents m files (c.in-Ok.ensures.answers known))
