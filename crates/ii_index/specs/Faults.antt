@@ -12,9 +12,10 @@ use Rattle.ii_reader.specs.InvertedIndexReader.{IsRefusal}
 use Rattle.ii_reader.specs.OpenIndex.{index_of_files}
 use Rattle.ii_schema_text.specs.SchemaText.{TellsOfText, TextSchemaState, told_of_text}
 use Rattle.ii_segment_store.specs.Changes.{IsChangeFault}
-use Rattle.ii_segment_store.specs.Commits.{IsCommitFault, emptied}
+use Rattle.ii_segment_store.specs.Commits.{IsCommitFault, IsRefusedCommit, emptied}
 use Rattle.ii_segment_search.specs.Searcher.{AreFew, OpenSegmentState}
 use Rattle.ii_segment_store.specs.Contents.{IndexContents, SegmentContents, index_contents}
+use Rattle.ii_store.specs.Faults.{IsRefused}
 use Rattle.ii_store.specs.Index.{Fails}
 use Rattle.ii_store.specs.Segments.{list_in}
 use Rattle.ii_store.specs.declared.faults.StoreFault.{StoreFault}
@@ -25,6 +26,7 @@ use Rattle.nequllpa_indexing.specs.Documents.{DocumentsState}
 use Rattle.nequllpa_indexing.specs.FieldTokens.{calls_fault_by, tokens_by}
 use Rattle.nequllpa_indexing.specs.StoredLines.{IsLinesFault}
 use Rattle.nequllpa_merging.specs.HeldSegments.{HoldsSegment}
+use Rattle.nequllpa_merging.specs.Joins.{IsRefusedJoin}
 use Rattle.nequllpa_merging.specs.MergedSegments.{IsMergingFault}
 use Rattle.nequllpa_merging.specs.declared.faults.JoinFault.TheVariants as joins
 use Rattle.nequllpa_merging.specs.declared.faults.MergeFault.TheVariants as merges
@@ -49,6 +51,13 @@ IsDocumentsFault words d fault = IsBuildFault (calls_fault_by words (option_of d
 abbrev pub IsDirectoryFault : StoreFault → Type 0
 IsDirectoryFault (store.Directory fault) = ⊤
 IsDirectoryFault (store.Index fault) = ⊥
+
+-- the directory refused a call
+abbrev pub IsRefusedError : IndexError → Type 0
+IsRefusedError (faults.Store fault) = IsRefused fault
+IsRefusedError (faults.Commit fault) = IsRefusedCommit fault
+IsRefusedError (faults.Merge fault) = IsRefusedJoin fault
+IsRefusedError _ = ⊥
 
 -- Why an index of the schema of a text isn't created.
 abbrev pub IsCreateError : IndexError → List ℕ → Files → Type 0

@@ -1,9 +1,9 @@
 //! Commits documents and deletes.
 ghost use Rattle.std.specs.Prelude.{◌≡◌, ◌⊎◌, ◌+◌, ℕ, [], ◌∷◌, IfErr, IfOk, IsSome, List, Ok, OnOk, length, option_map};
 ghost use Rattle.ii_definitions.specs.Tokens.{IndexToken};
-ghost use Rattle.ii_directory.specs.Directory.{Files};
+ghost use Rattle.ii_directory.specs.Directory.{Files, Obeys, is_obeyed};
 ghost use Rattle.ii_index.specs.Deletes.{AreReached, HaveFieldsBelow, HoldsIndexOfSegment, HoldsLeft, HoldsWithout, committed, docs_in_files};
-ghost use Rattle.ii_index.specs.Faults.{IsAddError, IsChangeError, IsCommitError, IsLeftError};
+ghost use Rattle.ii_index.specs.Faults.{IsAddError, IsChangeError, IsCommitError, IsLeftError, IsRefusedError};
 ghost use Rattle.ii_index.specs.Segments.{HaveLines, HoldsIndexOf, with_documents};
 ghost use Rattle.ii_index.specs.declared.deletes.Scope.TheVariants.{Pending};
 ghost use Rattle.ii_io.specs.Faults.{OnlyMemory};
@@ -44,6 +44,7 @@ pub(crate) fn commit_documents<D: Directory>(
     requires lines { HaveLines documents.num_docs documents.lines }
     requires fields { HaveFieldsBelow (length schema.now.schema) deletes.now }
     ensures known { D.is_known directory.old → OnOk result (D.is_known directory.new) }
+    ensures obeys { D.is_known directory.old → Obeys IsRefusedError (D.may_refuse directory.old) (D.may_refuse directory.new) result }
     ensures added { D.is_known directory.old → deletes.now ≡ [] → (n : ℕ) (ts : List IndexToken) → HoldsIndexOf schema.now.schema (D.seen directory.old) n ts
         → OnOk result (HoldsIndexOf schema.now.schema (D.seen directory.new) (n + documents.num_docs) (with_documents (analyzed_in schema.now.tokenizers) documents n ts)) }
     ensures changed { D.is_known directory.old → (n : ℕ) (ts : List IndexToken) → HoldsIndexOf schema.now.schema (D.seen directory.old) n ts
@@ -68,6 +69,7 @@ fn add_documents<D: Directory>(
     requires schema { documents.schema ≡ schema.now.schema }
     requires lines { HaveLines documents.num_docs documents.lines }
     ensures known { D.is_known directory.old → OnOk result (D.is_known directory.new) }
+    ensures obeys { D.is_known directory.old → Obeys IsRefusedError (D.may_refuse directory.old) (D.may_refuse directory.new) result }
     ensures added { D.is_known directory.old → (n : ℕ) (ts : List IndexToken) → HoldsIndexOf schema.now.schema (D.seen directory.old) n ts
         → OnOk result (HoldsIndexOf schema.now.schema (D.seen directory.new) (n + documents.num_docs) (with_documents (analyzed_in schema.now.tokenizers) documents n ts)) }
     ensures leaves_one { D.is_known directory.old → (n : ℕ) (ts : List IndexToken) → HoldsIndexOf schema.now.schema (D.seen directory.old) n ts → (files : Files) → D.left_since directory.new (D.moment directory.old) files
@@ -99,6 +101,7 @@ fn delete_and_add<D: Directory>(
     requires lines { HaveLines documents.num_docs documents.lines }
     requires fields { HaveFieldsBelow (length schema.now.schema) deletes.now }
     ensures known { D.is_known directory.old → OnOk result (D.is_known directory.new) }
+    ensures obeys { D.is_known directory.old → Obeys IsRefusedError (D.may_refuse directory.old) (D.may_refuse directory.new) result }
     ensures changed { D.is_known directory.old → (n : ℕ) (ts : List IndexToken) → HoldsIndexOf schema.now.schema (D.seen directory.old) n ts
         → OnOk result (HoldsIndexOfSegment schema.now.schema (D.seen directory.new) (committed (analyzed_in schema.now.tokenizers) documents deletes.now n ts)) }
     ensures leaves_one { D.is_known directory.old → (n : ℕ) (ts : List IndexToken) → HoldsIndexOf schema.now.schema (D.seen directory.old) n ts → (files : Files) → D.left_since directory.new (D.moment directory.old) files
@@ -136,6 +139,7 @@ fn added_segment(
     ensures calls { WereCalls documents.schema documents.num_docs documents.calls }
     ensures holds { IfOk result (λ added. HoldsLeft schema.now documents deletes.now (option_map (λ f. files_contents f) added)) }
     ensures fault { IfErr result (λ e. IsLeftError e schema.now documents deletes.now) }
+    ensures memory { is_obeyed IsRefusedError ⊥ result }
 {
     let num_docs = documents.num_docs();
     if num_docs == 0 {

@@ -3,9 +3,10 @@ ghost use Rattle.std.specs.Prelude.{◌≡◌, ◌<◌, ◌++◌, ℕ, Ok, IfErr
 ghost use Rattle.std.specs.List.{AllZip};
 ghost use Rattle.ii_base.specs.declared.schema.index_record_option.IndexRecordOption.TheVariants.{Basic};
 ghost use Rattle.ii_base.specs.Entries.{docs_of};
+ghost use Rattle.ii_directory.specs.Directory.{is_obeyed};
 ghost use Rattle.ii_docset.specs.Cursor.{IsSound};
 ghost use Rattle.ii_index.specs.Deletes.{AreDeletedOf, HaveFieldsBelow, docs_of_delete, docs_reached};
-ghost use Rattle.ii_index.specs.Faults.{IsDeleteError, IsDeleteErrorAt};
+ghost use Rattle.ii_index.specs.Faults.{IsDeleteError, IsDeleteErrorAt, IsRefusedError};
 ghost use Rattle.ii_io.specs.Faults.{OnlyMemory};
 ghost use Rattle.ii_reader.specs.InvertedIndexReader.{IsRefusal};
 ghost use Rattle.ii_search.specs.Found.{docs_of_term};
@@ -30,6 +31,7 @@ pub(crate) fn docs_to_delete(
     requires { HaveFieldsBelow (length schema.now) deletes.now }
     ensures docs { IfOk result (λ all. AllZip (AreDeletedOf schema.now deletes.now) (map segment_contents segments.items) (map (λ v. v.items) all.items)) }
     ensures fault { IfErr result (λ e. IsDeleteError e schema.now deletes.now (map segment_contents segments.items)) }
+    ensures memory { is_obeyed IsRefusedError ⊥ result }
 {
     let mut all = Vec::new(alloc);
     for segment in segments {
@@ -54,6 +56,7 @@ fn docs_of_segment(
     requires { HaveFieldsBelow (length schema.now) deletes.now }
     ensures docs { IfOk result (λ docs. AreDeletedOf schema.now deletes.now (segment_contents segment) docs.items) }
     ensures fault { IfErr result (λ e. IsDeleteErrorAt e place schema.now deletes.now (segment_contents segment)) }
+    ensures memory { is_obeyed IsRefusedError ⊥ result }
 {
     let StoredSegment { files, alive: _ } = segment;
     let has_counts = files.counts.is_some();

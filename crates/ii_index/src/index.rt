@@ -2,10 +2,11 @@
 ghost use Rattle.std.specs.Prelude.{◌≡◌, ◌⊎◌, ◌+◌, ◌<◌, ◌↔◌, [], ℕ, IfErr, IfOk, IfSome, IsSome, IsTrue, List, None, Ok, OnOk, length};
 ghost use Rattle.ii_base.specs.Schema.{SchemaEntry};
 ghost use Rattle.ii_definitions.specs.Tokens.{IndexToken};
-ghost use Rattle.ii_directory.specs.Directory.{Files};
+ghost use Rattle.ii_directory.specs.Directory.{Files, Obeys, is_obeyed};
+ghost use Rattle.ii_store.specs.Faults.{IsRefused};
 ghost use Rattle.ii_directory.specs.declared.name.Name.TheVariants.{Meta};
 ghost use Rattle.ii_index.specs.Deletes.{HaveFieldsBelow, HoldsIndexOfSegment, committed};
-ghost use Rattle.ii_index.specs.Faults.{IsCommitError, IsCreateError, IsDirectoryFault, IsDocumentsFault, IsReadError};
+ghost use Rattle.ii_index.specs.Faults.{IsCommitError, IsCreateError, IsDirectoryFault, IsDocumentsFault, IsReadError, IsRefusedError};
 ghost use Rattle.ii_index.specs.Index.{IsIndexSchema, IsNewSchema, IsOpenFault, IsSchemaFault, new_schema};
 ghost use Rattle.ii_index.specs.Ranking.{SearcherHolds};
 ghost use Rattle.ii_index.specs.Searching.{OpensIndex};
@@ -20,7 +21,7 @@ ghost use Rattle.ii_store.specs.IndexMeta.{MetaState};
 ghost use Rattle.ii_store.specs.Segments.{list_in};
 ghost use Rattle.ii_tokenizers.specs.Tokenizers.{analyzed_in};
 ghost use Rattle.nequllpa_merging.specs.HeldSegments.{HoldsSegment};
-ghost use Rattle.nequllpa_merging.specs.Joins.{IsJoinFault};
+ghost use Rattle.nequllpa_merging.specs.Joins.{IsJoinFault, IsRefusedJoin};
 
 use crate::committing::commit_documents;
 use crate::deletes::Delete;
@@ -83,6 +84,8 @@ impl<D: Directory + Drop> Index<D> {
         ensures schema { IfOk result (λ index. IsNewSchema schema.now index.schema) }
         ensures empty { D.is_known directory → IfOk result (λ index. HoldsIndexOf index.schema.schema (D.seen index.directory) 0 []) }
         ensures fault { D.is_known directory → IfErr result (λ e. IsCreateError e schema.now (D.seen directory)) }
+        ensures obeyed { D.is_known directory → is_obeyed IsRefusedError (D.may_refuse directory) result }
+        ensures still { D.is_known directory → IfOk result (λ index. D.may_refuse index.directory → D.may_refuse directory) }
     {
         match has_index(alloc, &directory) {
             Ok(false) => create_in(alloc, directory, schema),
@@ -101,6 +104,7 @@ impl<D: Directory + Drop> Index<D> {
         ensures same { IfOk result (λ index. index.directory ≡ directory) }
         ensures schema { D.is_known directory → IfOk result (λ index. IsIndexSchema (list_in (D.seen directory Meta)) index.schema) }
         ensures fault { D.is_known directory → IfErr result (IsOpenFault (list_in (D.seen directory Meta))) }
+        ensures obeyed { is_obeyed IsRefusedError (D.may_refuse directory) result }
     {
         let list = match load_meta(alloc, &directory) {
             Ok(list) => list,
@@ -178,6 +182,7 @@ impl<D: Directory + Drop> Index<D> {
         ensures fields { IfOk result (λ r. r.num_fields ≡ length self.now.schema.schema) }
         ensures holds { D.is_known self.now.directory → (n : ℕ) (ts : List IndexToken) → HoldsIndexOf self.now.schema.schema (D.seen self.now.directory) n ts → IfOk result (λ r. SearcherHolds self.now.schema.schema r n ts) }
         ensures fault { D.is_known self.now.directory → IfErr result (λ e. IsReadError e self.now.schema.schema (D.seen self.now.directory)) }
+        ensures obeyed { is_obeyed IsRefusedError (D.may_refuse self.now.directory) result }
     {
         match load_searcher(alloc, &self.directory, self.schema.schema()) {
             Ok(searcher) => Ok(IndexReader::new(searcher)),
@@ -217,6 +222,7 @@ impl<D: Directory + Drop> Index<D> {
         requires lines { HaveLines documents.num_docs documents.lines }
         requires fields { HaveFieldsBelow (length self.old.schema.schema) deletes.now }
         ensures known { D.is_known self.old.directory → OnOk result (D.is_known self.new.directory) }
+        ensures obeys { D.is_known self.old.directory → Obeys IsRefusedError (D.may_refuse self.old.directory) (D.may_refuse self.new.directory) result }
         ensures schema { self.new.schema ≡ self.old.schema }
         ensures added { D.is_known self.old.directory → deletes.now ≡ [] → (n : ℕ) (ts : List IndexToken) → HoldsIndexOf self.old.schema.schema (D.seen self.old.directory) n ts
             → OnOk result (HoldsIndexOf self.old.schema.schema (D.seen self.new.directory) (n + documents.num_docs) (with_documents (analyzed_in self.old.schema.tokenizers) documents n ts)) }
@@ -232,6 +238,7 @@ impl<D: Directory + Drop> Index<D> {
     // Removes the files that the index doesn't have any more.
     pub(crate) fn collect_garbage(&mut self, alloc: Global) -> Result<u64, StoreFault>
         ensures known { D.is_known self.old.directory → OnOk result (D.is_known self.new.directory) }
+        ensures obeys { Obeys IsRefused (D.may_refuse self.old.directory) (D.may_refuse self.new.directory) result }
         ensures schema { self.new.schema ≡ self.old.schema }
         ensures removed { D.is_known self.old.directory → IfOk result (λ _. (m : MetaState) → list_in (D.seen self.old.directory Meta) ≡ Ok m → HasNoGarbage m (D.seen self.new.directory)) }
         ensures count { D.is_known self.old.directory → IfOk result (λ count. (m : MetaState) → list_in (D.seen self.old.directory Meta) ≡ Ok m → CountsGarbage m (D.seen self.old.directory) count) }
@@ -245,6 +252,7 @@ impl<D: Directory + Drop> Index<D> {
     // Merges the segments from a place on.
     pub(crate) fn merge_from(&mut self, alloc: Global, first: usize) -> Result<(), JoinFault>
         ensures known { D.is_known self.old.directory → OnOk result (D.is_known self.new.directory) }
+        ensures obeys { D.is_known self.old.directory → Obeys IsRefusedJoin (D.may_refuse self.old.directory) (D.may_refuse self.new.directory) result }
         ensures schema { self.new.schema ≡ self.old.schema }
         ensures same { D.is_known self.old.directory → (n : ℕ) (ts : List IndexToken) → HoldsIndexOf self.old.schema.schema (D.seen self.old.directory) n ts → OnOk result (HoldsIndexOf self.old.schema.schema (D.seen self.new.directory) n ts) }
         ensures leaves_same { D.is_known self.old.directory → (n : ℕ) (ts : List IndexToken) → HoldsIndexOf self.old.schema.schema (D.seen self.old.directory) n ts → (files : Files) → D.left_since self.new.directory (D.moment self.old.directory) files → HoldsIndexOf self.old.schema.schema files n ts }
@@ -257,6 +265,7 @@ impl<D: Directory + Drop> Index<D> {
 // Removes the files that an index doesn't have any more.
 fn collect_files<D: Directory>(alloc: Global, directory: &mut D) -> Result<u64, StoreFault>
     ensures known { D.is_known directory.old → OnOk result (D.is_known directory.new) }
+    ensures obeys { Obeys IsRefused (D.may_refuse directory.old) (D.may_refuse directory.new) result }
     ensures removed { D.is_known directory.old → IfOk result (λ _. (m : MetaState) → list_in (D.seen directory.old Meta) ≡ Ok m → HasNoGarbage m (D.seen directory.new)) }
     ensures count { D.is_known directory.old → IfOk result (λ count. (m : MetaState) → list_in (D.seen directory.old Meta) ≡ Ok m → CountsGarbage m (D.seen directory.old) count) }
     ensures same { D.is_known directory.old → OnOk result (index_contents (D.seen directory.new) ≡ index_contents (D.seen directory.old)) }
@@ -277,6 +286,7 @@ fn merge_documents<D: Directory>(
     first: usize,
 ) -> Result<(), JoinFault>
     ensures known { D.is_known directory.old → OnOk result (D.is_known directory.new) }
+    ensures obeys { D.is_known directory.old → Obeys IsRefusedJoin (D.may_refuse directory.old) (D.may_refuse directory.new) result }
     ensures same { D.is_known directory.old → (n : ℕ) (ts : List IndexToken) → HoldsIndexOf schema.now (D.seen directory.old) n ts → OnOk result (HoldsIndexOf schema.now (D.seen directory.new) n ts) }
     ensures leaves_same { D.is_known directory.old → (n : ℕ) (ts : List IndexToken) → HoldsIndexOf schema.now (D.seen directory.old) n ts → (files : Files) → D.left_since directory.new (D.moment directory.old) files → HoldsIndexOf schema.now files n ts }
     ensures fault { D.is_known directory.old → IfErr result (λ e. IsJoinFault e schema.now first (D.seen directory.old)) }
@@ -291,6 +301,7 @@ fn merge_documents<D: Directory>(
 fn has_index<D: Directory>(alloc: Global, directory: &D) -> Result<bool, StoreFault>
     ensures has { D.is_known directory.now → IfOk result (λ has. IsTrue has ↔ IsSome (D.seen directory.now Meta)) }
     ensures fault { IfErr result IsDirectoryFault }
+    ensures obeyed { is_obeyed IsRefused (D.may_refuse directory.now) result }
 {
     match directory.read(alloc, Name::Meta) {
         Ok(Some(_)) => Ok(true),
@@ -309,6 +320,8 @@ fn create_in<D: Directory + Drop>(
     ensures schema { IfOk result (λ index. IsNewSchema schema.now index.schema) }
     ensures empty { D.is_known directory → IfOk result (λ index. HoldsIndexOf index.schema.schema (D.seen index.directory) 0 []) }
     ensures fault { D.is_known directory → IfErr result (λ e. IsCreateError e schema.now (D.seen directory)) }
+    ensures obeyed { D.is_known directory → is_obeyed IsRefusedError (D.may_refuse directory) result }
+    ensures still { D.is_known directory → IfOk result (λ index. D.may_refuse index.directory → D.may_refuse directory) }
 {
     let (text, schema) = match new_schema(alloc, schema) {
         Ok(both) => both,
@@ -338,6 +351,7 @@ fn new_schema(alloc: Global, text: &str) -> Result<(Vec<u8>, TextSchema), Schema
 fn stored_schema(alloc: Global, bytes: &[u8]) -> Result<TextSchema, IndexError>
     ensures schema { IfOk result (λ s. tokenized_schema bytes.now ≡ Ok s) }
     ensures fault { IfErr result (IsSchemaFault bytes.now) }
+    ensures memory { is_obeyed IsRefusedError ⊥ result }
 {
     let Ok(text) = std::str::from_utf8(bytes) else {
         return Err(IndexError::SchemaBytes);
@@ -370,6 +384,7 @@ fn load_searcher<D: Directory>(
     ensures fields { IfOk result (λ s. s.num_fields ≡ length schema.now) }
     ensures holds { D.is_known directory.now → (n : ℕ) (ts : List IndexToken) → HoldsIndexOf schema.now (D.seen directory.now) n ts → IfOk result (λ s. SearcherHolds schema.now s n ts) }
     ensures fault { D.is_known directory.now → IfErr result (λ e. IsReadError e schema.now (D.seen directory.now)) }
+    ensures obeyed { is_obeyed IsRefusedError (D.may_refuse directory.now) result }
 {
     let stored = match load_latest(alloc, directory) {
         Ok(stored) => stored,

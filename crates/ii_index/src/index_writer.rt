@@ -1,11 +1,12 @@
 //! Changes an index.
 ghost use Rattle.std.specs.Prelude.{◌≡◌, ◌⊎◌, ◌+◌, ◌<◌, ℕ, [], IfErr, IfOk, List, Ok, OnErr, OnOk, length};
 ghost use Rattle.ii_definitions.specs.Tokens.{IndexToken};
-ghost use Rattle.ii_directory.specs.Directory.{Files};
+ghost use Rattle.ii_directory.specs.Directory.{Files, Obeys};
+ghost use Rattle.ii_store.specs.Faults.{IsRefused};
 ghost use Rattle.ii_directory.specs.declared.name.Name.TheVariants.{Meta};
 ghost use Rattle.ii_documents.specs.JsonLines.{TellsOfLine, told_of_line};
 ghost use Rattle.ii_index.specs.Deletes.{HoldsIndexOfSegment, committed};
-ghost use Rattle.ii_index.specs.Faults.{IsCommitError};
+ghost use Rattle.ii_index.specs.Faults.{IsCommitError, IsRefusedError};
 ghost use Rattle.ii_index.specs.Index.{HasNothing, IsPendingAs, with_delete};
 ghost use Rattle.ii_index.specs.Segments.{HoldsIndexOf, no_documents, with_documents};
 ghost use Rattle.ii_io.specs.Faults.{OnlyMemory};
@@ -16,7 +17,7 @@ ghost use Rattle.ii_store.specs.IndexMeta.{MetaState};
 ghost use Rattle.ii_store.specs.Segments.{list_in};
 ghost use Rattle.ii_tokenizers.specs.Tokenizers.{analyzed_in};
 ghost use Rattle.nequllpa_indexing.specs.Documents.{AddsLine, next_calls};
-ghost use Rattle.nequllpa_merging.specs.Joins.{IsJoinFault};
+ghost use Rattle.nequllpa_merging.specs.Joins.{IsJoinFault, IsRefusedJoin};
 
 use crate::deletes::Delete;
 use crate::faults::IndexError;
@@ -146,6 +147,7 @@ impl<D: Directory + Drop> IndexWriter<D> {
     /// `NoCounts`; and `Merge` if some of the pending documents are deleted and the others can't be merged.
     pub fn commit(&mut self, alloc: Global) -> Result<(), IndexError>
         ensures known { D.is_known self.old.index.directory → OnOk result (D.is_known self.new.index.directory) }
+        ensures obeys { D.is_known self.old.index.directory → Obeys IsRefusedError (D.may_refuse self.old.index.directory) (D.may_refuse self.new.index.directory) result }
         ensures schema { self.new.index.schema ≡ self.old.index.schema }
         ensures none { OnOk result (HasNothing self.new) }
         ensures err { OnErr result (IsPendingAs self.old self.new ⊎ HasNothing self.new) }
@@ -192,6 +194,7 @@ impl<D: Directory + Drop> IndexWriter<D> {
     /// Those of `merge_last` of `nequllpa_merging`. After an error, open the directory again.
     pub fn merge(&mut self, alloc: Global, first: usize) -> Result<(), JoinFault>
         ensures known { D.is_known self.old.index.directory → OnOk result (D.is_known self.new.index.directory) }
+        ensures obeys { D.is_known self.old.index.directory → Obeys IsRefusedJoin (D.may_refuse self.old.index.directory) (D.may_refuse self.new.index.directory) result }
         ensures schema { self.new.index.schema ≡ self.old.index.schema }
         ensures pending { IsPendingAs self.old self.new }
         ensures same { D.is_known self.old.index.directory → (n : ℕ) (ts : List IndexToken) → HoldsIndexOf self.old.index.schema.schema (D.seen self.old.index.directory) n ts → OnOk result (HoldsIndexOf self.old.index.schema.schema (D.seen self.new.index.directory) n ts) }
@@ -209,6 +212,7 @@ impl<D: Directory + Drop> IndexWriter<D> {
     /// refuses a call. After an error, open the directory again.
     pub fn garbage_collect_files(&mut self, alloc: Global) -> Result<u64, StoreFault>
         ensures known { D.is_known self.old.index.directory → OnOk result (D.is_known self.new.index.directory) }
+        ensures obeys { Obeys IsRefused (D.may_refuse self.old.index.directory) (D.may_refuse self.new.index.directory) result }
         ensures schema { self.new.index.schema ≡ self.old.index.schema }
         ensures pending { IsPendingAs self.old self.new }
         ensures removed { D.is_known self.old.index.directory → IfOk result (λ _. (m : MetaState) → list_in (D.seen self.old.index.directory Meta) ≡ Ok m → HasNoGarbage m (D.seen self.new.index.directory)) }

@@ -4,7 +4,8 @@ ghost use Rattle.ii_definitions.specs.Fields.{option_of};
 ghost use Rattle.ii_definitions.specs.Files.{HoldTokens};
 ghost use Rattle.ii_definitions.specs.Norms.{HoldNorms};
 ghost use Rattle.ii_definitions.specs.Tokens.{IndexToken};
-ghost use Rattle.ii_index.specs.Faults.{IsOpenSegmentsError};
+ghost use Rattle.ii_directory.specs.Directory.{is_obeyed};
+ghost use Rattle.ii_index.specs.Faults.{IsOpenSegmentsError, IsRefusedError};
 ghost use Rattle.ii_index.specs.Searching.{OpenSegments, OpensSegment, segment_totals, totals_view};
 ghost use Rattle.ii_reader.specs.InvertedIndexReader.{IsRefusal};
 ghost use Rattle.ii_reader.specs.OpenIndex.{IndexHolds, index_of_files};
@@ -30,6 +31,7 @@ pub(crate) fn open_searcher(
     ensures fields { IfOk result (λ s. s.num_fields ≡ length schema.now) }
     ensures counted { IfOk result (λ s. s.num_tokens ≡ map (segment_totals schema.now) (map segment_contents segments.items)) }
     ensures fault { IfErr result (λ e. IsOpenSegmentsError e schema.now (map segment_contents segments.items)) }
+    ensures memory { is_obeyed IsRefusedError ⊥ result }
 {
     let (opened, totals) = match open_segments(alloc, schema, segments) {
         Ok(both) => both,
@@ -50,6 +52,7 @@ fn open_segments(
     ensures opens { IfOk result (λ r. OpenSegments schema.now (map segment_contents segments.items) r.0.items) }
     ensures counted { IfOk result (λ r. map totals_view r.1.items ≡ map (segment_totals schema.now) (map segment_contents segments.items)) }
     ensures fault { IfErr result (λ e. IsOpenSegmentsError e schema.now (map segment_contents segments.items)) }
+    ensures memory { is_obeyed IsRefusedError ⊥ result }
 {
     let mut opened = Vec::new(alloc);
     let mut all_totals = Vec::new(alloc);

@@ -5,6 +5,7 @@ ghost use Rattle.ii_alive.specs.AliveBytes.{alive_bytes};
 ghost use Rattle.ii_store.specs.declared.index_meta.FileMeta.{FileMeta};
 ghost use Rattle.ii_directory.specs.declared.name.Name.TheVariants.{Meta, Segment};
 ghost use Rattle.ii_directory.specs.declared.name.SegmentComponent.TheVariants.{Alive};
+ghost use Rattle.ii_directory.specs.declared.faults.DirectoryFault.TheVariants.{OutOfMemory};
 ghost use Rattle.ii_directory.specs.Directory.{Elapses, Elsewhere, IsPut, IsRefusal, Obeys};
 ghost use Rattle.ii_store.specs.Faults.{IsRefused};
 ghost use Rattle.ii_alive.specs.Alive.{num_living};
@@ -222,7 +223,8 @@ fn put_flags<D: Directory>(
 
 // Returns the bytes of flags.
 fn flags_bytes(alloc: Global, alive: &AliveBits) -> Result<Vec<u8>, DirectoryFault>
-    ensures { IfOk result (λ v. v.items ≡ alive_bytes alive.now) }
+    ensures bytes { IfOk result (λ v. v.items ≡ alive_bytes alive.now) }
+    ensures memory { IfErr result (λ e. e ≡ OutOfMemory) }
 {
     let mut writer = CountingWriter::wrap(Vec::new(alloc));
     match alive.write(&mut writer) {

@@ -2,8 +2,9 @@
 use Rattle.std.specs.Prelude.{◌≡◌, ℕ, List, Ok}
 use Rattle.ii_base.specs.Schema.{SchemaEntry}
 use Rattle.ii_directory.specs.Directory.{Files}
+use Rattle.ii_store.specs.Faults.{IsRefused}
 use Rattle.ii_store.specs.Index.{Fails}
-use Rattle.ii_segment_store.specs.Commits.{IsCommitFault}
+use Rattle.ii_segment_store.specs.Commits.{IsCommitFault, IsRefusedCommit}
 use Rattle.ii_segment_store.specs.Contents.{IndexContents, SegmentContents, index_contents, with_segment}
 use Rattle.ii_segment_store.specs.Joins.{first_contents, first_list, last_contents}
 use Rattle.ii_segments.specs.Segments.{Segment, index_tokens, num_docs_of}
@@ -38,3 +39,9 @@ abbrev pub IsJoinFault : JoinFault → List SchemaEntry → ℕ → Files → Ty
 IsJoinFault (faults.Store fault) entries first files = Fails fault (last_contents first files)
 IsJoinFault (faults.Merge fault) entries first files = (last : List SegmentContents) × (last_contents first files ≡ Ok last) × IsMergingFault entries last fault
 IsJoinFault (faults.Commit fault) entries first files = (last : List SegmentContents) × (segment : SegmentContents) × (last_contents first files ≡ Ok last) × IsMergedFrom entries last segment × IsCommitFault fault (first_list first files) segment
+
+-- the system refused a call
+abbrev pub IsRefusedJoin : JoinFault → Type 0
+IsRefusedJoin (faults.Store fault) = IsRefused fault
+IsRefusedJoin (faults.Merge fault) = ⊥
+IsRefusedJoin (faults.Commit fault) = IsRefusedCommit fault

@@ -1,8 +1,8 @@
 //! Merges the last segments of an index in a folder.
 ghost use Rattle.std.specs.Prelude.{IfErr, List, OnOk};
-ghost use Rattle.ii_directory.specs.Directory.{Files};
+ghost use Rattle.ii_directory.specs.Directory.{Files, Obeys};
 ghost use Rattle.ii_segments.specs.Segments.{Segment};
-ghost use Rattle.nequllpa_merging.specs.Joins.{HoldsIndex, HoldsSameIndex, IsJoinFault, IsJoined};
+ghost use Rattle.nequllpa_merging.specs.Joins.{HoldsIndex, HoldsSameIndex, IsJoinFault, IsJoined, IsRefusedJoin};
 
 use crate::faults::JoinFault;
 use crate::merging::merge_segments;
@@ -32,6 +32,7 @@ pub fn merge_last<D: Directory>(
     first: usize,
 ) -> Result<(), JoinFault>
     ensures known { D.is_known directory.old → OnOk result (D.is_known directory.new) }
+    ensures obeys { D.is_known directory.old → Obeys IsRefusedJoin (D.may_refuse directory.old) (D.may_refuse directory.new) result }
     ensures joined { D.is_known directory.old → OnOk result (IsJoined schema.now first (D.seen directory.old) (D.seen directory.new)) }
     ensures fault { D.is_known directory.old → IfErr result (λ e. IsJoinFault e schema.now first (D.seen directory.old)) }
 

@@ -13,7 +13,7 @@ use Rattle.ii_index.proofs.committing.delete_and_add.Goals as goal
 
 pub returns-in-Err-docs_to_delete-clause-fault : goal.returns-in-Err-docs_to_delete-clause-fault
 returns-in-Err-docs_to_delete-clause-fault g c = λ known.
-    delete_fault c.in-Err-docs_to_delete.fault c.args.schema.now c.args.documents c.args.deletes.now (g.D.Directory.seen c.args.directory.now) (contents_view c.in-Ok.stored) c.schema.result.now c.schema.ensures (c.in-Ok.ensures known) c.in-Err-docs_to_delete.ensures.fault
+    delete_fault c.in-Err-docs_to_delete.fault c.args.schema.now c.args.documents c.args.deletes.now (g.D.Directory.seen c.args.directory.now) (contents_view c.in-Ok.stored) c.schema.result.now c.schema.ensures (c.in-Ok.ensures.answers known) c.in-Err-docs_to_delete.ensures.fault
 
 pub returns-in-Ok-commit_changes-clause-changed : goal.returns-in-Ok-commit_changes-clause-changed
 returns-in-Ok-commit_changes-clause-changed g c = λ known n ts holds.
@@ -25,7 +25,7 @@ returns-in-Ok-commit_changes-clause-changed g c = λ known n ts holds.
     let written = c.in-Ok-commit_changes.ensures.changed known
     ∙ ap (λ (ds : List (Vec ℕ Global)). changed_index (map (λ (v : Vec ℕ Global). v.items) ds) (option_map (λ f. files_contents f.now) c.as_ref.result) (index_contents old)) c.as_slice.ensures.value
     ∙ ap (λ (a : Option SegmentContents). changed_index deleted a (index_contents old)) (added_same c.as_ref.result c.in-Ok-added_segment.added c.as_ref.ensures.value) in
-    changed c.args.schema.now c.args.documents c.args.deletes.now n ts old deleted added stored (g.D.Directory.seen c.commit_changes.new.directory) (c.in-Ok.ensures known) each c.in-Ok-added_segment.ensures.holds c.added_segment.ensures.calls written holds
+    changed c.args.schema.now c.args.documents c.args.deletes.now n ts old deleted added stored (g.D.Directory.seen c.commit_changes.new.directory) (c.in-Ok.ensures.answers known) each c.in-Ok-added_segment.ensures.holds c.added_segment.ensures.calls written holds
 
 pub returns-in-Ok-commit_changes-clause-leaves_one : goal.returns-in-Ok-commit_changes-clause-leaves_one
 returns-in-Ok-commit_changes-clause-leaves_one g c = λ known n ts holds files left.
@@ -36,7 +36,7 @@ returns-in-Ok-commit_changes-clause-leaves_one g c = λ known n ts holds files l
     let each = subst (λ (es : List SchemaEntry). AllZip (AreDeletedOf es c.args.deletes.now) stored.segments deleted) c.schema.ensures c.in-Ok-docs_to_delete.ensures.docs in
     let wanted = ap (λ (ds : List (Vec ℕ Global)). changed_index (map (λ (v : Vec ℕ Global). v.items) ds) (option_map (λ f. files_contents f.now) c.as_ref.result) (index_contents old)) c.as_slice.ensures.value
     ∙ ap (λ (a : Option SegmentContents). changed_index deleted a (index_contents old)) (added_same c.as_ref.result c.in-Ok-added_segment.added c.as_ref.ensures.value) in
-    changed_or_not c.args.schema.now c.args.documents c.args.deletes.now n ts old deleted added stored files (c.in-Ok.ensures known) each c.in-Ok-added_segment.ensures.holds c.added_segment.ensures.calls
+    changed_or_not c.args.schema.now c.args.documents c.args.deletes.now n ts old deleted added stored files (c.in-Ok.ensures.answers known) each c.in-Ok-added_segment.ensures.holds c.added_segment.ensures.calls
     (subst (λ w. HoldsOldOr w old files) wanted ((c.commit_changes.ensures.leaves_one known).each files left)) holds
 
 pub returns-clause-leaves_one : goal.returns-clause-leaves_one
@@ -48,7 +48,7 @@ returns-clause-leaves_one g c = λ known n ts holds files left.
     let each = subst (λ (es : List SchemaEntry). AllZip (AreDeletedOf es c.args.deletes.now) stored.segments deleted) c.schema.ensures c.in-Ok-docs_to_delete.ensures.docs in
     let wanted = ap (λ (ds : List (Vec ℕ Global)). changed_index (map (λ (v : Vec ℕ Global). v.items) ds) (option_map (λ f. files_contents f.now) c.as_ref.result) (index_contents old)) c.as_slice.ensures.value
     ∙ ap (λ (a : Option SegmentContents). changed_index deleted a (index_contents old)) (added_same c.as_ref.result c.in-Ok-added_segment.added c.as_ref.ensures.value) in
-    changed_or_not c.args.schema.now c.args.documents c.args.deletes.now n ts old deleted added stored files (c.in-Ok.ensures known) each c.in-Ok-added_segment.ensures.holds c.added_segment.ensures.calls
+    changed_or_not c.args.schema.now c.args.documents c.args.deletes.now n ts old deleted added stored files (c.in-Ok.ensures.answers known) each c.in-Ok-added_segment.ensures.holds c.added_segment.ensures.calls
     (subst (λ w. HoldsOldOr w old files) wanted ((c.commit_changes.ensures.leaves_one known).each files left)) holds
 
 pub returns-clause-fault : goal.returns-clause-fault
@@ -56,5 +56,5 @@ returns-clause-fault g c = λ known.
     let deleted : List (List ℕ) = map (λ (v : Vec ℕ Global). v.items) c.in-Ok-docs_to_delete.deleted.items in
     let stored = contents_view c.in-Ok.stored in
     let each = subst (λ (es : List SchemaEntry). AllZip (AreDeletedOf es c.args.deletes.now) stored.segments deleted) c.schema.ensures c.in-Ok-docs_to_delete.ensures.docs in
-    commit_fault c.in-Err-commit_changes.fault c.args.schema.now c.args.documents c.args.deletes.now (g.D.Directory.seen c.args.directory.now) stored c.in-Ok-docs_to_delete.deleted.items c.as_slice.result.now c.as_ref.result c.in-Ok-added_segment.added (c.in-Ok.ensures known) each
+    commit_fault c.in-Err-commit_changes.fault c.args.schema.now c.args.documents c.args.deletes.now (g.D.Directory.seen c.args.directory.now) stored c.in-Ok-docs_to_delete.deleted.items c.as_slice.result.now c.as_ref.result c.in-Ok-added_segment.added (c.in-Ok.ensures.answers known) each
     c.in-Ok-added_segment.ensures.holds c.as_slice.ensures.value c.as_ref.ensures.value (c.in-Err-commit_changes.ensures.fault known)

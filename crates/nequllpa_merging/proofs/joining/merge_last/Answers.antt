@@ -10,8 +10,8 @@ returns-in-Ok-replace_last-clause-same g c = λ known ss holds.
     let new = g.D.Directory.seen c.replace_last.new.directory in
     let m = meta_view c.in-Ok.list in
     let entries = c.args.schema.now in
-    let listed = c.in-Ok.ensures known in
-    let last = last_held entries c.args.first old m ss (map segment_contents c.in-Ok-load_last.last.items) listed (c.in-Ok-load_last.ensures known) holds in
+    let listed = c.in-Ok.ensures.answers known in
+    let last = last_held entries c.args.first old m ss (map segment_contents c.in-Ok-load_last.last.items) listed (c.in-Ok-load_last.ensures.answers known) holds in
     joined_same c.merge_keeps.ensures entries c.args.first old new m ss (files_contents c.in-Ok-merge_segments.segment) listed holds (c.in-Ok-merge_segments.ensures.holds _ last) (c.in-Ok-replace_last.ensures.replaced known)
 
 pub returns-in-Ok-replace_last-clause-leaves_same : goal.returns-in-Ok-replace_last-clause-leaves_same
@@ -19,8 +19,8 @@ returns-in-Ok-replace_last-clause-leaves_same g c = λ known ss holds files left
     let old = g.D.Directory.seen c.args.directory.now in
     let m = meta_view c.in-Ok.list in
     let entries = c.args.schema.now in
-    let listed = c.in-Ok.ensures known in
-    let last = last_held entries c.args.first old m ss (map segment_contents c.in-Ok-load_last.last.items) listed (c.in-Ok-load_last.ensures known) holds in
+    let listed = c.in-Ok.ensures.answers known in
+    let last = last_held entries c.args.first old m ss (map segment_contents c.in-Ok-load_last.last.items) listed (c.in-Ok-load_last.ensures.answers known) holds in
     ⊎_elim (λ same. kept_same entries old files ss same holds)
     (λ written. joined_same c.merge_keeps.ensures entries c.args.first old files m ss (files_contents c.in-Ok-merge_segments.segment) listed holds (c.in-Ok-merge_segments.ensures.holds _ last) written)
     ((c.replace_last.ensures.leaves_one known).each files left)
@@ -30,8 +30,8 @@ returns-clause-leaves_same g c = λ known ss holds files left.
     let old = g.D.Directory.seen c.args.directory.now in
     let m = meta_view c.in-Ok.list in
     let entries = c.args.schema.now in
-    let listed = c.in-Ok.ensures known in
-    let last = last_held entries c.args.first old m ss (map segment_contents c.in-Ok-load_last.last.items) listed (c.in-Ok-load_last.ensures known) holds in
+    let listed = c.in-Ok.ensures.answers known in
+    let last = last_held entries c.args.first old m ss (map segment_contents c.in-Ok-load_last.last.items) listed (c.in-Ok-load_last.ensures.answers known) holds in
     ⊎_elim (λ same. kept_same entries old files ss same holds)
     (λ written. joined_same c.merge_keeps.ensures entries c.args.first old files m ss (files_contents c.in-Ok-merge_segments.segment) listed holds (c.in-Ok-merge_segments.ensures.holds _ last) written)
     ((c.replace_last.ensures.leaves_one known).each files left)
