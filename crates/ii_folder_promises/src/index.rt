@@ -1,11 +1,15 @@
 // An index in a directory, to which documents are added.
-ghost use Rattle.std.specs.Prelude.{◌≡◌, ◌⊎◌, ◌<◌, ◌≤◌, [], ◌∷◌, IfSome, IsTrue, length, true};
+ghost use Rattle.std.specs.Prelude.{◌≡◌, ◌⊎◌, ◌<◌, ◌≤◌, [], ◌∷◌, IfErr, IfSome, IsTrue, None, Ok, length, true};
 ghost use Rattle.ii_base.specs.Terms.{TermState};
 ghost use Rattle.ii_directory.specs.Directory.{Files};
+ghost use Rattle.ii_directory.specs.declared.name.Name.TheVariants.{Meta, Segment};
+ghost use Rattle.ii_directory.specs.declared.name.SegmentComponent.TheVariants.{Terms};
+ghost use Rattle.ii_store.specs.Segments.{list_in};
+ghost use Rattle.ii_index.specs.Faults.{IsRefusedError};
 ghost use Rattle.ii_index.specs.Index.{HasNothing};
 ghost use Rattle.ii_index.specs.Segments.{HoldsIndexOf, no_documents};
 
-use ii_index::{Directory, Index, IndexWriter, Term};
+use ii_index::{Directory, Index, IndexError, IndexWriter, Term};
 use std::alloc::Global;
 
 /// Two documents that are added to a new index and committed are all documents of the index, in whatever directory.
@@ -23,6 +27,51 @@ pub fn committed_documents_are_counted<D: Directory + Drop>(
         return None;
     };
     number_committed(alloc, writer)
+}
+
+/// An index in a directory that refuses no call is never refused one: neither when it is changed nor when it is read.
+pub fn obeyed_indexes_are_never_refused<D: Directory + Drop>(
+    alloc: Global,
+    writer: &mut IndexWriter<D>,
+) -> Result<u32, IndexError>
+    requires known { D.is_known writer.old.index.directory }
+    requires obeys { D.may_refuse writer.old.index.directory → ⊥ }
+    ensures never { IfErr result (λ e. IsRefusedError e → ⊥) }
+    ensures still { D.may_refuse writer.new.index.directory → ⊥ }
+{
+    match writer.commit(alloc) {
+        Ok(()) => {}
+        Err(fault) => return Err(fault),
+    }
+    match writer.merge(alloc, 0) {
+        Ok(()) => {}
+        Err(fault) => return Err(IndexError::Merge(fault)),
+    }
+    match writer.garbage_collect_files(alloc) {
+        Ok(_) => {}
+        Err(fault) => return Err(IndexError::Store(fault)),
+    }
+    match writer.index().reader(alloc) {
+        Ok(reader) => Ok(reader.searcher().num_docs()),
+        Err(fault) => Err(fault),
+    }
+}
+
+/// A file that a stop left of a segment, which the list of an index without segments doesn't have, is removed. Its list
+/// is kept.
+pub fn left_files_are_removed<D: Directory + Drop>(
+    alloc: Global,
+    writer: &mut IndexWriter<D>,
+) -> bool
+    requires known { D.is_known writer.old.index.directory }
+    requires list { list_in (D.seen writer.old.index.directory Meta) ≡ Ok (record { generation = 5; next_segment_id = 3; schema = []; segments = [] }) }
+    ensures removed { IsTrue result → D.seen writer.new.index.directory (Segment 3 Terms) ≡ None }
+    ensures kept { IsTrue result → D.seen writer.new.index.directory Meta ≡ D.seen writer.old.index.directory Meta }
+{
+    let Ok(_) = writer.garbage_collect_files(alloc) else {
+        return false;
+    };
+    true
 }
 
 // Returns the number of documents of an index after a commit.

@@ -46,14 +46,6 @@ merged_left entries docs files alive flags x segments before s f flags_are alive
     ∙ ap (λ (c : SegmentContents). c ∷ []) (x_is ∙ ap (contents_with files) (alive_is ∙ ap (without docs) flags_are)) in
     inr (merges (left_of docs s ∷ []) (subst (λ (cs : List SegmentContents). HoldSegments entries cs (left_of docs s ∷ [])) (sym there) (left, tt)))
 
-pub merged_fault : (entries : List SchemaEntry) (docs : List ℕ) (files : SegmentFiles) (alive : List Bool) (flags : List Bool) (x : StoredSegment) (segments before : List StoredSegment) (fault : MergeFault) → flags ≡ replicate files.num_docs true → alive ≡ without docs flags
-    → segment_contents x ≡ contents_with files alive → segments ≡ before ++ x ∷ [] → before ≡ [] → IsMergingFault entries (map segment_contents segments) fault → IsMergingFault entries (segment_without docs (files_contents files) ∷ []) fault
-merged_fault entries docs files alive flags x segments before fault flags_are alive_is x_is pushed none why =
-    let there : map segment_contents segments ≡ segment_without docs (files_contents files) ∷ [] =
-    ap (map segment_contents) (pushed ∙ ap (λ (l : List StoredSegment). l ++ x ∷ []) none)
-    ∙ ap (λ (c : SegmentContents). c ∷ []) (x_is ∙ ap (contents_with files) (alive_is ∙ ap (without docs) flags_are)) in
-    subst (λ (cs : List SegmentContents). IsMergingFault entries cs fault) there why
-
 -- why what is left of a segment isn't merged
 pub left_fault : (s : TextSchemaState) (d : DocumentsState) (deletes : List DeleteState) (docs slice : List ℕ) (es : List SchemaEntry) (files : SegmentFiles) (fault : MergeFault) → slice ≡ docs → es ≡ s.schema → IsSome files.counts
     → HoldsSegment s.schema (files_contents files) (segment_of (analyzed_in s.tokenizers) d) → ((doc : ℕ) → is_among docs doc ≡ is_reached Pending deletes (tokens_by (analyzed_in s.tokenizers) d.calls) doc)

@@ -99,12 +99,6 @@ refused_then : {A B : Type 0} (found : Result A Part) (after : A → Result B Pa
 refused_then found after fault (inl memory) = inl memory
 refused_then found after fault (inr (part, why, err)) = inr (part, why, rw err refl)
 
-pub delete_refused : (scope : Scope) (index : OpenIndexState) (d : DeleteState) (fault : Fault) → IsRefusal (docs_of_term Basic index d.term) fault → IsRefusal (docs_of_delete scope index d) fault
-delete_refused scope index d fault refused = refused_then (docs_of_term Basic index d.term) (λ (es : List Entry). Ok (reached_of scope d (docs_of es))) fault refused
-
-pub memory_refused : {A : Type 0} (found : Result A Part) (fault : Fault) → fault ≡ OutOfMemory → IsRefusal found fault
-memory_refused found fault memory = inl memory
-
 -- ---- one delete after the other
 abbrev given : List ℕ → Result (List ℕ) Part
 given docs = Ok docs

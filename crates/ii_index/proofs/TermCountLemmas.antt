@@ -20,10 +20,6 @@ use Rattle.ii_index.specs.Searching.{SearcherState}
 use Rattle.ii_index.specs.Statistics.{CountsState, counts_of, doc_freq_in, num_docs_with, num_found, terms_damage}
 
 -- ---- damages
--- the first of two damages
-pub damaged_first : (d other : Option Part) (part : Part) → d ≡ Some part → IsScoreFault (first_of d other) (Damaged part)
-damaged_first d other part is = inr (part, refl, ap (λ (e : Option Part). first_of e other) is)
-
 -- the second of two, if there is no first
 pub damaged_later : (d other : Option Part) (fault : Fault) → d ≡ None → IsScoreFault other fault → IsScoreFault (first_of d other) fault
 damaged_later d other fault none (inl memory) = inl memory
@@ -37,10 +33,6 @@ damaged_before d other fault (inr (part, is, damage)) = inr (part, is, ap (λ (e
 -- no damage in either
 pub sound_both : (d other : Option Part) → d ≡ None → other ≡ None → first_of d other ≡ None
 sound_both d other none also = ap (λ (e : Option Part). first_of e other) none ∙ also
-
--- what was found tells the damage
-pub damage_found : (found : Result (List Entry) Part) (es : List Entry) → found ≡ Ok es → damage_of found ≡ None
-damage_found found es is = ap damage_of is
 
 pub number_found : (found : Result (List Entry) Part) (n : ℕ) → (es : List Entry) × (found ≡ Ok es) × (n ≡ length es) → n ≡ num_found found
 number_found found n (es, is, many) = many ∙ sym (ap num_found is)

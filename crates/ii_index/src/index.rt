@@ -15,7 +15,7 @@ ghost use Rattle.ii_io.specs.Faults.{OnlyMemory};
 ghost use Rattle.ii_query_parser.specs.QueryTexts.{IsQueryOfTextBy, field_named};
 ghost use Rattle.ii_schema_text.specs.SchemaText.{AnswersFromText, tokenized_schema};
 ghost use Rattle.ii_segment_store.specs.Contents.{files_contents, index_contents};
-ghost use Rattle.ii_store.specs.Collect.{CountsGarbage, HasNoGarbage};
+ghost use Rattle.ii_store.specs.Collect.{CountsGarbage, HasNoGarbage, KeepsOthers};
 ghost use Rattle.ii_store.specs.Index.{Fails};
 ghost use Rattle.ii_store.specs.IndexMeta.{MetaState};
 ghost use Rattle.ii_store.specs.Segments.{list_in};
@@ -241,6 +241,7 @@ impl<D: Directory + Drop> Index<D> {
         ensures obeys { Obeys IsRefused (D.may_refuse self.old.directory) (D.may_refuse self.new.directory) result }
         ensures schema { self.new.schema ≡ self.old.schema }
         ensures removed { D.is_known self.old.directory → IfOk result (λ _. (m : MetaState) → list_in (D.seen self.old.directory Meta) ≡ Ok m → HasNoGarbage m (D.seen self.new.directory)) }
+        ensures keeps { D.is_known self.old.directory → IfOk result (λ _. (m : MetaState) → list_in (D.seen self.old.directory Meta) ≡ Ok m → KeepsOthers m (D.seen self.old.directory) (D.seen self.new.directory)) }
         ensures count { D.is_known self.old.directory → IfOk result (λ count. (m : MetaState) → list_in (D.seen self.old.directory Meta) ≡ Ok m → CountsGarbage m (D.seen self.old.directory) count) }
         ensures same { D.is_known self.old.directory → OnOk result (index_contents (D.seen self.new.directory) ≡ index_contents (D.seen self.old.directory)) }
         ensures leaves_same { D.is_known self.old.directory → (n : ℕ) (ts : List IndexToken) → HoldsIndexOf self.old.schema.schema (D.seen self.old.directory) n ts → (files : Files) → D.left_since self.new.directory (D.moment self.old.directory) files → HoldsIndexOf self.old.schema.schema files n ts }
@@ -267,6 +268,7 @@ fn collect_files<D: Directory>(alloc: Global, directory: &mut D) -> Result<u64, 
     ensures known { D.is_known directory.old → OnOk result (D.is_known directory.new) }
     ensures obeys { Obeys IsRefused (D.may_refuse directory.old) (D.may_refuse directory.new) result }
     ensures removed { D.is_known directory.old → IfOk result (λ _. (m : MetaState) → list_in (D.seen directory.old Meta) ≡ Ok m → HasNoGarbage m (D.seen directory.new)) }
+    ensures keeps { D.is_known directory.old → IfOk result (λ _. (m : MetaState) → list_in (D.seen directory.old Meta) ≡ Ok m → KeepsOthers m (D.seen directory.old) (D.seen directory.new)) }
     ensures count { D.is_known directory.old → IfOk result (λ count. (m : MetaState) → list_in (D.seen directory.old Meta) ≡ Ok m → CountsGarbage m (D.seen directory.old) count) }
     ensures same { D.is_known directory.old → OnOk result (index_contents (D.seen directory.new) ≡ index_contents (D.seen directory.old)) }
     ensures leaves_same { D.is_known directory.old → (entries : List SchemaEntry) (n : ℕ) (ts : List IndexToken) → HoldsIndexOf entries (D.seen directory.old) n ts → (files : Files) → D.left_since directory.new (D.moment directory.old) files → HoldsIndexOf entries files n ts }

@@ -11,7 +11,7 @@ ghost use Rattle.ii_index.specs.Index.{HasNothing, IsPendingAs, with_delete};
 ghost use Rattle.ii_index.specs.Segments.{HoldsIndexOf, no_documents, with_documents};
 ghost use Rattle.ii_io.specs.Faults.{OnlyMemory};
 ghost use Rattle.ii_segment_store.specs.Contents.{index_contents};
-ghost use Rattle.ii_store.specs.Collect.{CountsGarbage, HasNoGarbage};
+ghost use Rattle.ii_store.specs.Collect.{CountsGarbage, HasNoGarbage, KeepsOthers};
 ghost use Rattle.ii_store.specs.Index.{Fails};
 ghost use Rattle.ii_store.specs.IndexMeta.{MetaState};
 ghost use Rattle.ii_store.specs.Segments.{list_in};
@@ -216,6 +216,7 @@ impl<D: Directory + Drop> IndexWriter<D> {
         ensures schema { self.new.index.schema ≡ self.old.index.schema }
         ensures pending { IsPendingAs self.old self.new }
         ensures removed { D.is_known self.old.index.directory → IfOk result (λ _. (m : MetaState) → list_in (D.seen self.old.index.directory Meta) ≡ Ok m → HasNoGarbage m (D.seen self.new.index.directory)) }
+        ensures keeps { D.is_known self.old.index.directory → IfOk result (λ _. (m : MetaState) → list_in (D.seen self.old.index.directory Meta) ≡ Ok m → KeepsOthers m (D.seen self.old.index.directory) (D.seen self.new.index.directory)) }
         ensures count { D.is_known self.old.index.directory → IfOk result (λ count. (m : MetaState) → list_in (D.seen self.old.index.directory Meta) ≡ Ok m → CountsGarbage m (D.seen self.old.index.directory) count) }
         ensures same { D.is_known self.old.index.directory → OnOk result (index_contents (D.seen self.new.index.directory) ≡ index_contents (D.seen self.old.index.directory)) }
         ensures leaves_same { D.is_known self.old.index.directory → (n : ℕ) (ts : List IndexToken) → HoldsIndexOf self.old.index.schema.schema (D.seen self.old.index.directory) n ts → (files : Files) → D.left_since self.new.index.directory (D.moment self.old.index.directory) files → HoldsIndexOf self.old.index.schema.schema files n ts }

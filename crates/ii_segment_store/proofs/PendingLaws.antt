@@ -8,10 +8,10 @@ use Rattle.ii_directory.specs.Directory.{Elapses, Files}
 use Rattle.ii_store.specs.IndexMeta.{MetaState, SegmentState}
 use Rattle.ii_store.specs.Segments.{list_in}
 use Rattle.ii_directory.proofs.Elapsing.{elapses_implies, elapses_then}
-use Rattle.ii_segment_store.specs.Commits.{HasSegment, HaveIdsBelow, HoldsOldOr, KeepsButSegment, emptied, listed_segment}
+use Rattle.ii_segment_store.specs.Commits.{HasSegment, HaveIdsBelow, HoldsOldOr, KeepsButSegment, listed_segment}
 use Rattle.ii_segment_store.specs.Contents.{IndexContents, SegmentContents, index_contents, list_contents, with_segment}
 use Rattle.ii_segment_store.specs.Pending.{IsPending, begun, with_next}
-use Rattle.ii_segment_store.proofs.CommitLaws.{SameBelow, emptied_below, emptied_fresh, fresh_id, list_kept, list_more, listed_below, listed_contents, same_contents}
+use Rattle.ii_segment_store.proofs.CommitLaws.{SameBelow, fresh_id, list_kept, list_more, listed_below, listed_contents, same_contents}
 
 -- a list that follows that of a directory
 
@@ -31,9 +31,6 @@ begun_same m files = refl
 pub ok_is : {E : Type 0} (P : MetaState → Type 0) (m : MetaState) (r : Result MetaState E) → IfOk r (λ p. p ≡ m) → P m → IfOk r P
 ok_is P m (Ok p) is holds = subst P (sym is) holds
 ok_is P m (Err e) is holds = tt
-
-pub emptied_pending : (schema : List ℕ) (files : Files) → IsPending (begun (emptied schema (list_in (files Meta)))) files
-emptied_pending schema files = record { fresh = emptied_fresh schema files; below = emptied_below schema (list_in (files Meta)) }
 
 -- a segment with the next id
 

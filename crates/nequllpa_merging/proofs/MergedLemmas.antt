@@ -32,20 +32,6 @@ pub stored_result : (c : SegmentContents) (store : Option (List ℕ)) (alive : L
 stored_result c store alive (Err e) same file flags = tt
 stored_result c store alive (Ok o) same file flags = ap (λ (b : Option (List ℕ)). record { bytes = b; alive = o.alive }) (file ∙ same) ∙ ap (λ (a : List Bool). record { bytes = c.store; alive = a }) flags
 
--- files with stored documents
-pub merged_with : (entries : List SchemaEntry) (os : List OpenedSegmentState) (f : SegmentContents) (store : Option (List ℕ)) → AreMergedFiles entries os f → AreMergedFiles entries os (record f { store = store })
-merged_with entries os f store h = record {
-  num_docs = h.num_docs;
-  parts = h.parts;
-  are = h.are;
-  terms = h.terms;
-  postings = h.postings;
-  positions = h.positions;
-  have_norms = h.have_norms;
-  fieldnorms = h.fieldnorms;
-  counts = h.counts;
-}
-
 holds_with : (entries : List SchemaEntry) (f : SegmentContents) (store : Option (List ℕ)) (s : Segment) → HoldsSegment entries f s → HoldsSomeDocuments store (length s.alive) → HoldsSegment entries (record f { store = store }) s
 holds_with entries f store s h some = record { lists = h.lists; norms = h.norms; counts = h.counts; store = some; alive = h.alive; are = h.are }
 
