@@ -1,7 +1,8 @@
 -- Computed examples of parts and of filters.
-use Rattle.std.proofs.Common.{◌≡◌, ℕ, ◌==◌, Bool, [], ◌∷◌, map, refl}
+use Rattle.std.proofs.Common.{◌≡◌, ℕ, ◌==◌, Bool, [], ◌∷◌, codes, map, refl}
 use Rattle.ii_base.specs.Words.{Word}
-use Rattle.ii_tokenizers.specs.Analyzers.{nonempty_parts, part_word, parts_between, remove_long, words_from}
+use Rattle.ii_stemmer.specs.Rules.{step_1a_rules, step_1b_rules, step_1c_rules, step_2_rules, step_3_rules, step_4_rules, step_5a_rules}
+use Rattle.ii_tokenizers.specs.Analyzers.{nonempty_parts, part_word, parts_between, remove_long, stem, words_from}
 
 abbrev is_comma : ℕ → Bool
 is_comma c = c == 44
@@ -29,3 +30,12 @@ word_of_part = refl
 pub short_ones : map (λ (w : Word). w.position) (remove_long 3 (words_from 0 (record { offset = 0; characters = 97 ∷ [] } ∷ record { offset = 2; characters = 97 ∷ 98 ∷ 99 ∷ [] } ∷ record { offset = 6; characters = 98 ∷ [] } ∷ []))) ≡ 0 ∷ 2 ∷ []
 unfolding lib.Utf8.encode
 short_ones = refl
+
+-- `the`, `old` and `seas` of `the old seas`: the stem of the last is `sea`, and each offset and position stays
+pub stems : stem (words_from 0 (record { offset = 0; characters = codes "the" } ∷ record { offset = 4; characters = codes "old" } ∷ record { offset = 8; characters = codes "seas" } ∷ []))
+    ≡ record { offset_from = 0; offset_to = 3; position = 0; text = codes "the"; position_length = 1 }
+    ∷ record { offset_from = 4; offset_to = 7; position = 1; text = codes "old"; position_length = 1 }
+    ∷ record { offset_from = 8; offset_to = 12; position = 2; text = codes "sea"; position_length = 1 }
+    ∷ []
+unfolding lib.Utf8.encode step_1a_rules step_1b_rules step_1c_rules step_2_rules step_3_rules step_4_rules step_5a_rules
+stems = refl

@@ -8,6 +8,7 @@ use Rattle.ucd_breaks.specs.declared.WordBreak.{WordBreak}
 use Rattle.ucd_breaks.specs.declared.WordBreak.TheVariants.{DoubleQuote, MidLetter, MidNum, MidNumLet, SingleQuote}
 use Rattle.unicode_segmentation.specs.Segments.{has_alphanumeric, with_offsets}
 use Rattle.unicode_segmentation.specs.Word.{word_bounds}
+use Rattle.ii_stemmer.specs.Porter.{porter}
 use Rattle.ii_base.specs.AsciiWords.{ascii_words}
 use Rattle.ii_base.specs.Words.{Word}
 use Rattle.ii_tokenizers.specs.declared.analyzer.Analyzer.{Analyzer}
@@ -97,9 +98,21 @@ fold_case ws = map folded ws
 abbrev pub remove_long : ℕ → List Word → List Word
 remove_long limit ws = filter (λ (w : Word). nat_lt (length w.text) limit) ws
 
+-- a token with its text stemmed
+abbrev pub stemmed : Word → Word
+stemmed w = record w { text = porter w.text }
+
+-- tokens with their texts stemmed
+abbrev pub stem : List Word → List Word
+stem ws = map stemmed ws
+
 -- the default: Unicode words cut at the marks inside them, in folded case, of fewer than 40 bytes
 abbrev pub default_words : List ℕ → List Word
 default_words text = remove_long 40 (fold_case (split_words text))
+
+-- English: the default words, stemmed
+abbrev pub english_words : List ℕ → List Word
+english_words text = stem (default_words text)
 
 -- the tokens of a text by an analyzer
 abbrev pub analyzed : Analyzer → List ℕ → List Word
@@ -107,3 +120,9 @@ analyzed analyzer.Ascii text = ascii_words text
 analyzed analyzer.Raw text = raw_words text
 analyzed analyzer.Whitespace text = space_words text
 analyzed analyzer.Default text = default_words text
+analyzed analyzer.English text = english_words text
+
+-- the analyzer of the beginnings and bounds of words: that of the words, unless it stems
+abbrev pub prefix_analyzer : Analyzer → Analyzer
+prefix_analyzer analyzer.English = analyzer.Default
+prefix_analyzer other = other

@@ -3,7 +3,7 @@ use Rattle.std.specs.Prelude.{ℕ, Bool, true, false, List, Option, None, Some, 
 use Rattle.ii_base.specs.Words.{Word}
 use Rattle.ii_tokenizers.specs.Analyzers.{analyzed}
 use Rattle.ii_tokenizers.specs.declared.analyzer.Analyzer.{Analyzer}
-use Rattle.ii_tokenizers.specs.declared.analyzer.Analyzer.TheVariants.{Ascii, Default, Raw, Whitespace}
+use Rattle.ii_tokenizers.specs.declared.analyzer.Analyzer.TheVariants.{Ascii, Default, English, Raw, Whitespace}
 
 -- the name of an analyzer in a schema
 abbrev pub analyzer_name : Analyzer → List ℕ
@@ -11,6 +11,7 @@ analyzer_name Ascii = codes "ascii"
 analyzer_name Raw = codes "raw"
 analyzer_name Whitespace = codes "whitespace"
 analyzer_name Default = codes "default"
+analyzer_name English = codes "en"
 
 -- the analyzer with this name
 unfoldable pub analyzer_named : List ℕ → Option Analyzer
@@ -19,6 +20,7 @@ analyzer_named name =
     else if bytes_eq name (codes "raw") then Some Raw
     else if bytes_eq name (codes "whitespace") then Some Whitespace
     else if bytes_eq name (codes "ascii") then Some Ascii
+    else if bytes_eq name (codes "en") then Some English
     else None
 
 -- whether the words of an analyzer depend on the version of Unicode
@@ -27,6 +29,7 @@ uses_unicode Ascii = false
 uses_unicode Raw = false
 uses_unicode Whitespace = true
 uses_unicode Default = true
+uses_unicode English = true
 
 -- the version of Unicode that analyzers follow
 abbrev pub unicode_version : List ℕ

@@ -1,9 +1,9 @@
 ghost use Rattle.std.specs.Prelude.{◌≡◌, IfOk};
 ghost use Rattle.ii_io.specs.Faults.{OnlyMemory};
 ghost use Rattle.ii_base.specs.Words.{words_of};
-ghost use Rattle.ii_tokenizers.specs.Analyzers.{analyzed, default_words};
+ghost use Rattle.ii_tokenizers.specs.Analyzers.{analyzed, default_words, english_words, prefix_analyzer};
 
-use super::filters::{fold_case, remove_long};
+use super::filters::{fold_case, remove_long, stem};
 use super::parts::{raw_words, space_words, split_words};
 use ii_base::{AsciiTokenizer, TextAnalyzer, TextTokens, Token, TokenList};
 use ii_io::Fault;
@@ -21,6 +21,21 @@ pub enum Analyzer {
     /// Unicode words, cut at the marks inside them, in folded case. Tokens of 40 bytes and more are left out, and
     /// their positions are kept.
     Default,
+    /// The words of `Default`, stemmed as English ones (`ii_stemmer`).
+    English,
+}
+
+impl Analyzer {
+    /// Returns the analyzer of the beginnings of words, and of the bounds of ranges of words: that of the words, but
+    /// without stemming. So `English` gives `Default`.
+    pub fn for_prefixes(self) -> Analyzer
+        ensures { result ≡ prefix_analyzer self }
+    {
+        match self {
+            Analyzer::English => Analyzer::Default,
+            _ => self,
+        }
+    }
 }
 
 impl TextAnalyzer for Analyzer {
@@ -32,6 +47,7 @@ impl TextAnalyzer for Analyzer {
             Analyzer::Raw => Ok(TokenList::new(raw_words(alloc, text)?)),
             Analyzer::Whitespace => Ok(TokenList::new(space_words(alloc, text)?)),
             Analyzer::Default => Ok(TokenList::new(default_words(alloc, text)?)),
+            Analyzer::English => Ok(TokenList::new(english_words(alloc, text)?)),
         }
     }
 
@@ -54,5 +70,15 @@ fn default_words(alloc: Global, text: &str) -> Result<Vec<Token>, Fault>
     let mut tokens = split_words(alloc, text)?;
     fold_case(alloc, &mut tokens)?;
     remove_long(LIMIT, &mut tokens);
+    Ok(tokens)
+}
+
+// Returns the words of a text, in folded case, without long ones, and stemmed.
+fn english_words(alloc: Global, text: &str) -> Result<Vec<Token>, Fault>
+    ensures ok { IfOk result (λ tokens. words_of tokens.items ≡ english_words text.now) }
+    ensures only { OnlyMemory result }
+{
+    let mut tokens = default_words(alloc, text)?;
+    stem(alloc, &mut tokens)?;
     Ok(tokens)
 }

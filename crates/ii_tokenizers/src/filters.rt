@@ -2,11 +2,12 @@
 ghost use Rattle.std.specs.Prelude.{◌≡◌, OnOk};
 ghost use Rattle.ii_io.specs.Faults.{OnlyMemory};
 ghost use Rattle.ii_base.specs.Words.{words_of};
-ghost use Rattle.ii_tokenizers.specs.Analyzers.{fold_case, remove_long};
+ghost use Rattle.ii_tokenizers.specs.Analyzers.{fold_case, remove_long, stem};
 
 use caseless::default_case_fold_str;
 use ii_base::Token;
 use ii_io::Fault;
+use ii_stemmer::stem_word;
 use std::alloc::Global;
 
 /// Folds the case of each token, so that words that differ in case alone become the same (`STRASSE` and
@@ -28,4 +29,18 @@ pub fn remove_long(limit: usize, tokens: &mut Vec<Token>)
     ensures { words_of tokens.new.items ≡ remove_long limit (words_of tokens.old.items) }
 {
     tokens.retain(|token| token.text.len() < limit);
+}
+
+/// Replaces the text of each token by its stem, so that the forms of an English word become the same (`sail` and
+/// `sailing` become `sail`). Texts with other characters than `a` to `z` are kept.
+///
+/// Returns `OutOfMemory` if an allocation fails; some tokens are then stemmed.
+pub fn stem(alloc: Global, tokens: &mut Vec<Token>) -> Result<(), Fault>
+    ensures ok { OnOk result (words_of tokens.new.items ≡ stem (words_of tokens.old.items)) }
+    ensures only { OnlyMemory result }
+{
+    for place in 0..tokens.len() {
+        tokens[place].text = stem_word(alloc, tokens[place].text.as_str())?;
+    }
+    Ok(())
 }

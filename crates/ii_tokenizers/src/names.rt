@@ -7,7 +7,7 @@ use unicode_segmentation::UNICODE_VERSION;
 
 const _: () = prove!(UNICODE_VERSION.0 == 18 && UNICODE_VERSION.1 == 0 && UNICODE_VERSION.2 == 0);
 
-/// Returns the version of Unicode that the words of `Default` and `Whitespace` follow.
+/// Returns the version of Unicode that the words of `Default`, `English` and `Whitespace` follow.
 pub fn unicode_version() -> &'static str
     ensures { result.now ≡ unicode_version }
 {
@@ -26,6 +26,7 @@ impl Analyzer {
             Analyzer::Raw => "raw",
             Analyzer::Whitespace => "whitespace",
             Analyzer::Default => "default",
+            Analyzer::English => "en",
         }
     }
 
@@ -46,6 +47,9 @@ impl Analyzer {
         if name == "ascii" {
             return Some(Analyzer::Ascii);
         }
+        if name == "en" {
+            return Some(Analyzer::English);
+        }
         None
     }
 
@@ -54,7 +58,7 @@ impl Analyzer {
         ensures { result ≡ uses_unicode self }
     {
         match self {
-            Analyzer::Default | Analyzer::Whitespace => true,
+            Analyzer::Default | Analyzer::English | Analyzer::Whitespace => true,
             Analyzer::Ascii | Analyzer::Raw => false,
         }
     }

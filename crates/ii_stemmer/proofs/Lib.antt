@@ -1,0 +1,4 @@
+mod LetterLemmas
+mod RuleLemmas
+mod StemLemmas
+mod WorkedRows
