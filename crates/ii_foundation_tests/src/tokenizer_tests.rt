@@ -101,10 +101,13 @@ fn fields_have_analyzers(rt: HostRuntime) -> Result<(), Fail> {
         (2, Analyzer::Ascii),
     ];
     for (id, analyzer) in rows {
-        assert!(rt; *tokenizers.analyzer(Field::from_field_id(id)) == analyzer);
+        let field = Field::from_field_id(id);
+        assert!(rt; *tokenizers.analyzer(field) == analyzer);
+        assert!(rt; *tokenizers.prefix_analyzer(field) == analyzer.for_prefixes());
     }
     let raw = Analyzer::Raw;
     let one = OneAnalyzer(&raw);
     assert!(rt; *one.analyzer(Field::from_field_id(7)) == Analyzer::Raw);
+    assert!(rt; *one.prefix_analyzer(Field::from_field_id(7)) == Analyzer::Raw);
     Ok(())
 }

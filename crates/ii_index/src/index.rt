@@ -1,5 +1,5 @@
 //! An open index.
-ghost use Rattle.std.specs.Prelude.{◌≡◌, ◌⊎◌, ◌+◌, ◌<◌, ◌↔◌, [], ℕ, IfErr, IfOk, IfSome, IsSome, IsTrue, List, None, Ok, OnOk, length};
+ghost use Rattle.std.specs.Prelude.{◌≡◌, ◌⊎◌, ◌+◌, ◌<◌, ◌↔◌, [], ℕ, IfErr, IfOk, IfSome, IsSome, IsTrue, List, None, Ok, OnOk, length, map};
 ghost use Rattle.ii_base.specs.Schema.{SchemaEntry};
 ghost use Rattle.ii_definitions.specs.Tokens.{IndexToken};
 ghost use Rattle.ii_directory.specs.Directory.{Files, Obeys, is_obeyed};
@@ -19,7 +19,7 @@ ghost use Rattle.ii_store.specs.Collect.{CountsGarbage, HasNoGarbage, KeepsOther
 ghost use Rattle.ii_store.specs.Index.{Fails};
 ghost use Rattle.ii_store.specs.IndexMeta.{MetaState};
 ghost use Rattle.ii_store.specs.Segments.{list_in};
-ghost use Rattle.ii_tokenizers.specs.Tokenizers.{analyzed_in};
+ghost use Rattle.ii_tokenizers.specs.Tokenizers.{analyzed_in, prefix_analyzer};
 ghost use Rattle.nequllpa_merging.specs.HeldSegments.{HoldsSegment};
 ghost use Rattle.nequllpa_merging.specs.Joins.{IsJoinFault, IsRefusedJoin};
 
@@ -164,7 +164,7 @@ impl<D: Directory + Drop> Index<D> {
         default_fields: &[Field],
         text: &str,
     ) -> Result<Query, QueryParserError>
-        ensures { IsQueryOfTextBy (record { texts = record { analyze = analyzed_in self.now.schema.tokenizers; entries = self.now.schema.schema }; defaults = default_fields.now }) text.now result }
+        ensures { IsQueryOfTextBy (record { texts = record { analyze = analyzed_in self.now.schema.tokenizers; entries = self.now.schema.schema }; prefixes = analyzed_in (map prefix_analyzer self.now.schema.tokenizers); defaults = default_fields.now }) text.now result }
     {
         let schema = self.schema.schema();
         let tokenizers = self.schema.tokenizers();

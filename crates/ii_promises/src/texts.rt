@@ -1,5 +1,5 @@
 // What query texts find.
-ghost use Rattle.std.specs.Prelude.{◌≡◌, ◌<◌, ◌≤◌, ◌⊎◌, ℕ, List, length, true, IfErr, IfOk, Some};
+ghost use Rattle.std.specs.Prelude.{◌≡◌, ◌<◌, ◌≤◌, ◌⊎◌, ℕ, List, length, map, true, IfErr, IfOk, Some};
 ghost use Rattle.ii_base.specs.Schema.{SchemaEntry};
 ghost use Rattle.ii_docset.specs.Cursor.{IsAscending};
 ghost use Rattle.ii_docset.specs.Intersection.{has_doc};
@@ -11,7 +11,7 @@ ghost use Rattle.ii_query_grammar.specs.Trees.{ast_of};
 ghost use Rattle.ii_query_parser.specs.Queries.{any_of, each_of, has_fields, keeps_positions, matches, no_tree, tree, tree_of};
 ghost use Rattle.ii_query_parser.specs.QueryTexts.{text_matches, text_matches_by, text_refusal, text_refusal_by};
 ghost use Rattle.ii_tokenizers.specs.Analyzers.{analyzed};
-ghost use Rattle.ii_tokenizers.specs.Tokenizers.{analyzed_in};
+ghost use Rattle.ii_tokenizers.specs.Tokenizers.{analyzed_in, prefix_analyzer};
 ghost use Rattle.ii_promises.specs.Texts.{GivesOrTells};
 
 use ii_query_grammar::laws::reads_what_is_spelled;
@@ -56,7 +56,7 @@ pub fn texts_find_what_matches<A: TextAnalyzer>(
 }
 
 /// So it does where each field has an analyzer of its own: the text is compared with the tokens of a field as that
-/// field's analyzer cuts it.
+/// field's analyzer cuts it, a prefix or the bound of a range as its analyzer of these does.
 #[tactic(auto, using(crate::proofs::SearchingLaws::found_ascend, crate::proofs::SearchingLaws::same_fields))]
 pub fn texts_find_by_their_analyzers<F: FieldAnalyzers>(
     alloc: Global,
@@ -70,10 +70,10 @@ pub fn texts_find_by_their_analyzers<F: FieldAnalyzers>(
     ensures ascending { IfOk result (λ cursor. IsAscending cursor.rest) }
     ensures found { (num_docs : ℕ) (tokens : List IndexToken) → IndexHolds schema.now num_docs index.now tokens
         → IfOk result (λ cursor. (doc : ℕ) → has_doc cursor.rest doc
-        ≡ text_matches_by (record { texts = record { analyze = F.words analyzers.now; entries = schema.now }; defaults = default_fields.now }) text.now tokens doc) }
+        ≡ text_matches_by (record { texts = record { analyze = F.words analyzers.now; entries = schema.now }; prefixes = F.prefix_words analyzers.now; defaults = default_fields.now }) text.now tokens doc) }
     ensures refused { (num_docs : ℕ) (tokens : List IndexToken) → IndexHolds schema.now num_docs index.now tokens
         → IfErr result (λ e. (e ≡ QueryParserError.Fault Fault.OutOfMemory)
-        ⊎ (text_refusal_by (record { texts = record { analyze = F.words analyzers.now; entries = schema.now }; defaults = default_fields.now }) text.now ≡ Some e)) }
+        ⊎ (text_refusal_by (record { texts = record { analyze = F.words analyzers.now; entries = schema.now }; prefixes = F.prefix_words analyzers.now; defaults = default_fields.now }) text.now ≡ Some e)) }
 {
     match parse_query_by(alloc, schema, default_fields, analyzers, text) {
         Ok(query) => searched(alloc, index, &query),
@@ -110,7 +110,7 @@ pub fn texts_find_by_their_tokenizers(
     requires many { length index.now.readers ≡ length schema.now }
     ensures found { (num_docs : ℕ) (tokens : List IndexToken) → IndexHolds schema.now num_docs index.now tokens
         → IfOk result (λ cursor. (doc : ℕ) → has_doc cursor.rest doc
-        ≡ text_matches_by (record { texts = record { analyze = analyzed_in tokenizers.now; entries = schema.now }; defaults = default_fields.now }) text.now tokens doc) }
+        ≡ text_matches_by (record { texts = record { analyze = analyzed_in tokenizers.now; entries = schema.now }; prefixes = analyzed_in (map prefix_analyzer tokenizers.now); defaults = default_fields.now }) text.now tokens doc) }
 {
     texts_find_by_their_analyzers(alloc, index, schema, default_fields, tokenizers, text)
 }

@@ -1,4 +1,5 @@
 pub mod BoundLemmas
+pub mod PrefixRows
 pub mod QueryLemmas
 pub mod RangeRows
 pub mod RangeTextLemmas

@@ -25,6 +25,7 @@ fields = record {
     analyze = λ field. ascii_words;
     entries = entry (codes "n") types.I64 ∷ entry (codes "body") types.Str ∷ entry (codes "j") types.Json ∷ entry (codes "ip") types.IpAddr ∷ [];
   };
+  prefixes = λ field. ascii_words;
   defaults = 1 ∷ [];
 }
 

@@ -10,7 +10,7 @@ use Rattle.ii_query_parser.specs.declared.range_text.Integers.{Integers}
 use Rattle.ii_query_parser.specs.declared.range_text.TermRanges.{TermRanges}
 use Rattle.ii_query_parser.specs.declared.term_range.KeyBound.{KeyBound}
 use Rattle.ii_query_parser.specs.Queries.{has_fields, keeps_positions, matches}
-use Rattle.ii_query_parser.specs.QueryTexts.{AnalyzedFields, Means, has_keys, integer_bound, integer_keys, integer_type, keys_if, lower_beyond, range_keys, range_refusal, upper_beyond}
+use Rattle.ii_query_parser.specs.QueryTexts.{AnalyzedFields, Means, has_keys, integer_bound, integer_keys, integer_type, keys_if, lower_beyond, prefix_texts, range_keys, range_refusal, upper_beyond}
 use Rattle.ii_query_parser.specs.Ranges.{key_bound, ranges_of}
 
 pub integers_between : (start : TermState) (r : Range) (t : Integers) (prefix : TermState) (lower upper : KeyBound) → prefix ≡ record { field = start.field; value = start.value ++ code_of (integer_type t) ∷ [] }
@@ -25,7 +25,7 @@ integers_between start r t prefix lower upper is first other =
     ∙ ap (keys_if at (integer_bound t at.value (lower_beyond t) r.lower)) high
 
 -- what a range means
-pub range_means : (q : AnalyzedFields) (r : Range) (query : Query) (ranges : TermRanges) → range_keys q.texts r ≡ Ok (ranges_of ranges) → ((ts : List IndexToken) (doc : ℕ) → matches query ts doc ≡ has_keys ts doc (Ok (ranges_of ranges)))
+pub range_means : (q : AnalyzedFields) (r : Range) (query : Query) (ranges : TermRanges) → range_keys (prefix_texts q) r ≡ Ok (ranges_of ranges) → ((ts : List IndexToken) (doc : ℕ) → matches query ts doc ≡ has_keys ts doc (Ok (ranges_of ranges)))
     → has_fields (length q.texts.entries) query ≡ true → ((entries : List SchemaEntry) → keeps_positions entries query ≡ true) → Means q (ranged r) query
 range_means q r query ranges is means fields positions = record {
   taken = ap range_refusal is;

@@ -52,18 +52,23 @@ pub record FieldTexts : Type 0 where
   pub analyze : ℕ → List ℕ → List Word
   pub entries : List SchemaEntry
 
--- The analyzer of each field and the fields of a schema, and the default fields: those of a literal that names none.
+-- The analyzer of each field and the fields of a schema, the analyzer of prefixes and of bounds in each field, and the default fields: those of a literal that names none.
 pub record AnalyzedFields : Type 0 where
   pub texts : FieldTexts
+  pub prefixes : ℕ → List ℕ → List Word
   pub defaults : List ℕ
 
 -- the analyzer of a field, and the fields of the schema
 abbrev pub in_field : FieldTexts → ℕ → TextFields
 in_field q field = record { analyze = q.analyze field; entries = q.entries }
 
--- all fields with the same analyzer
+-- all fields with the same analyzer, also of prefixes
 abbrev pub by_one : QueryFields → AnalyzedFields
-by_one q = record { texts = record { analyze = λ field. q.texts.analyze; entries = q.texts.entries }; defaults = q.defaults }
+by_one q = record { texts = record { analyze = λ field. q.texts.analyze; entries = q.texts.entries }; prefixes = λ field. q.texts.analyze; defaults = q.defaults }
+
+-- the analyzer of prefixes and of bounds in each field, and the fields of the schema
+abbrev pub prefix_texts : AnalyzedFields → FieldTexts
+prefix_texts q = record { analyze = q.prefixes; entries = q.texts.entries }
 
 -- A term, and those that follow it in a phrase; a term alone has none.
 pub record PhraseState : Type 0 where
@@ -250,9 +255,19 @@ delimited_terms entries (Ok terms) delimiters.None = Ok terms
 delimited_terms entries (Ok terms) delimiters.DoubleQuotes = Ok terms
 delimited_terms entries (Ok terms) delimiters.Star = prefix_terms terms (no_prefix entries terms)
 
+-- the analyzers of a literal: a prefix has its own
+abbrev pub texts_for : AnalyzedFields → Delimiter → FieldTexts
+texts_for q delimiters.None = q.texts
+texts_for q delimiters.DoubleQuotes = q.texts
+texts_for q delimiters.Star = prefix_texts q
+
+-- the terms of the text of a literal of a tree, by the analyzers that it has
+abbrev pub undelimited_terms : AnalyzedFields → Literal → Terms
+undelimited_terms q l = literal_terms (texts_for q l.delimiter) q.defaults l.field_name l.phrase
+
 -- the terms of a literal of a tree
 abbrev pub terms_of : AnalyzedFields → Literal → Terms
-terms_of q l = delimited_terms q.texts.entries (literal_terms q.texts q.defaults l.field_name l.phrase) l.delimiter
+terms_of q l = delimited_terms q.texts.entries (undelimited_terms q l) l.delimiter
 
 -- whether a field has JSON values, if there is one
 abbrev pub names_json : List SchemaEntry → Option ℕ → Bool
@@ -485,7 +500,7 @@ abbrev mutual
   pub ast_matches : AnalyzedFields → Ast → List IndexToken → ℕ → Bool
   ast_matches q everything ts doc = nat_lt doc TERMINATED
   ast_matches q (leaf l) ts doc = has_one l.delimiter ts doc (terms_of q l)
-  ast_matches q (ranged r) ts doc = has_keys ts doc (range_keys q.texts r)
+  ast_matches q (ranged r) ts doc = has_keys ts doc (range_keys (prefix_texts q) r)
   ast_matches q (in_set s) ts doc = has_one delimiters.None ts doc (set_terms q.texts s)
   ast_matches q (all_of us) ts doc = are_some us && all_match q us ts doc
   ast_matches q (any_of us) ts doc = any_matches q us ts doc
@@ -509,7 +524,7 @@ abbrev mutual
   pub ast_refusal : AnalyzedFields → Ast → Option QueryParserError
   ast_refusal q everything = None
   ast_refusal q (leaf l) = refused (terms_of q l)
-  ast_refusal q (ranged r) = range_refusal (range_keys q.texts r)
+  ast_refusal q (ranged r) = range_refusal (range_keys (prefix_texts q) r)
   ast_refusal q (in_set s) = refused (set_terms q.texts s)
   ast_refusal q (all_of us) = asts_refusal q us
   ast_refusal q (any_of us) = asts_refusal q us

@@ -4,6 +4,7 @@
 pub mod laws;
 pub mod literal;
 mod phrase_words;
+mod prefix_analyzers;
 pub mod query;
 pub mod query_parser;
 pub mod query_parser_error;

@@ -5,10 +5,11 @@ ghost use Rattle.ii_base.specs.Values.{text_key};
 ghost use Rattle.ii_base.specs.declared.schema.value_type.ValueType.TheVariants as types;
 ghost use Rattle.ii_query_grammar.specs.Trees.{literal_of, set_of};
 ghost use Rattle.ii_query_parser.specs.declared.query_parser_error.QueryParserError.TheVariants as errors;
-ghost use Rattle.ii_query_parser.specs.QueryTexts.{Adds, AddsIn, AddsOrKeeps, AddsMaybe, AddsText, AreAlone, CutsAtDot, delimited_terms, field_named, has_json_values, holds_texts, is_alone, left_out, literal_terms, may_be_prefix, named_terms, no_prefix, prefix_terms, set_terms, some_default, terms_in_field, terms_of, typed_terms, words_phrase};
+ghost use Rattle.ii_query_parser.specs.QueryTexts.{Adds, AddsIn, AddsOrKeeps, AddsMaybe, AddsText, AreAlone, CutsAtDot, delimited_terms, field_named, has_json_values, holds_texts, is_alone, left_out, literal_terms, may_be_prefix, named_terms, no_prefix, prefix_terms, set_terms, some_default, terms_in_field, terms_of, typed_terms, undelimited_terms, words_phrase};
 ghost use Rattle.std.specs.List.{list_all};
 
 use crate::phrase_words::{PhraseWords, words_phrase};
+use crate::prefix_analyzers::PrefixAnalyzers;
 use crate::query_parser_error::QueryParserError;
 use crate::unknown_field::names_field;
 use ii_base::{Fault, Field, IndexRecordOption, Schema, Term, TextAnalyzer, ValueType};
@@ -28,12 +29,35 @@ pub(crate) fn push_literal<F: FieldAnalyzers>(
     terms: &mut Vec<PhraseWords>,
 ) -> Result<(), QueryParserError>
     requires empty { terms.old.items ≡ [] }
-    ensures added { Adds (terms_of (record { texts = record { analyze = F.words analyzers.now; entries = schema.now }; defaults = default_fields.now }) (literal_of literal.now)) schema.now terms.old.items terms.new.items result }
+    ensures added { Adds (terms_of (record { texts = record { analyze = F.words analyzers.now; entries = schema.now }; prefixes = F.prefix_words analyzers.now; defaults = default_fields.now }) (literal_of literal.now)) schema.now terms.old.items terms.new.items result }
     ensures alone { OnOk result (AreAlone literal.now.delimiter terms.new.items) }
 {
-    match push_text(alloc, schema, default_fields, analyzers, literal, terms) {
+    match push_delimited(alloc, schema, default_fields, analyzers, literal, terms) {
         Ok(()) => check_delimiter(schema, literal.delimiter, terms),
         Err(error) => Err(error),
+    }
+}
+
+// Appends the terms and phrases of the text of a literal, by the analyzers of prefixes if it is one.
+fn push_delimited<F: FieldAnalyzers>(
+    alloc: Global,
+    schema: &Schema,
+    default_fields: &[Field],
+    analyzers: &F,
+    literal: &UserInputLiteral,
+    terms: &mut Vec<PhraseWords>,
+) -> Result<(), QueryParserError>
+    ensures { Adds (undelimited_terms (record { texts = record { analyze = F.words analyzers.now; entries = schema.now }; prefixes = F.prefix_words analyzers.now; defaults = default_fields.now }) (literal_of literal.now)) schema.now terms.old.items terms.new.items result }
+{
+    match literal.delimiter {
+        Delimiter::Star => {
+            let prefixes = PrefixAnalyzers(analyzers);
+            push_text(alloc, schema, default_fields, &prefixes, literal, terms)
+        }
+        Delimiter::None => push_text(alloc, schema, default_fields, analyzers, literal, terms),
+        Delimiter::DoubleQuotes => {
+            push_text(alloc, schema, default_fields, analyzers, literal, terms)
+        }
     }
 }
 

@@ -54,7 +54,7 @@ pub fn parse_query_by<F: FieldAnalyzers>(
     analyzers: &F,
     text: &str,
 ) -> Result<Query, QueryParserError>
-    ensures { IsQueryOfTextBy (record { texts = record { analyze = F.words analyzers.now; entries = schema.now }; defaults = default_fields.now }) text.now result }
+    ensures { IsQueryOfTextBy (record { texts = record { analyze = F.words analyzers.now; entries = schema.now }; prefixes = F.prefix_words analyzers.now; defaults = default_fields.now }) text.now result }
 {
     match parse(alloc, text) {
         Ok(ast) => query_of_by(alloc, schema, default_fields, analyzers, &ast),
@@ -109,7 +109,7 @@ pub fn query_of_by<F: FieldAnalyzers>(
     analyzers: &F,
     ast: &UserInputAst,
 ) -> Result<Query, QueryParserError>
-    ensures { IsQueryBy (record { texts = record { analyze = F.words analyzers.now; entries = schema.now }; defaults = default_fields.now }) (ast_of ast.now) result }
+    ensures { IsQueryBy (record { texts = record { analyze = F.words analyzers.now; entries = schema.now }; prefixes = F.prefix_words analyzers.now; defaults = default_fields.now }) (ast_of ast.now) result }
 {
     match ast {
         UserInputAst::All => Ok(Query::All(TERMINATED)),
@@ -143,7 +143,7 @@ fn queries_of<F: FieldAnalyzers>(
     analyzers: &F,
     parts: &Vec<UserInputAst>,
 ) -> Result<Vec<Query>, QueryParserError>
-    ensures { AreQueriesOf (record { texts = record { analyze = F.words analyzers.now; entries = schema.now }; defaults = default_fields.now }) (asts_from (map ast_of parts.now.items)) result }
+    ensures { AreQueriesOf (record { texts = record { analyze = F.words analyzers.now; entries = schema.now }; prefixes = F.prefix_words analyzers.now; defaults = default_fields.now }) (asts_from (map ast_of parts.now.items)) result }
 {
     let mut queries = Vec::new(alloc);
     for part in parts {
@@ -198,7 +198,7 @@ fn literal_query<F: FieldAnalyzers>(
     analyzers: &F,
     literal: &UserInputLiteral,
 ) -> Result<Query, QueryParserError>
-    ensures { IsQueryBy (record { texts = record { analyze = F.words analyzers.now; entries = schema.now }; defaults = default_fields.now }) (leaf (literal_of literal.now)) result }
+    ensures { IsQueryBy (record { texts = record { analyze = F.words analyzers.now; entries = schema.now }; prefixes = F.prefix_words analyzers.now; defaults = default_fields.now }) (leaf (literal_of literal.now)) result }
 {
     let mut terms = Vec::new(alloc);
     match push_literal(
@@ -222,7 +222,7 @@ fn set_query<F: FieldAnalyzers>(
     analyzers: &F,
     set: &UserInputSet,
 ) -> Result<Query, QueryParserError>
-    ensures { IsQueryBy (record { texts = record { analyze = F.words analyzers.now; entries = schema.now }; defaults = default_fields.now }) (in_set (set_of set.now)) result }
+    ensures { IsQueryBy (record { texts = record { analyze = F.words analyzers.now; entries = schema.now }; prefixes = F.prefix_words analyzers.now; defaults = default_fields.now }) (in_set (set_of set.now)) result }
 {
     let mut terms = Vec::new(alloc);
     match push_set(alloc, schema, analyzers, set, &mut terms) {
@@ -239,7 +239,7 @@ fn range_query<F: FieldAnalyzers>(
     analyzers: &F,
     range: &UserInputRange,
 ) -> Result<Query, QueryParserError>
-    ensures { IsQueryBy (record { texts = record { analyze = F.words analyzers.now; entries = schema.now }; defaults = default_fields.now }) (ranged (range_of range.now)) result }
+    ensures { IsQueryBy (record { texts = record { analyze = F.words analyzers.now; entries = schema.now }; prefixes = F.prefix_words analyzers.now; defaults = default_fields.now }) (ranged (range_of range.now)) result }
 {
     match range_keys(alloc, schema, analyzers, range) {
         Ok(ranges) => Ok(ranges_query(alloc, ranges)?),

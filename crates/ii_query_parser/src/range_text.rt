@@ -81,7 +81,7 @@ pub(crate) fn range_keys<F: FieldAnalyzers>(
     analyzers: &F,
     range: &UserInputRange,
 ) -> Result<TermRanges, QueryParserError>
-    ensures ranges { AreRangesOf (range_keys (record { analyze = F.words analyzers.now; entries = schema.now }) (range_of range.now)) result }
+    ensures ranges { AreRangesOf (range_keys (record { analyze = F.prefix_words analyzers.now; entries = schema.now }) (range_of range.now)) result }
     ensures inside { IfOk result (AreInside (length schema.now)) }
 {
     let name = range.field_name.as_str();
@@ -100,7 +100,7 @@ pub(crate) fn range_keys<F: FieldAnalyzers>(
     keys_in_field(alloc, schema, analyzers, field, Some(path), range)
 }
 
-// The terms of a range in a field, by the field's analyzer, at a path if there is one.
+// The terms of a range in a field, by the field's analyzer of bounds, at a path if there is one.
 fn keys_in_field<F: FieldAnalyzers>(
     alloc: Global,
     schema: &Schema,
@@ -109,10 +109,10 @@ fn keys_in_field<F: FieldAnalyzers>(
     path: Option<&str>,
     range: &UserInputRange,
 ) -> Result<TermRanges, QueryParserError>
-    ensures ranges { AreRangesOf (keys_in_field (record { analyze = F.words analyzers.now; entries = schema.now }) field (option_copied path.entry) (range_of range.now)) result }
+    ensures ranges { AreRangesOf (keys_in_field (record { analyze = F.prefix_words analyzers.now; entries = schema.now }) field (option_copied path.entry) (range_of range.now)) result }
     ensures inside { IfOk result (AreInside (length schema.now)) }
 {
-    let analyzer = analyzers.analyzer(field);
+    let analyzer = analyzers.prefix_analyzer(field);
     entry_keys(alloc, schema, analyzer, field, path, range)
 }
 

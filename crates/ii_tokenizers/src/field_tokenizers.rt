@@ -1,6 +1,7 @@
 //! The analyzers that a schema names.
 ghost use Rattle.std.specs.Prelude.{◌≡◌, ◌++◌, ◌∷◌, [], OnErr, OnOk};
 ghost use Rattle.ii_io.specs.Faults.{OnlyMemory};
+ghost use Rattle.ii_tokenizers.specs.Tokenizers.{prefix_analyzer};
 
 use crate::analyzer::Analyzer;
 use crate::field_analyzers::FieldAnalyzers;
@@ -8,11 +9,27 @@ use ii_base::{Fault, Field};
 use std::alloc::Global;
 use std::marker::Model;
 
+impl Analyzer {
+    /// Returns the analyzer of prefixes and of the bounds of ranges in a field with this analyzer: itself, if it
+    /// does not stem.
+    pub fn for_prefixes(self) -> Analyzer
+        ensures { result ≡ prefix_analyzer self }
+    {
+        match self {
+            Analyzer::Ascii => Analyzer::Ascii,
+            Analyzer::Raw => Analyzer::Raw,
+            Analyzer::Whitespace => Analyzer::Whitespace,
+            Analyzer::Default => Analyzer::Default,
+        }
+    }
+}
+
 /// The analyzer of each field of a schema, in the order of the fields. Other fields have `Analyzer::Ascii`.
 ///
 /// Its model is the list of the analyzers.
 pub struct FieldTokenizers {
     fields: Vec<Analyzer>,
+    prefixes: Vec<Analyzer>,
     other: Analyzer,
 }
 
@@ -21,13 +38,15 @@ impl Drop for FieldTokenizers {
     fn drop(self) {
         let FieldTokenizers {
             fields: _,
+            prefixes: _,
             other: _,
         } = self;
     }
 }
 
 impl Model for FieldTokenizers {
-    ghost use Rattle.std.specs.Prelude.{◌≡◌, List};
+    ghost use Rattle.std.specs.Prelude.{◌≡◌, List, map};
+    ghost use Rattle.ii_tokenizers.specs.Tokenizers.{prefix_analyzer};
     ghost use Rattle.ii_tokenizers.specs.declared.analyzer.Analyzer.{Analyzer};
     ghost use Rattle.ii_tokenizers.specs.declared.analyzer.Analyzer.TheVariants.{Ascii};
 
@@ -35,7 +54,7 @@ impl Model for FieldTokenizers {
 
     ghost view = { λ t. t.fields.items };
 
-    ghost invariant = { λ t. t.other ≡ Ascii };
+    ghost invariant = { λ t. (t.other ≡ Ascii) × (t.prefixes.items ≡ map prefix_analyzer t.fields.items) };
 }
 
 impl FieldTokenizers {
@@ -45,6 +64,7 @@ impl FieldTokenizers {
     {
         FieldTokenizers {
             fields: Vec::new(alloc),
+            prefixes: Vec::new(alloc),
             other: Analyzer::Ascii,
         }
     }
@@ -56,7 +76,14 @@ impl FieldTokenizers {
         ensures err { OnErr result (self.new ≡ self.old) }
         ensures only { OnlyMemory result }
     {
-        Ok(self.fields.push(analyzer)?)
+        self.prefixes.push(analyzer.for_prefixes())?;
+        match self.fields.push(analyzer) {
+            Ok(()) => Ok(()),
+            Err(refused) => {
+                self.prefixes.pop();
+                Err(Fault::from(refused))
+            }
+        }
     }
 
     /// Returns the analyzers, in the order of the fields.
@@ -68,14 +95,24 @@ impl FieldTokenizers {
 }
 
 impl FieldAnalyzers for FieldTokenizers {
-    ghost use Rattle.ii_tokenizers.specs.Tokenizers.{analyzed_in};
+    ghost use Rattle.std.specs.Prelude.{map};
+    ghost use Rattle.ii_tokenizers.specs.Tokenizers.{analyzed_in, prefix_analyzer};
 
     type Analyzer = Analyzer;
 
     ghost words = { λ s. analyzed_in s };
 
+    ghost prefix_words = { λ s. analyzed_in (map prefix_analyzer s) };
+
     fn analyzer(&self, field: Field) -> &Analyzer {
         match self.fields.get(field.field_id() as usize) {
+            Some(analyzer) => analyzer,
+            None => &self.other,
+        }
+    }
+
+    fn prefix_analyzer(&self, field: Field) -> &Analyzer {
+        match self.prefixes.get(field.field_id() as usize) {
             Some(analyzer) => analyzer,
             None => &self.other,
         }

@@ -1,6 +1,4 @@
-use Rattle.std.proofs.Common.{◌≡◌, ◌<◌, ◌≤◌, ◌∙◌, ap, arith, get_or, length, rules, sym}
-use Rattle.ii_query_parser.specs.Bounded.{bounded}
-use Rattle.ii_query_parser.specs.Queries.{tree_of, without}
+use Rattle.std.proofs.Common.{◌<◌, ◌≤◌, length, rules}
 use Rattle.ii_query_parser.proofs.BoundLemmas.{all_bounded, and_not_bounded, next_bounded, next_same, none_deeper}
 use Rattle.ii_query_parser.proofs.query.+bound_query.Goals as goal
 
