@@ -19,7 +19,8 @@ ghost use Rattle.ii_store.specs.Collect.{CountsGarbage, HasNoGarbage, KeepsOther
 ghost use Rattle.ii_store.specs.Index.{Fails};
 ghost use Rattle.ii_store.specs.IndexMeta.{MetaState};
 ghost use Rattle.ii_store.specs.Segments.{list_in};
-ghost use Rattle.ii_tokenizers.specs.Tokenizers.{analyzed_in, prefix_analyzer};
+ghost use Rattle.ii_tokenizers.specs.Analyzers.{prefix_analyzer};
+ghost use Rattle.ii_tokenizers.specs.Tokenizers.{analyzed_in};
 ghost use Rattle.nequllpa_merging.specs.HeldSegments.{HoldsSegment};
 ghost use Rattle.nequllpa_merging.specs.Joins.{IsJoinFault, IsRefusedJoin};
 

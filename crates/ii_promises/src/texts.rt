@@ -11,7 +11,8 @@ ghost use Rattle.ii_query_grammar.specs.Trees.{ast_of};
 ghost use Rattle.ii_query_parser.specs.Queries.{any_of, each_of, has_fields, keeps_positions, matches, no_tree, tree, tree_of};
 ghost use Rattle.ii_query_parser.specs.QueryTexts.{text_matches, text_matches_by, text_refusal, text_refusal_by};
 ghost use Rattle.ii_tokenizers.specs.Analyzers.{analyzed};
-ghost use Rattle.ii_tokenizers.specs.Tokenizers.{analyzed_in, prefix_analyzer};
+ghost use Rattle.ii_tokenizers.specs.Analyzers.{prefix_analyzer};
+ghost use Rattle.ii_tokenizers.specs.Tokenizers.{analyzed_in};
 ghost use Rattle.ii_promises.specs.Texts.{GivesOrTells};
 
 use ii_query_grammar::laws::reads_what_is_spelled;

@@ -38,10 +38,3 @@ unicode_version = codes "18.0.0"
 -- the tokens of a text in a field, given the analyzers of fields in their order; other fields have the ASCII analyzer
 abbrev pub analyzed_in : List Analyzer → ℕ → List ℕ → List Word
 analyzed_in analyzers field text = analyzed (get_or analyzers field Ascii) text
-
--- the analyzer of prefixes and of the bounds of ranges in a field with this analyzer: none of these stems
-abbrev pub prefix_analyzer : Analyzer → Analyzer
-prefix_analyzer Ascii = Ascii
-prefix_analyzer Raw = Raw
-prefix_analyzer Whitespace = Whitespace
-prefix_analyzer Default = Default

@@ -1,28 +1,12 @@
 //! The analyzers that a schema names.
 ghost use Rattle.std.specs.Prelude.{◌≡◌, ◌++◌, ◌∷◌, [], OnErr, OnOk};
 ghost use Rattle.ii_io.specs.Faults.{OnlyMemory};
-ghost use Rattle.ii_tokenizers.specs.Tokenizers.{prefix_analyzer};
 
 use crate::analyzer::Analyzer;
 use crate::field_analyzers::FieldAnalyzers;
 use ii_base::{Fault, Field};
 use std::alloc::Global;
 use std::marker::Model;
-
-impl Analyzer {
-    /// Returns the analyzer of prefixes and of the bounds of ranges in a field with this analyzer: itself, if it
-    /// does not stem.
-    pub fn for_prefixes(self) -> Analyzer
-        ensures { result ≡ prefix_analyzer self }
-    {
-        match self {
-            Analyzer::Ascii => Analyzer::Ascii,
-            Analyzer::Raw => Analyzer::Raw,
-            Analyzer::Whitespace => Analyzer::Whitespace,
-            Analyzer::Default => Analyzer::Default,
-        }
-    }
-}
 
 /// The analyzer of each field of a schema, in the order of the fields. Other fields have `Analyzer::Ascii`.
 ///
@@ -46,7 +30,7 @@ impl Drop for FieldTokenizers {
 
 impl Model for FieldTokenizers {
     ghost use Rattle.std.specs.Prelude.{◌≡◌, List, map};
-    ghost use Rattle.ii_tokenizers.specs.Tokenizers.{prefix_analyzer};
+    ghost use Rattle.ii_tokenizers.specs.Analyzers.{prefix_analyzer};
     ghost use Rattle.ii_tokenizers.specs.declared.analyzer.Analyzer.{Analyzer};
     ghost use Rattle.ii_tokenizers.specs.declared.analyzer.Analyzer.TheVariants.{Ascii};
 
@@ -96,7 +80,8 @@ impl FieldTokenizers {
 
 impl FieldAnalyzers for FieldTokenizers {
     ghost use Rattle.std.specs.Prelude.{map};
-    ghost use Rattle.ii_tokenizers.specs.Tokenizers.{analyzed_in, prefix_analyzer};
+    ghost use Rattle.ii_tokenizers.specs.Analyzers.{prefix_analyzer};
+    ghost use Rattle.ii_tokenizers.specs.Tokenizers.{analyzed_in};
 
     type Analyzer = Analyzer;
 

@@ -8,7 +8,8 @@ ghost use Rattle.ii_definitions.specs.Tokens.{IndexToken};
 ghost use Rattle.ii_query_parser.specs.Queries.{has_fields, keeps_positions, matches};
 ghost use Rattle.ii_query_parser.specs.QueryTexts.{IsQueryOfTextBy, field_named};
 ghost use Rattle.ii_schema_text.specs.SchemaText.{text_schema, tokenized_schema};
-ghost use Rattle.ii_tokenizers.specs.Tokenizers.{analyzed_in, prefix_analyzer};
+ghost use Rattle.ii_tokenizers.specs.Analyzers.{prefix_analyzer};
+ghost use Rattle.ii_tokenizers.specs.Tokenizers.{analyzed_in};
 ghost use Rattle.nequllpa_folder.specs.OpenedSegments.{OpensAs};
 
 use crate::faults::OpenFault;
