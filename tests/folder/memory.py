@@ -21,7 +21,7 @@ SCHEMA = 'store_source = true\n\n[[field]]\nname = "body"\ntype = "text"\n\n[[fi
 MULTIPLE = 5  # bytes of memory for each byte of lines
 WORDS = ['sea', 'bird', 'old', 'man', 'sail', 'storm', 'gull', 'wind']
 LARGE, LARGE_SIZE = 200_000_000, 128_000_000
-SPARE = 32_000_000  # of the program itself, and of what is rounded up
+SPARE = 64_000_000  # of the program itself, and of freed memory that the allocator keeps
 
 
 class User(users.User):
