@@ -5,6 +5,8 @@ with the marks on them, `_`, ideographs and kana, and anything else as what ends
 import re
 import unicodedata
 
+import porter
+
 # The characters with the property White_Space.
 SPACES = '\t\n\v\f\r \x85\xa0\u1680\u2000\u2001\u2002\u2003\u2004\u2005\u2006\u2007\u2008\u2009\u200a\u2028\u2029\u202f\u205f\u3000'
 # Words of this many bytes and more are left out.
@@ -31,7 +33,12 @@ def default_words(text):
     return [(position, word) for position, word in numbered(word.casefold() for word in unicode_words(text)) if len(word.encode()) < LIMIT]
 
 
-WORDS_BY = {'ascii': ascii_words, 'raw': raw_words, 'whitespace': whitespace_words, 'default': default_words}
+def english_words(text):
+    """Returns the stems of the words of a text."""
+    return [(position, porter.stem(word)) for position, word in default_words(text)]
+
+
+WORDS_BY = {'ascii': ascii_words, 'raw': raw_words, 'whitespace': whitespace_words, 'default': default_words, 'en': english_words}
 
 
 def numbered(words):

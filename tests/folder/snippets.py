@@ -18,6 +18,7 @@ sys.dont_write_bytecode = True
 HERE = os.path.dirname(os.path.abspath(__file__))
 sys.path.insert(0, HERE)
 import analyzers
+import porter
 import users
 from users import Failed
 
@@ -26,7 +27,10 @@ FOLDERS = 200
 QUERIES = 3
 SHOWN = 30
 WORDS = ['sea', 'Sea', 'SEARCH', 'old', 'man', 'boat', 'line', 'fish', 'na\u00efve', 'Stra\u00dfe', 'STRASSE', '\u8001\u4eba', '\u0431\u0435\u0440\u0435\u0433',
-         'e\u0301t\u00e9', '\u05e9\u05dc\u05d5\u05dd', '\u0628\u062d\u0631', '\u0628\u0650\u062d\u0631', 'x1', '42', '\U00010428ab', 'x' * 41]
+         'e\u0301t\u00e9', '\u05e9\u05dc\u05d5\u05dd', '\u0628\u062d\u0631', '\u0628\u0650\u062d\u0631', 'x1', '42', '\U00010428ab', 'x' * 41,
+         'sail', 'sailing', 'Boats', 'fishing', 'lines']
+# The words of queries: without one that is too long.
+ASKED = [word for word in WORDS if len(word) < analyzers.LIMIT]
 # What is between words, and words of no tokenizer.
 BETWEEN = [' ', ' ', ' ', '  ', ', ', '. ', '\n', '\t', ' & ', ' <i> ', ' "', "' ", '\u2026', '\x07', '\x1b[1m ', '\x85', '\u2028', ' \U0001f41f ', '-', '\u2014']
 OTHERS = {'count': 'u64', 'shift': 'i64', 'flag': 'bool', 'raw': 'bytes', 'host': 'ip_addr', 'tree': 'json'}
@@ -47,7 +51,8 @@ def tokens(tokenizer, text):
         at = text.index(word, at)
         found.append((at, at + len(word), word.casefold()))
         at += len(word)
-    return [token for token in found if len(token[2].encode()) < analyzers.LIMIT]
+    found = [token for token in found if len(token[2].encode()) < analyzers.LIMIT]
+    return [(start, end, porter.stem(word)) for start, end, word in found] if tokenizer == 'en' else found
 
 
 def shown(rows):
@@ -169,9 +174,9 @@ def random_part(chosen, fields, default):
         word = chosen.choice(['se', 'o', 'Se', 'stra', 'na\u00ef', '\u05e9\u05dc'])
         return f'{before}{word}*', {name: [begins(key) for key in keys_of(fields[name], word)] for name in names}
     if kind == 'phrase':
-        text = ' '.join(chosen.choices(WORDS[:-1], k=2))
+        text = ' '.join(chosen.choices(ASKED, k=2))
         return f'{before}"{text}"', {name: [is_key(key) for key in keys_of(fields[name], text)] for name in names}
-    word = chosen.choice(WORDS[:-1])
+    word = chosen.choice(ASKED)
     return before + word, {name: [is_key(key) for key in keys_of(fields[name], word)] for name in names}
 
 
@@ -215,7 +220,7 @@ def random_folders(user):
     chosen, num_shown = random.Random(SEED), 0
     for _ in range(FOLDERS):
         names = ['body', 'title', 'tag', 'note'][:chosen.randrange(1, 5)]
-        fields = {name: chosen.choice(['default', 'default', 'raw', 'whitespace', 'ascii']) for name in names}
+        fields = {name: chosen.choice(['default', 'default', 'raw', 'whitespace', 'ascii', 'en', 'en']) for name in names}
         default = [name for name in names if name == 'body' or chosen.randrange(4)]
         tables = ''.join(f'[[field]]\nname = "{name}"\ntype = "text"\n' + (f'tokenizer = "{fields[name]}"\n' if name in default else 'indexed = false\n') for name in names)
         tables += ''.join(f'[[field]]\nname = "{name}"\ntype = "{kind}"\n' for name, kind in {'id': 'u64', **OTHERS}.items())

@@ -1,6 +1,7 @@
 #!/usr/bin/env python3
 """Indexes texts with each tokenizer, and compares the answers of `nequllpa` with a plain reading of them. An index whose
-schema names no tokenizer, as earlier programs wrote it, has the ASCII one."""
+schema names no tokenizer, as earlier programs wrote it, has the ASCII one. The stems of English words are compared with
+those that another program gives (`tests/stems/porter.txt`), and so are those of the plain reading."""
 import base64
 import hashlib
 import json
@@ -13,6 +14,7 @@ sys.dont_write_bytecode = True
 HERE = os.path.dirname(os.path.abspath(__file__))
 sys.path.insert(0, HERE)
 import analyzers
+import porter
 import users
 from users import Failed
 
@@ -21,10 +23,11 @@ ROUNDS = 12
 LINES = 40
 QUERIES = 60
 
-# The pieces of random texts: words that differ in case alone, and words joined by marks.
+# The pieces of random texts: words that differ in case alone, words joined by marks, and forms of English words.
 PIECES = ['sea', 'Sea', 'SEA', 'The', 'the', 'old', 'Old', 'man', 'man\u2019s', "man's", '\u201csea\u201d', 'Stra\u00dfe', 'STRASSE', 'Na\u00efve', 'sea\u0301', 'e.g.', '3.14', 'host.org', 'foo_bar',
-          'co-op', '\u8001\u4eba', '\u30ab\u30ca', '\u3072\u3089', '\U0001f44d', '--', 'x' * 39, 'y' * 40, 'ID-7', 'a:b', '_', '9', '\u0391\u03c3', '\u0391\u03a3', '\u00a0', '\t']
-FIELDS = [('plain', 'text', None), ('raw', 'text', 'raw'), ('spaces', 'text', 'whitespace'), ('ascii', 'text', 'ascii'), ('words', 'text', 'default'), ('about', 'json', None), ('ids', 'json', 'raw')]
+          'co-op', '\u8001\u4eba', '\u30ab\u30ca', '\u3072\u3089', '\U0001f44d', '--', 'x' * 39, 'y' * 40, 'ID-7', 'a:b', '_', '9', '\u0391\u03c3', '\u0391\u03a3', '\u00a0', '\t',
+          'sail', 'sailing', 'SAILED', 'sky', 'skies', 'be', 'bes', 'happily', 'relational', 'relate', 'sailing\u2019s', 'na\u00efvely', 'x1s']
+FIELDS = [('plain', 'text', None), ('raw', 'text', 'raw'), ('spaces', 'text', 'whitespace'), ('ascii', 'text', 'ascii'), ('words', 'text', 'default'), ('english', 'text', 'en'), ('about', 'json', None), ('ids', 'json', 'raw'), ('notes', 'json', 'en')]
 
 # The files of an index of "The Sea" and "the man\u2019s sea", as written by a program that knew no tokenizers.
 EARLIER = {
@@ -159,20 +162,44 @@ def rows(user):
             ('ID:IN []', 'no field ID'), ('body:IN [a "-"]', 'expected a text with words')):
         user.wants(['search', 'rows', query], 2, '', err)
     for text, err in (
-            ('tokenizer = "Raw"\n[[field]]\nname = "a"\ntype = "text"', 'unknown tokenizer Raw: one of default, raw, whitespace, ascii'),
-            ('tokenizer = 1\n[[field]]\nname = "a"\ntype = "text"', 'tokenizer: one of default, raw, whitespace, ascii'),
-            ('[[field]]\nname = "a"\ntype = "text"\ntokenizer = "english"', 'field 0: unknown tokenizer english: one of default, raw, whitespace, ascii (the field a)'),
-            ('[[field]]\nname = "a"\ntype = "u64"\ntokenizer = "raw"', 'field 0: tokenizer: one of default, raw, whitespace, ascii, where an indexed field has texts or JSON values (the field a)'),
+            ('tokenizer = "Raw"\n[[field]]\nname = "a"\ntype = "text"', 'unknown tokenizer Raw: one of default, raw, whitespace, ascii, en'),
+            ('tokenizer = 1\n[[field]]\nname = "a"\ntype = "text"', 'tokenizer: one of default, raw, whitespace, ascii, en'),
+            ('[[field]]\nname = "a"\ntype = "text"\ntokenizer = "english"', 'field 0: unknown tokenizer english: one of default, raw, whitespace, ascii, en (the field a)'),
+            ('[[field]]\nname = "a"\ntype = "u64"\ntokenizer = "raw"', 'field 0: tokenizer: one of default, raw, whitespace, ascii, en, where an indexed field has texts or JSON values (the field a)'),
             ('[[field]]\nname = "a"\ntype = "text"\nindexed = false\ntokenizer = "raw"', 'field 0: tokenizer: '),
             ('[[field]]\nname = "a"\ntype = "text"\ntokenizer = 1', 'field 0: tokenizer: '),
             ('unicode = 18\n[[field]]\nname = "a"\ntype = "text"', 'unicode: a version, as a text'),
             ('unicode = "17.0.0"\n[[field]]\nname = "a"\ntype = "text"', "its words are by Unicode 17.0.0, which this program doesn't have: index again")):
         user.write('bad.toml', text)
         user.wants(['index', 'bad', '--schema', 'bad.toml'], 2, '', err)
+    # forms of an English word
+    user.write('english.toml', 'tokenizer = "en"\n[[field]]\nname = "body"\ntype = "text"\n')
+    user.wants(['index', 'english', '--schema', 'english.toml'], 0, '2 documents indexed\n', given=b'{"body": "The old seas"}\n{"body": "Sailing by the old sea"}\n')
+    for query, found in (('sail', [1]), ('SAILED', [1]), ('"old sea"', [0, 1]), ('"sails by"', [1]), ('seas', [0, 1]), ('saili', []), ('body:IN [sails]', [1])):
+        user.wants(['search', 'english', query], 0 if found else 1, ''.join(f'{doc}\n' for doc in found))
     # words that don't depend on Unicode
     user.write('other.toml', 'unicode = "17.0.0"\ntokenizer = "raw"\n[[field]]\nname = "a"\ntype = "text"')
     user.wants(['index', 'other', '--schema', 'other.toml'], 0, '1 documents indexed\n', given=b'{"a": "A b"}\n')
     user.wants(['search', 'other', '"A b"'], 0, '0\n')
+
+
+def stems(user):
+    """Compares the stems of words with those that another program gives. Returns how many."""
+    with open(os.path.join(HERE, '..', 'stems', 'porter.txt')) as file:
+        stem_of = dict(line.split() for line in file if not line.startswith('#'))
+    for word, stem in stem_of.items():
+        if porter.stem(word) != stem:
+            raise Failed(f'the plain reading has the stem {porter.stem(word)} of {word}, not {stem}')
+    user.write('schema.toml', 'tokenizer = "en"\n[[field]]\nname = "body"\ntype = "text"\n')
+    words = list(stem_of)
+    user.wants(['index', 'stems', '--schema', 'schema.toml'], 0, f'{len(words)} documents indexed\n', given=''.join(json.dumps({'body': word}) + '\n' for word in words).encode())
+    docs_of = {}
+    for doc, word in enumerate(words):
+        docs_of.setdefault(stem_of[word], []).append(doc)
+    user.wants(['terms', 'stems', 'body'], 0, ''.join(f'{len(docs_of[stem])} {stem}\n' for stem in sorted(docs_of)))
+    answers = [{'query': f'"{word}"', 'docs': [{'doc': doc} for doc in docs_of[stem_of[word]]]} for word in words]
+    user.wants(['search', 'stems', '--batch'], 0, ''.join(json.dumps(answer, separators=(',', ':')) + '\n' for answer in answers), given=''.join(f'"{word}"\n' for word in words).encode())
+    return len(words)
 
 
 def earlier(user):
@@ -198,10 +225,11 @@ def each_tokenizer(user):
     """Goes through all of it. Returns what was seen."""
     chosen = random.Random(SEED)
     rows(user)
+    num_stems = stems(user)
     earlier(user)
     for number in range(ROUNDS):
-        compares(user, chosen, [None, 'default', 'raw', 'whitespace', 'ascii'][number % 5])
-    return f'{ROUNDS} folders of {LINES} lines with each tokenizer, {ROUNDS * QUERIES} queries'
+        compares(user, chosen, [None, 'default', 'raw', 'whitespace', 'ascii', 'en'][number % 6])
+    return f'{ROUNDS} folders of {LINES} lines with each tokenizer, {ROUNDS * QUERIES} queries, {num_stems} stems'
 
 
 sys.exit(users.judged(each_tokenizer, User))

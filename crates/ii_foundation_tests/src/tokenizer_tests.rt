@@ -44,6 +44,11 @@ fn texts_are_analyzed(rt: HostRuntime) -> Result<(), Fail> {
             "a@0+1 1..2, b-c@1+1 4..7, ",
         ),
         (Analyzer::Whitespace, "\u{a0}\t", ""),
+        (
+            Analyzer::English,
+            "The old seas, SAILING",
+            "the@0+1 0..3, old@1+1 4..7, sea@2+1 8..12, sail@3+1 14..21, ",
+        ),
     ];
     for (analyzer, text, spelled) in rows {
         let found = are_spelled(rt.alloc(), &analyzer, text, spelled)?;
@@ -78,6 +83,7 @@ fn analyzers_have_names(rt: HostRuntime) -> Result<(), Fail> {
         (Analyzer::Raw, "raw", false),
         (Analyzer::Whitespace, "whitespace", true),
         (Analyzer::Ascii, "ascii", false),
+        (Analyzer::English, "en", true),
     ];
     for (analyzer, name, uses_unicode) in rows {
         assert!(rt; analyzer.name() == name);
@@ -85,6 +91,8 @@ fn analyzers_have_names(rt: HostRuntime) -> Result<(), Fail> {
         assert!(rt; analyzer.uses_unicode() == uses_unicode);
     }
     assert!(rt; Analyzer::named("Default").is_none());
+    assert!(rt; Analyzer::English.for_prefixes() == Analyzer::Default);
+    assert!(rt; Analyzer::Whitespace.for_prefixes() == Analyzer::Whitespace);
     assert!(rt; unicode_version() == "18.0.0");
     Ok(())
 }

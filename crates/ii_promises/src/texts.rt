@@ -82,7 +82,7 @@ pub fn texts_find_by_their_analyzers<F: FieldAnalyzers>(
     }
 }
 
-/// So it does by each of the tokenizers `ascii`, `raw`, `whitespace` and `default`, whose words are `analyzed`.
+/// So it does by each of the tokenizers `ascii`, `raw`, `whitespace`, `default` and `en`, whose words are `analyzed`.
 pub fn texts_find_by_each_tokenizer(
     alloc: Global,
     index: &OpenIndex,

@@ -4,7 +4,7 @@ use Rattle.toml.specs.Data.{array, boolean, integer, item, member, no_items, no_
 use Rattle.std.specs.Prelude.{pos}
 use Rattle.ii_base.specs.declared.schema.index_record_option.IndexRecordOption.TheVariants.{Basic, WithFreqsAndPositions}
 use Rattle.ii_base.specs.declared.schema.value_type.ValueType.TheVariants as values
-use Rattle.ii_tokenizers.specs.declared.analyzer.Analyzer.TheVariants.{Ascii, Default, Raw, Whitespace}
+use Rattle.ii_tokenizers.specs.declared.analyzer.Analyzer.TheVariants.{Ascii, Default, English, Raw, Whitespace}
 use Rattle.ii_tokenizers.specs.Tokenizers.{analyzer_named}
 use Rattle.ii_schema_text.specs.declared.faults.FieldKey.TheVariants as keys
 use Rattle.ii_schema_text.specs.declared.unknown_keys.UnknownKeys.TheVariants.{Ignore, Refuse}
@@ -141,6 +141,10 @@ own : tokenizer_in 3 Default true (Some (string (codes "raw"))) ≡ Ok Raw
 unfolding analyzer_named
 own = refl
 
+english : tokenizer_in 3 Default true (Some (string (codes "en"))) ≡ Ok English
+unfolding analyzer_named
+english = refl
+
 of_the_text : tokenizer_in 3 Default true None ≡ Ok Default
 of_the_text = refl
 
@@ -165,6 +169,9 @@ other_version = refl
 
 other_version_of_ascii : unicode_in (Raw ∷ Ascii ∷ []) (Some (string (codes "17.0.0"))) ≡ Ok tt
 other_version_of_ascii = refl
+
+other_version_of_english : unicode_in (English ∷ []) (Some (string (codes "17.0.0"))) ≡ Err (other_unicode (codes "17.0.0"))
+other_version_of_english = refl
 
 this_version : unicode_in (Whitespace ∷ []) (Some (string (codes "18.0.0"))) ≡ Ok tt
 this_version = refl

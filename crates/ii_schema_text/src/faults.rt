@@ -44,7 +44,7 @@ impl FieldKey {
             FieldKey::ExpandDots =>
                 "expand_dots: true or false, where an indexed field has JSON values",
             FieldKey::Tokenizer =>
-                "tokenizer: one of default, raw, whitespace, ascii, where an indexed field has texts or JSON values",
+                "tokenizer: one of default, raw, whitespace, ascii, en, where an indexed field has texts or JSON values",
         }
     }
 }
@@ -68,10 +68,10 @@ pub enum SchemaFault {
     #[error("unknown key {0}: a schema has tables [[field]], and the keys tokenizer, unicode, store_source and unknown")]
     UnknownKey(String),
     /// The key `tokenizer` of the schema is no text.
-    #[error("tokenizer: one of default, raw, whitespace, ascii")]
+    #[error("tokenizer: one of default, raw, whitespace, ascii, en")]
     WrongTokenizer,
     /// The key `tokenizer` of the schema names no known tokenizer.
-    #[error("unknown tokenizer {0}: one of default, raw, whitespace, ascii")]
+    #[error("unknown tokenizer {0}: one of default, raw, whitespace, ascii, en")]
     UnknownTokenizer(String),
     /// The key `store_source` is no boolean.
     #[error("store_source: true or false")]
@@ -92,7 +92,7 @@ pub enum SchemaFault {
     #[error("field {0}: {1}")]
     WrongKey(usize, FieldKey),
     /// A field names a tokenizer that isn't known.
-    #[error("field {0}: unknown tokenizer {1}: one of default, raw, whitespace, ascii")]
+    #[error("field {0}: unknown tokenizer {1}: one of default, raw, whitespace, ascii, en")]
     UnknownFieldTokenizer(usize, String),
     /// The key `unicode` is no text.
     #[error("unicode: a version, as a text")]
