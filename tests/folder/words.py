@@ -128,7 +128,7 @@ def compares(user, chosen, default):
         if words or (kind == 'json' and text in ('true', 'false', '9')):
             user.wants(['search', 'folder', query], 0 if found else 1, ''.join(f'{doc}\n' for doc in found))
         else:
-            user.wants(['search', 'folder', query], 2, '', 'expected a text with words')
+            user.wants(['search', 'folder', query], 2, '', 'no word to search for')
         if words and kind == 'text':
             user.wants(['search', 'folder', quoted(text), '--field', name, '--count'], 0 if found else 1, f'{len(found)}\n')
         compares_set(user, chosen, readings)
@@ -139,10 +139,14 @@ def compares_set(user, chosen, readings):
     """Compares the documents of a set of texts, and those without them, with the reading of the lines."""
     name, kind, tokenizer = chosen.choice(FIELDS)
     words_by, places = readings[name]
-    values = [text for text in chosen.choices(PIECES, k=chosen.randrange(6)) if words_by(text)]
-    found = [doc for doc in range(LINES) if any(has_phrase(places[doc], words_by(text)) for text in values)]
+    values = chosen.choices(PIECES, k=chosen.randrange(6))
+    found = [doc for doc in range(LINES) if any(words_by(text) and has_phrase(places[doc], words_by(text)) for text in values)]
     others = [doc for doc in range(LINES) if doc not in found]
     query = f'{name}{".x" if kind == "json" else ""}:IN [{" ".join(map(quoted, values))}]'
+    if values and not any(map(words_by, values)):
+        user.wants(['search', 'folder', query], 2, '', 'no word to search for')
+        query = f'* AND {query}'
+        found, others = list(range(LINES)), []
     for text, docs in (query, found), (f'* AND NOT {query}', others), (f'{query} *', list(range(LINES))):
         user.wants(['search', 'folder', text], 0 if docs else 1, ''.join(f'{doc}\n' for doc in docs))
         user.wants(['search', 'folder', text, '--count'], 0 if docs else 1, f'{len(docs)}\n')
@@ -155,11 +159,12 @@ def rows(user):
     user.wants(['index', 'rows', '--schema', 'schema.toml'], 0, '3 documents indexed\n', given=''.join(json.dumps(line) + '\n' for line in lines).encode())
     for query, found in (('the', [0]), ('SEA', [0]), ('man', [0]), ('"MAN S SEA"', [0]), ('"old sea"', []), ('"a b"', []), ('\u8001\u4eba', [2]), ('"\u4eba \u8001"', []), ('stra\u00dfe', [2]),
                          ('ID-7', []), ('id:ID-7', []), ('id:"ID-7 a"', [0]), ('id:id-7', [1]), ('the AND -id:"ID-7 a"', []),
-                         ('id:IN [id-7 "ID-7 a" x]', [0, 1]), ('id:IN [ID-7]', []), ('id:IN []', []), ('body:IN [stra\u00dfe "man s sea"]', [0, 2]), ('*', [0, 1, 2]), ('* AND NOT id:IN[id-7]', [0, 2]), ('the AND *', [0])):
+                         ('id:IN [id-7 "ID-7 a" x]', [0, 1]), ('id:IN [ID-7]', []), ('id:IN []', []), ('body:IN [stra\u00dfe "man s sea"]', [0, 2]), ('*', [0, 1, 2]), ('* AND NOT id:IN[id-7]', [0, 2]), ('the AND *', [0]),
+                         ('the AND body:"-"', [0]), ('body:"-" OR sea', [0]), ('sea AND NOT body:"-"', [0]), ('the AND "-"', []), ('"-" OR sea', [0]), ('body:IN [a "-"]', [1]), ('sea AND body:IN ["-"]', [0]), ('sea AND body:IN []', [])):
         user.wants(['search', 'rows', query], 0 if found else 1, ''.join(f'{doc}\n' for doc in found))
     for query, err in (
             ('id:IN [a', 'at byte 8: expected a value of the set'), ('IN [a]', 'at byte 0: a set needs the name of a field'), ('id:IN [a "b]', 'at byte 12: expected a closing quote'),
-            ('ID:IN []', 'no field ID'), ('body:IN [a "-"]', 'expected a text with words')):
+            ('ID:IN []', 'no field ID'), ('body:"-"', 'no word to search for'), ('body:"-" AND NOT sea', 'no word to search for'), ('body:IN ["-"]', 'no word to search for'), ('body:...*', 'no word to search for'), ('body:>...', 'a bound of a range must be one word')):
         user.wants(['search', 'rows', query], 2, '', err)
     for text, err in (
             ('tokenizer = "Raw"\n[[field]]\nname = "a"\ntype = "text"', 'unknown tokenizer Raw: one of default, raw, whitespace, ascii, en'),

@@ -1,4 +1,5 @@
 pub mod BoundLemmas
+pub mod LeftLemmas
 pub mod PrefixRows
 pub mod QueryLemmas
 pub mod RangeRows
@@ -7,6 +8,7 @@ pub mod SetLemmas
 pub mod SetRows
 pub mod TermLemmas
 pub mod TreeLemmas
+pub mod TrimmedRows
 pub mod ValueOrder
 pub mod WordsLemmas
 pub mod WordsQueryLemmas

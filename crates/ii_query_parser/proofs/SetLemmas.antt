@@ -10,7 +10,8 @@ use Rattle.ii_query_parser.specs.declared.query.Query.{Query}
 use Rattle.ii_query_parser.specs.declared.query_parser_error.QueryParserError.{QueryParserError}
 use Rattle.ii_query_parser.specs.declared.query_parser_error.QueryParserError.TheVariants as errors
 use Rattle.ii_query_parser.specs.Queries.{has_fields, keeps_positions, matches}
-use Rattle.ii_query_parser.specs.QueryTexts.{Adds, AnalyzedFields, FieldTexts, IsRefusedAs, IsWhyRefused, Means, PhraseState, are_in, field_named, has_term, joined_terms, named_terms, names_field, no_terms, phrase_kept, phrase_within, refused, set_terms, values_terms}
+use Rattle.ii_query_parser.specs.QuerySteps.{Adds, IsRefusedAs, are_in, phrase_kept, phrase_within}
+use Rattle.ii_query_parser.specs.QueryTexts.{AnalyzedFields, FieldTexts, IsWhyRefused, Means, PhraseState, field_named, has_term, joined_terms, named_terms, names_field, no_terms, refused, set_terms, values_terms}
 use Rattle.ii_query_parser.proofs.TermLemmas.{IsJoining, joins_more, terms_mean, why_joined, why_of}
 
 -- a value and those after it

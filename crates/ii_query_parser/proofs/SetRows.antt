@@ -38,7 +38,7 @@ abbrev phrase_value : refusal_of (codes "body:IN [sea \"sea set\"]") ≡ Some (e
 unfolding tokens set_values
 phrase_value = refl
 
-abbrev empty_value : refusal_of (codes "body:IN [\"\"]") ≡ Some (errors.UnsupportedPhrase 1)
+abbrev empty_value : refusal_of (codes "body:IN [\"\"]") ≡ Some errors.NoWords
 unfolding tokens set_values
 empty_value = refl
 

@@ -1,7 +1,8 @@
 -- The terms of words and phrases.
 use Rattle.std.proofs.Common.{◌≡◌, ◌∙◌, ℕ, ◌+◌, ◌<◌, ◌≤◌, Bool, true, false, ◌&&◌, ◌||◌, true≢false, List, [], ◌∷◌, ◌++◌, append_assoc, cond, drop, eqb, get_or, length, nat_lt, Option, None, Some, Result, Ok, Err, inl, inr, refl, sym, ap, arith, subst, add-one}
-use Rattle.std.specs.Prelude.{IfErr, IfOk, IfSome, bytes_eq, option_map, position, slice_get}
+use Rattle.std.specs.Prelude.{IfErr, IfOk, IfSome, OnOk, bytes_eq, option_map, position, slice_get}
 use Rattle.std.specs.List.{AllByRecursion, list_all, position_from, position_or_len}
+use Rattle.std.specs.Option.{option_or}
 use Rattle.std.specs.Result.{result_unwrap_or}
 use Rattle.std.proofs.Math.Bool.{or-true}
 use Rattle.std.proofs.Math.Seq.{drop-cons}
@@ -31,7 +32,8 @@ use Rattle.ii_query_grammar.specs.Trees.{Ast, Literal, leaf}
 use Rattle.ii_query_grammar.specs.declared.user_input_ast.Delimiter.{Delimiter}
 use Rattle.ii_query_parser.specs.declared.query.Query.{Query}
 use Rattle.ii_query_parser.specs.Queries.{has_fields, has_positions_in, keeps_positions, matches}
-use Rattle.ii_query_parser.specs.QueryTexts.{Adds, AddsIn, AddsMaybe, AddsOrKeeps, AddsText, IsPhraseIn, IsRefusedAs, IsWhyRefused, Means, AnalyzedFields, FieldTexts, PhraseState, Terms, TextFields, are_in, ast_matches, ast_refusal, default_terms, has_one, has_term, in_field, is_alone, joined_terms, left_out, no_prefix, one_term, path_key, path_value, phrase_kept, phrase_within, refused, some_default, some_left, stand_after, terms_after, terms_in_field, terms_of, text_terms, typed_terms, value_term, words_phrase}
+use Rattle.ii_query_parser.specs.QuerySteps.{Adds, AddsIn, AddsMaybe, AddsOrKeeps, AddsText, AddsUnlessLeft, IsPhraseIn, IsRefusedAs, are_in, phrase_kept, phrase_within}
+use Rattle.ii_query_parser.specs.QueryTexts.{IsWhyRefused, Means, AnalyzedFields, FieldTexts, PhraseState, Terms, TextFields, ast_matches, ast_refusal, default_terms, first_left_out, has_one, has_term, if_left_out, in_field, is_alone, joined_terms, left_out, no_prefix, none_unless, one_term, path_key, path_value, refused, some_default, some_left, stand_after, terms_after, terms_in_field, terms_of, text_terms, typed_terms, value_term, words_phrase}
 
 -- Terms were added, and those that are left come after them; together they are all.
 pub record IsJoining (entries : List SchemaEntry) (all left : Terms) (old now : List PhraseState) : Type 0 where
@@ -59,25 +61,40 @@ joins_more entries all left here rest old now new ts left_is j is new_is within 
   whole = j.whole ∙ ap (joined_terms (Ok j.found)) (left_is ∙ ap (λ (terms : Terms). joined_terms terms rest) is) ∙ joined_on j.found ts rest;
 }
 
--- Terms of the fields so far were added, and those of the fields that are left come after them.
-abbrev pub IsGathering : FieldTexts → List ℕ → List ℕ → List ℕ → List PhraseState → List PhraseState → Type 0
-IsGathering q phrase all fields old now = IsJoining q.entries (default_terms q phrase all) (default_terms q phrase fields) old now
+-- Terms of the fields so far were added, and those of the other fields come after them; the first field so far that is left out is known.
+pub record IsGathering (q : FieldTexts) (phrase all fields : List ℕ) (left : Option ℕ) (old now : List PhraseState) : Type 0 where
+  pub joined : IsJoining q.entries (default_terms q phrase all) (default_terms q phrase fields) old now
+  pub first : option_or left (first_left_out q phrase fields) ≡ first_left_out q phrase all
 
 -- nothing was added so far
-pub gathers_none : (q : FieldTexts) (phrase all : List ℕ) (old : List PhraseState) → IsGathering q phrase all all old old
-gathers_none q phrase all old = joins_none q.entries (default_terms q phrase all) old
+pub gathers_none : (q : FieldTexts) (phrase all : List ℕ) (old : List PhraseState) → IsGathering q phrase all all None old old
+gathers_none q phrase all old = record { joined = joins_none q.entries (default_terms q phrase all) old; first = refl }
 
 field_at : (all : List ℕ) (i field : ℕ) → i < length all → field ≡ get_or all i field → drop i all ≡ field ∷ drop (i + 1) all
 field_at all i field inside is = drop-cons all i field inside ∙ rw (← is, add-one i) refl
 
--- the terms of one field more
-pub gathers_more : (q : FieldTexts) (phrase all : List ℕ) (i field : ℕ) (old now new ts : List PhraseState) → i < length all → field ≡ get_or all i field → IsGathering q phrase all (drop i all) old now
-    → left_out (terms_in_field (in_field q field) field [] phrase) ≡ Ok ts → new ≡ now ++ ts → are_in q.entries ts ≡ true → IsGathering q phrase all (drop (i + 1) all) old new
-gathers_more q phrase all i field old now new ts inside here g is new_is within =
-    joins_more q.entries (default_terms q phrase all) _ (left_out (terms_in_field (in_field q field) field [] phrase)) _ old now new ts (ap (default_terms q phrase) (field_at all i field inside here)) g is new_is within
+or_on : (left here later : Option ℕ) → option_or (option_or left here) later ≡ option_or left (option_or here later)
+or_on None here later = refl
+or_on (Some field) here later = refl
 
--- the first error of the default fields
-some_defaults : (q : FieldTexts) (phrase all : List ℕ) (i : ℕ) → i < length all → some_default q phrase all ≡ some_left (get_or all 0 0) (default_terms q phrase all)
+or_none : (left : Option ℕ) → option_or left None ≡ left
+or_none None = refl
+or_none (Some field) = refl
+
+-- the terms of one field more
+pub gathers_more : (q : FieldTexts) (phrase all : List ℕ) (i field : ℕ) (left here more : Option ℕ) (old now new : List PhraseState) → i < length all → field ≡ get_or all i field → IsGathering q phrase all (drop i all) left old now
+    → AddsUnlessLeft field (terms_in_field (in_field q field) field [] phrase) q.entries now new (Ok here) → more ≡ option_or left here → IsGathering q phrase all (drop (i + 1) all) more old new
+gathers_more q phrase all i field left here more old now new inside at g ((ts, is, new_is, within), here_is) more_is =
+    let terms = terms_in_field (in_field q field) field [] phrase in
+    record {
+      joined = joins_more q.entries (default_terms q phrase all) _ (left_out terms) _ old now new ts (ap (default_terms q phrase) (field_at all i field inside at)) g.joined is new_is within;
+      first =
+          ap (λ (o : Option ℕ). option_or o (first_left_out q phrase (drop (i + 1) all))) (more_is ∙ ap (option_or left) here_is)
+          ∙ or_on left (if_left_out field terms) (first_left_out q phrase (drop (i + 1) all))
+          ∙ ap (λ (fields : List ℕ). option_or left (first_left_out q phrase fields)) (sym (field_at all i field inside at)) ∙ g.first;
+    }
+
+some_defaults : (q : FieldTexts) (phrase all : List ℕ) (i : ℕ) → i < length all → some_default q phrase all ≡ some_left (first_left_out q phrase all) (default_terms q phrase all)
 some_defaults q phrase [] i inside = absurd (omega arith)
 some_defaults q phrase (field ∷ fields) i inside = refl
 
@@ -86,10 +103,10 @@ why_joined first terms others all e is (inl memory) = inl memory
 why_joined first (Err f) others all e is (inr why) = inr (ap refused is ∙ why)
 why_joined first (Ok ts) others all e is (inr why) = absurd (cc)
 
-why_left : (field : ℕ) (terms : Terms) (e : QueryParserError) → IsWhyRefused (refused terms) e → IsWhyRefused (refused (some_left field terms)) e
-why_left field terms e (inl memory) = inl memory
-why_left field (Err f) e (inr why) = inr why
-why_left field (Ok ts) e (inr why) = absurd (cc)
+why_left : (left : Option ℕ) (terms : Terms) (e : QueryParserError) → IsWhyRefused (refused terms) e → IsWhyRefused (refused (some_left left terms)) e
+why_left left terms e (inl memory) = inl memory
+why_left left (Err f) e (inr why) = inr why
+why_left left (Ok ts) e (inr why) = absurd (cc)
 
 pub why_of : (refusal : Option QueryParserError) (old new : List PhraseState) (e : QueryParserError) → IsRefusedAs refusal old new e → IsWhyRefused refusal e
 why_of refusal old new e (inl memory) = inl memory
@@ -100,39 +117,48 @@ adds_of terms entries old new (Ok done) adds = adds
 adds_of terms entries old new (Err e) why = why_of (refused terms) old new e why
 
 -- a field whose terms are refused
-pub gathers_refused : (q : FieldTexts) (phrase all : List ℕ) (i field : ℕ) (old now new : List PhraseState) (e : QueryParserError) → i < length all → field ≡ get_or all i field → IsGathering q phrase all (drop i all) old now
+pub gathers_refused : (q : FieldTexts) (phrase all : List ℕ) (i field : ℕ) (left : Option ℕ) (old now new : List PhraseState) (e : QueryParserError) → i < length all → field ≡ get_or all i field → IsGathering q phrase all (drop i all) left old now
     → IsRefusedAs (refused (left_out (terms_in_field (in_field q field) field [] phrase))) now new e → IsWhyRefused (refused (some_default q phrase all)) e
-gathers_refused q phrase all i field old now new e inside here g why =
+gathers_refused q phrase all i field left old now new e inside here g why =
     subst (λ (terms : Terms). IsWhyRefused (refused terms) e) (sym (some_defaults q phrase all i inside))
-    (why_left (get_or all 0 0) (default_terms q phrase all) e
-    (why_joined g.found (left_out (terms_in_field (in_field q field) field [] phrase)) (default_terms q phrase (drop (i + 1) all)) (default_terms q phrase all) e
-    (g.whole ∙ ap (λ (fields : List ℕ). joined_terms (Ok g.found) (default_terms q phrase fields)) (field_at all i field inside here)) (why_of _ now new e why)))
+    (why_left (first_left_out q phrase all) (default_terms q phrase all) e
+    (why_joined g.joined.found (left_out (terms_in_field (in_field q field) field [] phrase)) (default_terms q phrase (drop (i + 1) all)) (default_terms q phrase all) e
+    (g.joined.whole ∙ ap (λ (fields : List ℕ). joined_terms (Ok g.joined.found) (default_terms q phrase fields)) (field_at all i field inside here)) (why_of _ now new e why)))
 
-gathered : (q : FieldTexts) (phrase all : List ℕ) (i : ℕ) (old now : List PhraseState) → length all ≤ i → (g : IsGathering q phrase all (drop i all) old now) → default_terms q phrase all ≡ Ok g.found
-gathered q phrase all i old now end g =
-    g.whole ∙ ap (λ (fields : List ℕ). joined_terms (Ok g.found) (default_terms q phrase fields)) (drop_all i all end) ∙ ap (λ (ps : List PhraseState). Ok ps) (append-nil g.found)
+gathered : (q : FieldTexts) (phrase all : List ℕ) (i : ℕ) (left : Option ℕ) (old now : List PhraseState) → length all ≤ i → (g : IsGathering q phrase all (drop i all) left old now) → default_terms q phrase all ≡ Ok g.joined.found
+gathered q phrase all i left old now end g =
+    g.joined.whole ∙ ap (λ (fields : List ℕ). joined_terms (Ok g.joined.found) (default_terms q phrase fields)) (drop_all i all end) ∙ ap (λ (ps : List PhraseState). Ok ps) (append-nil g.joined.found)
 
-left_some : (field : ℕ) (found old now : List PhraseState) → now ≡ old ++ found → (length now ≡ length old → ⊥) → some_left field (Ok found) ≡ Ok found
-left_some field [] old now is more = absurd (more (ap (λ (ps : List PhraseState). length ps) (is ∙ append-nil old)))
-left_some field (t ∷ ts) old now is more = refl
+left_some : (left : Option ℕ) (found old now : List PhraseState) → now ≡ old ++ found → (length now ≡ length old → ⊥) → some_left left (Ok found) ≡ Ok found
+left_some left [] old now is more = absurd (more (ap (λ (ps : List PhraseState). length ps) (is ∙ append-nil old)))
+left_some left (t ∷ ts) old now is more = refl
 
 -- all fields were looked at
-pub gathers_all : (q : FieldTexts) (phrase all : List ℕ) (i : ℕ) (old now : List PhraseState) → 0 < length all → length all ≤ i → (length now ≡ length old → ⊥) → IsGathering q phrase all (drop i all) old now → Adds (some_default q phrase all) q.entries old now (Ok tt)
-gathers_all q phrase all i old now some end more g =
-    (g.found, some_defaults q phrase all 0 some ∙ ap (some_left (get_or all 0 0)) (gathered q phrase all i old now end g) ∙ left_some (get_or all 0 0) g.found old now g.now_is more, g.now_is, g.within)
+pub gathers_all : (q : FieldTexts) (phrase all : List ℕ) (i : ℕ) (left : Option ℕ) (old now : List PhraseState) → 0 < length all → length all ≤ i → (length now ≡ length old → ⊥) → IsGathering q phrase all (drop i all) left old now → Adds (some_default q phrase all) q.entries old now (Ok tt)
+gathers_all q phrase all i left old now some end more g =
+    let j = g.joined in
+    (j.found, some_defaults q phrase all 0 some ∙ ap (some_left (first_left_out q phrase all)) (gathered q phrase all i left old now end g) ∙ left_some (first_left_out q phrase all) j.found old now j.now_is more, j.now_is, j.within)
 
 none_found : (found old now : List PhraseState) → now ≡ old ++ found → length now ≡ length old → found ≡ []
 none_found [] old now is same = refl
 none_found (t ∷ ts) old now is same = absurd (omega (arith, same, ap (λ (ps : List PhraseState). length ps) is, length-append old (t ∷ ts)))
 
--- all of them are left out
-pub gathers_nothing : (q : FieldTexts) (phrase all : List ℕ) (i first : ℕ) (old now : List PhraseState) → 0 < length all → length all ≤ i → length now ≡ length old → first ≡ get_or all 0 0 → IsGathering q phrase all (drop i all) old now
-    → IsWhyRefused (refused (some_default q phrase all)) (errors.FieldDoesNotHavePositionsIndexed first)
-gathers_nothing q phrase all i first old now some end same first_is g =
-    let none = none_found g.found old now g.now_is same in
-    let all_left = some_defaults q phrase all 0 some ∙ ap (some_left (get_or all 0 0)) (gathered q phrase all i old now end g ∙ ap (λ (ps : List PhraseState). Ok ps) none) in
-    let why : refused (some_default q phrase all) ≡ Some (errors.FieldDoesNotHavePositionsIndexed first) = ap refused all_left ∙ ap (λ (f : ℕ). Some (errors.FieldDoesNotHavePositionsIndexed f)) (sym first_is) in
-    inr why
+-- no field has terms
+nothing_gathered : (q : FieldTexts) (phrase all : List ℕ) (i : ℕ) (left : Option ℕ) (old now : List PhraseState) → 0 < length all → length all ≤ i → length now ≡ length old → IsGathering q phrase all (drop i all) left old now
+    → some_default q phrase all ≡ none_unless left
+nothing_gathered q phrase all i left old now some end same g =
+    let none = none_found g.joined.found old now g.joined.now_is same in
+    some_defaults q phrase all 0 some
+    ∙ ap (some_left (first_left_out q phrase all)) (gathered q phrase all i left old now end g ∙ ap (λ (ps : List PhraseState). Ok ps) none)
+    ∙ ap none_unless (sym g.first ∙ ap (λ (fields : List ℕ). option_or left (first_left_out q phrase fields)) (drop_all i all end) ∙ or_none left)
+
+pub gathers_nothing : (q : FieldTexts) (phrase all : List ℕ) (i : ℕ) (left : Option ℕ) (old now : List PhraseState) (r : Result (Unit {0}) QueryParserError) → 0 < length all → length all ≤ i → length now ≡ length old → IsGathering q phrase all (drop i all) left old now
+    → OnOk r (none_unless left ≡ Ok []) → IfErr r (λ (e : QueryParserError). none_unless left ≡ Err e) → Adds (some_default q phrase all) q.entries old now r
+gathers_nothing q phrase all i left old now (Ok done) some end same g none why =
+    let j = g.joined in
+    let nothing = none_found j.found old now j.now_is same in
+    ([], nothing_gathered q phrase all i left old now some end same g ∙ none, j.now_is ∙ ap (λ (ps : List PhraseState). old ++ ps) nothing, refl)
+gathers_nothing q phrase all i left old now (Err e) some end same g none why = inr (ap refused (nothing_gathered q phrase all i left old now some end same g ∙ why))
 
 typed_same : (analyze : List ℕ → List Word) (entries : List SchemaEntry) (field : ℕ) (keeps expand_dots : Bool) (path phrase : List ℕ) (t : ValueType)
     → typed_terms (record { analyze = analyze; entries = [] }) field keeps expand_dots path phrase t ≡ typed_terms (record { analyze = analyze; entries = entries }) field keeps expand_dots path phrase t
@@ -224,26 +250,27 @@ value_adds field keeps key read error (Err fault) old new (Err e) is memory adds
 value_adds field keeps key read error (Err fault) old new (Ok done) is memory adds refused = absurd (cc)
 
 -- what a text is looked up by is of its field
-text_in : (field : ℕ) (keeps : Bool) (value : Option TermState) (words : Option PhraseState) (ts : List PhraseState) → IfSome value (λ t. t.field ≡ field) → ((p : PhraseState) → words ≡ Some p → IsOfField field p) → text_terms field keeps value words ≡ Ok ts
+text_in : (field : ℕ) (keeps : Bool) (value : Option TermState) (ws : List Word) (words : Option PhraseState) (ts : List PhraseState) → IfSome value (λ t. t.field ≡ field) → ((p : PhraseState) → words ≡ Some p → IsOfField field p) → text_terms field keeps value ws words ≡ Ok ts
     → AllByRecursion (IsPhraseIn field keeps) ts
-text_in field keeps None None ts of_value of_words is = absurd (cc)
-text_in field keeps (Some v) None ts of_value of_words is = subst (AllByRecursion (IsPhraseIn field keeps)) (ok_is _ ts _ refl is) (alone_in field keeps v of_value, tt)
-text_in field keeps value (Some p) ts of_value of_words is = by (keeps || is_alone p) refl (of_words p refl) value of_value is
+text_in field keeps None [] None ts of_value of_words is = subst (AllByRecursion (IsPhraseIn field keeps)) (ok_is [] ts _ refl is) tt
+text_in field keeps None (w ∷ ws) None ts of_value of_words is = absurd (cc)
+text_in field keeps (Some v) ws None ts of_value of_words is = subst (AllByRecursion (IsPhraseIn field keeps)) (ok_is _ ts _ refl is) (alone_in field keeps v of_value, tt)
+text_in field keeps value ws (Some p) ts of_value of_words is = by (keeps || is_alone p) refl (of_words p refl) value of_value is
   where
-    by : (b : Bool) → (keeps || is_alone p) ≡ b → IsOfField field p → (v : Option TermState) → IfSome v (λ t. t.field ≡ field) → text_terms field keeps v (Some p) ≡ Ok ts → AllByRecursion (IsPhraseIn field keeps) ts
+    by : (b : Bool) → (keeps || is_alone p) ≡ b → IsOfField field p → (v : Option TermState) → IfSome v (λ t. t.field ≡ field) → text_terms field keeps v ws (Some p) ≡ Ok ts → AllByRecursion (IsPhraseIn field keeps) ts
     by true kept of_field None of_v is = subst (AllByRecursion (IsPhraseIn field keeps)) (ok_is _ ts _ refl (rw kept at is)) (record { first = of_field.0; others = of_field.1; kept = kept }, tt)
     by true kept of_field (Some v) of_v is = subst (AllByRecursion (IsPhraseIn field keeps)) (ok_is _ ts _ refl (rw kept at is)) (alone_in field keeps v of_v, (record { first = of_field.0; others = of_field.1; kept = kept }, tt))
     by false kept of_field v of_v is = absurd (let none = rw kept at is in cc)
 
-text_adds : (field : ℕ) (keeps : Bool) (value : Option TermState) (words : Option PhraseState) (old new : List PhraseState) (r : Result (Unit {0}) QueryParserError) → IfSome value (λ t. t.field ≡ field) → ((p : PhraseState) → words ≡ Some p → IsOfField field p)
-    → AddsText field keeps value words old new r → AddsIn (text_terms field keeps value words) field keeps old new r
-text_adds field keeps value words old new (Ok done) of_value of_words (ts, is, new_is) = (ts, is, new_is, text_in field keeps value words ts of_value of_words is)
-text_adds field keeps value words old new (Err e) of_value of_words why = why
+text_adds : (field : ℕ) (keeps : Bool) (value : Option TermState) (ws : List Word) (words : Option PhraseState) (old new : List PhraseState) (r : Result (Unit {0}) QueryParserError) → IfSome value (λ t. t.field ≡ field) → ((p : PhraseState) → words ≡ Some p → IsOfField field p)
+    → AddsText (text_terms field keeps value ws words) old new r → AddsIn (text_terms field keeps value ws words) field keeps old new r
+text_adds field keeps value ws words old new (Ok done) of_value of_words (ts, is, new_is) = (ts, is, new_is, text_in field keeps value ws words ts of_value of_words is)
+text_adds field keeps value ws words old new (Err e) of_value of_words why = why
 
 -- the terms of a text in a field of texts
 pub str_adds : (q : TextFields) (field : ℕ) (keeps expand_dots : Bool) (path phrase : List ℕ) (old new : List PhraseState) (r : Result (Unit {0}) QueryParserError)
-    → AddsText field keeps None (words_phrase (record { field = field; value = [] }) (q.analyze phrase)) old new r → AddsIn (typed_terms q field keeps expand_dots path phrase types.Str) field keeps old new r
-str_adds q field keeps expand_dots path phrase old new r adds = text_adds field keeps None _ old new r tt (words_field (record { field = field; value = [] }) (q.analyze phrase)) adds
+    → AddsText (text_terms field keeps None (q.analyze phrase) (words_phrase (record { field = field; value = [] }) (q.analyze phrase))) old new r → AddsIn (typed_terms q field keeps expand_dots path phrase types.Str) field keeps old new r
+str_adds q field keeps expand_dots path phrase old new r adds = text_adds field keeps None (q.analyze phrase) _ old new r tt (words_field (record { field = field; value = [] }) (q.analyze phrase)) adds
 
 value_field : (field : ℕ) (key : List ℕ) (o : Option (List ℕ)) → IfSome (option_map (λ (v : List ℕ). record { field = field; value = key ++ v }) o) (λ (t : TermState). t.field ≡ field)
 value_field field key None = tt
@@ -252,14 +279,15 @@ value_field field key (Some v) = refl
 -- the terms at a path
 pub json_adds : (q : TextFields) (field : ℕ) (keeps expand_dots : Bool) (path phrase : List ℕ) (start prefix : TermState) (value : Option TermState) (words : Option PhraseState) (old new : List PhraseState) (r : Result (Unit {0}) QueryParserError)
     → has_zero path ≡ false → start ≡ record { field = field; value = path_key expand_dots path } → value ≡ option_map (with_value start) (fast_value_in phrase) → prefix ≡ record { field = start.field; value = start.value ++ text_key [] }
-    → words ≡ words_phrase prefix (q.analyze phrase) → AddsText field keeps value words old new r → AddsIn (typed_terms q field keeps expand_dots path phrase types.Json) field keeps old new r
+    → words ≡ words_phrase prefix (q.analyze phrase) → AddsText (text_terms field keeps value (q.analyze phrase) words) old new r → AddsIn (typed_terms q field keeps expand_dots path phrase types.Json) field keeps old new r
 json_adds q field keeps expand_dots path phrase start prefix value words old new r no_zero start_is value_is prefix_is words_are adds =
     let at : TermState = record { field = field; value = path_key expand_dots path ++ text_key [] } in
     let prefix_at : prefix ≡ at = rw (prefix_is, start_is) refl in
     let value_at : value ≡ path_value field expand_dots path phrase = rw (value_is, start_is) refl in
     let words_at : words ≡ words_phrase at (q.analyze phrase) = words_are ∙ ap (λ (t : TermState). words_phrase t (q.analyze phrase)) prefix_at in
-    let all = text_adds field keeps (path_value field expand_dots path phrase) (words_phrase at (q.analyze phrase)) old new r (value_field field (path_key expand_dots path) (fast_value_in phrase)) (words_field at (q.analyze phrase))
-    (subst (λ (v : Option TermState). AddsText field keeps v (words_phrase at (q.analyze phrase)) old new r) value_at (subst (λ (w : Option PhraseState). AddsText field keeps value w old new r) words_at adds)) in
+    let all = text_adds field keeps (path_value field expand_dots path phrase) (q.analyze phrase) (words_phrase at (q.analyze phrase)) old new r (value_field field (path_key expand_dots path) (fast_value_in phrase)) (words_field at (q.analyze phrase))
+    (subst (λ (v : Option TermState). AddsText (text_terms field keeps v (q.analyze phrase) (words_phrase at (q.analyze phrase))) old new r) value_at
+    (subst (λ (w : Option PhraseState). AddsText (text_terms field keeps value (q.analyze phrase) w) old new r) words_at adds)) in
     rw no_zero all
 
 -- a path that has byte 0 in it

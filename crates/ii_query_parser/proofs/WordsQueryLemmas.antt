@@ -1,5 +1,5 @@
 -- The queries of words and phrases in a list, and those of trees.
-use Rattle.std.proofs.Common.{◌≡◌, ◌∙◌, ℕ, Bool, true, ◌&&◌, ◌||◌, List, [], ◌∷◌, ◌++◌, append_assoc, length, map, nat_lt, Option, None, Vec, Global, refl, sym, ap, subst, arith}
+use Rattle.std.proofs.Common.{◌≡◌, ◌∙◌, ℕ, Bool, true, ◌&&◌, ◌||◌, List, [], ◌∷◌, ◌++◌, append_assoc, length, map, nat_lt, Option, None, Some, Ok, Vec, Global, refl, sym, ap, subst, arith}
 use Rattle.std.proofs.Math.Bool.{and-true, and_assoc, or-false, or_assoc}
 use Rattle.std.proofs.lemmas.Bool.{and_parts, eqb-true}
 use Rattle.std.proofs.lemmas.List.{append-nil}
@@ -8,7 +8,7 @@ use Rattle.std.specs.List.{list_all, list_any}
 use Rattle.std.specs.Option.{option_or}
 use Rattle.ii_base.specs.Schema.{SchemaEntry}
 use Rattle.ii_definitions.specs.Tokens.{IndexToken}
-use Rattle.ii_query_grammar.specs.Trees.{Asts, all_of, and_asts, any_of, ast_of, asts_from, no_asts}
+use Rattle.ii_query_grammar.specs.Trees.{Ast, Asts, all_of, and_asts, any_of, ast_of, asts_from, no_asts}
 use Rattle.ii_query_grammar.specs.declared.user_input_ast.Delimiter.{Delimiter}
 use Rattle.ii_query_grammar.specs.declared.user_input_ast.UserInputAst.{UserInputAst}
 use Rattle.ii_query_parser.specs.declared.query.PhraseTerm.{PhraseTerm}
@@ -16,7 +16,8 @@ use Rattle.ii_query_parser.specs.declared.query.Query.{Query}
 use Rattle.ii_query_parser.specs.declared.query.Query.TheVariants.{And, Or}
 use Rattle.ii_query_parser.specs.declared.query_parser_error.QueryParserError.{QueryParserError}
 use Rattle.ii_query_parser.specs.Queries.{has_fields, has_tree, keeps_positions, matches, trees_of}
-use Rattle.ii_query_parser.specs.QueryTexts.{HasPushed, MeanEach, Means, PhraseState, AnalyzedFields, all_match, any_matches, are_some, asts_refusal, AreAlone, has_delimited, has_term, is_alone, phrase_kept, phrase_within}
+use Rattle.ii_query_parser.specs.QuerySteps.{AreAlone, AreQueriesOf, HasPushed, IsLeftBy, MeanEach, phrase_kept, phrase_within}
+use Rattle.ii_query_parser.specs.QueryTexts.{Means, PhraseState, AnalyzedFields, all_match, any_matches, are_some, ast_refusal, asts_refusal, each_trimmed, has_delimited, has_term, is_alone, put_before}
 use Rattle.ii_query_parser.proofs.QueryLemmas.{and_fields, and_matches, and_positions, or_fields, or_matches, or_positions}
 
 -- a query at the end of a list
@@ -96,6 +97,10 @@ each_means q (and_asts a us) (x ∷ xs) (here, mean) =
       positions = rw (here.positions, later.positions) refl;
     }
 
+-- whether there are queries
+pub some_mean : (q : AnalyzedFields) (us : Asts) (queries : List Query) → MeanEach q us queries → has_tree (trees_of queries) ≡ are_some us
+some_mean q us queries mean = (each_means q us queries mean).some
+
 -- the query that matches what all match
 pub and_means : (q : AnalyzedFields) (us : Asts) (queries : Vec Query Global) → MeanEach q us queries.items → Means q (all_of us) (And queries)
 and_means q us queries mean =
@@ -122,19 +127,35 @@ or_means q us queries mean =
 abbrev pub trees_in : List UserInputAst → Asts
 trees_in parts = asts_from (map ast_of parts)
 
--- Queries of the first parts, to which those of the parts that are left can be added; no part so far has an error.
+-- Queries of what is left of the first parts, to which those of the other parts can be added; no part so far has an error.
 pub record IsReading (q : AnalyzedFields) (parts left : List UserInputAst) (queries : List Query) : Type 0 where
   pub taken : asts_refusal q (trees_in parts) ≡ asts_refusal q (trees_in left)
-  pub mean : (others : List Query) → MeanEach q (trees_in left) others → MeanEach q (trees_in parts) (queries ++ others)
+  pub mean : (others : List Query) → MeanEach q (each_trimmed q (trees_in left)) others → MeanEach q (each_trimmed q (trees_in parts)) (queries ++ others)
 
-pub reads_more : (q : AnalyzedFields) (parts left here : List UserInputAst) (part : UserInputAst) (old new : List Query) (query : Query) → here ≡ part ∷ left → Means q (ast_of part) query → new ≡ old ++ query ∷ [] → IsReading q parts here old → IsReading q parts left new
-reads_more q parts left here part old new query is means new_is i = record {
-  taken = i.taken ∙ ap (λ (ps : List UserInputAst). asts_refusal q (trees_in ps)) is ∙ ap (λ (r : Option QueryParserError). option_or r (asts_refusal q (trees_in left))) means.taken;
+part_taken : (q : AnalyzedFields) (parts left here : List UserInputAst) (part : UserInputAst) (old : List Query) → here ≡ part ∷ left → ast_refusal q (ast_of part) ≡ None → IsReading q parts here old → asts_refusal q (trees_in parts) ≡ asts_refusal q (trees_in left)
+part_taken q parts left here part old is taken i = i.taken ∙ ap (λ (ps : List UserInputAst). asts_refusal q (trees_in ps)) is ∙ ap (λ (r : Option QueryParserError). option_or r (asts_refusal q (trees_in left))) taken
+
+-- a part of which something is left
+pub reads_more : (q : AnalyzedFields) (parts left here : List UserInputAst) (part : UserInputAst) (old new : List Query) (query : Query) → here ≡ part ∷ left → IsLeftBy q (ast_of part) (Ok (Some query)) → new ≡ old ++ query ∷ [] → IsReading q parts here old → IsReading q parts left new
+reads_more q parts left here part old new query is (taken, t, is_t, means) new_is i = record {
+  taken = part_taken q parts left here part old is taken i;
   mean = λ others mean.
-      subst (λ (xs : List Query). MeanEach q (trees_in parts) xs) (sym (append_assoc old (query ∷ []) others) ∙ ap (λ (xs : List Query). xs ++ others) (sym new_is))
-      (i.mean (query ∷ others) (subst (λ (ps : List UserInputAst). MeanEach q (trees_in ps) (query ∷ others)) (sym is) (means, mean)));
+      subst (λ (xs : List Query). MeanEach q (each_trimmed q (trees_in parts)) xs) (sym (append_assoc old (query ∷ []) others) ∙ ap (λ (xs : List Query). xs ++ others) (sym new_is))
+      (i.mean (query ∷ others) (subst (λ (ps : List UserInputAst). MeanEach q (each_trimmed q (trees_in ps)) (query ∷ others)) (sym is)
+      (subst (λ (x : Option Ast). MeanEach q (put_before x (each_trimmed q (trees_in left))) (query ∷ others)) (sym is_t) (means, mean))));
 }
 
-pub reads_all : (q : AnalyzedFields) (parts left : List UserInputAst) (queries : List Query) → left ≡ [] → IsReading q parts left queries → MeanEach q (trees_in parts) queries
-reads_all q parts left queries is i =
-    subst (λ (xs : List Query). MeanEach q (trees_in parts) xs) (append-nil queries) (i.mean [] (subst (λ (ps : List UserInputAst). MeanEach q (trees_in ps) []) (sym is) tt))
+-- a part of which nothing is left
+pub reads_past : (q : AnalyzedFields) (parts left here : List UserInputAst) (part : UserInputAst) (old : List Query) → here ≡ part ∷ left → IsLeftBy q (ast_of part) (Ok None) → IsReading q parts here old → IsReading q parts left old
+reads_past q parts left here part old is (taken, gone) i = record {
+  taken = part_taken q parts left here part old is taken i;
+  mean = λ others mean.
+      i.mean others (subst (λ (ps : List UserInputAst). MeanEach q (each_trimmed q (trees_in ps)) others) (sym is)
+      (subst (λ (x : Option Ast). MeanEach q (put_before x (each_trimmed q (trees_in left))) others) (sym gone) mean));
+}
+
+pub reads_all : (q : AnalyzedFields) (parts left : List UserInputAst) (queries : Vec Query Global) → left ≡ [] → IsReading q parts left queries.items → AreQueriesOf q (trees_in parts) (Ok queries)
+reads_all q parts left queries is i = (
+  i.taken ∙ ap (λ (ps : List UserInputAst). asts_refusal q (trees_in ps)) is,
+  subst (λ (xs : List Query). MeanEach q (each_trimmed q (trees_in parts)) xs) (append-nil queries.items) (i.mean [] (subst (λ (ps : List UserInputAst). MeanEach q (each_trimmed q (trees_in ps)) []) (sym is) tt)),
+)

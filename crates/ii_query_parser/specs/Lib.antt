@@ -1,5 +1,6 @@
 pub mod Bounded
 pub mod ParserErrors
 pub mod Queries
+pub mod QuerySteps
 pub mod QueryTexts
 pub mod Ranges

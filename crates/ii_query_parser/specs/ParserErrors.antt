@@ -19,6 +19,7 @@ field_of_error (errors.Unsupported feature at) = None
 field_of_error errors.FieldDoesNotExist = None
 field_of_error (errors.FieldNotIndexed field) = Some field
 field_of_error errors.NoDefaultFieldDeclared = None
+field_of_error errors.NoWords = None
 field_of_error (errors.ExpectedInt field) = Some field
 field_of_error (errors.ExpectedBool field) = Some field
 field_of_error (errors.UnsupportedPhrase field) = Some field

@@ -1,9 +1,7 @@
 -- What the text of a query means, by the fields of a schema.
-use Rattle.std.specs.Prelude.{◌≡◌, ◌⊎◌, ◌<◌, IfSome, is_some, ℕ, Bool, true, false, ◌&&◌, ◌||◌, ◌==◌, ◌+◌, ◌-◌, not, List, [], ◌∷◌, ◌++◌, Option, None, Some, Result, Ok, Err, bytes_eq, drop, if◌then◌else◌, length, map, nat_eq, nat_le, nat_lt, option_map, position, slice_get, take, Vec}
-use Rattle.std.specs.Borrow.{Bor}
-use Rattle.std.specs.List.{AllByRecursion, find, list_all, list_any, position_from, starts_with}
+use Rattle.std.specs.Prelude.{◌≡◌, ◌⊎◌, is_some, ℕ, Bool, true, false, ◌&&◌, ◌||◌, ◌==◌, ◌+◌, ◌-◌, not, List, [], ◌∷◌, ◌++◌, Option, None, Some, Result, Ok, Err, bytes_eq, drop, if◌then◌else◌, length, map, nat_eq, nat_le, nat_lt, option_map, position, slice_get, take}
+use Rattle.std.specs.List.{find, list_all, list_any, position_from, starts_with}
 use Rattle.std.specs.Option.{option_or, option_to_list}
-use Rattle.std.specs.declared.alloc.Global.{Global}
 use Rattle.ii_io.specs.declared.faults.Fault.TheVariants.{OutOfMemory}
 use Rattle.ii_base.specs.Options.{has_positions}
 use Rattle.ii_base.specs.Paths.{has_zero, path_bytes, segments_of}
@@ -24,18 +22,15 @@ use Rattle.ii_query_grammar.specs.declared.parse_error.ParseError.{ParseError}
 use Rattle.ii_query_grammar.specs.declared.user_input_ast.Delimiter.{Delimiter}
 use Rattle.ii_query_grammar.specs.declared.user_input_ast.Delimiter.TheVariants as delimiters
 use Rattle.ii_query_grammar.specs.declared.query_grammar.TheConstants.{MAX_NESTING}
-use Rattle.ii_query_parser.specs.Queries.{has_fields, has_phrase, has_positions_in, is_token_between, is_token_of, keeps_positions, matches}
+use Rattle.ii_query_parser.specs.Queries.{has_fields, has_phrase, is_token_between, is_token_of, keeps_positions, matches}
 use Rattle.ii_query_parser.specs.ParserErrors.{as_parser_error}
-use Rattle.ii_query_parser.specs.Ranges.{KeyRange, KeyRanges, key_bound, ranges_of}
+use Rattle.ii_query_parser.specs.Ranges.{KeyRange, KeyRanges}
 use Rattle.ii_query_parser.specs.declared.query.PhraseTerm.{PhraseTerm}
 use Rattle.ii_query_parser.specs.declared.query.Query.{Query}
 use Rattle.ii_query_parser.specs.declared.query_parser_error.QueryParserError.{QueryParserError}
 use Rattle.ii_query_parser.specs.declared.query_parser_error.QueryParserError.TheVariants as errors
 use Rattle.ii_query_parser.specs.declared.range_text.Integers.{Integers}
 use Rattle.ii_query_parser.specs.declared.range_text.Integers.TheVariants as integers
-use Rattle.ii_query_parser.specs.declared.range_text.TermRanges.{TermRanges}
-use Rattle.ii_query_parser.specs.declared.term_range.KeyBound.{KeyBound}
-use Rattle.ii_query_parser.specs.declared.term_range.TermRange.{TermRange}
 
 -- An analyzer and the fields of a schema, by which the words of a field are looked up.
 pub record TextFields : Type 0 where
@@ -109,11 +104,16 @@ abbrev pub value_term : ℕ → QueryParserError → Option (List ℕ) → Terms
 value_term field error None = Err error
 value_term field error (Some key) = Ok (one_term (record { field = field; value = key }) ∷ [])
 
--- the terms that a text is looked up by in a field: that of a value, if there is one, and its words; several words need positions
-abbrev pub text_terms : ℕ → Bool → Option TermState → Option PhraseState → Terms
-text_terms field keeps None None = Err (errors.UnsupportedPhrase field)
-text_terms field keeps (Some value) None = Ok (one_term value ∷ [])
-text_terms field keeps value (Some words) =
+-- the terms of words that are no phrase: none, if there is no word
+abbrev pub no_phrase : ℕ → List Word → Terms
+no_phrase field [] = Ok []
+no_phrase field (w ∷ ws) = Err (errors.UnsupportedPhrase field)
+
+-- the terms that a text is looked up by in a field: that of a value, if there is one, and the phrase of its words, if they are one; several words need positions
+abbrev pub text_terms : ℕ → Bool → Option TermState → List Word → Option PhraseState → Terms
+text_terms field keeps None ws None = no_phrase field ws
+text_terms field keeps (Some value) ws None = Ok (one_term value ∷ [])
+text_terms field keeps value ws (Some words) =
     if keeps || is_alone words then Ok (map one_term (option_to_list value) ++ words ∷ []) else Err (errors.FieldDoesNotHavePositionsIndexed field)
 
 -- the bytes of a path and their end
@@ -126,7 +126,7 @@ path_value field expand_dots path phrase = option_map (λ value. record { field 
 
 -- the terms of a text in a field, by what the field keeps and by the type of its values
 abbrev pub typed_terms : TextFields → ℕ → Bool → Bool → List ℕ → List ℕ → ValueType → Terms
-typed_terms q field keeps expand_dots path phrase types.Str = text_terms field keeps None (words_phrase (record { field = field; value = [] }) (q.analyze phrase))
+typed_terms q field keeps expand_dots path phrase types.Str = text_terms field keeps None (q.analyze phrase) (words_phrase (record { field = field; value = [] }) (q.analyze phrase))
 typed_terms q field keeps expand_dots path phrase types.U64 = value_term field (errors.ExpectedInt field) (option_map u64_bytes (u64_in phrase))
 typed_terms q field keeps expand_dots path phrase types.I64 = value_term field (errors.ExpectedInt field) (option_map (λ n. u64_bytes (flipped n)) (i64_in phrase))
 typed_terms q field keeps expand_dots path phrase types.Bool = value_term field (errors.ExpectedBool field) (option_map (λ b. u64_bytes (number_of_bool b)) (bool_in phrase))
@@ -135,7 +135,7 @@ typed_terms q field keeps expand_dots path phrase types.Bytes = Err (errors.Unsu
 typed_terms q field keeps expand_dots path phrase types.IpAddr = Err (errors.UnsupportedType field)
 typed_terms q field keeps expand_dots path phrase types.Json =
     if has_zero path then Err (errors.UnsupportedPath field)
-    else text_terms field keeps (path_value field expand_dots path phrase) (words_phrase (record { field = field; value = path_key expand_dots path ++ text_key [] }) (q.analyze phrase))
+    else text_terms field keeps (path_value field expand_dots path phrase) (q.analyze phrase) (words_phrase (record { field = field; value = path_key expand_dots path ++ text_key [] }) (q.analyze phrase))
 
 -- the terms of a text in an entry of the schema, if it is indexed
 abbrev pub entry_terms : TextFields → ℕ → List ℕ → List ℕ → Option SchemaEntry → Terms
@@ -184,6 +184,7 @@ needs_positions (errors.Unsupported feature at) = false
 needs_positions errors.FieldDoesNotExist = false
 needs_positions (errors.FieldNotIndexed field) = false
 needs_positions errors.NoDefaultFieldDeclared = false
+needs_positions errors.NoWords = false
 needs_positions (errors.ExpectedInt field) = false
 needs_positions (errors.ExpectedBool field) = false
 needs_positions (errors.UnsupportedPhrase field) = false
@@ -193,7 +194,12 @@ needs_positions (errors.UnsupportedPath field) = false
 needs_positions (errors.UnsupportedType field) = false
 needs_positions (errors.Fault fault) = false
 
--- the terms in a default field: none where it is left out, since a phrase needs positions and the field keeps none
+-- whether a default field is left out, since a phrase needs positions and the field keeps none
+abbrev pub is_left_out : Terms → Bool
+is_left_out (Ok terms) = false
+is_left_out (Err e) = needs_positions e
+
+-- the terms in a default field: none where it is left out
 abbrev pub left_out : Terms → Terms
 left_out (Ok terms) = Ok terms
 left_out (Err e) = if needs_positions e then Ok [] else Err e
@@ -203,16 +209,30 @@ abbrev pub default_terms : FieldTexts → List ℕ → List ℕ → Terms
 default_terms q phrase [] = Ok []
 default_terms q phrase (field ∷ fields) = joined_terms (left_out (terms_in_field (in_field q field) field [] phrase)) (default_terms q phrase fields)
 
--- the terms in the default fields, where not all of them are left out
-abbrev pub some_left : ℕ → Terms → Terms
-some_left field (Err e) = Err e
-some_left field (Ok []) = Err (errors.FieldDoesNotHavePositionsIndexed field)
-some_left field (Ok (t ∷ ts)) = Ok (t ∷ ts)
+-- a field, if it is left out
+abbrev pub if_left_out : ℕ → Terms → Option ℕ
+if_left_out field terms = if is_left_out terms then Some field else None
+
+-- the first default field that is left out
+abbrev pub first_left_out : FieldTexts → List ℕ → List ℕ → Option ℕ
+first_left_out q phrase [] = None
+first_left_out q phrase (field ∷ fields) = option_or (if_left_out field (terms_in_field (in_field q field) field [] phrase)) (first_left_out q phrase fields)
+
+-- no terms, unless a field is left out
+abbrev pub none_unless : Option ℕ → Terms
+none_unless None = Ok []
+none_unless (Some field) = Err (errors.FieldDoesNotHavePositionsIndexed field)
+
+-- the terms in the default fields, given the first that is left out, of which the error is if there are no terms
+abbrev pub some_left : Option ℕ → Terms → Terms
+some_left left (Err e) = Err e
+some_left left (Ok []) = none_unless left
+some_left left (Ok (t ∷ ts)) = Ok (t ∷ ts)
 
 -- the terms of a text in the default fields, of which there has to be one
 abbrev pub some_default : FieldTexts → List ℕ → List ℕ → Terms
 some_default q phrase [] = Err errors.NoDefaultFieldDeclared
-some_default q phrase (field ∷ fields) = some_left field (default_terms q phrase (field ∷ fields))
+some_default q phrase (field ∷ fields) = some_left (first_left_out q phrase (field ∷ fields)) (default_terms q phrase (field ∷ fields))
 
 -- the terms of a word or a phrase
 abbrev pub literal_terms : FieldTexts → List ℕ → Option (List ℕ) → List ℕ → Terms
@@ -243,9 +263,14 @@ may_be_prefix entries p = is_alone p && holds_texts (slice_get entries p.first.f
 abbrev pub no_prefix : List SchemaEntry → List PhraseState → Option PhraseState
 no_prefix entries terms = find (λ (p : PhraseState). not (may_be_prefix entries p)) terms
 
--- the terms of a prefix, unless this one may be none
+-- terms of which there has to be one
+abbrev pub some_terms : List PhraseState → Terms
+some_terms [] = Err errors.NoWords
+some_terms (t ∷ ts) = Ok (t ∷ ts)
+
+-- the terms of a prefix, of which there has to be one, unless this one may be none
 abbrev pub prefix_terms : List PhraseState → Option PhraseState → Terms
-prefix_terms terms None = Ok terms
+prefix_terms terms None = some_terms terms
 prefix_terms terms (Some p) = Err (errors.UnsupportedPrefix p.first.field)
 
 -- the terms of a text by its delimiter: those of a prefix are terms of which each may be one
@@ -312,7 +337,7 @@ only_key field (Ok (p ∷ o ∷ os)) = Err (errors.UnsupportedBound field)
 -- the key of the text of a bound in a field, by the type of its values: that of the text's only term; after a prefix in a field of JSON values
 abbrev pub text_bound_key : (List ℕ → List Word) → TermState → List ℕ → ValueType → Result (List ℕ) QueryParserError
 text_bound_key analyze prefix text type =
-    if is_json type then only_key prefix.field (text_terms prefix.field true None (words_phrase prefix (analyze text)))
+    if is_json type then only_key prefix.field (text_terms prefix.field true None (analyze text) (words_phrase prefix (analyze text)))
     else only_key prefix.field (typed_terms (record { analyze = analyze; entries = [] }) prefix.field true false [] text type)
 
 -- a bound of keys that has the key of its text
@@ -495,6 +520,47 @@ abbrev pub are_some : Asts → Bool
 are_some no_asts = false
 are_some (and_asts t ts) = true
 
+-- whether a text has no word: it has no error, and is looked up by no term
+abbrev pub is_wordless : Terms → Bool
+is_wordless (Err e) = false
+is_wordless (Ok []) = true
+is_wordless (Ok (t ∷ ts)) = false
+
+-- whether a set has values
+abbrev pub has_values : ValueSet → Bool
+has_values s = nat_lt 0 (length s.values)
+
+-- a tree, unless it is left out
+abbrev pub unless : Bool → Ast → Option Ast
+unless true t = None
+unless false t = Some t
+
+-- what is left of a tree without another one
+abbrev pub left_without : Option Ast → Option Ast → Option Ast
+left_without None other = None
+left_without (Some first) None = Some first
+left_without (Some first) (Some other) = Some (without first other)
+
+-- a tree before others, if there is one
+abbrev pub put_before : Option Ast → Asts → Asts
+put_before None us = us
+put_before (Some t) us = and_asts t us
+
+-- What is left of a tree without the texts that have no word: a set goes if no value is left, a part of a tree if none of its parts is, and nothing without a tree is nothing.
+abbrev mutual
+  pub trimmed : AnalyzedFields → Ast → Option Ast
+  trimmed q everything = Some everything
+  trimmed q (leaf l) = unless (is_wordless (terms_of q l)) (leaf l)
+  trimmed q (ranged r) = Some (ranged r)
+  trimmed q (in_set s) = unless (has_values s && is_wordless (set_terms q.texts s)) (in_set s)
+  trimmed q (all_of us) = unless (are_some us && not (are_some (each_trimmed q us))) (all_of (each_trimmed q us))
+  trimmed q (any_of us) = unless (are_some us && not (are_some (each_trimmed q us))) (any_of (each_trimmed q us))
+  trimmed q (without first other) = left_without (trimmed q first) (trimmed q other)
+
+  pub each_trimmed : AnalyzedFields → Asts → Asts
+  each_trimmed q no_asts = no_asts
+  each_trimmed q (and_asts a us) = put_before (trimmed q a) (each_trimmed q us)
+
 -- Whether a document matches the tree of a text, where no document is `TERMINATED` or above; whether it matches each of some trees, of which there has to be one; or any of them.
 abbrev mutual
   pub ast_matches : AnalyzedFields → Ast → List IndexToken → ℕ → Bool
@@ -534,7 +600,7 @@ abbrev mutual
   asts_refusal q no_asts = None
   asts_refusal q (and_asts a us) = option_or (ast_refusal q a) (asts_refusal q us)
 
--- A query means what a tree does, and the tree has no error.
+-- A query means what a tree does, of which nothing is left out, and the tree has no error.
 pub record Means (q : AnalyzedFields) (ast : Ast) (query : Query) : Type 0 where
   pub taken : ast_refusal q ast ≡ None
   pub exact : (ts : List IndexToken) (doc : ℕ) → matches query ts doc ≡ ast_matches q ast ts doc
@@ -545,18 +611,39 @@ pub record Means (q : AnalyzedFields) (ast : Ast) (query : Query) : Type 0 where
 abbrev pub IsWhyRefused : Option QueryParserError → QueryParserError → Type 0
 IsWhyRefused refusal e = (e ≡ errors.Fault OutOfMemory) ⊎ (refusal ≡ Some e)
 
--- An allocation failed, or this is the error, and the terms are unchanged.
-abbrev pub IsRefusedAs : Option QueryParserError → List PhraseState → List PhraseState → QueryParserError → Type 0
-IsRefusedAs refusal old new e = (e ≡ errors.Fault OutOfMemory) ⊎ ((refusal ≡ Some e) × (new ≡ old))
+-- the error where nothing is left of a tree
+abbrev pub none_left : Option Ast → Option QueryParserError
+none_left None = Some errors.NoWords
+none_left (Some t) = None
+
+-- the error of a tree: that of its first part which has one, or that nothing is left of it
+abbrev pub query_refusal : AnalyzedFields → Ast → Option QueryParserError
+query_refusal q ast = option_or (ast_refusal q ast) (none_left (trimmed q ast))
+
+-- whether a document matches what is left of a tree
+abbrev pub left_matches : AnalyzedFields → Option Ast → List IndexToken → ℕ → Bool
+left_matches q None ts doc = false
+left_matches q (Some t) ts doc = ast_matches q t ts doc
+
+-- whether a document matches a tree, without the texts that have no word
+abbrev pub query_matches : AnalyzedFields → Ast → List IndexToken → ℕ → Bool
+query_matches q ast ts doc = left_matches q (trimmed q ast) ts doc
+
+-- A query means what a tree does, and the tree has no error.
+pub record MeansTree (q : AnalyzedFields) (ast : Ast) (query : Query) : Type 0 where
+  pub taken : query_refusal q ast ≡ None
+  pub exact : (ts : List IndexToken) (doc : ℕ) → matches query ts doc ≡ query_matches q ast ts doc
+  pub fields : has_fields (length q.texts.entries) query ≡ true
+  pub positions : keeps_positions q.texts.entries query ≡ true
 
 -- A query means what a tree does, or the tree has this error.
 abbrev pub IsQueryBy : AnalyzedFields → Ast → Result Query QueryParserError → Type 0
-IsQueryBy q ast (Ok query) = Means q ast query
-IsQueryBy q ast (Err e) = IsWhyRefused (ast_refusal q ast) e
+IsQueryBy q ast (Ok query) = MeansTree q ast query
+IsQueryBy q ast (Err e) = IsWhyRefused (query_refusal q ast) e
 
 -- the error of the tree of a text, or the error of the text if it has no tree
 abbrev pub read_refusal : AnalyzedFields → Result Ast ParseError → Option QueryParserError
-read_refusal q (Ok ast) = ast_refusal q ast
+read_refusal q (Ok ast) = query_refusal q ast
 read_refusal q (Err e) = Some (as_parser_error e)
 
 -- the error of a text
@@ -565,7 +652,7 @@ text_refusal_by q text = read_refusal q (parsed MAX_NESTING text)
 
 -- whether a document matches the tree of a text, if it has one
 abbrev pub read_matches : AnalyzedFields → Result Ast ParseError → List IndexToken → ℕ → Bool
-read_matches q (Ok ast) ts doc = ast_matches q ast ts doc
+read_matches q (Ok ast) ts doc = query_matches q ast ts doc
 read_matches q (Err e) ts doc = false
 
 -- whether a document matches a text
@@ -603,106 +690,6 @@ IsQueryOf q ast result = IsQueryBy (by_one q) ast result
 -- A result is the query of a text or its error, where all fields have one analyzer.
 abbrev pub IsQueryOfText : QueryFields → List ℕ → Result Query QueryParserError → Type 0
 IsQueryOfText q text result = IsQueryOfTextBy (by_one q) text result
-
--- whether the fields of a phrase are among the first n
-abbrev pub phrase_within : ℕ → PhraseState → Bool
-phrase_within n p = nat_lt p.first.field n && list_all (λ (o : PhraseTerm). nat_lt o.term.field n) p.others
-
--- whether the fields of a phrase keep positions, if it has several terms
-abbrev pub phrase_kept : List SchemaEntry → PhraseState → Bool
-phrase_kept entries p = is_alone p || (has_positions_in entries p.first && list_all (λ (o : PhraseTerm). has_positions_in entries o.term) p.others)
-
--- the fields of terms and phrases are those of a schema, and keep positions where they are needed
-abbrev pub are_in : List SchemaEntry → List PhraseState → Bool
-are_in entries terms = list_all (λ (p : PhraseState). phrase_within (length entries) p && phrase_kept entries p) terms
-
--- The terms of a phrase are of a field, which keeps positions where they are needed.
-pub record IsPhraseIn (field : ℕ) (keeps : Bool) (p : PhraseState) : Type 0 where
-  pub first : p.first.field ≡ field
-  pub others : AllByRecursion (λ (o : PhraseTerm). o.term.field ≡ field) p.others
-  pub kept : (keeps || is_alone p) ≡ true
-
--- Terms were added, or this is the error.
-abbrev pub Adds : Terms → List SchemaEntry → List PhraseState → List PhraseState → Result (Unit {0}) QueryParserError → Type 0
-Adds terms entries old new (Ok done) = (ts : List PhraseState) × (terms ≡ Ok ts) × (new ≡ old ++ ts) × (are_in entries ts ≡ true)
-Adds terms entries old new (Err e) = IsWhyRefused (refused terms) e
-
--- Terms were added, or this is the error, and the terms are unchanged unless an allocation failed.
-abbrev pub AddsOrKeeps : Terms → List SchemaEntry → List PhraseState → List PhraseState → Result (Unit {0}) QueryParserError → Type 0
-AddsOrKeeps terms entries old new (Ok done) = Adds terms entries old new (Ok done)
-AddsOrKeeps terms entries old new (Err e) = IsRefusedAs (refused terms) old new e
-
--- Terms of a field were added, or this is the error, and the terms are unchanged unless an allocation failed.
-abbrev pub AddsIn : Terms → ℕ → Bool → List PhraseState → List PhraseState → Result (Unit {0}) QueryParserError → Type 0
-AddsIn terms field keeps old new (Ok done) = (ts : List PhraseState) × (terms ≡ Ok ts) × (new ≡ old ++ ts) × AllByRecursion (IsPhraseIn field keeps) ts
-AddsIn terms field keeps old new (Err e) = IsRefusedAs (refused terms) old new e
-
--- A term was added, or there is none, and this is the error.
-abbrev pub AddsMaybe : Option TermState → QueryParserError → List PhraseState → List PhraseState → Result (Unit {0}) QueryParserError → Type 0
-AddsMaybe None error old new (Ok done) = ⊥
-AddsMaybe (Some term) error old new (Ok done) = new ≡ old ++ one_term term ∷ []
-AddsMaybe None error old new (Err e) = (e ≡ error) × (new ≡ old)
-AddsMaybe (Some term) error old new (Err e) = e ≡ errors.Fault OutOfMemory
-
--- The terms that a text is looked up by were added, or this is the error, and the terms are unchanged unless an allocation failed.
-abbrev pub AddsText : ℕ → Bool → Option TermState → Option PhraseState → List PhraseState → List PhraseState → Result (Unit {0}) QueryParserError → Type 0
-AddsText field keeps value words old new (Ok done) = (ts : List PhraseState) × (text_terms field keeps value words ≡ Ok ts) × (new ≡ old ++ ts)
-AddsText field keeps value words old new (Err e) = IsRefusedAs (refused (text_terms field keeps value words)) old new e
-
--- A name was cut at its first dot, or has none.
-abbrev pub CutsAtDot : List ℕ → Option (Bor (List ℕ) × Bor (List ℕ)) → Type 0
-CutsAtDot name None = position (λ b. b == 46) name ≡ None
-CutsAtDot name (Some parts) = (i : ℕ) × (position (λ b. b == 46) name ≡ Some i) × (parts.0.now ≡ take i name) × (parts.1.now ≡ drop (i + 1) name)
-
--- These are the bytes of a key, or it has this error, or an allocation failed.
-abbrev pub IsKey : Result (List ℕ) QueryParserError → Result (Vec ℕ Global) QueryParserError → Type 0
-IsKey key (Ok bytes) = key ≡ Ok bytes.items
-IsKey key (Err e) = (e ≡ errors.Fault OutOfMemory) ⊎ (key ≡ Err e)
-
--- This is what keys start with, or it has this error, or an allocation failed.
-abbrev pub IsStart : Result TermState QueryParserError → Result TermState QueryParserError → Type 0
-IsStart start (Ok prefix) = start ≡ Ok prefix
-IsStart start (Err e) = (e ≡ errors.Fault OutOfMemory) ⊎ (start ≡ Err e)
-
--- This is a bound of keys, or it has this error, or an allocation failed.
-abbrev pub IsBound : Result Bound QueryParserError → Result KeyBound QueryParserError → Type 0
-IsBound bound (Ok keys) = bound ≡ Ok (key_bound keys)
-IsBound bound (Err e) = (e ≡ errors.Fault OutOfMemory) ⊎ (bound ≡ Err e)
-
--- These are the ranges of keys, or they have this error, or an allocation failed.
-abbrev pub AreRangesOf : Result KeyRanges QueryParserError → Result TermRanges QueryParserError → Type 0
-AreRangesOf keys (Ok ranges) = keys ≡ Ok (ranges_of ranges)
-AreRangesOf keys (Err e) = (e ≡ errors.Fault OutOfMemory) ⊎ (keys ≡ Err e)
-
--- The terms of a range are of one of the first n fields, if there is a range.
-abbrev pub IsInside : ℕ → Option TermRange → Type 0
-IsInside n range = IfSome range (λ r. r.prefix.field < n)
-
--- The terms of ranges are of the first n fields.
-abbrev pub AreInside : ℕ → TermRanges → Type 0
-AreInside n ranges = IsInside n ranges.first × IsInside n ranges.other
-
--- Queries mean what trees do, one by one.
-abbrev pub MeanEach : AnalyzedFields → Asts → List Query → Type 0
-MeanEach q no_asts [] = Unit {0}
-MeanEach q no_asts (query ∷ queries) = ⊥
-MeanEach q (and_asts a us) [] = ⊥
-MeanEach q (and_asts a us) (query ∷ queries) = Means q a query × MeanEach q us queries
-
--- The queries of trees, or the first error.
-abbrev pub AreQueriesOf : AnalyzedFields → Asts → Result (Vec Query Global) QueryParserError → Type 0
-AreQueriesOf q us (Ok queries) = MeanEach q us queries.items
-AreQueriesOf q us (Err e) = IsWhyRefused (asts_refusal q us) e
-
--- Only terms alone are prefixes.
-abbrev pub AreAlone : Delimiter → List PhraseState → Type 0
-AreAlone delimiter terms = delimiter ≡ delimiters.Star → list_all is_alone terms ≡ true
-
--- The query of a term, a phrase or a prefix was added to a list.
-pub record HasPushed (delimiter : Delimiter) (old new : List Query) (words : PhraseState) : Type 0 where
-  pub found : (ts : List IndexToken) (doc : ℕ) → list_any (λ (q : Query). matches q ts doc) new ≡ (list_any (λ (q : Query). matches q ts doc) old || has_delimited delimiter ts doc words)
-  pub within : (n : ℕ) → list_all (has_fields n) new ≡ (list_all (has_fields n) old && phrase_within n words)
-  pub kept : (entries : List SchemaEntry) → list_all (keeps_positions entries) new ≡ (list_all (keeps_positions entries) old && phrase_kept entries words)
 
 -- the name of a literal, a range or a set that is neither
 abbrev pub unknown_name : List SchemaEntry → Option (List ℕ) → Option (List ℕ)

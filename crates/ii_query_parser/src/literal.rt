@@ -5,10 +5,11 @@ ghost use Rattle.ii_base.specs.Values.{text_key};
 ghost use Rattle.ii_base.specs.declared.schema.value_type.ValueType.TheVariants as types;
 ghost use Rattle.ii_query_grammar.specs.Trees.{literal_of, set_of};
 ghost use Rattle.ii_query_parser.specs.declared.query_parser_error.QueryParserError.TheVariants as errors;
-ghost use Rattle.ii_query_parser.specs.QueryTexts.{Adds, AddsIn, AddsOrKeeps, AddsMaybe, AddsText, AreAlone, CutsAtDot, delimited_terms, field_named, has_json_values, holds_texts, is_alone, left_out, literal_terms, may_be_prefix, named_terms, no_prefix, prefix_terms, set_terms, some_default, terms_in_field, terms_of, typed_terms, undelimited_terms, words_phrase};
+ghost use Rattle.ii_query_parser.specs.QuerySteps.{Adds, AddsIn, AddsOrKeeps, AddsMaybe, AddsText, AddsUnlessLeft, AreAlone, CutsAtDot};
+ghost use Rattle.ii_query_parser.specs.QueryTexts.{IsWhyRefused, delimited_terms, field_named, has_json_values, holds_texts, is_alone, literal_terms, may_be_prefix, named_terms, no_phrase, no_prefix, none_unless, prefix_terms, refused, set_terms, some_default, some_terms, terms_in_field, terms_of, text_terms, typed_terms, undelimited_terms, words_phrase};
 ghost use Rattle.std.specs.List.{list_all};
 
-use crate::phrase_words::{PhraseWords, words_phrase};
+use crate::phrase_words::{PhraseWords, has_words, words_phrase};
 use crate::prefix_analyzers::PrefixAnalyzers;
 use crate::query_parser_error::QueryParserError;
 use crate::unknown_field::names_field;
@@ -101,12 +102,16 @@ fn check_delimiter(
     }
 }
 
-// Returns an error if one of some terms may be no prefix.
+// Returns an error if there is no term, or if one may be no prefix.
 fn check_prefixes(schema: &Schema, terms: &[PhraseWords]) -> Result<(), QueryParserError>
     ensures taken { OnOk result (no_prefix schema.now terms.now ≡ None) }
     ensures alone { OnOk result (list_all is_alone terms.now ≡ true) }
+    ensures some { OnOk result (some_terms terms.now ≡ Ok terms.now) }
     ensures refused { IfErr result (λ e. prefix_terms terms.now (no_prefix schema.now terms.now) ≡ Err e) }
 {
+    if terms.is_empty() {
+        return Err(QueryParserError::NoWords);
+    }
     for words in terms {
         if !may_be_prefix(schema, words) {
             return Err(QueryParserError::UnsupportedPrefix(words.field()));
@@ -162,7 +167,7 @@ fn push_text<F: FieldAnalyzers>(
 }
 
 // Adds the terms of a text in each default field. A field that keeps no positions is left out of a phrase of
-// several words, unless no field is left.
+// several words, unless there are no other terms.
 fn push_defaults<F: FieldAnalyzers>(
     alloc: Global,
     schema: &Schema,
@@ -177,19 +182,31 @@ fn push_defaults<F: FieldAnalyzers>(
         return Err(QueryParserError::NoDefaultFieldDeclared);
     }
     let before = terms.len();
+    let mut left_out = None;
     for field in default_fields {
         match push_default(alloc, schema, analyzers, *field, phrase, terms) {
-            Ok(()) => {}
+            Ok(left) => left_out = left_out.or(left),
             Err(error) => return Err(error),
         }
     }
     if terms.len() == before {
-        return Err(QueryParserError::FieldDoesNotHavePositionsIndexed(default_fields[0]));
+        return check_none(left_out);
     }
     Ok(())
 }
 
-// Adds the terms of a text in a default field, unless it is left out.
+// Returns an error if a default field is left out.
+fn check_none(left_out: Option<Field>) -> Result<(), QueryParserError>
+    ensures none { OnOk result (none_unless left_out ≡ Ok []) }
+    ensures refused { IfErr result (λ e. none_unless left_out ≡ Err e) }
+{
+    match left_out {
+        Some(field) => Err(QueryParserError::FieldDoesNotHavePositionsIndexed(field)),
+        None => Ok(()),
+    }
+}
+
+// Adds the terms of a text in a default field, unless it is left out. Returns the field if it is.
 fn push_default<F: FieldAnalyzers>(
     alloc: Global,
     schema: &Schema,
@@ -197,12 +214,12 @@ fn push_default<F: FieldAnalyzers>(
     field: Field,
     phrase: &str,
     terms: &mut Vec<PhraseWords>,
-) -> Result<(), QueryParserError>
-    ensures { AddsOrKeeps (left_out (terms_in_field (record { analyze = F.words analyzers.now field; entries = schema.now }) field [] phrase.now)) schema.now terms.old.items terms.new.items result }
+) -> Result<Option<Field>, QueryParserError>
+    ensures { AddsUnlessLeft field (terms_in_field (record { analyze = F.words analyzers.now field; entries = schema.now }) field [] phrase.now) schema.now terms.old.items terms.new.items result }
 {
     match push_in_one(alloc, schema, analyzers, field, "", phrase, terms) {
-        Ok(()) => Ok(()),
-        Err(QueryParserError::FieldDoesNotHavePositionsIndexed(_)) => Ok(()),
+        Ok(()) => Ok(None),
+        Err(QueryParserError::FieldDoesNotHavePositionsIndexed(_)) => Ok(Some(field)),
         Err(error) => Err(error),
     }
 }
@@ -366,7 +383,7 @@ impl Place {
         }
     }
 
-    // Adds the token of a text, or the phrase of several.
+    // Adds the token of a text, or the phrase of several; nothing if it has none.
     fn push_text<A: TextAnalyzer>(
         self,
         alloc: Global,
@@ -374,11 +391,11 @@ impl Place {
         phrase: &str,
         terms: &mut Vec<PhraseWords>,
     ) -> Result<(), QueryParserError>
-        ensures { AddsText self.field (has_positions self.option) None (words_phrase (record { field = self.field; value = [] }) (A.words analyzer.now phrase.now)) terms.old.items terms.new.items result }
+        ensures { AddsText (text_terms self.field (has_positions self.option) None (A.words analyzer.now phrase.now) (words_phrase (record { field = self.field; value = [] }) (A.words analyzer.now phrase.now))) terms.old.items terms.new.items result }
     {
         let prefix = Term::from_field_bytes(alloc, self.field, &[])?;
         let words = words_phrase(alloc, analyzer, &prefix, phrase)?;
-        self.push_words(alloc, None, words, terms)
+        self.push_words(alloc, analyzer, phrase, None, words, terms)
     }
 
     // Adds the terms of a text at a path of JSON values: the value that it is taken for, and its tokens.
@@ -399,22 +416,24 @@ impl Place {
         let value = convert_to_fast_value_and_append_to_json_term(alloc, &start, phrase)?;
         let prefix = text_prefix(start)?;
         let words = words_phrase(alloc, analyzer, &prefix, phrase)?;
-        self.push_words(alloc, value, words, terms)
+        self.push_words(alloc, analyzer, phrase, value, words, terms)
     }
 
-    // Adds the terms that a text is looked up by: that of a value, and the text's words. There has to be one
-    // of them.
-    pub(crate) fn push_words(
+    // Adds the terms that a text is looked up by: that of a value, and the phrase of the text's words. Nothing if
+    // there is no value and no word.
+    pub(crate) fn push_words<A: TextAnalyzer>(
         self,
         alloc: Global,
+        analyzer: &A,
+        phrase: &str,
         value: Option<Term>,
         words: Option<PhraseWords>,
         terms: &mut Vec<PhraseWords>,
     ) -> Result<(), QueryParserError>
-        ensures { AddsText self.field (has_positions self.option) value words terms.old.items terms.new.items result }
+        ensures { AddsText (text_terms self.field (has_positions self.option) value (A.words analyzer.now phrase.now) words) terms.old.items terms.new.items result }
     {
         let Some(words) = words else {
-            return self.push_value(alloc, value, terms);
+            return self.push_value(alloc, analyzer, phrase, value, terms);
         };
         if !self.option.has_positions() && !words.is_alone() {
             drop(value);
@@ -426,21 +445,37 @@ impl Place {
         Ok(terms.push(words)?)
     }
 
-    // Adds the term of a value, or returns an error if there is none.
-    fn push_value(
+    // Adds the term of a value. If there is none, returns an error if the text has words, which are no phrase.
+    fn push_value<A: TextAnalyzer>(
         self,
         alloc: Global,
+        analyzer: &A,
+        phrase: &str,
         value: Option<Term>,
         terms: &mut Vec<PhraseWords>,
     ) -> Result<(), QueryParserError>
-        ensures { AddsText self.field (has_positions self.option) value None terms.old.items terms.new.items result }
+        ensures { AddsText (text_terms self.field (has_positions self.option) value (A.words analyzer.now phrase.now) None) terms.old.items terms.new.items result }
     {
-        push_term(
-            alloc,
-            value,
-            QueryParserError::UnsupportedPhrase(self.field),
-            terms,
-        )
+        match value {
+            Some(value) => Ok(terms.push(PhraseWords::one(alloc, value))?),
+            None => self.check_words(alloc, analyzer, phrase),
+        }
+    }
+
+    // Returns an error if a text has words.
+    fn check_words<A: TextAnalyzer>(
+        self,
+        alloc: Global,
+        analyzer: &A,
+        phrase: &str,
+    ) -> Result<(), QueryParserError>
+        ensures none { OnOk result (no_phrase self.field (A.words analyzer.now phrase.now) ≡ Ok []) }
+        ensures refused { IfErr result (IsWhyRefused (refused (no_phrase self.field (A.words analyzer.now phrase.now)))) }
+    {
+        if has_words(alloc, analyzer, phrase)? {
+            return Err(QueryParserError::UnsupportedPhrase(self.field));
+        }
+        Ok(())
     }
 }
 

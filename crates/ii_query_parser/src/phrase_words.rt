@@ -1,4 +1,4 @@
-ghost use Rattle.std.specs.Prelude.{◌≡◌, ◌-◌, ◌&&◌, None, Some, nat_le, nat_lt, if◌then◌else◌, IfOk};
+ghost use Rattle.std.specs.Prelude.{◌≡◌, ◌-◌, ◌&&◌, None, Some, length, nat_le, nat_lt, if◌then◌else◌, IfOk};
 ghost use Rattle.std.specs.Option.{option_map};
 ghost use Rattle.ii_io.specs.Faults.{OnlyMemory};
 ghost use Rattle.ii_query_parser.specs.QueryTexts.{is_alone, one_term, stand_after, terms_after, word_term, words_phrase};
@@ -89,6 +89,21 @@ pub(crate) fn words_phrase<A: TextAnalyzer>(
     let words = stream_phrase(alloc, prefix, &mut tokens);
     drop(tokens);
     words
+}
+
+/// Returns whether a text has tokens.
+pub(crate) fn has_words<A: TextAnalyzer>(
+    alloc: Global,
+    analyzer: &A,
+    phrase: &str,
+) -> Result<bool, Fault>
+    ensures ok { IfOk result (λ has. has ≡ nat_lt 0 (length (A.words analyzer.now phrase.now))) }
+    ensures only { OnlyMemory result }
+{
+    let mut tokens = analyzer.token_stream(alloc, phrase)?;
+    let has = tokens.advance();
+    drop(tokens);
+    Ok(has)
 }
 
 // The phrase of the remaining tokens.

@@ -1,13 +1,14 @@
-ghost use Rattle.std.specs.Prelude.{◌≡◌, ℕ, List, IfOk, Ok, OnOk, map, true};
+ghost use Rattle.std.specs.Prelude.{◌≡◌, ◌<◌, ◌&&◌, ℕ, List, IfOk, Ok, OnOk, false, map, not, true};
 ghost use Rattle.std.specs.Option.{option_map};
 ghost use Rattle.std.specs.List.{list_all, list_any};
 ghost use Rattle.ii_io.specs.Faults.{OnlyMemory};
 ghost use Rattle.ii_base.specs.Schema.{SchemaEntry};
 ghost use Rattle.ii_definitions.specs.Tokens.{IndexToken};
-ghost use Rattle.ii_query_grammar.specs.Trees.{Ast, Asts, all_of, any_of, ast_of, asts_from, in_set, leaf, literal_of, range_of, ranged, set_of, without};
-ghost use Rattle.ii_query_parser.specs.Queries.{has_fields, keeps_positions, matches};
+ghost use Rattle.ii_query_grammar.specs.Trees.{Ast, all_of, any_of, ast_of, asts_from, in_set, leaf, literal_of, range_of, ranged, set_of, without};
+ghost use Rattle.ii_query_parser.specs.Queries.{has_fields, has_tree, keeps_positions, matches, trees_of};
 ghost use Rattle.ii_query_parser.specs.Ranges.{keys_of, ranges_of};
-ghost use Rattle.ii_query_parser.specs.QueryTexts.{AnalyzedFields, AreAlone, AreQueriesOf, HasPushed, IsQueryBy, IsQueryOf, AreInside, IsInside, IsQueryOfText, IsQueryOfTextBy, has_between, has_delimited, has_keys, has_term, has_words, is_alone, is_token_under, phrase_kept, phrase_within};
+ghost use Rattle.ii_query_parser.specs.QuerySteps.{AreAlone, AreQueriesOf, HasPushed, HasTermsUnless, AreInside, IsInside, IsLeftBy, phrase_kept, phrase_within};
+ghost use Rattle.ii_query_parser.specs.QueryTexts.{AnalyzedFields, IsQueryBy, IsQueryOf, IsQueryOfText, IsQueryOfTextBy, has_between, has_delimited, has_keys, has_term, has_values, has_words, are_some, is_alone, is_token_under, is_wordless};
 
 use crate::literal::{push_literal, push_set};
 use crate::phrase_words::PhraseWords;
@@ -25,13 +26,13 @@ use std::alloc::Global;
 /// Parses a query text (`ii_query_grammar::parse`) over the fields of a schema, each of which has the same
 /// analyzer. A word or a phrase without a field name is searched in all `default_fields`, which are fields of the
 /// schema. Default fields without positions are skipped for a phrase of several words, unless no other default
-/// field is left. `FieldEntry::index_record_option` says which fields keep positions. `query_of_by` documents the
-/// meaning of words and phrases.
+/// field is left. `FieldEntry::index_record_option` says which fields keep positions. A text without tokens is left
+/// out of the query. `query_of_by` documents the meaning of words and phrases.
 ///
 /// # Errors
 ///
 /// `SyntaxError` or `Unsupported` with the first byte at which the text is not a query; otherwise the error
-/// of the first word, phrase or range that has one.
+/// of the first word, phrase or range that has one; otherwise `NoWords` if nothing is left of the query.
 pub fn parse_query<A: TextAnalyzer>(
     alloc: Global,
     schema: &Schema,
@@ -81,18 +82,22 @@ pub fn query_of<A: TextAnalyzer>(
 /// - A name is that of a field of the schema, or that of a JSON field, a dot and a path in its values. In
 ///   that case the field's name ends at the first dot. `FieldDoesNotExist` if it is neither.
 /// - In a text field, a text is the token that the field's analyzer makes of it, or the phrase of several, each at
-///   its position. `UnsupportedPhrase` if there is no token, or if one occurs before the first or 2^32
-///   positions or more after it. `FieldDoesNotHavePositionsIndexed` if there are several and the field keeps
-///   no positions.
+///   its position. `UnsupportedPhrase` if one occurs before the first or 2^32 positions or more after it.
+///   `FieldDoesNotHavePositionsIndexed` if there are several and the field keeps no positions.
 /// - In a field of numbers or booleans, a text is the value that Rust's `parse` gives; `ExpectedInt` or
 ///   `ExpectedBool` if there is none.
 /// - At a JSON path, a text matches as a token or phrase, as in a text field, or as a value: a signed number,
-///   an unsigned one or a boolean. `UnsupportedPhrase` if it is neither.
+///   an unsigned one or a boolean.
+/// - A text without tokens, which at a JSON path is no value either, is left out of the query: `the AND "-"` is
+///   `the`, and so is `the AND NOT "-"`. A set is left out if all its values are. `NoWords` if nothing is left, and
+///   for a prefix without a token.
 /// - A range matches the documents that have a value of the field, or at the JSON path, between its bounds:
 ///   numbers in their order, `false` before `true`, tokens in the order of their bytes. No document has one between
-///   bounds in the wrong order. A bound is a value as above; in a text field, a text of which the field's analyzer
-///   makes one token, otherwise `UnsupportedBound`. At a JSON path, bounds that are all integers are between
-///   integers; other bounds are between the tokens of texts.
+///   bounds in the wrong order. A bound is a value as above; in a text field, a text of which the field's analyzer of
+///   prefixes and bounds (`FieldAnalyzers::prefix_analyzer`) makes one token, otherwise `UnsupportedBound`. At a JSON
+///   path, bounds that are all integers are between integers; other bounds are between the tokens of texts.
+/// - A prefix, which ends with `*`, matches the documents that have a token which starts with the one token that this
+///   analyzer makes of it; `UnsupportedPrefix` if it makes several, or if the field has no texts.
 /// - A set matches the documents that one of its values matches, each as a text in quotes after the set's name. It
 ///   matches none if it has no values.
 /// - `*` matches all documents. Its query is `Query::All(TERMINATED)`, which no number of documents exceeds.
@@ -100,8 +105,8 @@ pub fn query_of<A: TextAnalyzer>(
 ///
 /// # Errors
 ///
-/// The error of the first word, phrase or range that has one, or `OutOfMemory` in a `Fault`.
-#[cycle(query_of_by)]
+/// The error of the first word, phrase or range that has one; otherwise `NoWords` if nothing is left, or
+/// `OutOfMemory` in a `Fault`.
 pub fn query_of_by<F: FieldAnalyzers>(
     alloc: Global,
     schema: &Schema,
@@ -111,8 +116,26 @@ pub fn query_of_by<F: FieldAnalyzers>(
 ) -> Result<Query, QueryParserError>
     ensures { IsQueryBy (record { texts = record { analyze = F.words analyzers.now; entries = schema.now }; prefixes = F.prefix_words analyzers.now; defaults = default_fields.now }) (ast_of ast.now) result }
 {
+    match left_query(alloc, schema, default_fields, analyzers, ast) {
+        Ok(Some(query)) => Ok(query),
+        Ok(None) => Err(QueryParserError::NoWords),
+        Err(error) => Err(error),
+    }
+}
+
+// The query of what is left of a tree without the texts that have no word, if something is.
+#[cycle(left_query)]
+fn left_query<F: FieldAnalyzers>(
+    alloc: Global,
+    schema: &Schema,
+    default_fields: &[Field],
+    analyzers: &F,
+    ast: &UserInputAst,
+) -> Result<Option<Query>, QueryParserError>
+    ensures { IsLeftBy (record { texts = record { analyze = F.words analyzers.now; entries = schema.now }; prefixes = F.prefix_words analyzers.now; defaults = default_fields.now }) (ast_of ast.now) result }
+{
     match ast {
-        UserInputAst::All => Ok(Query::All(TERMINATED)),
+        UserInputAst::All => Ok(Some(Query::All(TERMINATED))),
         UserInputAst::Leaf(literal) => {
             literal_query(alloc, schema, default_fields, analyzers, literal)
         }
@@ -121,21 +144,23 @@ pub fn query_of_by<F: FieldAnalyzers>(
         }
         UserInputAst::Set(set) => set_query(alloc, schema, default_fields, analyzers, set),
         UserInputAst::And(parts) => {
-            and_query(queries_of(alloc, schema, default_fields, analyzers, parts))
+            let queries = queries_of(alloc, schema, default_fields, analyzers, parts);
+            and_query(parts, queries)
         }
         UserInputAst::Or(parts) => {
-            or_query(queries_of(alloc, schema, default_fields, analyzers, parts))
+            let queries = queries_of(alloc, schema, default_fields, analyzers, parts);
+            or_query(parts, queries)
         }
         UserInputAst::AndNot(first, other) => {
-            let first = query_of_by(alloc, schema, default_fields, analyzers, first);
-            let other = query_of_by(alloc, schema, default_fields, analyzers, other);
+            let first = left_query(alloc, schema, default_fields, analyzers, first);
+            let other = left_query(alloc, schema, default_fields, analyzers, other);
             and_not_query(alloc, first, other)
         }
     }
 }
 
-// The queries of trees.
-#[cycle(query_of_by)]
+// The queries of what is left of trees.
+#[cycle(left_query)]
 fn queries_of<F: FieldAnalyzers>(
     alloc: Global,
     schema: &Schema,
@@ -147,58 +172,110 @@ fn queries_of<F: FieldAnalyzers>(
 {
     let mut queries = Vec::new(alloc);
     for part in parts {
-        match query_of_by(alloc, schema, default_fields, analyzers, part) {
-            Ok(query) => queries.push(query)?,
+        match left_query(alloc, schema, default_fields, analyzers, part) {
+            Ok(Some(query)) => queries.push(query)?,
+            Ok(None) => {}
             Err(error) => return Err(error),
         }
     }
     Ok(queries)
 }
 
-// The query that matches what all parts match, by the queries of these.
-fn and_query(parts: Result<Vec<Query>, QueryParserError>) -> Result<Query, QueryParserError>
-    ensures { (q : AnalyzedFields) (us : Asts) → AreQueriesOf q us parts → IsQueryBy q (all_of us) result }
+// The query that matches what all parts match, by the queries of those that are left.
+fn and_query(
+    parts: &Vec<UserInputAst>,
+    queries: Result<Vec<Query>, QueryParserError>,
+) -> Result<Option<Query>, QueryParserError>
+    ensures { (q : AnalyzedFields) → AreQueriesOf q (asts_from (map ast_of parts.now.items)) queries → IsLeftBy q (all_of (asts_from (map ast_of parts.now.items))) result }
 {
-    match parts {
-        Ok(queries) => Ok(Query::And(queries)),
+    match queries {
+        Ok(queries) => Ok(and_left(parts, queries)),
         Err(error) => Err(error),
     }
 }
 
-// The query that matches what one of the parts matches.
-fn or_query(parts: Result<Vec<Query>, QueryParserError>) -> Result<Query, QueryParserError>
-    ensures { (q : AnalyzedFields) (us : Asts) → AreQueriesOf q us parts → IsQueryBy q (any_of us) result }
+fn and_left(parts: &Vec<UserInputAst>, queries: Vec<Query>) -> Option<Query>
+    ensures { (q : AnalyzedFields) → AreQueriesOf q (asts_from (map ast_of parts.now.items)) (Ok queries) → IsLeftBy q (all_of (asts_from (map ast_of parts.now.items))) (Ok result) }
 {
-    match parts {
-        Ok(queries) => Ok(Query::Or(queries)),
+    if are_left_out(parts, &queries) {
+        return None;
+    }
+    Some(Query::And(queries))
+}
+
+// The query that matches what one of the parts matches, by the queries of those that are left.
+fn or_query(
+    parts: &Vec<UserInputAst>,
+    queries: Result<Vec<Query>, QueryParserError>,
+) -> Result<Option<Query>, QueryParserError>
+    ensures { (q : AnalyzedFields) → AreQueriesOf q (asts_from (map ast_of parts.now.items)) queries → IsLeftBy q (any_of (asts_from (map ast_of parts.now.items))) result }
+{
+    match queries {
+        Ok(queries) => Ok(or_left(parts, queries)),
         Err(error) => Err(error),
     }
 }
 
-// The query that matches what the first part matches and the other one doesn't.
+fn or_left(parts: &Vec<UserInputAst>, queries: Vec<Query>) -> Option<Query>
+    ensures { (q : AnalyzedFields) → AreQueriesOf q (asts_from (map ast_of parts.now.items)) (Ok queries) → IsLeftBy q (any_of (asts_from (map ast_of parts.now.items))) (Ok result) }
+{
+    if are_left_out(parts, &queries) {
+        return None;
+    }
+    Some(Query::Or(queries))
+}
+
+// Whether there are parts, and none is left.
+fn are_left_out(parts: &Vec<UserInputAst>, queries: &Vec<Query>) -> bool
+    ensures { result ≡ (are_some (asts_from (map ast_of parts.now.items)) && not (has_tree (trees_of queries.now.items))) }
+{
+    if parts.as_slice().is_empty() {
+        return false;
+    }
+    queries.as_slice().is_empty()
+}
+
+// The query that matches what is left of the first part, and not what is left of the other one.
 fn and_not_query(
     alloc: Global,
-    first: Result<Query, QueryParserError>,
-    other: Result<Query, QueryParserError>,
-) -> Result<Query, QueryParserError>
-    ensures { (q : AnalyzedFields) (s t : Ast) → IsQueryBy q s first → IsQueryBy q t other → IsQueryBy q (without s t) result }
+    first: Result<Option<Query>, QueryParserError>,
+    other: Result<Option<Query>, QueryParserError>,
+) -> Result<Option<Query>, QueryParserError>
+    ensures { (q : AnalyzedFields) (s t : Ast) → IsLeftBy q s first → IsLeftBy q t other → IsLeftBy q (without s t) result }
 {
     match (first, other) {
-        (Ok(first), Ok(other)) => Ok(Query::and_not(alloc, first, other)?),
+        (Ok(first), Ok(other)) => and_not_left(alloc, first, other),
         (Err(error), _) => Err(error),
         (Ok(_), Err(error)) => Err(error),
     }
 }
 
-// The query of a word, a phrase or a prefix.
+fn and_not_left(
+    alloc: Global,
+    first: Option<Query>,
+    other: Option<Query>,
+) -> Result<Option<Query>, QueryParserError>
+    ensures { (q : AnalyzedFields) (s t : Ast) → IsLeftBy q s (Ok first) → IsLeftBy q t (Ok other) → IsLeftBy q (without s t) result }
+{
+    let Some(first) = first else {
+        drop(other);
+        return Ok(None);
+    };
+    let Some(other) = other else {
+        return Ok(Some(first));
+    };
+    Ok(Some(Query::and_not(alloc, first, other)?))
+}
+
+// The query of a word, a phrase or a prefix, unless it is left out.
 fn literal_query<F: FieldAnalyzers>(
     alloc: Global,
     schema: &Schema,
     default_fields: &[Field],
     analyzers: &F,
     literal: &UserInputLiteral,
-) -> Result<Query, QueryParserError>
-    ensures { IsQueryBy (record { texts = record { analyze = F.words analyzers.now; entries = schema.now }; prefixes = F.prefix_words analyzers.now; defaults = default_fields.now }) (leaf (literal_of literal.now)) result }
+) -> Result<Option<Query>, QueryParserError>
+    ensures { IsLeftBy (record { texts = record { analyze = F.words analyzers.now; entries = schema.now }; prefixes = F.prefix_words analyzers.now; defaults = default_fields.now }) (leaf (literal_of literal.now)) result }
 {
     let mut terms = Vec::new(alloc);
     match push_literal(
@@ -209,24 +286,24 @@ fn literal_query<F: FieldAnalyzers>(
         literal,
         &mut terms,
     ) {
-        Ok(()) => Ok(any_of(alloc, terms, literal.delimiter)?),
+        Ok(()) => Ok(any_left(alloc, terms, literal.delimiter)?),
         Err(error) => Err(error),
     }
 }
 
-// The query of a set.
+// The query of a set, unless it is left out.
 fn set_query<F: FieldAnalyzers>(
     alloc: Global,
     schema: &Schema,
     default_fields: &[Field],
     analyzers: &F,
     set: &UserInputSet,
-) -> Result<Query, QueryParserError>
-    ensures { IsQueryBy (record { texts = record { analyze = F.words analyzers.now; entries = schema.now }; prefixes = F.prefix_words analyzers.now; defaults = default_fields.now }) (in_set (set_of set.now)) result }
+) -> Result<Option<Query>, QueryParserError>
+    ensures { IsLeftBy (record { texts = record { analyze = F.words analyzers.now; entries = schema.now }; prefixes = F.prefix_words analyzers.now; defaults = default_fields.now }) (in_set (set_of set.now)) result }
 {
     let mut terms = Vec::new(alloc);
     match push_set(alloc, schema, analyzers, set, &mut terms) {
-        Ok(()) => Ok(any_of(alloc, terms, Delimiter::None)?),
+        Ok(()) => Ok(set_left(alloc, set, terms)?),
         Err(error) => Err(error),
     }
 }
@@ -238,11 +315,11 @@ fn range_query<F: FieldAnalyzers>(
     default_fields: &[Field],
     analyzers: &F,
     range: &UserInputRange,
-) -> Result<Query, QueryParserError>
-    ensures { IsQueryBy (record { texts = record { analyze = F.words analyzers.now; entries = schema.now }; prefixes = F.prefix_words analyzers.now; defaults = default_fields.now }) (ranged (range_of range.now)) result }
+) -> Result<Option<Query>, QueryParserError>
+    ensures { IsLeftBy (record { texts = record { analyze = F.words analyzers.now; entries = schema.now }; prefixes = F.prefix_words analyzers.now; defaults = default_fields.now }) (ranged (range_of range.now)) result }
 {
     match range_keys(alloc, schema, analyzers, range) {
-        Ok(ranges) => Ok(ranges_query(alloc, ranges)?),
+        Ok(ranges) => Ok(Some(ranges_query(alloc, ranges)?)),
         Err(error) => Err(error),
     }
 }
@@ -272,6 +349,50 @@ fn range_or_none(range: Option<TermRange>) -> Query
         Some(range) => Query::range(range),
         None => Query::Empty,
     }
+}
+
+// The query of the terms and phrases of a set, unless it has values and none of them has a word.
+fn set_left(
+    alloc: Global,
+    set: &UserInputSet,
+    terms: Vec<PhraseWords>,
+) -> Result<Option<Query>, Fault>
+    ensures ok { IfOk result (HasTermsUnless (has_values (set_of set.now) && is_wordless (Ok terms.items)) Delimiter.None terms.items) }
+    ensures only { OnlyMemory result }
+{
+    if set.values.is_empty() {
+        return some_of(alloc, terms, Delimiter::None);
+    }
+    any_left(alloc, terms, Delimiter::None)
+}
+
+// The query of some terms, phrases or prefixes, if there is one.
+fn any_left(
+    alloc: Global,
+    terms: Vec<PhraseWords>,
+    delimiter: Delimiter,
+) -> Result<Option<Query>, Fault>
+    requires alone { AreAlone delimiter terms.items }
+    ensures ok { IfOk result (HasTermsUnless (is_wordless (Ok terms.items)) delimiter terms.items) }
+    ensures only { OnlyMemory result }
+{
+    if terms.is_empty() {
+        return Ok(None);
+    }
+    some_of(alloc, terms, delimiter)
+}
+
+// The query of terms, phrases or prefixes that are not left out.
+fn some_of(
+    alloc: Global,
+    terms: Vec<PhraseWords>,
+    delimiter: Delimiter,
+) -> Result<Option<Query>, Fault>
+    requires alone { AreAlone delimiter terms.items }
+    ensures ok { IfOk result (HasTermsUnless false delimiter terms.items) }
+    ensures only { OnlyMemory result }
+{
+    Ok(Some(any_of(alloc, terms, delimiter)?))
 }
 
 // The query that matches what has one of some terms, phrases or prefixes: a list of them, or a single one itself.

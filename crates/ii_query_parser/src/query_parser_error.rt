@@ -23,15 +23,17 @@ pub enum QueryParserError {
     /// A word or a phrase names no field, and there is no default field.
     #[error("no field is named, and there is no default field")]
     NoDefaultFieldDeclared,
+    /// No text has a word, so that nothing is left to search for; or a prefix has none.
+    #[error("no word to search for")]
+    NoWords,
     /// A text is not a number of the field's type.
     #[error("expected a number")]
     ExpectedInt(Field),
     /// A text in a boolean field is neither `true` nor `false`.
     #[error("expected true or false")]
     ExpectedBool(Field),
-    /// A text without tokens, which at a JSON path is no value either. Also one with a token before its
-    /// first, or 2^32 positions or more after it.
-    #[error("expected a text with words")]
+    /// A text with a token before its first, or 2^32 positions or more after it.
+    #[error("the words of a text are out of order, or too far apart")]
     UnsupportedPhrase(Field),
     /// A phrase in a field that keeps no positions.
     #[error("the field keeps no positions, which a phrase needs")]
@@ -75,6 +77,7 @@ impl QueryParserError {
             | QueryParserError::Unsupported(..)
             | QueryParserError::FieldDoesNotExist
             | QueryParserError::NoDefaultFieldDeclared
+            | QueryParserError::NoWords
             | QueryParserError::Fault(_) => None,
         }
     }

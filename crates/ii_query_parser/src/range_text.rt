@@ -5,7 +5,8 @@ ghost use Rattle.ii_base.specs.Options.{has_positions};
 ghost use Rattle.ii_base.specs.ValueTypes.{code_of};
 ghost use Rattle.ii_base.specs.Values.{u64_bytes};
 ghost use Rattle.ii_query_grammar.specs.Trees.{bound_of, range_of};
-ghost use Rattle.ii_query_parser.specs.QueryTexts.{AreInside, AreRangesOf, IsBound, IsInside, IsKey, IsStart, bound_keys, bounds_integers, dotted_keys, entry_keys, integer_bound, integer_in, integer_keys, integer_type, is_integer, is_unbounded, json_keys, keys_in_field, keys_start, lower_beyond, named_keys, only_key, path_or_empty, range_keys, text_bound_key, text_terms, typed_keys, upper_beyond, value_keys, words_phrase};
+ghost use Rattle.ii_query_parser.specs.QuerySteps.{AreInside, AreRangesOf, IsBound, IsInside, IsKey, IsStart};
+ghost use Rattle.ii_query_parser.specs.QueryTexts.{bound_keys, bounds_integers, dotted_keys, entry_keys, integer_bound, integer_in, integer_keys, integer_type, is_integer, is_unbounded, json_keys, keys_in_field, keys_start, lower_beyond, named_keys, only_key, path_or_empty, range_keys, text_bound_key, text_terms, typed_keys, upper_beyond, value_keys, words_phrase};
 ghost use Rattle.ii_query_parser.specs.Ranges.{key_bound, keys_of};
 
 use crate::literal::{Place, cut_at_dot, field_named, has_json};
@@ -407,7 +408,7 @@ fn word_key<A: TextAnalyzer>(
     prefix: &Term,
     text: &str,
 ) -> Result<Vec<u8>, QueryParserError>
-    ensures { IsKey (only_key prefix.now.field (text_terms prefix.now.field true None (words_phrase prefix.now (A.words analyzer.now text.now)))) result }
+    ensures { IsKey (only_key prefix.now.field (text_terms prefix.now.field true None (A.words analyzer.now text.now) (words_phrase prefix.now (A.words analyzer.now text.now)))) result }
 {
     let field = prefix.field();
     let place = Place {
@@ -418,7 +419,7 @@ fn word_key<A: TextAnalyzer>(
     };
     let words = words_phrase(alloc, analyzer, prefix, text)?;
     let mut terms = Vec::new(alloc);
-    match place.push_words(alloc, None, words, &mut terms) {
+    match place.push_words(alloc, analyzer, text, None, words, &mut terms) {
         Ok(()) => only_key(alloc, field, &terms),
         Err(error) => Err(error),
     }

@@ -98,7 +98,12 @@ fn refused_texts_are_told(rt: HostRuntime) -> Result<(), Fail> {
     let rows = [
         ("field:red", "it is one"),
         ("color:red", "no field has this name"),
-        ("field:.", "expected a text with words"),
+        ("field:.", "no word to search for"),
+        ("field:. OR \"-\"", "no word to search for"),
+        (". AND NOT field:red", "no word to search for"),
+        (".*", "no word to search for"),
+        (". AND field:red", "it is one"),
+        ("field:IN [. \"-\"] red", "it is one"),
         ("field:[a TO b]", "it is one"),
         (
             "field:[a TO \"b c\"]",

@@ -1,6 +1,6 @@
 use Rattle.std.proofs.Common.{drop}
 use Rattle.ii_query_parser.proofs.WordsQueryLemmas.{IsReading}
-use Rattle.ii_query_parser.proofs.query_parser.+query_of_by.Given as goal
+use Rattle.ii_query_parser.proofs.query_parser.+left_query.Given as goal
 
 abbrev pub invariant-queries_of-loop-part : goal.invariant-queries_of-loop-part
 invariant-queries_of-loop-part g l =
