@@ -1,5 +1,5 @@
 //! The commands `add` and `upgrade`.
-use crate::commands::{PROGRAM, REFUSED, refuse, refuse_path, tell_no_index};
+use crate::commands::{PROGRAM, REFUSED, format_given, refuse, refuse_path, tell_no_index};
 use crate::indexing::{Intake, Kept, Target, begun, take_inputs, target_of, tell_long_words};
 use crate::keyed_lines::KeyedLines;
 use crate::memory::{Budget, budget_given};
@@ -13,7 +13,7 @@ use ii_schema_text::TextSchema;
 use ii_segment_store::{CommitFault, load_latest, remove_slots, upgrade};
 use ii_store::segments::load_meta;
 use ii_store::{Folder, IndexFault, StoreFault};
-use nequllpa_folder::text_schema_of;
+use nequllpa_folder::{RowFormat, text_schema_of};
 use std::process::ExitCode;
 
 /// Indexes JSON lines as a new segment of an index.
@@ -61,9 +61,9 @@ fn added(
         Some(budget)
     };
     if replaces {
-        return replace_with(rt, path, intake, merges);
+        return replace_with(rt, path, intake, merges, format_given(given));
     }
-    add_segments(rt, path, intake, merges)
+    add_segments(rt, path, intake, merges, format_given(given))
 }
 
 // Returns what keeps lines whose documents replace others, if the option is given. Returns the status if documents
@@ -127,12 +127,13 @@ fn add_segments(
     path: &str,
     intake: Intake<'_>,
     merges: Option<Budget>,
+    format: RowFormat,
 ) -> anyhow::Result<ExitCode> {
     let taken = match intake.finish(rt)? {
         Ok(taken) => taken,
         Err(status) => return Ok(ExitCode::from(status)),
     };
-    tell_left_out(rt, taken.num_docs, "", taken.bad_lines)?;
+    tell_added(rt, format, taken.num_docs, None, taken.bad_lines)?;
     if let Some(budget) = merges {
         settle(rt, path, budget)?;
     }
@@ -146,6 +147,7 @@ fn replace_with(
     path: &str,
     intake: Intake<'_>,
     merges: Option<Budget>,
+    format: RowFormat,
 ) -> anyhow::Result<ExitCode> {
     let is_quiet = intake.is_quiet();
     let Kept {
@@ -166,7 +168,7 @@ fn replace_with(
         Ok(segment) => segment,
         Err(fault) => return Ok(ExitCode::from(refuse(rt, fault)?)),
     };
-    let status = replace_keys(rt, path, segment, keys, bad_lines)?;
+    let status = replace_keys(rt, path, segment, keys, bad_lines, format)?;
     if status == ExitCode::SUCCESS {
         if let Some(budget) = merges {
             settle(rt, path, budget)?;
@@ -176,17 +178,41 @@ fn replace_with(
     Ok(status)
 }
 
-/// Prints how many documents were added, what else was done, and how many lines were left out.
-pub fn tell_left_out(
+/// Prints how many documents were added, how many they replaced, if they replace some, and how many lines were left out.
+pub fn tell_added(
     rt: &HostRuntime,
+    format: RowFormat,
     num_docs: u64,
-    also: &str,
+    replaced: Option<u64>,
     bad_lines: u64,
 ) -> anyhow::Result<()> {
+    if format.is_json() {
+        return tell_added_json(rt, num_docs, replaced, bad_lines);
+    }
+    let also = match replaced {
+        Some(count) => format!(in rt.alloc(); ", {count} replaced")?,
+        None => String::new(rt.alloc()),
+    };
     if bad_lines > 0 {
         println!(rt; "{num_docs} documents added{also}, {bad_lines} lines left out")?;
     } else {
         println!(rt; "{num_docs} documents added{also}")?;
+    }
+    Ok(())
+}
+
+// Prints the same as a JSON object.
+fn tell_added_json(
+    rt: &HostRuntime,
+    num_docs: u64,
+    replaced: Option<u64>,
+    bad_lines: u64,
+) -> anyhow::Result<()> {
+    match replaced {
+        Some(count) => println!(rt;
+            "{{\"added\":{num_docs},\"replaced\":{count},\"left_out\":{bad_lines}}}"
+        )?,
+        None => println!(rt; "{{\"added\":{num_docs},\"left_out\":{bad_lines}}}")?,
     }
     Ok(())
 }
@@ -204,7 +230,11 @@ pub fn refuse_commit(rt: &HostRuntime, path: &str, fault: CommitFault) -> anyhow
 }
 
 /// Makes an index of version 1 one of version 2, which can have several segments.
-pub fn answer_upgrade(rt: &HostRuntime, path: &str) -> anyhow::Result<ExitCode> {
+pub fn answer_upgrade(
+    rt: &HostRuntime,
+    path: &str,
+    given: &ArgMatches<'_>,
+) -> anyhow::Result<ExitCode> {
     let target = match target_of(rt, path, false)? {
         Ok(target) => target,
         Err(status) => return Ok(ExitCode::from(status)),
@@ -212,11 +242,22 @@ pub fn answer_upgrade(rt: &HostRuntime, path: &str) -> anyhow::Result<ExitCode> 
     let upgraded = upgraded(rt, path);
     drop(target);
     match upgraded {
-        Ok(true) => println!(rt; "the index is of version 2 now")?,
-        Ok(false) => println!(rt; "the index was of version 2 already")?,
+        Ok(was_first) => tell_upgraded(rt, format_given(given), was_first)?,
         Err(fault) => return Ok(ExitCode::from(refuse_commit(rt, path, fault)?)),
     }
     Ok(ExitCode::SUCCESS)
+}
+
+// Prints whether the index was of version 1.
+fn tell_upgraded(rt: &HostRuntime, format: RowFormat, was_first: bool) -> anyhow::Result<()> {
+    if format.is_json() {
+        println!(rt; "{{\"version\":2,\"upgraded\":{was_first}}}")?;
+    } else if was_first {
+        println!(rt; "the index is of version 2 now")?;
+    } else {
+        println!(rt; "the index was of version 2 already")?;
+    }
+    Ok(())
 }
 
 // Does it, and returns whether the index was of version 1.

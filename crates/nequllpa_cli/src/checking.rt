@@ -1,15 +1,24 @@
 //! The command `check`.
-use crate::commands::{NO, ended, refuse_path, status_of, tell_no_index};
-use ii_base::Schema;
+use crate::commands::{NO, ended, format_given, refuse_path, status_of, tell_no_index};
+use clap::ArgMatches;
+use ii_base::{Fault, Schema};
 use ii_segment_store::loading::{alive_file, file_of, load_flags};
 use ii_store::segments::{load_meta, load_segment_file};
 use ii_store::{
     Directory, DirectoryFault, Folder, IndexFault, IndexMeta, Kind, Name, SalvagedFile,
     SalvagedIndex, SegmentComponent, SegmentMeta, StoreFault, StoredIndex, salvage,
 };
-use nequllpa_folder::{Checked, DamagedBlock, check, counts_damage, schema_of, store_damages};
+use nequllpa_folder::{
+    Checked, DamageRow, DamageRows, DamagedBlock, RowFormat, check, counts_damage, schema_of,
+    store_damages,
+};
+use std::fmt::Display;
 use std::io::{self, BufWriter, Write};
 use std::process::ExitCode;
+
+// What is printed of lists where the schema is damaged.
+const NOT_LOOKED_AT: &str =
+    "the lists were not looked at, since they can be read by the schema alone";
 
 // The components whose files each segment has.
 const COMPONENTS: [SegmentComponent; 4] = [
@@ -20,22 +29,35 @@ const COMPONENTS: [SegmentComponent; 4] = [
 ];
 
 /// Checks that each file of a folder is as it was saved, and that their contents agree.
-pub fn answer_check(rt: &HostRuntime, path: &str) -> anyhow::Result<ExitCode> {
+pub fn answer_check(
+    rt: &HostRuntime,
+    path: &str,
+    given: &ArgMatches<'_>,
+) -> anyhow::Result<ExitCode> {
+    let format = format_given(given);
     match load_meta(rt.alloc(), &Folder::new(rt, path)) {
-        Ok(list) => check_list(rt, path, &list),
-        Err(StoreFault::Index(IndexFault::OtherVersion(_))) => check_first_version(rt, path),
+        Ok(list) => check_list(rt, path, &list, format),
+        Err(StoreFault::Index(IndexFault::OtherVersion(_))) => {
+            check_first_version(rt, path, format)
+        }
         Err(StoreFault::Index(fault)) => Ok(ExitCode::from(tell_no_index(rt, path, fault)?)),
         Err(StoreFault::Directory(fault)) => Ok(ExitCode::from(refuse_path(rt, path, fault)?)),
     }
 }
 
 // Checks each segment of a list.
-fn check_list(rt: &HostRuntime, path: &str, list: &IndexMeta) -> anyhow::Result<ExitCode> {
-    let schema = match read_schema(rt, path, list.schema.as_slice())? {
+fn check_list(
+    rt: &HostRuntime,
+    path: &str,
+    list: &IndexMeta,
+    format: RowFormat,
+) -> anyhow::Result<ExitCode> {
+    let schema = match read_schema(rt, path, list.schema.as_slice(), format)? {
         Ok(schema) => schema,
         Err(status) => return Ok(ExitCode::from(status)),
     };
     let mut sum = Sum {
+        format,
         documents: 0,
         files: 0,
         changed: 0,
@@ -53,6 +75,8 @@ fn check_list(rt: &HostRuntime, path: &str, list: &IndexMeta) -> anyhow::Result<
 // What was checked of an index.
 #[derive(Clone, Copy)]
 struct Sum {
+    // how damages are printed, and this
+    format: RowFormat,
     documents: u64,
     files: u64,
     changed: u64,
@@ -70,6 +94,14 @@ fn nothing() -> Checked {
 }
 
 impl Sum {
+    // Returns how the damages of a segment are printed.
+    fn rows_of(&self, segment: &SegmentMeta) -> DamageRows {
+        DamageRows {
+            segment: Some(segment.id),
+            format: self.format,
+        }
+    }
+
     // Adds the lists of a segment.
     fn add(&mut self, more: Checked) {
         self.checked = Checked {
@@ -97,10 +129,9 @@ fn check_segment(
     if let Err(status) = check_others(rt, path, schema, segment, sum)? {
         return Ok(Err(status));
     }
-    let id = segment.id;
-    let place = format!(in rt.alloc(); "segment {id}: ")?;
+    let rows = sum.rows_of(segment);
     let mut out = BufWriter::new(rt.alloc(), io::writer(rt))?;
-    let checked = check(rt.alloc(), &mut out, place.as_str(), schema, stored);
+    let checked = check(rt.alloc(), &mut out, rows, schema, stored);
     out.flush()?;
     match checked {
         Ok(checked) => {
@@ -154,7 +185,7 @@ fn left_of_file(
     let Some(file) = file_of(segment.files.as_slice(), component) else {
         sum.changed = sum.changed.saturating_add(1);
         let fault = IndexFault::MissingFile(segment.id, component);
-        println!(rt; "{path}: {fault}")?;
+        tell_changed(rt, path, sum.rows_of(segment), component, fault, None)?;
         return Ok(Ok(Vec::new(rt.alloc())));
     };
     let fault = match load_segment_file(rt.alloc(), &folder, segment.id, &file) {
@@ -165,15 +196,71 @@ fn left_of_file(
     sum.changed = sum.changed.saturating_add(1);
     match folder.read(rt.alloc(), Name::Segment(segment.id, component)) {
         Ok(Some(bytes)) => {
-            println!(rt; "{path}: {fault}, bytes 0..{}", bytes.len())?;
+            let len = Some(bytes.len() as u64);
+            tell_changed(rt, path, sum.rows_of(segment), component, fault, len)?;
             Ok(Ok(bytes))
         }
         Ok(None) => {
-            println!(rt; "{path}: {fault}")?;
+            tell_changed(rt, path, sum.rows_of(segment), component, fault, None)?;
             Ok(Ok(Vec::new(rt.alloc())))
         }
         Err(fault) => Ok(Err(fault)),
     }
+}
+
+// Prints a file that isn't as it was saved, and its byte range if it has bytes.
+fn tell_changed<F: Display + Drop>(
+    rt: &HostRuntime,
+    path: &str,
+    rows: DamageRows,
+    file: F,
+    fault: IndexFault,
+    len: Option<u64>,
+) -> anyhow::Result<()> {
+    if rows.format.is_json() {
+        let damage = format!(in rt.alloc(); "{fault}")?;
+        let name = format!(in rt.alloc(); "{file}")?;
+        let file = Some(name.as_str());
+        let bytes = len.map(|len| (0, len));
+        return print_row(rt, row_of(damage.as_str(), rows.segment, file, bytes, None));
+    }
+    match len {
+        Some(len) => println!(rt; "{path}: {fault}, bytes 0..{len}")?,
+        None => println!(rt; "{path}: {fault}")?,
+    }
+    Ok(())
+}
+
+// Returns a damage of a file, if there is one, of a segment.
+fn row_of<'a>(
+    damage: &'a str,
+    segment: Option<u64>,
+    file: Option<&'a str>,
+    bytes: Option<(u64, u64)>,
+    document: Option<u32>,
+) -> DamageRow<'a> {
+    DamageRow {
+        damage,
+        segment,
+        file,
+        field: None,
+        term: None,
+        bytes,
+        document,
+    }
+}
+
+// Prints a damage that is of no file, as a JSON object.
+fn print_reason(rt: &HostRuntime, damage: &str) -> anyhow::Result<()> {
+    print_row(rt, row_of(damage, None, None, None, None))
+}
+
+// Prints a damage as a JSON object.
+fn print_row(rt: &HostRuntime, row: DamageRow<'_>) -> anyhow::Result<()> {
+    let mut out = BufWriter::new(rt.alloc(), io::writer(rt))?;
+    row.write(rt.alloc(), &mut out, RowFormat::JsonLine)?;
+    out.flush()?;
+    Ok(())
 }
 
 // Checks the counts and the flags of a segment, if it lists them. Returns the status if that isn't possible.
@@ -219,11 +306,26 @@ fn check_counts(
         Ok(None) => Ok(Ok(())),
         Ok(Some(damage)) => {
             sum.checked.damages = sum.checked.damages.saturating_add(1);
-            println!(rt; "segment {id}: the file of counts: {damage}, bytes 0..{len}")?;
+            if sum.format.is_json() {
+                tell_counts_json(rt, id, damage, len as u64)?;
+            } else {
+                println!(rt; "segment {id}: the file of counts: {damage}, bytes 0..{len}")?;
+            }
             Ok(Ok(()))
         }
         Err(fault) => Ok(Err(refuse_path(rt, path, fault)?)),
     }
+}
+
+// Prints that a file of counts is damaged, as a JSON object.
+fn tell_counts_json(rt: &HostRuntime, id: u64, damage: Fault, len: u64) -> anyhow::Result<()> {
+    let damage = format!(in rt.alloc(); "{damage}")?;
+    let name = format!(in rt.alloc(); "{}", SegmentComponent::Counts)?;
+    let file = Some(name.as_str());
+    print_row(
+        rt,
+        row_of(damage.as_str(), Some(id), file, Some((0, len)), None),
+    )
 }
 
 // Prints a line for each damaged block of the stored lines of a segment, if it lists some. Returns the status if that
@@ -257,13 +359,28 @@ fn print_damages(
     damages: &[DamagedBlock],
     sum: &mut Sum,
 ) -> anyhow::Result<()> {
-    let id = segment.id;
     for found in damages {
         sum.checked.damages = sum.checked.damages.saturating_add(1);
-        let damage = found.damage;
-        let first = found.first_doc;
-        println!(rt; "segment {id}: the file of stored documents: {damage}, document {first}")?;
+        print_block(rt, sum.rows_of(segment), found)?;
     }
+    Ok(())
+}
+
+// Prints a damaged block of stored lines.
+fn print_block(rt: &HostRuntime, rows: DamageRows, found: &DamagedBlock) -> anyhow::Result<()> {
+    let damage = found.damage;
+    let first = found.first_doc;
+    if rows.format.is_json() {
+        let damage = format!(in rt.alloc(); "{damage}")?;
+        let name = format!(in rt.alloc(); "{}", SegmentComponent::Store)?;
+        let file = Some(name.as_str());
+        return print_row(
+            rt,
+            row_of(damage.as_str(), rows.segment, file, None, Some(first)),
+        );
+    }
+    let id = rows.segment.unwrap_or(0);
+    println!(rt; "segment {id}: the file of stored documents: {damage}, document {first}")?;
     Ok(())
 }
 
@@ -278,7 +395,9 @@ fn check_flags(
         Ok(_) => Ok(Ok(())),
         Err(StoreFault::Index(IndexFault::DeletedDocuments(id))) => {
             sum.changed = sum.changed.saturating_add(1);
-            println!(rt; "{path}: {}", IndexFault::DeletedDocuments(id))?;
+            let fault = IndexFault::DeletedDocuments(id);
+            let file = SegmentComponent::Alive(0);
+            tell_changed(rt, path, sum.rows_of(segment), file, fault, None)?;
             Ok(Ok(()))
         }
         Err(StoreFault::Index(_)) => Ok(Ok(())),
@@ -287,7 +406,11 @@ fn check_flags(
 }
 
 // Checks an index of version 1.
-fn check_first_version(rt: &HostRuntime, path: &str) -> anyhow::Result<ExitCode> {
+fn check_first_version(
+    rt: &HostRuntime,
+    path: &str,
+    format: RowFormat,
+) -> anyhow::Result<ExitCode> {
     let left = match salvage(rt.alloc(), &Folder::new(rt, path)) {
         Ok(left) => left,
         Err(StoreFault::Index(fault)) => {
@@ -297,8 +420,8 @@ fn check_first_version(rt: &HostRuntime, path: &str) -> anyhow::Result<ExitCode>
             return Ok(ExitCode::from(refuse_path(rt, path, fault)?));
         }
     };
-    match look_at(rt, path, &left)? {
-        Ok((schema, changed)) => check_lists(rt, path, &schema, left, changed),
+    match look_at(rt, path, &left, format)? {
+        Ok((schema, changed)) => check_lists(rt, path, &schema, left, changed, format),
         Err(status) => Ok(ExitCode::from(status)),
     }
 }
@@ -309,9 +432,10 @@ fn look_at(
     rt: &HostRuntime,
     path: &str,
     left: &SalvagedIndex,
+    format: RowFormat,
 ) -> anyhow::Result<Result<(Schema, u64), u8>> {
-    let changed = print_changed(rt, path, left)?;
-    match schema_left(rt, path, left)? {
+    let changed = print_changed(rt, path, left, format)?;
+    match schema_left(rt, path, left, format)? {
         Ok(schema) => Ok(Ok((schema, changed))),
         Err(status) => Ok(Err(status)),
     }
@@ -322,53 +446,72 @@ fn schema_left(
     rt: &HostRuntime,
     path: &str,
     left: &SalvagedIndex,
+    format: RowFormat,
 ) -> anyhow::Result<Result<Schema, u8>> {
     if left.schema.fault.is_some() {
-        println!(rt; "the lists were not looked at, since they can be read by the schema alone")?;
+        if format.is_json() {
+            print_reason(rt, NOT_LOOKED_AT)?;
+        } else {
+            println!(rt; "{NOT_LOOKED_AT}")?;
+        }
         return Ok(Err(NO));
     }
-    read_schema(rt, path, left.schema.bytes.as_slice())
+    read_schema(rt, path, left.schema.bytes.as_slice(), format)
 }
 
 // Reads the schema of an index, or returns the status if its bytes are none.
-fn read_schema(rt: &HostRuntime, path: &str, bytes: &[u8]) -> anyhow::Result<Result<Schema, u8>> {
+fn read_schema(
+    rt: &HostRuntime,
+    path: &str,
+    bytes: &[u8],
+    format: RowFormat,
+) -> anyhow::Result<Result<Schema, u8>> {
     match schema_of(rt.alloc(), bytes) {
         Ok(schema) => Ok(Ok(schema)),
         Err(fault) => {
             if fault.is_memory() {
                 return Ok(Err(refuse_path(rt, path, fault)?));
             }
-            println!(rt; "{path}: {fault}")?;
+            if format.is_json() {
+                let damage = format!(in rt.alloc(); "{fault}")?;
+                print_reason(rt, damage.as_str())?;
+            } else {
+                println!(rt; "{path}: {fault}")?;
+            }
             Ok(Err(NO))
         }
     }
 }
 
 // Prints a line for each file that isn't as it was saved. Returns their number.
-fn print_changed(rt: &HostRuntime, path: &str, left: &SalvagedIndex) -> anyhow::Result<u64> {
+fn print_changed(
+    rt: &HostRuntime,
+    path: &str,
+    left: &SalvagedIndex,
+    format: RowFormat,
+) -> anyhow::Result<u64> {
     let mut changed = 0u64;
+    let rows = DamageRows {
+        segment: None,
+        format,
+    };
     for number in 0..Kind::COUNT {
-        let file = left.file_of(Kind::at(number));
+        let kind = Kind::at(number);
+        let file = left.file_of(kind);
         if let Some(fault) = file.fault {
             changed = changed.saturating_add(1);
-            print_fault(rt, path, file, fault)?;
+            tell_changed(rt, path, rows, kind, fault, len_of(file, fault))?;
         }
     }
     Ok(changed)
 }
 
-// Prints a file that isn't as it was saved, and its byte range.
-fn print_fault(
-    rt: &HostRuntime,
-    path: &str,
-    file: &SalvagedFile,
-    fault: IndexFault,
-) -> anyhow::Result<()> {
+// Returns the length of a file that isn't as it was saved, if it is there.
+fn len_of(file: &SalvagedFile, fault: IndexFault) -> Option<u64> {
     match fault {
-        IndexFault::Missing(_) => println!(rt; "{path}: {fault}")?,
-        _ => println!(rt; "{path}: {fault}, bytes 0..{}", file.bytes.len())?,
+        IndexFault::Missing(_) => None,
+        _ => Some(file.bytes.len() as u64),
     }
-    Ok(())
 }
 
 // Checks every list of the files.
@@ -378,15 +521,21 @@ fn check_lists(
     schema: &Schema,
     left: SalvagedIndex,
     changed: u64,
+    format: RowFormat,
 ) -> anyhow::Result<ExitCode> {
+    let rows = DamageRows {
+        segment: None,
+        format,
+    };
     let mut sum = Sum {
+        format,
         documents: u64::from(left.num_docs),
         files: u64::from(Kind::COUNT),
         changed,
         checked: nothing(),
     };
     let mut out = BufWriter::new(rt.alloc(), io::writer(rt))?;
-    let checked = check(rt.alloc(), &mut out, "", schema, left.into_index());
+    let checked = check(rt.alloc(), &mut out, rows, schema, left.into_index());
     out.flush()?;
     match checked {
         Ok(checked) => {
@@ -406,6 +555,13 @@ fn print_checked(rt: &HostRuntime, sum: &Sum) -> anyhow::Result<()> {
         positions,
         damages,
     } = sum.checked;
+    if sum.format.is_json() {
+        println!(rt;
+            "{{\"documents\":{},\"files\":{},\"changed_files\":{},\"terms\":{terms},\"postings\":{postings},\"positions\":{positions},\"damages\":{damages}}}",
+            sum.documents, sum.files, sum.changed
+        )?;
+        return Ok(());
+    }
     if sum.changed == 0 {
         println!(rt; "{} documents; each file is as it was saved", sum.documents)?;
     } else {

@@ -7,8 +7,8 @@ use ii_base::{Field, Term};
 use ii_segment_store::{StoredSegment, StoredSegments, WantedFiles, load_latest_with};
 use ii_store::{Folder, IndexFault, Kind, SegmentComponent, StoreFault};
 use nequllpa_folder::{
-    AnswerFault, OpenedIndex, TermChoice, term_of, write_fields, write_postings, write_stats,
-    write_terms,
+    AnswerFault, OpenedIndex, RowFormat, TermChoice, term_of, write_fields, write_postings,
+    write_stats, write_stats_json, write_terms,
 };
 use std::fmt::Display;
 use std::io::{self, BufWriter, ErrorKind, Write};
@@ -20,6 +20,14 @@ pub const PROGRAM: &str = "nequllpa";
 pub const NO: u8 = 1;
 /// The status if the arguments are wrong, or the system reports an error.
 pub const REFUSED: u8 = 2;
+
+/// Returns how rows are printed.
+pub fn format_given(given: &ArgMatches<'_>) -> RowFormat {
+    if given.get_flag("json") {
+        return RowFormat::JsonLine;
+    }
+    RowFormat::Words
+}
 
 /// Prints the terms of a field.
 pub fn answer_terms(
@@ -34,6 +42,7 @@ pub fn answer_terms(
     let choice = TermChoice {
         prefix: given.get_str("prefix").unwrap_or(""),
         top: top.map(|top| top as usize),
+        format: format_given(given),
     };
     match opened_at(rt, path, WantedFiles::WithoutCountsAndStore)? {
         Ok(opened) => print_terms(rt, path, &opened, given, choice),
@@ -86,7 +95,7 @@ fn print_postings(
         return Ok(ExitCode::from(REFUSED));
     };
     match term_given(rt, opened, field, text)? {
-        Ok(term) => print_list(rt, path, opened, &term, given.get_flag("positions")),
+        Ok(term) => print_list(rt, path, opened, &term, given),
         Err(status) => Ok(ExitCode::from(status)),
     }
 }
@@ -97,37 +106,59 @@ fn print_list(
     path: &str,
     opened: &OpenedIndex,
     term: &Term,
-    positions: bool,
+    given: &ArgMatches<'_>,
 ) -> anyhow::Result<ExitCode> {
+    let positions = given.get_flag("positions");
+    let format = format_given(given);
     let mut out = BufWriter::new(rt.alloc(), io::writer(rt))?;
-    let written = write_postings(rt.alloc(), &mut out, opened, term, positions);
+    let written = write_postings(rt.alloc(), &mut out, opened, term, positions, format);
     out.flush()?;
     ended(rt, path, written)
 }
 
 /// Prints the fields.
-pub fn answer_fields(rt: &HostRuntime, path: &str) -> anyhow::Result<ExitCode> {
+pub fn answer_fields(
+    rt: &HostRuntime,
+    path: &str,
+    given: &ArgMatches<'_>,
+) -> anyhow::Result<ExitCode> {
     match opened_at(rt, path, WantedFiles::WithoutStore)? {
-        Ok(opened) => print_fields(rt, path, &opened),
+        Ok(opened) => print_fields(rt, path, &opened, format_given(given)),
         Err(status) => Ok(ExitCode::from(status)),
     }
 }
 
 // Prints the fields of an open index.
-fn print_fields(rt: &HostRuntime, path: &str, opened: &OpenedIndex) -> anyhow::Result<ExitCode> {
+fn print_fields(
+    rt: &HostRuntime,
+    path: &str,
+    opened: &OpenedIndex,
+    format: RowFormat,
+) -> anyhow::Result<ExitCode> {
     let mut out = BufWriter::new(rt.alloc(), io::writer(rt))?;
-    let written = write_fields(rt.alloc(), &mut out, opened);
+    let written = write_fields(rt.alloc(), &mut out, opened, format);
     out.flush()?;
     ended(rt, path, written.map(|()| true))
 }
 
 /// Prints the number of documents, the size of each file, and the space that the lists take.
-pub fn answer_stats(rt: &HostRuntime, path: &str) -> anyhow::Result<ExitCode> {
+pub fn answer_stats(
+    rt: &HostRuntime,
+    path: &str,
+    given: &ArgMatches<'_>,
+) -> anyhow::Result<ExitCode> {
     let stored = match loaded_at(rt, path, WantedFiles::All)? {
         Ok(stored) => stored,
         Err(status) => return Ok(ExitCode::from(status)),
     };
-    print_files(rt, &stored)?;
+    let total = Total::of(&stored);
+    if format_given(given).is_json() {
+        return match opened_of(rt, path, stored)? {
+            Ok(opened) => print_stats_json(rt, path, &opened, &total),
+            Err(status) => Ok(ExitCode::from(status)),
+        };
+    }
+    print_files(rt, &total)?;
     match opened_of(rt, path, stored)? {
         Ok(opened) => print_stats(rt, path, &opened),
         Err(status) => Ok(ExitCode::from(status)),
@@ -142,15 +173,32 @@ fn print_stats(rt: &HostRuntime, path: &str, opened: &OpenedIndex) -> anyhow::Re
     ended(rt, path, written.map(|()| true))
 }
 
-// Prints the number of documents and of segments, and how many bytes their files have of each kind.
-fn print_files(rt: &HostRuntime, index: &StoredSegments) -> anyhow::Result<()> {
-    let mut total = Total::default();
-    for segment in &index.segments {
-        total.add(segment);
+// Prints all of this as one JSON object, once it is known.
+fn print_stats_json(
+    rt: &HostRuntime,
+    path: &str,
+    opened: &OpenedIndex,
+    total: &Total,
+) -> anyhow::Result<ExitCode> {
+    let mut fields = Vec::new(rt.alloc());
+    if let Err(fault) = write_stats_json(rt.alloc(), &mut fields, opened) {
+        drop(fields);
+        return Ok(ExitCode::from(status_of(rt, path, fault)?));
     }
+    let mut out = BufWriter::new(rt.alloc(), io::writer(rt))?;
+    total.write_json(&mut out)?;
+    write!(out, ",\"fields\":")?;
+    out.write_all(fields.as_slice())?;
+    writeln!(out, "}}")?;
+    out.flush()?;
+    Ok(ExitCode::SUCCESS)
+}
+
+// Prints the number of documents and of segments, and how many bytes their files have of each kind.
+fn print_files(rt: &HostRuntime, total: &Total) -> anyhow::Result<()> {
     println!(rt; "{:>12} documents", total.living)?;
-    println!(rt; "{:>12} segments", index.segments.len())?;
-    println!(rt; "{:>12} bytes of {}", index.schema.len(), Kind::Schema)?;
+    println!(rt; "{:>12} segments", total.segments)?;
+    println!(rt; "{:>12} bytes of {}", total.schema, Kind::Schema)?;
     println!(rt; "{:>12} bytes of {}", total.terms, Kind::Terms)?;
     println!(rt; "{:>12} bytes of {}", total.postings, Kind::Postings)?;
     println!(rt; "{:>12} bytes of {}", total.positions, Kind::Positions)?;
@@ -165,8 +213,8 @@ fn print_files(rt: &HostRuntime, index: &StoredSegments) -> anyhow::Result<()> {
     if total.store > 0 {
         println!(rt; "{:>12} bytes of {}", total.store, SegmentComponent::Store)?;
     }
-    if total.living < total.documents {
-        let deleted = total.documents.saturating_sub(total.living);
+    let deleted = total.deleted();
+    if deleted > 0 {
         println!(rt; "{deleted:>12} deleted documents that still take room")?;
     }
     Ok(())
@@ -175,6 +223,8 @@ fn print_files(rt: &HostRuntime, index: &StoredSegments) -> anyhow::Result<()> {
 // The documents of segments, and the bytes of their files.
 #[derive(Clone, Copy, Default)]
 struct Total {
+    segments: u64,
+    schema: u64,
     // deleted ones included
     documents: u64,
     living: u64,
@@ -187,6 +237,44 @@ struct Total {
 }
 
 impl Total {
+    // Returns that of an index.
+    fn of(index: &StoredSegments) -> Total {
+        let mut total = Total {
+            segments: index.segments.len() as u64,
+            schema: index.schema.len() as u64,
+            ..Total::default()
+        };
+        for segment in &index.segments {
+            total.add(segment);
+        }
+        total
+    }
+
+    // Returns how many documents are deleted.
+    fn deleted(&self) -> u64 {
+        self.documents.saturating_sub(self.living)
+    }
+
+    // Writes it as the start of a JSON object.
+    fn write_json<W: Write>(&self, out: &mut W) -> io::Result<()> {
+        write!(
+            out,
+            "{{\"documents\":{},\"segments\":{},\"deleted_documents\":{},\"bytes\":{{\"schema\":{},\"terms\":{},\"postings\":{},\"positions\":{}",
+            self.living,
+            self.segments,
+            self.deleted(),
+            self.schema,
+            self.terms,
+            self.postings,
+            self.positions
+        )?;
+        write!(
+            out,
+            ",\"field_norms\":{},\"counts\":{},\"stored_documents\":{}}}",
+            self.fieldnorms, self.counts, self.store
+        )
+    }
+
     // Adds a segment.
     fn add(&mut self, stored: &StoredSegment) {
         let living = u64::from(stored.alive.num_living());

@@ -1,6 +1,6 @@
 //! The command `delete`.
 use crate::adding::refuse_commit;
-use crate::commands::{REFUSED, field_given, opened_at, status_of, term_given};
+use crate::commands::{REFUSED, field_given, format_given, opened_at, status_of, term_given};
 use crate::indexing::target_of;
 use crate::replacing::total;
 use clap::ArgMatches;
@@ -8,7 +8,7 @@ use ii_base::{DocId, Term};
 use ii_segment_store::{CommitFault, WantedFiles, commit_changes, remove_slots, upgrade};
 use ii_store::Folder;
 use ii_store::collect::collect;
-use nequllpa_folder::{AnswerFault, OpenedIndex, docs_to_delete};
+use nequllpa_folder::{AnswerFault, OpenedIndex, RowFormat, docs_to_delete};
 use std::process::ExitCode;
 
 /// Deletes the documents that have a term.
@@ -49,7 +49,7 @@ fn delete_given(
         return Ok(ExitCode::from(REFUSED));
     };
     match term_given(rt, opened, field, text)? {
-        Ok(term) => delete_term(rt, path, opened, &term),
+        Ok(term) => delete_term(rt, path, opened, &term, format_given(given)),
         Err(status) => Ok(ExitCode::from(status)),
     }
 }
@@ -60,6 +60,7 @@ fn delete_term(
     path: &str,
     opened: &OpenedIndex,
     term: &Term,
+    format: RowFormat,
 ) -> anyhow::Result<ExitCode> {
     let docs = match docs_to_delete(rt.alloc(), opened, term) {
         Ok(docs) => docs,
@@ -74,8 +75,18 @@ fn delete_term(
         }
     }
     drop(docs);
-    println!(rt; "{count} documents deleted")?;
+    tell_deleted(rt, format, count)?;
     Ok(ExitCode::SUCCESS)
+}
+
+// Prints how many documents were deleted.
+fn tell_deleted(rt: &HostRuntime, format: RowFormat, count: u64) -> anyhow::Result<()> {
+    if format.is_json() {
+        println!(rt; "{{\"deleted\":{count}}}")?;
+    } else {
+        println!(rt; "{count} documents deleted")?;
+    }
+    Ok(())
 }
 
 // Deletes documents of an index, and removes the files that no list has.

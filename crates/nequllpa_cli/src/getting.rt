@@ -1,10 +1,10 @@
 //! The command `get`.
-use crate::commands::{NO, PROGRAM, REFUSED, refuse, refuse_path, tell_no_index};
+use crate::commands::{NO, PROGRAM, REFUSED, format_given, refuse, refuse_path, tell_no_index};
 use clap::ArgMatches;
 use ii_store::segments::load_meta;
 use ii_store::{Folder, IndexFault, IndexMeta, StoreFault};
 use nequllpa_folder::{
-    DocumentFault, SegmentStore, StoredLines, StoredLinesFault, document, load_lines,
+    DocumentFault, RowFormat, SegmentStore, StoredLines, StoredLinesFault, document, load_lines,
 };
 use std::io::{self, BufWriter, Write};
 use std::process::ExitCode;
@@ -33,7 +33,7 @@ pub fn answer_get(
         }
     }
     match load_meta(rt.alloc(), &Folder::new(rt, path)) {
-        Ok(list) => get_listed(rt, path, &list, &numbers),
+        Ok(list) => get_listed(rt, path, &list, &numbers, format_given(given)),
         Err(StoreFault::Index(IndexFault::OtherVersion(_))) => {
             Ok(ExitCode::from(refuse(rt, NOT_STORED)?))
         }
@@ -48,9 +48,10 @@ fn get_listed(
     path: &str,
     list: &IndexMeta,
     numbers: &[u64],
+    format: RowFormat,
 ) -> anyhow::Result<ExitCode> {
     match load_lines(rt.alloc(), &Folder::new(rt, path), list) {
-        Ok(lines) => get_all(rt, path, &lines, numbers),
+        Ok(lines) => get_all(rt, path, &lines, numbers, format),
         Err(StoredLinesFault::Load(StoreFault::Index(fault))) => {
             Ok(ExitCode::from(tell_no_index(rt, path, fault)?))
         }
@@ -68,6 +69,7 @@ fn get_all(
     path: &str,
     lines: &Vec<StoredLines>,
     numbers: &[u64],
+    format: RowFormat,
 ) -> anyhow::Result<ExitCode> {
     let mut stores = Vec::new(rt.alloc());
     for segment in lines {
@@ -75,7 +77,7 @@ fn get_all(
     }
     let mut status = ExitCode::SUCCESS;
     for number in numbers {
-        if !print_line(rt, path, lines, &stores, *number)? {
+        if !print_line(rt, path, lines, &stores, *number, format)? {
             status = ExitCode::from(NO);
         }
     }
@@ -89,12 +91,12 @@ fn print_line(
     lines: &Vec<StoredLines>,
     stores: &[SegmentStore<'_>],
     number: u64,
+    format: RowFormat,
 ) -> anyhow::Result<bool> {
     match document(stores, number) {
         Ok(line) => {
             let mut out = BufWriter::new(rt.alloc(), io::writer(rt))?;
-            out.write_all(line)?;
-            writeln!(out)?;
+            write_line(&mut out, number, line, format)?;
             out.flush()?;
             return Ok(true);
         }
@@ -106,6 +108,22 @@ fn print_line(
         }
     }
     Ok(false)
+}
+
+// Writes the stored line of a document, as a JSON object with its number if that is wanted.
+fn write_line<W: Write>(
+    out: &mut W,
+    number: u64,
+    line: &[u8],
+    format: RowFormat,
+) -> io::Result<()> {
+    if !format.is_json() {
+        out.write_all(line)?;
+        return writeln!(out);
+    }
+    write!(out, "{{\"doc\":{number},\"source\":")?;
+    out.write_all(line)?;
+    writeln!(out, "}}")
 }
 
 // Returns the id of the segment at a place.

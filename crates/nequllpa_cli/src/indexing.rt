@@ -1,7 +1,7 @@
 //! The command `index`.
 ghost use Rattle.std.specs.Prelude.{◌≡◌, [], None, Some, if◌then◌else◌};
 
-use crate::commands::{NO, PROGRAM, REFUSED, refuse, refuse_file, refuse_path};
+use crate::commands::{NO, PROGRAM, REFUSED, format_given, refuse, refuse_file, refuse_path};
 use crate::keyed_lines::{KeyedLines, LineRefusal};
 use crate::memory::{Budget, budget_given};
 use crate::new_segments::{Former, NewSegments};
@@ -12,7 +12,7 @@ use ii_documents::{LineFault, ValueFault};
 use ii_schema_text::{SchemaFault, TextSchema, field_name_at, new_schema_text, read_text_schema};
 use ii_store::FolderLock;
 use ii_tokenizers::FieldTokenizers;
-use nequllpa_folder::text_schema_of;
+use nequllpa_folder::{RowFormat, text_schema_of};
 use nequllpa_indexing::{Documents, InputFault, MAX_TOKEN_LEN, add_line};
 use serde_json::Error as JsonError;
 use std::alloc::Global;
@@ -93,7 +93,7 @@ pub fn answer_index(
     }
     match intake.finish(rt)? {
         Ok(taken) => {
-            tell_indexed(rt, taken.num_docs, taken.bad_lines)?;
+            tell_indexed(rt, format_given(given), taken)?;
             Ok(ExitCode::SUCCESS)
         }
         Err(status) => Ok(ExitCode::from(status)),
@@ -619,8 +619,14 @@ pub fn tell_long_words(rt: &HostRuntime, is_quiet: bool, count: u64) -> anyhow::
 }
 
 // Prints how many documents were indexed and how many lines were skipped.
-fn tell_indexed(rt: &HostRuntime, num_docs: u64, bad_lines: u64) -> anyhow::Result<()> {
-    if bad_lines > 0 {
+fn tell_indexed(rt: &HostRuntime, format: RowFormat, taken: Taken) -> anyhow::Result<()> {
+    let Taken {
+        num_docs,
+        bad_lines,
+    } = taken;
+    if format.is_json() {
+        println!(rt; "{{\"indexed\":{num_docs},\"left_out\":{bad_lines}}}")?;
+    } else if bad_lines > 0 {
         println!(rt; "{num_docs} documents indexed, {bad_lines} lines left out")?;
     } else {
         println!(rt; "{num_docs} documents indexed")?;

@@ -1,41 +1,46 @@
 //! The command `merge`, and the merges after `add`.
 use crate::adding::refuse_commit;
-use crate::commands::{NO, PROGRAM, loaded_at, refuse_path, tell_no_index};
+use crate::commands::{NO, PROGRAM, format_given, loaded_at, refuse_path, tell_no_index};
 use crate::indexing::target_of;
 use crate::memory::Budget;
+use clap::ArgMatches;
 use ii_segment_store::loading::file_of;
 use ii_segment_store::{StoredSegments, WantedFiles};
 use ii_store::collect::collect;
 use ii_store::segments::load_meta;
 use ii_store::{Folder, IndexFault, IndexMeta, SegmentComponent, SegmentMeta, StoreFault};
-use nequllpa_folder::schema_of;
+use nequllpa_folder::{RowFormat, schema_of};
 use nequllpa_merging::{JoinFault, MergeFault, first_to_merge, first_within, merge_last};
 use std::alloc::{AllocError, Global};
 use std::process::ExitCode;
 
 /// Makes all segments of an index one, of the documents that weren't deleted.
-pub fn answer_merge(rt: &HostRuntime, path: &str) -> anyhow::Result<ExitCode> {
+pub fn answer_merge(
+    rt: &HostRuntime,
+    path: &str,
+    given: &ArgMatches<'_>,
+) -> anyhow::Result<ExitCode> {
     let target = match target_of(rt, path, false)? {
         Ok(target) => target,
         Err(status) => return Ok(ExitCode::from(status)),
     };
-    let merged = merged(rt, path);
+    let merged = merged(rt, path, format_given(given));
     drop(target);
     merged
 }
 
 // Does it, once the folder is locked.
-fn merged(rt: &HostRuntime, path: &str) -> anyhow::Result<ExitCode> {
+fn merged(rt: &HostRuntime, path: &str, format: RowFormat) -> anyhow::Result<ExitCode> {
     let folder = Folder::new(rt, path);
     match load_meta(rt.alloc(), &folder) {
-        Ok(list) => merge_all(rt, path, list),
-        Err(StoreFault::Index(IndexFault::OtherVersion(_))) => tell_one(rt, path),
+        Ok(list) => merge_all(rt, path, list, format),
+        Err(StoreFault::Index(IndexFault::OtherVersion(_))) => tell_one(rt, path, format),
         Err(fault) => Ok(ExitCode::from(refuse_store(rt, path, fault)?)),
     }
 }
 
 // Prints that an index of version 1 is one segment.
-fn tell_one(rt: &HostRuntime, path: &str) -> anyhow::Result<ExitCode> {
+fn tell_one(rt: &HostRuntime, path: &str, format: RowFormat) -> anyhow::Result<ExitCode> {
     let StoredSegments {
         schema: _,
         segments,
@@ -47,22 +52,44 @@ fn tell_one(rt: &HostRuntime, path: &str) -> anyhow::Result<ExitCode> {
     for segment in &segments {
         count = count.saturating_add(u64::from(segment.alive.num_living()));
     }
-    println!(rt; "nothing to merge, {count} documents")?;
+    tell_merged(rt, format, 0, count)?;
     Ok(ExitCode::SUCCESS)
 }
 
+// Prints how many segments were merged, and how many documents the index has.
+fn tell_merged(
+    rt: &HostRuntime,
+    format: RowFormat,
+    segments: usize,
+    num_docs: u64,
+) -> anyhow::Result<()> {
+    if format.is_json() {
+        println!(rt; "{{\"merged\":{segments},\"documents\":{num_docs}}}")?;
+    } else if segments == 0 {
+        println!(rt; "nothing to merge, {num_docs} documents")?;
+    } else {
+        println!(rt; "{segments} segments merged, {num_docs} documents")?;
+    }
+    Ok(())
+}
+
 // Merges the segments of a list, and prints how many there were.
-fn merge_all(rt: &HostRuntime, path: &str, list: IndexMeta) -> anyhow::Result<ExitCode> {
+fn merge_all(
+    rt: &HostRuntime,
+    path: &str,
+    list: IndexMeta,
+    format: RowFormat,
+) -> anyhow::Result<ExitCode> {
     let count = list.segments.len();
     let num_docs = num_living(&list);
     if count < 2 && !has_deletes(&list) {
-        println!(rt; "nothing to merge, {num_docs} documents")?;
+        tell_merged(rt, format, 0, num_docs)?;
         return Ok(ExitCode::SUCCESS);
     }
     if let Err(status) = merge_from(rt, path, &list, 0)? {
         return Ok(ExitCode::from(status));
     }
-    println!(rt; "{count} segments merged, {num_docs} documents")?;
+    tell_merged(rt, format, count, num_docs)?;
     Ok(ExitCode::SUCCESS)
 }
 

@@ -1,5 +1,5 @@
 //! Documents that replace others: those that have the same key.
-use crate::adding::{refuse_commit, tell_left_out};
+use crate::adding::{refuse_commit, tell_added};
 use crate::commands::{opened_at, status_of};
 use ii_base::{DocId, Fault, Term};
 use ii_segment_store::{
@@ -7,7 +7,7 @@ use ii_segment_store::{
 };
 use ii_store::Folder;
 use ii_store::collect::collect;
-use nequllpa_folder::{AnswerFault, OpenedIndex, docs_to_delete};
+use nequllpa_folder::{AnswerFault, OpenedIndex, RowFormat, docs_to_delete};
 use std::alloc::Global;
 use std::process::ExitCode;
 
@@ -19,6 +19,7 @@ pub fn replace_keys(
     segment: SegmentFiles,
     keys: Vec<Term>,
     bad_lines: u64,
+    format: RowFormat,
 ) -> anyhow::Result<ExitCode> {
     let opened = match opened_at(rt, path, WantedFiles::All)? {
         Ok(opened) => opened,
@@ -35,8 +36,8 @@ pub fn replace_keys(
     if let Err(fault) = committed {
         return Ok(ExitCode::from(refuse_commit(rt, path, fault)?));
     }
-    let also = format!(in rt.alloc(); ", {count} replaced")?;
-    tell_left_out(rt, u64::from(segment.num_docs), also.as_str(), bad_lines)?;
+    let num_docs = u64::from(segment.num_docs);
+    tell_added(rt, format, num_docs, Some(count), bad_lines)?;
     Ok(ExitCode::SUCCESS)
 }
 

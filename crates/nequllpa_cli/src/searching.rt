@@ -1,6 +1,8 @@
 //! The command `search`.
 use crate::batch::answer_batch;
-use crate::commands::{PROGRAM, REFUSED, ended, field_named, number_given, opened_at, refuse};
+use crate::commands::{
+    PROGRAM, REFUSED, ended, field_named, format_given, number_given, opened_at, refuse,
+};
 use crate::getting::NOT_STORED;
 use crate::query_texts::{refuse_query, tell_left_out};
 use crate::snippet_style::style_given;
@@ -174,7 +176,7 @@ fn wanted_given<'a, 'n>(
         Ok(ids) => ids,
         Err(status) => return Ok(Err(status)),
     };
-    let format = format_given(given);
+    let format = format_of_found(given);
     match number_given(rt, given, "top")? {
         Ok(Some(limit)) => Ok(Ok(Wanted::Best(BestListing {
             limit,
@@ -194,14 +196,11 @@ fn wanted_given<'a, 'n>(
 }
 
 // Returns how a document is printed.
-fn format_given(given: &ArgMatches<'_>) -> RowFormat {
+fn format_of_found(given: &ArgMatches<'_>) -> RowFormat {
     if given.get_flag("batch") {
         return RowFormat::JsonItem;
     }
-    if given.get_flag("json") {
-        return RowFormat::JsonLine;
-    }
-    RowFormat::Words
+    format_given(given)
 }
 
 // Returns how the number of documents is printed: in a batch as a value of JSON.

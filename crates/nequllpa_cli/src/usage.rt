@@ -83,6 +83,11 @@ static USAGES: [Usage; 12] = [
                 given: Given::Flag,
                 help: "Replaces files with names of an index in a folder that has no meta",
             },
+            Word {
+                name: "json",
+                given: Given::Flag,
+                help: "Prints a JSON object: indexed, the number of documents, and left_out, that of the lines that were left out",
+            },
         ],
     },
     Usage {
@@ -119,6 +124,11 @@ static USAGES: [Usage; 12] = [
                 given: Given::Flag,
                 help: "Leaves out lines that are no documents, prints why for each, and counts them",
             },
+            Word {
+                name: "json",
+                given: Given::Flag,
+                help: "Prints a JSON object: added, the number of documents, with --replace-by replaced, and left_out, the number of the lines that were left out",
+            },
         ],
     },
     Usage {
@@ -135,17 +145,30 @@ static USAGES: [Usage; 12] = [
                 given: Given::WordOrNumber,
                 help: "The term, as the command terms prints it",
             },
+            Word {
+                name: "json",
+                given: Given::Flag,
+                help: "Prints a JSON object: deleted, the number of documents",
+            },
         ],
     },
     Usage {
         name: "merge",
         about: "Makes all segments of an index one, of the documents that were not deleted. No answer changes. Takes as much memory as the index has bytes, and as much again for the new one",
-        words: &[],
+        words: &[Word {
+            name: "json",
+            given: Given::Flag,
+            help: "Prints a JSON object: merged, the number of segments that were merged, 0 where there was nothing to merge, and documents, how many the index has",
+        }],
     },
     Usage {
         name: "upgrade",
         about: "Makes an index of version 1 one of version 2, to which add can add; add does so by itself",
-        words: &[],
+        words: &[Word {
+            name: "json",
+            given: Given::Flag,
+            help: "Prints a JSON object: version, which is 2, and upgraded, whether the index was of version 1",
+        }],
     },
     Usage {
         name: "search",
@@ -226,11 +249,18 @@ static USAGES: [Usage; 12] = [
     Usage {
         name: "get",
         about: "Prints the stored lines of documents by their numbers; status 1 where there is no such document, where its block is damaged, or where lines are not stored",
-        words: &[Word {
-            name: "DOC",
-            given: Given::Words,
-            help: "Numbers of documents, as the command search prints them",
-        }],
+        words: &[
+            Word {
+                name: "DOC",
+                given: Given::Words,
+                help: "Numbers of documents, as the command search prints them",
+            },
+            Word {
+                name: "json",
+                given: Given::Flag,
+                help: "Prints a JSON object for each document: doc, its number, and source, its line",
+            },
+        ],
     },
     Usage {
         name: "terms",
@@ -250,6 +280,11 @@ static USAGES: [Usage; 12] = [
                 name: "top",
                 given: Given::Value("N"),
                 help: "Prints the N terms that are in the most documents, these first",
+            },
+            Word {
+                name: "json",
+                given: Given::Flag,
+                help: "Prints a JSON object for each term: term, its text, and docs, the number of its documents",
             },
         ],
     },
@@ -272,22 +307,39 @@ static USAGES: [Usage; 12] = [
                 given: Given::Flag,
                 help: "Prints where it occurs too, if the field records that",
             },
+            Word {
+                name: "json",
+                given: Given::Flag,
+                help: "Prints a JSON object for each document: doc, its number; freq and positions where they are printed",
+            },
         ],
     },
     Usage {
         name: "fields",
         about: "Prints for each field its number, name, type, what it records, its terms and tokens; for a JSON field also its paths and types",
-        words: &[],
+        words: &[Word {
+            name: "json",
+            given: Given::Flag,
+            help: "Prints a JSON object for each field: number, field, type, indexed, record, fieldnorms, expand_dots, tokenizer, terms and tokens; and for each path of a JSON field one with field, path, type, terms and bytes, an object with postings and positions",
+        }],
     },
     Usage {
         name: "check",
         about: "Checks that each file is as it was saved, walks every list of every term, compares the norms with the counts, and reads all stored lines; prints for each damage the file, the field, the term, the part and the range of its bytes; status 1 if something is damaged",
-        words: &[],
+        words: &[Word {
+            name: "json",
+            given: Given::Flag,
+            help: "Prints a JSON object for each damage: damage, segment, file, field, term, bytes and document, as far as it has them; and one with documents, files, changed_files, terms, postings, positions and damages at the end",
+        }],
     },
     Usage {
         name: "stats",
         about: "Prints how many documents there are, the bytes of each file, and for each field what its lists take",
-        words: &[],
+        words: &[Word {
+            name: "json",
+            given: Given::Flag,
+            help: "Prints a JSON object: documents, segments, deleted_documents, bytes, and fields, an object for each field",
+        }],
     },
 ];
 

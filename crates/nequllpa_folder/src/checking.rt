@@ -13,6 +13,8 @@ ghost use Rattle.ii_io.specs.Faults.{OnlyMemory};
 ghost use Rattle.ii_store.specs.Index.{view};
 
 use crate::faults::AnswerFault;
+use crate::json_rows::DamageRow;
+use crate::row_format::RowFormat;
 use bytes::Bytes;
 use ii_base::{Fault, Field, FieldEntry, Part, Schema};
 use ii_counts::CountReaders;
@@ -31,12 +33,22 @@ pub struct Checked {
     pub damages: u64,
 }
 
-/// Finds the damages of an index over a schema (`find_damages`) and writes a line for each: `place`, the file,
-/// field and term, what is wrong, and the bytes of the file. An index that was written from index calls has none.
+/// How the damages of files are written.
+#[derive(Clone, Copy, Debug)]
+pub struct DamageRows {
+    /// The id of the segment that has the files, in an index of version 2.
+    pub segment: Option<u64>,
+    /// How each is written.
+    pub format: RowFormat,
+}
+
+/// Finds the damages of an index over a schema (`find_damages`) and writes a line for each: the segment, file, field
+/// and term, what is wrong, and the bytes of the file. A JSON line is that of a `DamageRow`. An index that was written
+/// from index calls has none.
 pub fn check<W: Write>(
     alloc: Global,
     out: &mut W,
-    place: &str,
+    rows: DamageRows,
     schema: &Schema,
     stored: StoredIndex,
 ) -> Result<Checked, AnswerFault>
@@ -49,7 +61,7 @@ pub fn check<W: Write>(
     let mut totals = Totals::nothing();
     let found = find_damages(alloc, schema, stored, &mut totals)?;
     let damages = found.len() as u64;
-    let written = write_damages(alloc, out, place, schema, &found);
+    let written = write_damages(alloc, out, rows, schema, &found);
     drop(found);
     written?;
     let Totals {
@@ -95,23 +107,87 @@ pub fn counts_damage(
 fn write_damages<W: Write>(
     alloc: Global,
     out: &mut W,
-    place: &str,
+    rows: DamageRows,
     schema: &Schema,
     found: &Vec<FoundDamage>,
 ) -> Result<(), AnswerFault> {
     for damage in found {
-        write!(out, "{place}")?;
-        write_place(alloc, out, schema, damage)?;
-        let bytes = damage.bytes();
-        writeln!(
-            out,
-            ": {}, bytes {}..{}",
-            damage.damage(),
-            bytes.start,
-            bytes.end
-        )?;
+        if rows.format.is_json() {
+            write_damage_json(alloc, out, rows, schema, damage)?;
+        } else {
+            write_damage(alloc, out, rows, schema, damage)?;
+        }
     }
     Ok(())
+}
+
+// Writes a damage as a line of words.
+fn write_damage<W: Write>(
+    alloc: Global,
+    out: &mut W,
+    rows: DamageRows,
+    schema: &Schema,
+    damage: &FoundDamage,
+) -> Result<(), AnswerFault> {
+    if let Some(id) = rows.segment {
+        write!(out, "segment {id}: ")?;
+    }
+    write_place(alloc, out, schema, damage)?;
+    let bytes = damage.bytes();
+    writeln!(
+        out,
+        ": {}, bytes {}..{}",
+        damage.damage(),
+        bytes.start,
+        bytes.end
+    )?;
+    Ok(())
+}
+
+// Writes a damage as a JSON object.
+fn write_damage_json<W: Write>(
+    alloc: Global,
+    out: &mut W,
+    rows: DamageRows,
+    schema: &Schema,
+    damage: &FoundDamage,
+) -> Result<(), AnswerFault> {
+    let what = format!(in alloc; "{}", damage.damage())?;
+    let kind = format!(in alloc; "{}", damage.kind())?;
+    let file = Some(kind.as_str());
+    let entry = match damage.field() {
+        Some(field) => entry_of(schema, field),
+        None => None,
+    };
+    let field = entry.map(|entry| entry.name());
+    let owned = term_of_damage(alloc, entry, damage)?;
+    let term = owned.as_ref().map(|text| text.as_str());
+    let bytes = damage.bytes();
+    let bytes = Some((bytes.start, bytes.end));
+    let row = DamageRow {
+        damage: what.as_str(),
+        segment: rows.segment,
+        file,
+        field,
+        term,
+        bytes,
+        document: None,
+    };
+    row.write(alloc, out, rows.format)
+}
+
+// Returns the text of the key that a damage belongs to, if there is one.
+fn term_of_damage(
+    alloc: Global,
+    entry: Option<&FieldEntry>,
+    damage: &FoundDamage,
+) -> Result<Option<String>, AnswerFault> {
+    let (Some(entry), Some(key)) = (entry, damage.key()) else {
+        return Ok(None);
+    };
+    let mut text = String::new(alloc);
+    push_key(alloc, &mut text, entry.value_type(), key)?;
+    Ok(Some(text))
 }
 
 // Writes the file, field and term of a damage.

@@ -1,13 +1,15 @@
-//! Writes the contents of an index as text.
+//! Writes the contents of an index, in lines of words or of JSON.
 ghost use Rattle.std.specs.Prelude.{◌≡◌, ◌<◌, length, true};
 ghost use Rattle.ii_query_parser.specs.Queries.{has_fields};
 ghost use Rattle.ii_docset.specs.Cursor.{IsCurrent};
 
 use crate::faults::AnswerFault;
 use crate::finding::first_docs;
+use crate::json_rows::{write_field_json, write_posting_json, write_space_json, write_term_json};
 use crate::merged_terms::{MergedTerm, MergedTerms};
 use crate::opened::Opened;
 use crate::opened_index::{Bases, OpenedIndex, reader_of};
+use crate::row_format::RowFormat;
 use ii_base::{Fault, Field, FieldEntry, IndexRecordOption, Part, Term, ValueType};
 use ii_docset::{DocSet, Postings, TERMINATED};
 use ii_reader::SegmentPostings;
@@ -98,10 +100,12 @@ pub struct TermChoice<'a> {
     /// How many terms to write, those in the most documents first; all terms in the order of their keys if
     /// `None`.
     pub top: Option<usize>,
+    /// How each is written.
+    pub format: RowFormat,
 }
 
 /// Writes the terms of a field, one per line: the number of documents, a space and the term. A line feed in a
-/// JSON key is written as it is.
+/// JSON key is written as it is. A JSON line is an object with `term`, the same text, and `docs`.
 pub fn write_terms<W: Write>(
     alloc: Global,
     out: &mut W,
@@ -112,8 +116,8 @@ pub fn write_terms<W: Write>(
     requires { field < length opened.now.schema }
 {
     match choice.top {
-        Some(top) => write_top(alloc, out, opened, field, choice.prefix, top),
-        None => write_all_terms(alloc, out, opened, field, choice.prefix),
+        Some(top) => write_top(alloc, out, opened, field, choice, top),
+        None => write_all_terms(alloc, out, opened, field, choice),
     }
 }
 
@@ -123,7 +127,7 @@ fn write_all_terms<W: Write>(
     out: &mut W,
     opened: &OpenedIndex,
     field: Field,
-    prefix: &str,
+    choice: TermChoice<'_>,
 ) -> Result<(), AnswerFault>
     requires { field < length opened.now.schema }
 {
@@ -136,10 +140,25 @@ fn write_all_terms<W: Write>(
         };
         text.clear();
         push_key(alloc, &mut text, value_type, term.key)?;
-        if text.as_str().starts_with(prefix) {
-            writeln!(out, "{} {text}", term.doc_freq)?;
+        if text.as_str().starts_with(choice.prefix) {
+            write_term(alloc, out, choice.format, text.as_str(), term.doc_freq)?;
         }
     }
+    Ok(())
+}
+
+// Writes a term, and the number of its documents.
+fn write_term<W: Write>(
+    alloc: Global,
+    out: &mut W,
+    format: RowFormat,
+    term: &str,
+    docs: u64,
+) -> Result<(), AnswerFault> {
+    if format.is_json() {
+        return write_term_json(alloc, out, format, term, docs);
+    }
+    writeln!(out, "{docs} {term}")?;
     Ok(())
 }
 
@@ -152,38 +171,39 @@ fn write_top<W: Write>(
     out: &mut W,
     opened: &OpenedIndex,
     field: Field,
-    prefix: &str,
+    choice: TermChoice<'_>,
     top: usize,
 ) -> Result<(), AnswerFault>
     requires { field < length opened.now.schema }
 {
     let mut keys = Vec::new(alloc);
-    let mut ranks = chosen(alloc, opened, field, prefix, &mut keys)?;
+    let mut ranks = chosen(alloc, opened, field, choice.prefix, &mut keys)?;
     ranks.sort_unstable();
+    ranks.truncate(top);
     let value_type = opened.entry(field).value_type();
-    let written = write_ranks(alloc, out, value_type, &ranks, &keys, top);
+    let written = write_ranks(alloc, out, choice.format, value_type, &ranks, &keys);
     drop(ranks);
     drop(keys);
     written
 }
 
-// Writes the first `top` of these terms.
+// Writes these terms.
 fn write_ranks<W: Write>(
     alloc: Global,
     out: &mut W,
+    format: RowFormat,
     value_type: ValueType,
     ranks: &[Rank],
     keys: &[&[u8]],
-    top: usize,
 ) -> Result<(), AnswerFault> {
     let mut text = String::new(alloc);
-    for (others, place) in ranks.iter().take(top) {
+    for (others, place) in ranks {
         let Some(key) = keys.get(*place as usize) else {
             return Ok(());
         };
         text.clear();
         push_key(alloc, &mut text, value_type, key)?;
-        writeln!(out, "{} {text}", u64::MAX - *others)?;
+        write_term(alloc, out, format, text.as_str(), u64::MAX - *others)?;
     }
     Ok(())
 }
@@ -217,20 +237,22 @@ fn chosen<'a>(
 }
 
 /// Writes the documents of a term, one per line: the document, its term frequency if recorded, and the
-/// positions if requested and recorded. Returns whether the term exists.
+/// positions if requested and recorded. A JSON line is an object with `doc`; with `freq` and `positions`, an array, if
+/// a line of words has them. Returns whether the term exists.
 pub fn write_postings<W: Write>(
     alloc: Global,
     out: &mut W,
     opened: &OpenedIndex,
     term: &Term,
     with_positions: bool,
+    format: RowFormat,
 ) -> Result<bool, AnswerFault> {
     let mut lists = lists_of(alloc, opened, term, with_positions)?;
     let mut any = false;
     let mut written = Ok(());
     for list in lists.iter_mut() {
         if written.is_ok() {
-            written = write_all_postings(alloc, out, list, &mut any);
+            written = write_all_postings(alloc, out, format, list, &mut any);
         }
     }
     drop(lists);
@@ -282,6 +304,7 @@ fn lists_of<'a>(
 fn write_all_postings<W: Write>(
     alloc: Global,
     out: &mut W,
+    format: RowFormat,
     list: &mut TermList<'_>,
     any: &mut bool,
 ) -> Result<(), AnswerFault> {
@@ -293,7 +316,15 @@ fn write_all_postings<W: Write>(
         if let Some(number) = list.segment.number_of(list.cursor.doc()) {
             *any = true;
             let doc = list.base.saturating_add(u64::from(number));
-            write_posting(out, &mut list.cursor, doc, list.requested, &mut positions)?;
+            let requested = list.requested;
+            write_posting_as(
+                out,
+                format,
+                &mut list.cursor,
+                doc,
+                requested,
+                &mut positions,
+            )?;
         }
         list.cursor.advance();
     }
@@ -308,7 +339,24 @@ fn requested(recorded: IndexRecordOption, with_positions: bool) -> IndexRecordOp
     recorded.downgrade(IndexRecordOption::WithFreqs)
 }
 
-// Writes the current document under its number.
+// Writes the current document under its number, in a format.
+fn write_posting_as<W: Write>(
+    out: &mut W,
+    format: RowFormat,
+    cursor: &mut SegmentPostings,
+    doc: u64,
+    requested: IndexRecordOption,
+    positions: &mut Vec<u32>,
+) -> Result<(), AnswerFault>
+    requires { IsCurrent cursor.old.rest }
+{
+    if format.is_json() {
+        return write_posting_json(out, format, cursor, doc, requested, positions);
+    }
+    write_posting(out, cursor, doc, requested, positions)
+}
+
+// Writes the current document under its number, as a line of words.
 fn write_posting<W: Write>(
     out: &mut W,
     cursor: &mut SegmentPostings,
@@ -337,38 +385,66 @@ fn write_posting<W: Write>(
 }
 
 /// Writes a line for each field: its number, name and type, what it records, and its numbers of terms and
-/// tokens. Below a JSON field it writes a line for each path and type.
+/// tokens. Below a JSON field it writes a line for each path and type. A JSON line is an object with `number`, `field`,
+/// `type` and `indexed`, for an indexed field `record`, `fieldnorms`, `expand_dots`, and `tokenizer` if it has texts,
+/// and with `terms` and `tokens`; that of a path one with `field`, `path`, `type`, `terms`, and `bytes`, an object with
+/// `postings` and `positions`.
 pub fn write_fields<W: Write>(
     alloc: Global,
     out: &mut W,
     opened: &OpenedIndex,
+    format: RowFormat,
 ) -> Result<(), AnswerFault> {
     for id in 0..opened.schema().num_fields() {
         let field = Field::from_field_id(id as u32);
-        let entry = opened.entry(field);
-        write!(
-            out,
-            "{id} {} {}",
-            entry.name(),
-            type_name(entry.value_type())
-        )?;
-        write_settings(out, entry)?;
-        write_tokenizer(out, opened, field)?;
-        writeln!(
-            out,
-            ": {} terms, {} tokens",
-            num_terms(alloc, opened, field)?,
-            num_tokens(opened, field)?
-        )?;
-        if entry.value_type() == ValueType::Json {
-            write_paths(alloc, out, opened, field)?;
+        write_field(alloc, out, opened, field, format)?;
+        if opened.entry(field).value_type() == ValueType::Json {
+            write_paths(alloc, out, opened, field, format)?;
         }
     }
     Ok(())
 }
 
+// Writes a field.
+fn write_field<W: Write>(
+    alloc: Global,
+    out: &mut W,
+    opened: &OpenedIndex,
+    field: Field,
+    format: RowFormat,
+) -> Result<(), AnswerFault>
+    requires { field < length opened.now.schema }
+{
+    if format.is_json() {
+        return write_field_json(alloc, out, opened, field, format);
+    }
+    let entry = opened.entry(field);
+    write!(
+        out,
+        "{} {} {}",
+        field.field_id(),
+        entry.name(),
+        type_name(entry.value_type())
+    )?;
+    write_settings(out, entry)?;
+    if let Some(name) = tokenizer_name(opened, field) {
+        write!(out, " tokenizer {name}")?;
+    }
+    writeln!(
+        out,
+        ": {} terms, {} tokens",
+        num_terms(alloc, opened, field)?,
+        num_tokens(opened, field)?
+    )?;
+    Ok(())
+}
+
 // Returns the number of terms of a field.
-fn num_terms(alloc: Global, opened: &OpenedIndex, field: Field) -> Result<u64, AnswerFault> {
+pub(crate) fn num_terms(
+    alloc: Global,
+    opened: &OpenedIndex,
+    field: Field,
+) -> Result<u64, AnswerFault> {
     let mut terms = MergedTerms::new(alloc, opened.segments(), field)?;
     for number in 0..terms.most() {
         let Some(_) = terms.next()? else {
@@ -379,7 +455,7 @@ fn num_terms(alloc: Global, opened: &OpenedIndex, field: Field) -> Result<u64, A
 }
 
 // Returns the number of tokens that the living documents have in a field.
-fn num_tokens(opened: &OpenedIndex, field: Field) -> Result<u64, Fault> {
+pub(crate) fn num_tokens(opened: &OpenedIndex, field: Field) -> Result<u64, Fault> {
     let mut tokens = 0u64;
     for segment in opened.segments() {
         if (field.field_id() as usize) < segment.schema().num_fields() {
@@ -410,33 +486,22 @@ fn write_settings<W: Write>(out: &mut W, entry: &FieldEntry) -> Result<(), Answe
     Ok(())
 }
 
-// Writes how the texts of an indexed field are cut into words, if it has texts.
-fn write_tokenizer<W: Write>(
-    out: &mut W,
-    opened: &OpenedIndex,
-    field: Field,
-) -> Result<(), AnswerFault>
+// Returns how the texts of an indexed field are cut into words, if it has texts.
+pub(crate) fn tokenizer_name(opened: &OpenedIndex, field: Field) -> Option<&'static str>
     requires { field < length opened.now.schema }
 {
     let entry = opened.entry(field);
     if !entry.is_indexed() {
-        return Ok(());
+        return None;
     }
     match entry.value_type() {
-        ValueType::Str | ValueType::Json => {
-            write!(
-                out,
-                " tokenizer {}",
-                opened.tokenizers().analyzer(field).name()
-            )?;
-            Ok(())
-        }
-        _ => Ok(()),
+        ValueType::Str | ValueType::Json => Some(opened.tokenizers().analyzer(field).name()),
+        _ => None,
     }
 }
 
 // Returns the name of an option in the text of a schema.
-fn option_name(option: IndexRecordOption) -> &'static str {
+pub(crate) fn option_name(option: IndexRecordOption) -> &'static str {
     match option {
         IndexRecordOption::Basic => "basic",
         IndexRecordOption::WithFreqs => "freq",
@@ -446,12 +511,12 @@ fn option_name(option: IndexRecordOption) -> &'static str {
 
 // A path of a JSON field with a type of its values, and what its terms take.
 #[derive(Clone, Copy)]
-struct Space<'a> {
-    path: &'a [u8],
-    value_type: ValueType,
-    terms: u64,
-    postings: u64,
-    positions: u64,
+pub(crate) struct Space<'a> {
+    pub(crate) path: &'a [u8],
+    pub(crate) value_type: ValueType,
+    pub(crate) terms: u64,
+    pub(crate) postings: u64,
+    pub(crate) positions: u64,
 }
 
 // Writes a line for each path and type of a JSON field.
@@ -460,12 +525,16 @@ fn write_paths<W: Write>(
     out: &mut W,
     opened: &OpenedIndex,
     field: Field,
-) -> Result<(), AnswerFault> {
+    format: RowFormat,
+) -> Result<(), AnswerFault>
+    requires { field < length opened.now.schema }
+{
+    let name = opened.entry(field).name();
     let mut terms = MergedTerms::new(alloc, opened.segments(), field)?;
     let mut space: Option<Space<'_>> = None;
     for _ in 0..terms.most() {
         let Some(term) = terms.next()? else {
-            return write_space(alloc, out, space);
+            return write_space(alloc, out, format, name, space);
         };
         let Some(one) = space_of(&term) else {
             return Err(AnswerFault::Index(Fault::Damaged(Part::JsonKey)));
@@ -473,12 +542,12 @@ fn write_paths<W: Write>(
         space = match space {
             Some(so_far) if so_far.is_same(&one) => Some(so_far.with(&one)),
             _ => {
-                write_space(alloc, out, space)?;
+                write_space(alloc, out, format, name, space)?;
                 Some(one)
             }
         };
     }
-    write_space(alloc, out, space)
+    write_space(alloc, out, format, name, space)
 }
 
 // Returns the path and type of a term, with its size.
@@ -513,10 +582,12 @@ impl<'a> Space<'a> {
     }
 }
 
-// Writes a line for a path and type, if there is one.
+// Writes a line for a path and type of a field, if there is one.
 fn write_space<W: Write>(
     alloc: Global,
     out: &mut W,
+    format: RowFormat,
+    field: &str,
     space: Option<Space<'_>>,
 ) -> Result<(), AnswerFault> {
     let Some(space) = space else {
@@ -524,6 +595,9 @@ fn write_space<W: Write>(
     };
     let mut text = String::new(alloc);
     push_path_bytes(alloc, &mut text, space.path)?;
+    if format.is_json() {
+        return write_space_json(alloc, out, format, field, text.as_str(), &space);
+    }
     writeln!(
         out,
         "  {text} {}: {} terms, {} bytes of postings, {} bytes of positions",

@@ -9,6 +9,7 @@ pub mod faults;
 pub mod finding;
 pub mod ids;
 pub mod inspecting;
+pub mod json_rows;
 pub mod line_fields;
 pub mod line_snippets;
 pub mod listing;
@@ -21,7 +22,7 @@ pub mod stats;
 pub mod stored_lines;
 pub mod stored_part;
 
-pub use checking::{Checked, check, counts_damage};
+pub use checking::{Checked, DamageRows, check, counts_damage};
 pub use deleting::{docs_to_delete, docs_with_term};
 pub use documents::{SegmentStore, are_stored, document, segment_stores};
 pub use faults::{AnswerFault, DocumentFault, OpenFault};
@@ -32,6 +33,7 @@ pub use ii_term_text::{push_key, term_of};
 pub use inspecting::{
     CountFormat, TermChoice, count_all, write_count, write_fields, write_postings, write_terms,
 };
+pub use json_rows::DamageRow;
 pub use line_fields::{fields_of_line, quoted};
 pub use line_snippets::snippet_of_line;
 pub use listing::{Listing, write_listing};
@@ -40,6 +42,6 @@ pub use opened::{Opened, schema_of, text_schema_of};
 pub use opened_index::{Bases, OpenedIndex, reader_of};
 pub use ranking::{BestListing, write_best};
 pub use row_format::RowFormat;
-pub use stats::write_stats;
+pub use stats::{write_stats, write_stats_json};
 pub use stored_lines::{DamagedBlock, StoredLines, StoredLinesFault, load_lines, store_damages};
-pub use stored_part::StoredPart;
+pub use stored_part::{StoredPart, write_quoted};

@@ -7,6 +7,7 @@ use crate::faults::AnswerFault;
 use crate::finding::{FoundPlaces, TermPositions, find_places, first_docs, wanted_terms};
 use crate::ids::{Ids, ids_of};
 use crate::inspecting::count_all;
+use crate::json_rows::write_numbers;
 use crate::line_fields::quoted;
 use crate::opened::Opened;
 use crate::opened_index::{Bases, OpenedIndex};
@@ -463,12 +464,7 @@ fn write_term_json<W: Write>(
     positions: &[u32],
 ) -> Result<(), AnswerFault> {
     write_names(alloc, out, text)?;
-    for (i, position) in positions.iter().enumerate() {
-        if i > 0 {
-            write!(out, ",")?;
-        }
-        write!(out, "{}", *position)?;
-    }
+    write_numbers(out, positions)?;
     write!(out, "]}}")?;
     Ok(())
 }

@@ -1,6 +1,6 @@
-//! How found documents are written.
+//! How rows are written: found documents, terms, fields or damages.
 
-/// How a found document is written.
+/// How a row is written.
 #[derive(Clone, Copy, Debug, PartialEq, Eq)]
 pub enum RowFormat {
     /// As a line of words.
@@ -12,8 +12,8 @@ pub enum RowFormat {
 }
 
 impl RowFormat {
-    // Returns whether it is a JSON object.
-    pub(crate) fn is_json(self) -> bool {
+    /// Returns whether it is a JSON object.
+    pub fn is_json(self) -> bool {
         self != RowFormat::Words
     }
 

@@ -2,8 +2,10 @@
 ghost use Rattle.std.specs.Prelude.{◌<◌};
 
 use crate::faults::AnswerFault;
+use crate::json_rows::write_separator;
 use crate::merged_terms::MergedTerms;
 use crate::opened_index::OpenedIndex;
+use crate::stored_part::write_quoted;
 use ii_base::Field;
 use ii_schema_text::type_name;
 use std::alloc::Global;
@@ -43,6 +45,31 @@ pub fn write_stats<W: Write>(
         )?;
         write_taken(out, &taken)?;
     }
+    Ok(())
+}
+
+/// Writes the same as a JSON array. It has an object for each field: `field`, `type` and `terms`; `bytes`, an object with
+/// `keys`, `postings` and `positions`; `documents_in_all_lists`; `bits_of_postings_for_each`, if there is a document;
+/// and `lists`, an array that has an object for each size class with lists: `lists`, how many lists there are of
+/// `documents` documents and more.
+pub fn write_stats_json<W: Write>(
+    alloc: Global,
+    out: &mut W,
+    opened: &OpenedIndex,
+) -> Result<(), AnswerFault> {
+    write!(out, "[")?;
+    for id in 0..opened.schema().num_fields() {
+        write_separator(out, id)?;
+        let field = Field::from_field_id(id as u32);
+        let taken = taken_by(alloc, opened, field)?;
+        let entry = opened.entry(field);
+        write!(out, "{{\"field\":")?;
+        write_quoted(alloc, out, entry.name())?;
+        write!(out, ",\"type\":\"{}\"", type_name(entry.value_type()))?;
+        write_taken_json(out, &taken)?;
+        write!(out, "}}")?;
+    }
+    write!(out, "]")?;
     Ok(())
 }
 
@@ -98,6 +125,43 @@ fn write_taken<W: Write>(out: &mut W, taken: &Taken) -> Result<(), AnswerFault> 
         )?;
     }
     write_sizes(out, &taken.lists)
+}
+
+// Writes the space that the lists of a field take as members of a JSON object.
+fn write_taken_json<W: Write>(out: &mut W, taken: &Taken) -> Result<(), AnswerFault> {
+    write!(
+        out,
+        ",\"terms\":{},\"bytes\":{{\"keys\":{},\"postings\":{},\"positions\":{}}},\"documents_in_all_lists\":{}",
+        taken.terms, taken.keys, taken.postings, taken.positions, taken.documents
+    )?;
+    if taken.documents > 0 {
+        let bits = per_posting(taken.postings, taken.documents);
+        write!(
+            out,
+            ",\"bits_of_postings_for_each\":{}.{:02}",
+            bits / 100,
+            bits % 100
+        )?;
+    }
+    write!(out, ",\"lists\":[")?;
+    write_sizes_json(out, &taken.lists)?;
+    write!(out, "]")?;
+    Ok(())
+}
+
+// Writes how many lists there are of each size class as JSON objects.
+fn write_sizes_json<W: Write>(out: &mut W, lists: &[u64; SIZES]) -> Result<(), AnswerFault> {
+    let mut written = 0usize;
+    for (size, count) in lists.iter().enumerate() {
+        if *count == 0 {
+            continue;
+        }
+        write_separator(out, written)?;
+        written = 1;
+        let first = 1u64 << size;
+        write!(out, "{{\"documents\":{first},\"lists\":{}}}", *count)?;
+    }
+    Ok(())
 }
 
 // Returns the bits per document, times 100.

@@ -127,18 +127,23 @@ impl<'a, 'n> StoredParts<'a, 'n> {
         document: &[u8],
     ) -> Result<(), AnswerFault> {
         let snippet = snippet_of_line(alloc, &self.rules, line_of(document))?;
-        let text = quoted(alloc, snippet.as_str());
+        let written = write_quoted(alloc, out, snippet.as_str());
         drop(snippet);
-        match text {
-            Ok(text) => write_text(out, text),
-            Err(fault) => Err(AnswerFault::Index(fault)),
-        }
+        written
     }
 }
 
 // Returns a stored document as a text, which is empty if it isn't UTF-8.
 fn line_of(document: &[u8]) -> &str {
     std::str::from_utf8(document).unwrap_or("")
+}
+
+/// Writes a text as a JSON string.
+pub fn write_quoted<W: Write>(alloc: Global, out: &mut W, text: &str) -> Result<(), AnswerFault> {
+    match quoted(alloc, text) {
+        Ok(text) => write_text(out, text),
+        Err(fault) => Err(AnswerFault::Index(fault)),
+    }
 }
 
 // Writes a text.
