@@ -51,7 +51,7 @@ PLACES = {
     'nequllpa_indexing/src/faults.rt': {'is_memory'},
     'nequllpa_merging/src/faults.rt': {'from'},
     'nequllpa_merging/src/stores.rt': {'store_fault'},  # stores couldn't be opened or merged for it
-    'nequllpa_cli/src/keyed_lines.rt': {
+    'nequllpa_writing/src/keyed_lines.rt': {
         'add_to',  # a copy of a key, or a list of keys, was refused
         'no_memory'},  # the same of a line and its key
     # The program prints `error 1` for any refused allocation, so a fault of a call that fails only with

@@ -33,9 +33,10 @@ def default_words(text):
     return [(position, word) for position, word in numbered(word.casefold() for word in unicode_words(text)) if len(word.encode()) < LIMIT]
 
 
-def english_words(text):
-    """Returns the stems of the words of a text."""
-    return [(position, porter.stem(word)) for position, word in default_words(text)]
+def english_words(text, stops=()):
+    """Returns the stems of the words of a text, without stop words in any case, whose positions stay free."""
+    stops = {word.casefold() for word in stops}
+    return [(position, porter.stem(word)) for position, word in default_words(text) if word not in stops]
 
 
 WORDS_BY = {'ascii': ascii_words, 'raw': raw_words, 'whitespace': whitespace_words, 'default': default_words, 'en': english_words}

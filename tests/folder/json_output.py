@@ -277,7 +277,7 @@ class Reader(random_folders.Reader):
         if setting.get('indexed') is False:
             return field_row((number, setting['name'], field.kind, False, None, None, None, None, 0, 0))
         norms = setting.get('fieldnorms', field.kind == 'text')
-        return field_row((number, setting['name'], field.kind, True, field.records(), norms, setting.get('expand_dots', False), 'ascii' if is_text else None, len(field.lists), field.tokens))
+        return field_row((number, setting['name'], field.kind, True, field.records(), norms, setting.get('expand_dots', False), setting.get('tokenizer', 'ascii') if is_text else None, len(field.lists), field.tokens))
 
     def paths_of(self, field):
         """Returns the paths of a field, each with the type and the number of its terms, in their order."""

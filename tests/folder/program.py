@@ -237,6 +237,45 @@ def values(user, docs):
             raise Failed(f'terms of address: no {wanted!r}')
 
 
+DATES = 'tokenizer = "ascii"\n[[field]]\nname = "when"\ntype = "date"\n'
+# the date of each document, as it is given and as it is printed: by RFC 3339, section 5.8, the first instants of 1990 and 2001, and the nanosecond before 1970
+GIVEN_DATES = (
+    ('1985-04-12T23:20:50.52Z', '1985-04-12T23:20:50.52Z'),
+    ('1996-12-19T16:39:57-08:00', '1996-12-20T00:39:57Z'),
+    ('1990-12-31T15:59:60-08:00', '1990-12-31T23:59:59Z'),
+    ('1990-01-01T00:00:00Z', '1990-01-01T00:00:00Z'),
+    ('2001-01-01T00:00:00.000000000Z', '2001-01-01T00:00:00Z'),
+    ('1969-12-31T23:59:59.999999999Z', '1969-12-31T23:59:59.999999999Z'))
+BAD_DATES = ('"1990-01-01"', '"1990-01-01T00:00:00"', '"1990-02-30T00:00:00Z"', '"1677-09-21T00:12:43Z"', '"2262-04-12T00:00:00Z"', '"0"')
+
+
+def dates(user):
+    """Checks that a field of dates takes dates by RFC 3339, keeps their nanoseconds, and prints them in UTC."""
+    schema = user.write('dates.toml', DATES)
+    user.wants(['index', 'dates', '--schema', schema], 0, f'{len(GIVEN_DATES)} documents indexed\n', given=lines([{'when': given} for given, _ in GIVEN_DATES]).encode())
+    user.wants(['terms', 'dates', 'when'], 0, ''.join(f'1 {shown}\n' for shown in sorted(shown for _, shown in GIVEN_DATES)))
+    for number, (given, shown) in enumerate(GIVEN_DATES):
+        for text in (given, shown):
+            user.wants(['postings', 'dates', 'when', text], 0, f'{number}\n')
+            user.wants(['search', 'dates', f'when:"{text}"'], 0, f'{number}\n')
+    for query, found in (
+            ('when:["1990-01-01T00:00:00Z" TO *]', [1, 2, 3, 4]),
+            ('when:{"1990-01-01T00:00:00Z" TO "2001-01-01T01:00:00+01:00"]', [1, 2, 4]),
+            ('when:<"1970-01-01T00:00:00Z"', [5]),
+            ('when:>="1996-12-20T00:39:57Z"', [1, 4]),
+            (r'when:>=1996-12-20T00\:39\:57Z', [1, 4]),
+            ('when:IN ["1990-01-01T00:00:00Z" "1985-04-12T23:20:50.52Z"]', [0, 3]),
+            ('when:"2001-01-01T00:00:00.000000001Z"', [])):
+        user.wants(['search', 'dates', query], 0 if found else 1, numbers(found))
+    for query in ('when:1990', 'when:"1990-01-01"', 'when:[1990 TO *]'):
+        user.wants(['search', 'dates', query], 2, '', 'expected a date like 1990-01-01T00:00:00Z, between 1677 and 2262')
+    user.wants(['fields', 'dates'], 0, f'0 when date basic: {len(GIVEN_DATES)} terms, {len(GIVEN_DATES)} tokens\n')
+    for value in BAD_DATES:
+        user.wants(['add', 'dates'], 1, '', '-:1: when: not a date like 1990-01-01T00:00:00Z, between 1677 and 2262', given=b'{"when": %s}\n' % value.encode())
+    user.wants(['add', 'dates'], 1, '', '-:1: when: not of the type of the field', given=b'{"when": 0}\n')
+    user.wants(['check', 'dates'], 0)
+
+
 def grows(user, docs, chosen):
     """Compares an index to which documents were added with one of all documents: each command must answer the
     same. Then damages each file of each segment."""
@@ -511,7 +550,7 @@ BAD_LINES = (
     ('{"mark": "xy"}', 'mark: not pairs of hexadecimal digits'),
     ('{"address": "1.2.3"}', 'address: not an IP address'),
     ('{"address": "01.2.3.4"}', 'address: not an IP address'),
-    ('{"about": {"x": [1, 2.5]}}', 'about: a floating-point number'),
+    ('{"about": {"x": [1, 2.5]}}', 'about.x: a floating-point number'),
     (b'{"body": "\xff"}', 'not UTF-8'),
 )
 
@@ -523,7 +562,7 @@ BAD_SCHEMAS = (
     ('[[field]]\ntype = "text"', 'field 0: name'),
     ('[[field]]\nname = ""\ntype = "text"', 'field 0: name'),
     ('[[field]]\nname = "a"\ntype = "text"\n[[field]]\nname = "a"\ntype = "u64"', 'field 1: name'),
-    ('[[field]]\nname = "a"', 'field 0: type: one of text, u64, i64, bool, bytes, ip_addr, json (the field a)'),
+    ('[[field]]\nname = "a"', 'field 0: type: one of text, u64, i64, bool, date, bytes, ip_addr, json (the field a)'),
     ('[[field]]\nname = "a"\ntype = "float"', 'field 0: type'),
     ('[[field]]\nname = "a"\ntype = "text"\nrecord = "all"', 'field 0: record'),
     ('[[field]]\nname = "a"\ntype = "u64"\nrecord = "freq"', 'field 0: record'),
@@ -642,13 +681,61 @@ def unknown_keys(user):
     user.wants(['add', 'refusing', '--replace-by', 'id'], 1, '', '-:1: unknown key x', given=text.encode())
 
 
+# lines with numbers that have a fraction or an exponent, the same with null in their place, and the path of the first one
+FLOATS = (
+    ('{"about": {"x": [1, 2.5, "a"], "y.z": {"q": 1e3}, "w": 7}, "n": 3}', '{"about": {"x": [1, null, "a"], "y.z": {"q": null}, "w": 7}, "n": 3}', 'about.x'),
+    ('{"about": 1.5}', '{"about": null}', 'about'),
+    ('{"about": {"x y": [[], {"a.b": {"": -0.0}}], "c": 18446744073709551616}}', '{"about": {"x y": [[], {"a.b": {"": null}}], "c": null}}', 'about.c'),
+    ('{"about": {"x y": [[], {"a.b": {"": -0.5}}]}}', '{"about": {"x y": [[], {"a.b": {"": null}}]}}', 'about.x\\ y.a\\.b.'),
+    ('{"about": [{"k": 0.1}, 0.25, {"k": 2}], "unindexed": 7.5}', '{"about": [{"k": null}, null, {"k": 2}], "unindexed": 7.5}', 'about.k'),
+)
+FLOAT_SCHEMA = '''\
+store_source = true
+[[field]]
+name = "about"
+type = "json"
+[[field]]
+name = "n"
+type = "u64"
+[[field]]
+name = "unindexed"
+type = "json"
+indexed = false
+'''
+
+
+def floats(user):
+    """Checks that numbers with a fraction in JSON values are refused with their paths, and that --skip-floats leaves out
+    and counts exactly these: the index is that of the lines with null in their place."""
+    schema = user.write('floats.toml', FLOAT_SCHEMA)
+    for line, _, path in FLOATS:
+        user.wants(['index', 'floats', '--schema', schema], 1, '', f'-:1: {path}: a floating-point number', given=line.encode())
+        user.wants(['index', 'floats', '--schema', schema], 1, '', '--skip-floats leaves such numbers out', given=line.encode())
+    for line in ('{"n": 1.5}', '{"about": 1.5, "n": 1e2}'):
+        user.wants(['index', 'floats', '--schema', schema, '--skip-floats'], 1, '', '-:1: n: a number out of range', given=line.encode())
+    text, plain = (''.join(row[place] + '\n' for row in FLOATS).encode() for place in (0, 1))
+    many = sum(row[1].count('null') for row in FLOATS)
+    user.wants(['index', 'plain', '--schema', schema], 0, f'{len(FLOATS)} documents indexed\n', given=plain)
+    user.wants(['index', 'floats', '--schema', schema, '--skip-floats'], 0, f'{len(FLOATS)} documents indexed, {many} numbers left out\n', given=text)
+    user.wants(['get', 'floats', *range(len(FLOATS))], 0, text.decode())
+    for words in (['terms', 'about'], ['terms', 'n'], ['fields'], ['search', '*'], ['search', 'about.w:7'], ['search', 'about.k:2']):
+        user.wants([words[0], 'floats', *words[1:]], 0, user.wants([words[0], 'plain', *words[1:]], 0))
+    user.wants(['index', 'plain', '--schema', schema, '--skip-floats'], 0, f'{len(FLOATS)} documents indexed\n', given=plain)
+    user.wants(['index', 'floats', '--schema', schema, '--skip-floats', '--json'], 0, f'{{"indexed":{len(FLOATS)},"left_out":0,"skipped_floats":{many}}}\n', given=text)
+    user.wants(['add', 'floats', '--skip-floats', '--no-merge', '--memory', '1B'], 0, f'{len(FLOATS)} documents added, {many} numbers left out\n', given=text)
+    user.wants(['add', 'floats', '--skip-floats', '--skip-bad', '--json'], 0, f'{{"added":{len(FLOATS)},"left_out":1,"skipped_floats":{many}}}\n', given=text + b'[]\n')
+    keyed = b'{"about": [0.5, 1.5], "n": 3}\n{"about": 2.5, "n": 4}\n{"about": 3.5}\n'
+    user.wants(['add', 'floats', '--replace-by', 'n', '--skip-floats', '--skip-bad'], 0, '2 documents added, 3 replaced, 1 lines left out, 3 numbers left out\n', given=keyed)
+    user.wants(['check', 'floats'], 0)
+
+
 def quiet(user):
     """Checks that --quiet leaves standard error empty but for why lines are left out, and what --version prints."""
     schema = user.write('quiet.toml', 'tokenizer = "ascii"\n' + IDS)
     short = lines([{'body': f'a {"x" * 65531}', 'id': 1}]).encode() + b'\n[1]\n'
     long = short.replace(b'\n\n', b'\n' + b' ' * (17 << 20) + b'\n')
     bounded, kept = 'of memory become a segment; --memory sets that\n', 'nequllpa: all lines are kept in memory, since their documents replace others\n'
-    for words, given, steps in ((['index', 'quiet', '--schema', schema], long, [bounded, ' MB/s\n']), (['add', 'quiet'], short, [bounded]), (['add', 'quiet', '--replace-by', 'id'], short, [kept])):
+    for words, given, steps in ((['index', 'quiet', '--schema', schema], long, [bounded, ' MB/s\n', 'nequllpa: writing a segment of 1 documents\n']), (['add', 'quiet'], short, [bounded]), (['add', 'quiet', '--replace-by', 'id'], short, [kept])):
         told = user.run(*words, '--skip-bad', given=given).stderr.decode()
         for said in ('nequllpa: 1 words of more than', '-:3: not an object\n', *steps):
             if said not in told:
@@ -887,8 +974,10 @@ def main():
             indexes(user, docs)
             searches(user, docs, chosen)
             values(user, docs)
+            dates(user)
             refusals(user, docs)
             unknown_keys(user)
+            floats(user)
             batches(user)
             quiet(user)
             grows(user, docs, chosen)

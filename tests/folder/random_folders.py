@@ -1,9 +1,9 @@
 #!/usr/bin/env python3
-"""Runs `nequllpa` over random folders: random schemas and lines of every type, some with lists of several
-blocks. Segments are added, documents deleted and replaced, and all segments merged. `check` must find no damage, and `terms`,
-`postings`, `fields` and `search` must answer what a plain reading of the lines gives.
+"""Runs `nequllpa` over random folders: random schemas and lines of every type, with every tokenizer, some with lists of
+several blocks. Segments are added, documents deleted and replaced, and all segments merged. `check` must find no damage, and
+`terms`, `postings`, `fields` and `search`, also for phrases, prefixes and ranges, must answer what a plain reading of the lines gives.
 
-    random_folders.py              50 folders, as the gate runs it
+    random_folders.py              60 folders, as the gate runs it
     random_folders.py N SEED       N others"""
 import ipaddress
 import json
@@ -19,8 +19,9 @@ sys.dont_write_bytecode = True
 HERE = os.path.dirname(os.path.abspath(__file__))
 sys.path.insert(0, HERE)
 sys.path.insert(0, os.path.join(os.path.dirname(os.path.dirname(HERE)), 'tools'))
+import analyzers
+import dates
 import programs
-import texts
 import versions
 
 PROGRAM = 'nequllpa_cli'
@@ -29,6 +30,10 @@ KEYS = ['a', 'b', 'a.b', 'x y', 'back\\slash', 'quo"te', 'sizes', '', 'a:b', 'Ü
 NAMES = ['body', 'title', 'n', 'change', 'flag', 'mark', 'addr', 'j', 'about', 'some field', 'a.b', 'x:y', 'AND', '-minus', 'id']
 MARKS = [' ', '. ', ', ', ' - ', '! ', '\n', '  ', '_', '"']
 NUMBERS = [0, 1, 2, 7, 255, 256, 2 ** 31, 2 ** 63 - 1]
+# Stop words of a schema, and in a line and a query.
+STOPS = ['The', 'of', 'york']
+# The words of which each tokenizer makes one token, without stop words.
+PLAIN = [word for word in WORDS if word.isalnum() and all(len(words_by(word)) == 1 for words_by in analyzers.WORDS_BY.values()) and word.casefold() not in map(str.casefold, STOPS)]
 
 
 class Failed(Exception):
@@ -39,7 +44,7 @@ def random_schema(chosen):
     """Returns the fields of a schema with random types and settings."""
     fields = []
     for name in chosen.sample(NAMES, chosen.randint(1, 6)):
-        field = {'name': name, 'type': chosen.choice(['text', 'text', 'u64', 'i64', 'bool', 'bytes', 'ip_addr', 'json', 'json'])}
+        field = {'name': name, 'type': chosen.choice(['text', 'text', 'text', 'u64', 'i64', 'bool', 'date', 'bytes', 'ip_addr', 'json', 'json'])}
         if chosen.random() < 0.1:
             field['indexed'] = False
         else:
@@ -49,6 +54,10 @@ def random_schema(chosen):
                 field['fieldnorms'] = chosen.random() < 0.5
             if field['type'] == 'json' and chosen.random() < 0.4:
                 field['expand_dots'] = chosen.random() < 0.7
+            if field['type'] in ('text', 'json') and chosen.random() < 0.7:
+                field['tokenizer'] = chosen.choice(sorted(analyzers.WORDS_BY))
+            if field.get('tokenizer') == 'en' and chosen.random() < 0.5:
+                field['stop_words'] = chosen.sample(STOPS, chosen.randint(1, 3))
         fields.append(field)
     return fields
 
@@ -91,6 +100,8 @@ def random_value(chosen, field):
         return chosen.choice(NUMBERS + [-number for number in NUMBERS if number])
     if kind == 'bool':
         return chosen.random() < 0.5
+    if kind == 'date':
+        return chosen.choice(dates.WRITTEN)
     if kind == 'bytes':
         return chosen.choice(['', '00', 'ff00', 'ABcd', '6162'])
     if kind == 'ip_addr':
@@ -113,6 +124,11 @@ def random_line(chosen, fields):
         elif how < 0.85:
             made[field['name']] = None
     return made
+
+
+def quoted(text):
+    """Returns a text in quotes, as a query has it."""
+    return '"' + text.replace('\\', '\\\\').replace('"', '\\"') + '"'
 
 
 def number_key(number):
@@ -149,6 +165,10 @@ class Field:
     def __init__(self, setting):
         self.setting, self.lists, self.texts, self.tokens, self.counts = setting, {}, {}, 0, {}
         self.kind = setting['type']
+        # how its texts are cut, and the prefixes and bounds of words in queries
+        tokenizer, stops = setting.get('tokenizer', 'ascii'), {word.casefold() for word in setting.get('stop_words', ())}
+        self.words_of = (lambda text: analyzers.english_words(text, stops)) if tokenizer == 'en' else analyzers.WORDS_BY[tokenizer]
+        self.starts_of = analyzers.WORDS_BY['default' if tokenizer == 'en' else tokenizer]
 
     def put(self, key, text, doc, position):
         self.texts[key] = text
@@ -158,10 +178,11 @@ class Field:
 
     def put_words(self, doc, prefix, spelled, value, begin):
         """Adds the words of a text at a path. Returns where the next text at the same path starts."""
-        words = texts.words_of(value)
-        for place, word in enumerate(words):
+        end = begin
+        for place, word in self.words_of(value):
             self.put(prefix + word.encode(), spelled + word, doc, begin + place)
-        return begin + len(words) + 1
+            end = begin + place + 1
+        return end + 1
 
     def add(self, doc, value):
         """Adds the value of a document for this field."""
@@ -184,6 +205,9 @@ class Field:
             return signed_key(value), str(value)
         if self.kind == 'bool':
             return number_key(int(value)), 'true' if value else 'false'
+        if self.kind == 'date':
+            number = dates.nanoseconds_of(value)
+            return signed_key(number), dates.text_of(number)
         if self.kind == 'bytes':
             return bytes.fromhex(value), value.lower()
         address = ipaddress.ip_address(value)
@@ -374,33 +398,39 @@ class Reader:
         many = lambda kind: sum(name.endswith('.' + kind) for name in names)
         return many('count') > 0 and many('count') == many('term')
 
-    def docs_of(self, field, word):
-        """Returns the documents with a word in a text field."""
-        return set(field.lists.get(word.encode(), {}))
+    def docs_of(self, field, text):
+        """Returns the documents in which a text is a word or a phrase of a text field."""
+        words = field.words_of(text)
+        if not words:
+            return set()
+        (begin, first), *others = words
+        if not others:
+            return set(field.lists.get(first.encode(), {}))
+        lists = [(position - begin, field.lists.get(word.encode(), {})) for position, word in others]
+        return {doc for doc, places in field.lists.get(first.encode(), {}).items() if any(all(place + more in docs.get(doc, ()) for more, docs in lists) for place in places)}
 
     def searches(self, chosen):
-        """Compares searches for words, pairs of words, prefixes, ranges and numbers with a filter of the documents."""
+        """Compares searches for words, pairs of words, phrases, prefixes, ranges and values with a filter of the documents."""
         text_fields = [field for field in self.fields if field.kind == 'text' and field.setting.get('indexed') is not False]
         everywhere = lambda word: set().union(*(self.docs_of(field, word) for field in text_fields))
-        plain = [word for word in WORDS if texts.words_of(word) == [word]]
         everything = set(range(len(self.lines)))
         for query, found in (('*', everything), ('* -*', set()), ('* NOT (* NOT *)', everything)):
             self.finds(query, found)
         for _ in range(8):
-            one, two = chosen.choice(plain), chosen.choice(plain)
+            one, two = chosen.choice(PLAIN), chosen.choice(PLAIN)
             if text_fields:
                 a, b = everywhere(one), everywhere(two)
                 for query, found in ((one, a), (f'{one} {two}', a | b), (f'{one} AND {two}', a & b), (f'{one} NOT {two}', a - b), (f'({one} OR {two}) AND -{two}', a - b),
                                      (f'* NOT {one}', everything - a), (f'* NOT (* NOT {one})', a)):
                     self.finds(query, found)
-        self.prefixes(chosen, plain, text_fields)
+        self.prefixes(chosen, text_fields)
         for field in self.fields:
             name = field.setting['name']
             if not field.lists or not name.isalnum() or name == 'AND':
                 continue
             key = chosen.choice(sorted(field.lists))
             self.ranges(chosen, field, name)
-            if field.kind in ('u64', 'i64', 'bool'):
+            if field.kind in ('u64', 'i64', 'bool', 'date'):
                 self.finds(f'{name}:"{field.texts[key]}"', set(field.lists[key]))
             elif field.kind == 'text' and field.records() == 'position':
                 self.phrase(chosen, field, name)
@@ -415,12 +445,12 @@ class Reader:
         self.wants(['search', 'folder', '--batch', '--count'], 0, ''.join(row(query, f'"count":{len(found)}') for query, found in self.asked), given)
         self.asked = []
 
-    def prefixes(self, chosen, plain, text_fields):
+    def prefixes(self, chosen, text_fields):
         """Compares searches for words that begin with some characters."""
         for _ in range(4):
-            word = chosen.choice(plain)
-            start, other = word[:chosen.randint(1, len(word))], chosen.choice(plain)
-            begun = lambda field: set().union(*(docs for key, docs in field.lists.items() if key.startswith(start.encode())))
+            word = chosen.choice(PLAIN)
+            start, other = word[:chosen.randint(1, len(word))], chosen.choice(PLAIN)
+            begun = lambda field: set().union(*(docs for key, docs in field.lists.items() if key.startswith(field.starts_of(start)[0][1].encode())))
             if text_fields:
                 found, others = set().union(*map(begun, text_fields)), set().union(*(self.docs_of(field, other) for field in text_fields))
                 for query, wanted in ((f'{start}*', found), (f'{start}* AND {other}', found & others), (f'{other} NOT {start}*', others - found), (f'({start}* {other})', found | others)):
@@ -434,23 +464,31 @@ class Reader:
         between = lambda takes: set().union(*(docs for key, docs in field.lists.items() if takes(key)))
         for query in (f'{name}:*', f'{name}:[* TO *]'):
             self.finds(query, between(lambda key: True))
-        if field.kind not in ('u64', 'i64', 'bool', 'text'):
+        if field.kind not in ('u64', 'i64', 'bool', 'date', 'text'):
             return
         one, two = (chosen.choice(sorted(field.lists)) for _ in range(2))
-        low, high = (f'"{field.texts[key]}"' for key in (one, two))
+        low, high = (quoted(field.texts[key]) for key in (one, two))
         for query, takes in ((f'{name}:[{low} TO {high}]', lambda key: one <= key <= two), (f'{name}:{{{low} TO {high}}}', lambda key: one < key < two),
                              (f'{name}:[{low} TO {high}}}', lambda key: one <= key < two), (f'{name}:{{* TO {high}]', lambda key: key <= two),
                              (f'{name}:>={low}', lambda key: key >= one), (f'{name}:>{low}', lambda key: key > one), (f'{name}:<{high}', lambda key: key < two)):
             self.finds(query, between(takes))
 
     def phrase(self, chosen, field, name):
-        """Compares the search for a phrase of two words in a field."""
-        one, two = chosen.choice(sorted(field.lists)), chosen.choice(sorted(field.lists))
-        found = {doc for doc, places in field.lists[one].items() if any(place + 1 in field.lists[two].get(doc, ()) for place in places)}
-        self.finds(f'{name}:"{one.decode()} {two.decode()}"', found)
+        """Compares the search for a phrase of two words, or of words of a document, in a field."""
+        said = [text for line in self.lines for text in self.texts_in(line.get(name))]
+        words = chosen.choice(said).split(' ') if said else []
+        begin = chosen.randrange(len(words)) if words else 0
+        for text in (f'{chosen.choice(PLAIN)} {chosen.choice(PLAIN)}', ' '.join(words[begin:begin + 3])):
+            if field.words_of(text):
+                self.finds(f'{name}:{quoted(text)}', self.docs_of(field, text))
+
+    def texts_in(self, value):
+        """Returns the texts of a value of a text field."""
+        return [text for text in (value if isinstance(value, list) else [value]) if text]
 
     def finds(self, query, found):
-        self.asked.append((query, found))
+        if '\n' not in query:
+            self.asked.append((query, found))
         self.wants(['search', 'folder', '--', query], 0 if found else 1, ''.join(f'{doc}\n' for doc in sorted(found)))
         self.wants(['search', 'folder', '--json', '--limit', '2', '--', query], 0 if found else 1, ''.join(f'{{"doc":{doc}}}\n' for doc in sorted(found)[:2]))
         self.wants(['search', 'folder', '--count', '--', query], 0 if found else 1, f'{len(found)}\n')
@@ -481,7 +519,7 @@ def one_folder(program, room, chosen, is_large):
 
 
 def main():
-    many, seed = (int(sys.argv[1]), int(sys.argv[2])) if len(sys.argv) > 2 else (50, 1)
+    many, seed = (int(sys.argv[1]), int(sys.argv[2])) if len(sys.argv) > 2 else (60, 1)
     if 'NEQULLPA' not in os.environ and not programs.build(PROGRAM):
         print('tests/folder: the program was not built')
         return 1

@@ -40,6 +40,7 @@ class User:
         """Runs the program, checks its status and, if it is given, its output, and returns the output."""
         self.runs += 1
         done = subprocess.run([self.program, *map(str, words)], input=given, stdout=subprocess.PIPE, stderr=subprocess.PIPE, cwd=self.room, timeout=300)
+        self.told = done.stderr.decode()
         if done.returncode != status or out is not None and done.stdout.decode() != out:
             raise Failed(f'{[str(word)[:60] for word in words]}: status {done.returncode}, {done.stdout[:200]!r}, {done.stderr[-300:]!r}')
         return done.stdout.decode()
@@ -51,6 +52,22 @@ class User:
         self.wants(['index', folder, '--schema', f'{folder}.toml'], f'{len(lines)} documents indexed\n', '\n'.join(lines).encode())
         if not self.wants(['check', folder]).endswith('\n0 damages\n'):
             raise Failed(f'check: damages in {folder}')
+        self.tells_progress(folder)
+
+    def tells_progress(self, folder):
+        """Looks that the last `check` said how far it was if the files have 16 MiB or more, and that it doesn't with --quiet."""
+        sizes = {name: os.path.getsize(os.path.join(self.room, folder, name)) for name in os.listdir(os.path.join(self.room, folder)) if name.count('.') == 1}
+        segments, total = sorted({name.split('.')[0] for name in sizes}), sum(sizes.values())
+        said, before = '', 0
+        for number, segment in enumerate(segments):
+            for what in ('files', 'lists'):
+                said += f'nequllpa: segment {number + 1} of {len(segments)}, its {what}; {before // 1000000} of {-(-total // 1000000)} MB checked\n'
+            before += sum(size for name, size in sizes.items() if name.startswith(segment))
+        if self.told != (said if total >= 16 << 20 else ''):
+            raise Failed(f'check: {self.told!r}; wanted {said!r} of {total} bytes')
+        self.wants(['check', folder, '--quiet'])
+        if self.told:
+            raise Failed(f'check --quiet: {self.told!r}')
 
 
 def numbered(docs):

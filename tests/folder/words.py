@@ -1,8 +1,10 @@
 #!/usr/bin/env python3
 """Indexes texts with each tokenizer, and compares the answers of `nequllpa` with a plain reading of them. An index whose
 schema names no tokenizer, as earlier programs wrote it, has the ASCII one. The stems of English words are compared with
-those that another program gives (`tests/stems/porter.txt`), and so are those of the plain reading."""
+those that another program gives (`tests/stems/porter.txt`), and so are those of the plain reading. Some fields have stop
+words."""
 import base64
+import functools
 import hashlib
 import json
 import os
@@ -15,6 +17,7 @@ HERE = os.path.dirname(os.path.abspath(__file__))
 sys.path.insert(0, HERE)
 import analyzers
 import porter
+import texts
 import users
 from users import Failed
 
@@ -22,12 +25,16 @@ SEED = 20261127
 ROUNDS = 12
 LINES = 40
 QUERIES = 60
+# The bytes of the machine's texts that are indexed.
+PAGES = 400_000
 
 # The pieces of random texts: words that differ in case alone, words joined by marks, and forms of English words.
 PIECES = ['sea', 'Sea', 'SEA', 'The', 'the', 'old', 'Old', 'man', 'man\u2019s', "man's", '\u201csea\u201d', 'Stra\u00dfe', 'STRASSE', 'Na\u00efve', 'sea\u0301', 'e.g.', '3.14', 'host.org', 'foo_bar',
           'co-op', '\u8001\u4eba', '\u30ab\u30ca', '\u3072\u3089', '\U0001f44d', '--', 'x' * 39, 'y' * 40, 'ID-7', 'a:b', '_', '9', '\u0391\u03c3', '\u0391\u03a3', '\u00a0', '\t',
           'sail', 'sailing', 'SAILED', 'sky', 'skies', 'be', 'bes', 'happily', 'relational', 'relate', 'sailing\u2019s', 'na\u00efvely', 'x1s']
-FIELDS = [('plain', 'text', None), ('raw', 'text', 'raw'), ('spaces', 'text', 'whitespace'), ('ascii', 'text', 'ascii'), ('words', 'text', 'default'), ('english', 'text', 'en'), ('about', 'json', None), ('ids', 'json', 'raw'), ('notes', 'json', 'en')]
+FIELDS = [('plain', 'text', None), ('raw', 'text', 'raw'), ('spaces', 'text', 'whitespace'), ('ascii', 'text', 'ascii'), ('words', 'text', 'default'), ('english', 'text', 'en'), ('about', 'json', None), ('ids', 'json', 'raw'), ('notes', 'json', 'en'), ('stopped', 'text', 'en'), ('terse', 'json', 'en')]
+# The stop words of fields: some in other case, some that are no words of their own.
+STOPS = {'stopped': ['the', 'OLD', 'Stra\u00dfe', 'sail', "man's", 'The', 'x' * 39, '\u8001', ''], 'terse': ['SEA', 'be', 'bes', 'y' * 40], 'notes': []}
 
 # The files of an index of "The Sea" and "the man\u2019s sea", as written by a program that knew no tokenizers.
 EARLIER = {
@@ -49,7 +56,12 @@ class User(users.User):
 def schema_text(default):
     """Returns a schema with a field for each tokenizer, and two that name none."""
     head = f'tokenizer = "{default}"\n' if default else ''
-    return head + ''.join(f'[[field]]\nname = "{name}"\ntype = "{kind}"\n' + (f'tokenizer = "{tokenizer}"\n' if tokenizer else '') for name, kind, tokenizer in FIELDS)
+    return head + ''.join(f'[[field]]\nname = "{name}"\ntype = "{kind}"\n' + (f'tokenizer = "{tokenizer}"\n' if tokenizer else '') + (f'stop_words = {json.dumps(STOPS[name])}\n' if name in STOPS else '') for name, kind, tokenizer in FIELDS)
+
+
+def words_of(name, tokenizer):
+    """Returns how the texts of a field are read."""
+    return functools.partial(analyzers.english_words, stops=STOPS[name]) if name in STOPS else analyzers.WORDS_BY[tokenizer]
 
 
 def random_text(chosen):
@@ -110,7 +122,7 @@ def compares(user, chosen, default):
         tokenizer = tokenizer or default or 'default'
         if f'{number} {name} {kind} position' not in told or f'tokenizer {tokenizer}: ' not in told.split(f'{number} {name} ')[1].split('\n')[0]:
             raise Failed(f'fields: {name} has no tokenizer {tokenizer} in {told!r}')
-        words_by = analyzers.WORDS_BY[tokenizer]
+        words_by = words_of(name, tokenizer)
         readings[name] = (words_by, [places_of(line, name, words_by) for line in lines])
         counts = {}
         for places in readings[name][1]:
@@ -182,6 +194,21 @@ def rows(user):
     user.wants(['index', 'english', '--schema', 'english.toml'], 0, '2 documents indexed\n', given=b'{"body": "The old seas"}\n{"body": "Sailing by the old sea"}\n')
     for query, found in (('sail', [1]), ('SAILED', [1]), ('"old sea"', [0, 1]), ('"sails by"', [1]), ('seas', [0, 1]), ('saili', []), ('body:IN [sails]', [1])):
         user.wants(['search', 'english', query], 0 if found else 1, ''.join(f'{doc}\n' for doc in found))
+    # stop words
+    user.write('stops.toml', 'tokenizer = "en"\nstore_source = true\n[[field]]\nname = "body"\ntype = "text"\nstop_words = ["The", "of", "the", "don\'t"]\n')
+    user.wants(['index', 'stops', '--schema', 'stops.toml'], 0, '3 documents indexed\n', given=b'{"body": "The old seas"}\n{"body": "Theory of the sea"}\n{"body": "THE of the; don\'t"}\n')
+    user.wants(['terms', 'stops', 'body'], 0, '1 don\n1 old\n2 sea\n1 t\n1 theori\n')
+    for query, found in (('the AND sea', [0, 1]), ('the sea', [0, 1]), ('"the old"', [0]), ('"old sea"', [0]), ('"theory sea"', []), ('"theory of sea"', []), ('"theory of the sea"', [1]), ('"theory in a sea"', []),
+                         ('"Theory THE of sea"', [1]), ('the*', [1]), ('body:[the TO theory]', [1]), ('body:IN [of old]', [0]), ('don\'t', [2]), ('* AND NOT the', [0, 1, 2])):
+        user.wants(['search', 'stops', query], 0 if found else 1, ''.join(f'{doc}\n' for doc in found))
+    for query in ('the', '"of THE"', 'the AND of', 'body:IN [the of]', 'the AND NOT sea'):
+        user.wants(['search', 'stops', query], 2, '', 'no word to search for')
+    user.wants(['search', 'stops', 'the AND seas', '--snippet'], 0, '0\told seas\n1\tTheory of the sea\n')
+    for text in ('[[field]]\nname = "a"\ntype = "text"\nstop_words = []', 'tokenizer = "raw"\n[[field]]\nname = "a"\ntype = "text"\nstop_words = ["a"]', '[[field]]\nname = "a"\ntype = "u64"\nstop_words = ["a"]',
+                 '[[field]]\nname = "a"\ntype = "text"\ntokenizer = "en"\nstop_words = "the"', '[[field]]\nname = "a"\ntype = "text"\ntokenizer = "en"\nstop_words = ["the", 1]',
+                 'tokenizer = "en"\n[[field]]\nname = "a"\ntype = "text"\nindexed = false\nstop_words = ["a"]'):
+        user.write('bad.toml', text)
+        user.wants(['index', 'bad', '--schema', 'bad.toml'], 2, '', 'field 0: stop_words: a list of texts, where the tokenizer of the field is en (the field a)')
     # words that don't depend on Unicode
     user.write('other.toml', 'unicode = "17.0.0"\ntokenizer = "raw"\n[[field]]\nname = "a"\ntype = "text"')
     user.wants(['index', 'other', '--schema', 'other.toml'], 0, '1 documents indexed\n', given=b'{"a": "A b"}\n')
@@ -226,15 +253,47 @@ def earlier(user):
         user.wants(['search', 'earlier', query], 0, ''.join(f'{doc}\n' for doc in found))
 
 
+def pages(user, chosen):
+    """Indexes the paragraphs of the kit's pages, and searches words of them in any case, prefixes and ranges. Returns how
+    many paragraphs there are."""
+    user.write('schema.toml', '[[field]]\nname = "page"\ntype = "text"\ntokenizer = "raw"\n[[field]]\nname = "body"\ntype = "text"\n[[field]]\nname = "place"\ntype = "u64"\n')
+    lines, size = [], 0
+    for page, place, body in texts.paragraphs(path for path in texts.large_texts() if path.endswith('.md')):
+        size += len(body)
+        if size > PAGES:
+            break
+        lines.append({'page': page, 'body': body, 'place': place})
+    user.wants(['index', 'pages', '--schema', 'schema.toml'], 0, f'{len(lines)} documents indexed\n', given=''.join(json.dumps(line) + '\n' for line in lines).encode())
+    words = [{word for position, word in analyzers.default_words(line['body'])} for line in lines]
+    asked = []
+    for number in range(QUERIES):
+        word = chosen.choice(sorted(words[chosen.randrange(len(words))]) or ['the'])
+        if word in ('to', 'in', 'and', 'or', 'not'):
+            continue
+        begin, low = word[:chosen.randint(1, len(word))], chosen.randrange(20)
+        high = low + chosen.randrange(9)
+        with_word = {doc for doc, some in enumerate(words) if word in some}
+        asked += [
+            (chosen.choice([word, word.upper(), word.capitalize()]), with_word if not any(char in word for char in 'ßı') else None),
+            (f'{begin}*', None if analyzers.default_words(begin) != [(0, begin)] else {doc for doc, some in enumerate(words) if any(other.startswith(begin) for other in some)}),
+            (f'{word} AND place:[{low} TO {high}]', {doc for doc in with_word if low <= lines[doc]['place'] <= high}),
+            (f'page:"{lines[number % len(lines)]["page"]}" NOT {word}', {doc for doc, line in enumerate(lines) if line['page'] == lines[number % len(lines)]['page']} - with_word)]
+    asked = [(query, found) for query, found in asked if found is not None]
+    answers = [{'query': query, 'docs': [{'doc': doc} for doc in sorted(found)]} for query, found in asked]
+    user.wants(['search', 'pages', '--batch', '--field', 'body'], 0, ''.join(json.dumps(answer, separators=(',', ':'), ensure_ascii=False) + '\n' for answer in answers), given=''.join(f'{query}\n' for query, found in asked).encode())
+    return len(lines)
+
+
 def each_tokenizer(user):
     """Goes through all of it. Returns what was seen."""
     chosen = random.Random(SEED)
     rows(user)
     num_stems = stems(user)
     earlier(user)
+    num_pages = pages(user, chosen)
     for number in range(ROUNDS):
         compares(user, chosen, [None, 'default', 'raw', 'whitespace', 'ascii', 'en'][number % 6])
-    return f'{ROUNDS} folders of {LINES} lines with each tokenizer, {ROUNDS * QUERIES} queries, {num_stems} stems'
+    return f'{ROUNDS} folders of {LINES} lines with each tokenizer, {ROUNDS * QUERIES} queries, {num_stems} stems, {num_pages} paragraphs of the machine'
 
 
 sys.exit(users.judged(each_tokenizer, User))

@@ -64,7 +64,14 @@ pub static OPTIONS: Row = Row {
 
 /// A value of each other type.
 pub static VALUES: Row = Row {
-    kinds: &[Kind::U64, Kind::I64, Kind::Bool, Kind::Ip, Kind::Bytes],
+    kinds: &[
+        Kind::U64,
+        Kind::I64,
+        Kind::Bool,
+        Kind::Ip,
+        Kind::Bytes,
+        Kind::Date,
+    ],
     num_docs: 2,
     calls: &[
         (0, 0, Said::U64(5)),
@@ -72,6 +79,7 @@ pub static VALUES: Row = Row {
         (0, 2, Said::Bool(true)),
         (0, 3, Said::Ip(1)),
         (0, 4, Said::Bytes(b"abc")),
+        (0, 5, Said::Date(631152000000000000)),
         (1, 4, Said::Bytes(b"a value of more than sixteen bytes")),
     ],
     keys: &[
@@ -81,6 +89,7 @@ pub static VALUES: Row = Row {
         (3, &[0, 0, 0, 0, 0, 0, 0, 0, 0, 0, 0, 0, 0, 0, 0, 1]),
         (4, b"abc"),
         (4, b"a value of more than sixteen bytes"),
+        (5, &[0x88, 0xC2, 0x4D, 0x66, 0x67, 0x47, 0, 0]),
     ],
 };
 

@@ -19,8 +19,8 @@ abbrev pub is_plain : ValueType → Bool
 is_plain U64 = true
 is_plain I64 = true
 is_plain BoolType = true
+is_plain Date = true
 is_plain Bytes = true
 is_plain IpAddr = true
 is_plain Str = false
-is_plain Date = false
 is_plain Json = false

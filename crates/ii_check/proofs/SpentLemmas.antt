@@ -1,13 +1,11 @@
 -- What validating positions decodes.
-use Rattle.std.proofs.Common.{◌≡◌, ℕ, zero, suc, ◌+◌, ◌*◌, ◌/◌, ◌^◌, ◌<◌, ◌≤◌, Bool, true, false, List, [], length, take, nat_lt, Option, None, Some, is_some, unwrap_or, refl, sym, ap, ◌∙◌, arith, length-take}
+use Rattle.std.proofs.Common.{◌≡◌, ℕ, zero, suc, ◌+◌, ◌*◌, ◌/◌, ◌^◌, ◌<◌, ◌≤◌, Bool, true, false, List, [], length, take, nat_lt, Option, None, Some, is_some, unwrap_or, refl, ap, arith, length-take}
 use Rattle.std.specs.List.{sum}
 use Rattle.ii_codes.specs.BlockDecoder.{BlockDecoderState, decodes_of}
 use Rattle.ii_layout.specs.PositionReader.{DecodesEachOnce, PositionReaderState, block_kept, deltas_of}
 use Rattle.ii_layout.specs.Positions.{position_deltas}
 use Rattle.ii_layout.specs.Written.{block_of}
-use Rattle.ii_check.specs.declared.validation.Validation.{Validation}
-use Rattle.ii_check.specs.declared.validation.Validation.TheVariants.{Complete, Skipped}
-use Rattle.ii_check.specs.CheckedPositions.{ChecksBytes, ChecksDeltas, ChecksPositions, PositionCounts, SpendsTo, lists_decoded, positions_decoded}
+use Rattle.ii_check.specs.CheckedPositions.{ChecksBytes, ChecksDeltas, PositionCounts, SpendsTo}
 use Rattle.ii_check.specs.CheckedPostings.{Loads, LoadsFreqs}
 
 -- a reader that goes on
@@ -67,11 +65,6 @@ pub one_freqs : (o : Option (List ℕ)) (block : ℕ) (old new : BlockDecoderSta
 one_freqs None block old new loads = let same = ap (λ (d : BlockDecoderState). d.decodes) loads in omega arith
 one_freqs (Some fs) block old new loads = one_block fs block 1 old new loads
 
--- nothing was decoded
-pub checks_nothing : (some n : ℕ) (positions : Option (List ℕ)) (c : PositionCounts) → ChecksBytes some n positions c c
-checks_nothing some n None c = refl
-checks_nothing some n (Some bytes) c = record { docs = omega arith; freqs = omega arith; positions = omega arith }
-
 -- the deltas that bytes hold
 deltas_are : (bytes deltas : List ℕ) → position_deltas bytes ≡ Some deltas → deltas_of bytes ≡ deltas
 unfolding deltas_of
@@ -106,14 +99,3 @@ pub checks_more : (n : ℕ) (positions : Option (List ℕ)) (old middle new : Po
     → ChecksBytes 0 n positions middle new → ChecksBytes 1 n positions old new
 checks_more n None old middle new some docs freqs same checks = absurd (cc)
 checks_more n (Some bytes) old middle new some docs freqs same checks = checks_one n (deltas_of bytes) old middle new (nat_lt (sum (deltas_of bytes)) (2 ^ 32)) refl docs freqs same checks
-
--- a bound that allows more
-pub checks_wider : (n : ℕ) (positions : Option (List ℕ)) (old new : PositionCounts) → ChecksBytes 0 n positions old new → ChecksBytes 1 n positions old new
-checks_wider n None old new checks = checks
-checks_wider n (Some bytes) old new checks = checks_one n (deltas_of bytes) old old new (nat_lt (sum (deltas_of bytes)) (2 ^ 32)) refl (omega arith) (omega arith) refl checks
-
--- without bytes nothing was decoded
-pub checks_none : (validation : Validation) (n : ℕ) (positions : Option (List ℕ)) (c : PositionCounts) → is_some positions ≡ false → ChecksPositions validation n positions c c
-checks_none Complete n None c none = refl
-checks_none Complete n (Some bytes) c none = absurd (cc)
-checks_none Skipped n positions c none = refl

@@ -105,6 +105,7 @@ call_fits entries num_docs analyze (calls.Tokens doc field tokens) expand_dots b
 call_fits entries num_docs analyze (calls.U64 doc field n) expand_dots below has = (record { below = below; keys = keys_in entries field U64 false _ has refl }, tt)
 call_fits entries num_docs analyze (calls.I64 doc field n) expand_dots below has = (record { below = below; keys = keys_in entries field I64 false _ has refl }, tt)
 call_fits entries num_docs analyze (calls.Bool doc field b) expand_dots below has = (record { below = below; keys = keys_in entries field Truth false _ has refl }, tt)
+call_fits entries num_docs analyze (calls.Date doc field date) expand_dots below has = (record { below = below; keys = keys_in entries field Date false _ has refl }, tt)
 call_fits entries num_docs analyze (calls.Bytes doc field bytes) expand_dots below has = (record { below = below; keys = keys_in entries field Bytes false _ has refl }, tt)
 call_fits entries num_docs analyze (calls.Ip doc field address) expand_dots below has = (record { below = below; keys = keys_in entries field IpAddr false _ has refl }, tt)
 call_fits entries num_docs analyze (calls.Json doc field v) expand_dots below has = leaves_fit entries num_docs doc field analyze (json_leaves expand_dots (json_of v)) below has (clean_leaves expand_dots v)

@@ -11,15 +11,16 @@ use Rattle.ii_base.specs.declared.schema.value_type.ValueType.TheVariants as typ
 use Rattle.ii_base.specs.Json.{json_leaves, json_of}
 use Rattle.ii_definitions.specs.Tokens.{Call, Content, leaves, text, words, value}
 use Rattle.ii_definitions.specs.declared.index_call.IndexCall.{IndexCall}
-use Rattle.ii_definitions.specs.declared.index_call.IndexCall.TheVariants.{Text, Tokens, U64, I64, Bool as Truth, Bytes, Ip, Json}
+use Rattle.ii_definitions.specs.declared.index_call.IndexCall.TheVariants.{Text, Tokens, U64, I64, Bool as Truth, Date, Bytes, Ip, Json}
 
--- the number that represents a number or a boolean, or 0 for any other value
+-- the number that represents a number, a boolean or a date, or 0 for any other value
 abbrev pub number_in : IndexCall → ℕ
 number_in (Text doc field t) = 0
 number_in (Tokens doc field tokens) = 0
 number_in (U64 doc field n) = n
 number_in (I64 doc field n) = flipped n
 number_in (Truth doc field b) = number_of_bool b
+number_in (Date doc field date) = flipped date.0
 number_in (Bytes doc field bytes) = 0
 number_in (Ip doc field address) = 0
 number_in (Json doc field v) = 0
@@ -31,6 +32,7 @@ doc_of (Tokens doc field tokens) = doc
 doc_of (U64 doc field n) = doc
 doc_of (I64 doc field n) = doc
 doc_of (Truth doc field b) = doc
+doc_of (Date doc field date) = doc
 doc_of (Bytes doc field bytes) = doc
 doc_of (Ip doc field address) = doc
 doc_of (Json doc field v) = doc
@@ -42,6 +44,7 @@ field_of (Tokens doc field tokens) = field
 field_of (U64 doc field n) = field
 field_of (I64 doc field n) = field
 field_of (Truth doc field b) = field
+field_of (Date doc field date) = field
 field_of (Bytes doc field bytes) = field
 field_of (Ip doc field address) = field
 field_of (Json doc field v) = field
@@ -53,6 +56,7 @@ content_of expand_dots (Tokens doc field tokens) = words tokens.to_come
 content_of expand_dots (U64 doc field n) = value (u64_bytes n)
 content_of expand_dots (I64 doc field n) = value (u64_bytes (flipped n))
 content_of expand_dots (Truth doc field b) = value (u64_bytes (number_of_bool b))
+content_of expand_dots (Date doc field date) = value (u64_bytes (flipped date.0))
 content_of expand_dots (Bytes doc field bytes) = value bytes.items
 content_of expand_dots (Ip doc field address) = value (bytes_high_first 16 address)
 content_of expand_dots (Json doc field v) = leaves (json_leaves expand_dots (json_of v))
@@ -76,6 +80,7 @@ type_of (Tokens doc field tokens) = types.Str
 type_of (U64 doc field n) = types.U64
 type_of (I64 doc field n) = types.I64
 type_of (Truth doc field b) = types.Bool
+type_of (Date doc field date) = types.Date
 type_of (Bytes doc field bytes) = types.Bytes
 type_of (Ip doc field address) = types.IpAddr
 type_of (Json doc field v) = types.Json

@@ -1,7 +1,7 @@
 ghost use Rattle.std.specs.Prelude.{◌≡◌};
 ghost use Rattle.ii_definitions.specs.IndexCalls.{doc_of, field_of, number_in};
 
-use ii_base::{DocId, FastValue, Field, JsonValue, TokenList};
+use ii_base::{DateTime, DocId, FastValue, Field, JsonValue, TokenList};
 
 /// An input to index: a document, a field, and a value of the field's type.
 #[derive(Drop)]
@@ -16,6 +16,8 @@ pub enum IndexCall {
     I64(DocId, Field, i64),
     /// A boolean.
     Bool(DocId, Field, bool),
+    /// A date.
+    Date(DocId, Field, DateTime),
     /// Bytes.
     Bytes(DocId, Field, Vec<u8>),
     /// An IP address.
@@ -36,6 +38,7 @@ impl IndexCall {
             IndexCall::U64(doc, _, _) => *doc,
             IndexCall::I64(doc, _, _) => *doc,
             IndexCall::Bool(doc, _, _) => *doc,
+            IndexCall::Date(doc, _, _) => *doc,
             IndexCall::Bytes(doc, _, _) => *doc,
             IndexCall::Ip(doc, _, _) => *doc,
             IndexCall::Json(doc, _, _) => *doc,
@@ -52,13 +55,14 @@ impl IndexCall {
             IndexCall::U64(_, field, _) => *field,
             IndexCall::I64(_, field, _) => *field,
             IndexCall::Bool(_, field, _) => *field,
+            IndexCall::Date(_, field, _) => *field,
             IndexCall::Bytes(_, field, _) => *field,
             IndexCall::Ip(_, field, _) => *field,
             IndexCall::Json(_, field, _) => *field,
         }
     }
 
-    /// Returns the 64-bit number that represents a number or a boolean, or 0 for any other value.
+    /// Returns the 64-bit number that represents a number, a boolean or a date, or 0 for any other value.
     pub fn number(&self) -> u64
         ensures { result ≡ number_in self.now }
     {
@@ -66,6 +70,7 @@ impl IndexCall {
             IndexCall::U64(_, _, number) => *number,
             IndexCall::I64(_, _, number) => (*number).to_u64(),
             IndexCall::Bool(_, _, truth) => (*truth).to_u64(),
+            IndexCall::Date(_, _, date) => (*date).to_u64(),
             _ => 0,
         }
     }

@@ -6,7 +6,6 @@ use Rattle.std.specs.List.Sorted.{IsNonDecreasingBy}
 use Rattle.sha2.specs.Sha256.{sha256}
 use Rattle.std.proofs.Math.Bool.{and-false}
 use Rattle.std.proofs.lemmas.Bool.{leb-true, leb-false, lt-ltb, ltb-false, ltb-true, le-ltb, eqb-true, cases_lt}
-use Rattle.std.proofs.lemmas.List.{at_drop_more}
 use Rattle.std.proofs.lemmas.Option.{get_or_from_slice_get}
 use Rattle.ii_doc_store.specs.declared.checkpoint.BlockPlace.{BlockPlace}
 use Rattle.ii_doc_store.specs.declared.checkpoint.Checkpoint.{Checkpoint}
@@ -27,11 +26,6 @@ pub read_one : (front : List Checkpoint) (count i : ℕ) (rest : List ℕ) (all 
 read_one front count i rest all below so_far =
     let left : count - i ≡ suc (count - (i + 1)) = omega arith in
     append_assoc front (checkpoint_in (take 44 rest) ∷ []) (checkpoints_in (count - (i + 1)) (drop 44 rest)) ∙ rw left at so_far
-
--- the checkpoint after some in order
-pub order_at : (doc byte end i : ℕ) (cs : List Checkpoint) (d : Checkpoint) → i < length cs
-    → are_in_order doc byte end (drop i cs) ≡ (nat_le doc (get_or cs i d).doc_end && nat_le byte (get_or cs i d).byte_end && are_in_order (get_or cs i d).doc_end (get_or cs i d).byte_end end (drop (i + 1) cs))
-order_at doc byte end i cs d inside = at_drop_more (are_in_order doc byte end) cs i d inside
 
 -- the end of a block, as where the next one begins
 pub ends_before_at : (doc byte n : ℕ) (cs : List Checkpoint) (d : Checkpoint) → n < length cs → ends_before_from doc byte cs (suc n) ≡ ((get_or cs n d).doc_end, (get_or cs n d).byte_end)

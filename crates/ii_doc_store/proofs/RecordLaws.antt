@@ -1,6 +1,6 @@
 -- The documents of a block.
-use Rattle.std.proofs.Common.{◌≡◌, ℕ, zero, suc, ◌+◌, ◌-◌, ◌<◌, ◌^◌, true, false, List, [], ◌∷◌, ◌++◌, length, drop, get_or, refl, ◌∙◌, append_assoc, arith}
-use Rattle.std.specs.Prelude.{Some, None, nat_le}
+use Rattle.std.proofs.Common.{◌≡◌, ℕ, zero, suc, ◌+◌, ◌-◌, ◌<◌, ◌^◌, true, List, [], ◌∷◌, ◌++◌, length, drop, get_or, refl, ◌∙◌, append_assoc, arith}
+use Rattle.std.specs.Prelude.{Some, nat_le}
 use Rattle.std.specs.List.{AllByRecursion}
 use Rattle.std.specs.Int.{w32, to_le_bytes}
 use Rattle.std.proofs.lemmas.Bool.{le-leb}
@@ -14,11 +14,6 @@ pub document_after : (k i : ℕ) (rest : List ℕ) → i < k → has_record rest
 document_after k i rest below has =
     let left : k - i ≡ suc (k - (i + 1)) = omega arith in
     rw (left, has) refl
-
--- no document where one is not complete
-pub no_document : (k : ℕ) (rest : List ℕ) → has_record rest ≡ false → document_in k rest ≡ None
-no_document zero rest none = rw none refl
-no_document (suc k) rest none = rw none refl
 
 -- a written document is read back, whatever follows it
 len_again : (d rest : List ℕ) → length d < 2 ^ 32 → len_in (record_bytes d ++ rest) ≡ length d

@@ -36,14 +36,6 @@ living_more (t ∷ ss) s = let rest = living_more ss s in omega (arith, rest)
 joined_more : (each : List (List (List ℕ))) (ds : List (List ℕ)) → flat_map (λ (xs : List (List ℕ)). xs) (each ++ ds ∷ []) ≡ flat_map (λ (xs : List (List ℕ)). xs) each ++ ds
 joined_more each ds = flat_map-append (λ (xs : List (List ℕ)). xs) each (ds ∷ []) ∙ ap (λ (ys : List (List ℕ)). flat_map (λ (xs : List (List ℕ)). xs) each ++ ys) (append-nil ds)
 
-pub none_stored : (w : StoreWriterState) → StoresAll [] w w
-none_stored w = record {
-  documents = [];
-  are = record { each = []; read = tt; joined = refl };
-  count = refl;
-  stored = λ initial before stored. subst (HasStored initial w) (sym (append-nil before)) stored;
-}
-
 one_more : (ss : List StoreSourceState) (s : StoreSourceState) (old now new : StoreWriterState) → StoresAll ss old now → StoresLiving s now new → StoresAll (ss ++ s ∷ []) old new
 one_more ss s old now new all one = record {
   documents = all.documents ++ one.documents;

@@ -1,4 +1,5 @@
 mod AddingLemmas
+mod FloatLemmas
 mod JsonLemmas
 mod LineLemmas
 mod UnknownLemmas

@@ -17,6 +17,7 @@ use Rattle.ii_definitions.specs.IndexCalls.{Takes, call_of, call_with, field_of,
 use Rattle.ii_definitions.specs.declared.index_call.IndexCall.{IndexCall}
 use Rattle.ii_definitions.proofs.ListLaws.{all_both}
 use Rattle.ii_documents.specs.declared.faults.ValueFault.{ValueFault}
+use Rattle.ii_documents.specs.declared.floats.FloatNumbers.{FloatNumbers}
 use Rattle.ii_documents.specs.JsonLines.{Adds, IsOf, Refusal, call_with_content, field_calls, fields_calls, items_calls, unknown_name_in, value_call}
 use Rattle.ii_documents.specs.Steps.{◌>>=◌}
 use Rattle.ii_documents.proofs.AddingLemmas.{both}
@@ -51,10 +52,10 @@ call_at doc field (Ok content) k e = (sym (ap (λ (c : Call). c.doc) (inside e))
 call_at doc field (Err fault) k e = absurd (cc)
 
 -- the call of a value was added
-pub adds_value : (es : List SchemaEntry) (doc field : ℕ) (old new : List IndexCall) (e : SchemaEntry) (d : Data) (c : IndexCall) → slice_get es field ≡ Some e → e.is_indexed ≡ true
-    → value_call doc field e d ≡ Ok (call_with e.expands_dots c) → type_of c ≡ e.value_type → new ≡ old ++ c ∷ []
-    → (cs : List Call) × (items_calls doc field e (item d no_items) ≡ Ok cs) × Adds es doc old new cs
-adds_value es doc field old new e d c found indexed is typed pushed =
+pub adds_value : (es : List SchemaEntry) (floats : FloatNumbers) (doc field : ℕ) (old new : List IndexCall) (e : SchemaEntry) (d : Data) (c : IndexCall) → slice_get es field ≡ Some e → e.is_indexed ≡ true
+    → value_call floats doc field e d ≡ Ok (call_with e.expands_dots c) → type_of c ≡ e.value_type → new ≡ old ++ c ∷ []
+    → (cs : List Call) × (items_calls floats doc field e (item d no_items) ≡ Ok cs) × Adds es doc old new cs
+adds_value es floats doc field old new e d c found indexed is typed pushed =
     let at = call_at doc field _ (call_with e.expands_dots c) is in
     let there : slice_get es (field_of c) ≡ Some e = subst (λ f. slice_get es f ≡ Some e) (sym at.1) found in
     let same : call_of es c ≡ call_with e.expands_dots c = rw there refl in
@@ -72,13 +73,13 @@ call_first : (v : Result Call Refusal) (r : Result (List Call) Refusal) → (v >
 call_first (Ok c) r = refl
 call_first (Err e) r = refl
 
-pub items_first : (doc field : ℕ) (e : SchemaEntry) (d : Data) (ds : Items) → items_calls doc field e (item d ds) ≡ both (items_calls doc field e (item d no_items)) (items_calls doc field e ds)
-items_first doc field e d ds = call_first (value_call doc field e d) (items_calls doc field e ds)
+pub items_first : (floats : FloatNumbers) (doc field : ℕ) (e : SchemaEntry) (d : Data) (ds : Items) → items_calls floats doc field e (item d ds) ≡ both (items_calls floats doc field e (item d no_items)) (items_calls floats doc field e ds)
+items_first floats doc field e d ds = call_first (value_call floats doc field e d) (items_calls floats doc field e ds)
 
 -- the calls of a field, and those of the later fields
-pub fields_first : (doc : ℕ) (ms : Members) (field : ℕ) (es : List SchemaEntry) (e : SchemaEntry) (rest : List SchemaEntry) → es ≡ e ∷ rest
-    → fields_calls doc ms field es ≡ both (field_calls doc field e (get_member e.name ms)) (fields_calls doc ms (field + 1) rest)
-fields_first doc ms field es e rest is = rw is refl
+pub fields_first : (floats : FloatNumbers) (doc : ℕ) (ms : Members) (field : ℕ) (es : List SchemaEntry) (e : SchemaEntry) (rest : List SchemaEntry) → es ≡ e ∷ rest
+    → fields_calls floats doc ms field es ≡ both (field_calls floats doc field e (get_member e.name ms)) (fields_calls floats doc ms (field + 1) rest)
+fields_first floats doc ms field es e rest is = rw is refl
 
 -- one entry at a place
 pub same_entry : (es : List SchemaEntry) (field : ℕ) (a b : SchemaEntry) → slice_get es field ≡ Some a → slice_get es field ≡ Some b → a ≡ b

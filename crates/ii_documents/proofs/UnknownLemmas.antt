@@ -7,6 +7,7 @@ use Rattle.std.specs.Ordering.{match_ordering}
 use Rattle.serde_json.specs.Data.{Members, member, no_members}
 use Rattle.serde_json.specs.Find.{get_member}
 use Rattle.ii_base.specs.Schema.{SchemaEntry}
+use Rattle.ii_documents.specs.declared.floats.FloatNumbers.{FloatNumbers}
 use Rattle.ii_documents.specs.JsonLines.{fields_calls, knows_names, members_calls, named_members, unknown_name_in}
 use Rattle.ii_documents.specs.Steps.{◌>>=◌}
 use Rattle.ii_documents.proofs.LineLemmas.{named_so}
@@ -45,13 +46,13 @@ module _ (es : List SchemaEntry) where
       by false is later = rw is (later ∙ skipped (slice_cmp nat_cmp name key) refl is)
 
   -- fields that are named in the schema have the same calls
-  same_fields : (doc : ℕ) (ms : Members) (field : ℕ) (rest : List SchemaEntry) → ((name : List ℕ) → named_so rest name ≡ true → named_so es name ≡ true)
-      → fields_calls doc (named_members es ms) field rest ≡ fields_calls doc ms field rest
-  same_fields doc ms field [] known = refl
-  same_fields doc ms field (e ∷ rest) known =
+  same_fields : (floats : FloatNumbers) (doc : ℕ) (ms : Members) (field : ℕ) (rest : List SchemaEntry) → ((name : List ℕ) → named_so rest name ≡ true → named_so es name ≡ true)
+      → fields_calls floats doc (named_members es ms) field rest ≡ fields_calls floats doc ms field rest
+  same_fields floats doc ms field [] known = refl
+  same_fields floats doc ms field (e ∷ rest) known =
       let own : named_so (e ∷ rest) e.name ≡ true = ap (λ b. b || named_so rest e.name) ((bytes_eq-Decides e.name e.name).1 refl) in
       let value = value_under e.name ms (known e.name own) in
-      let later = same_fields doc ms (field + 1) rest (λ name is. known name (or_true (bytes_eq e.name name) (named_so rest name) is)) in
+      let later = same_fields floats doc ms (field + 1) rest (λ name is. known name (or_true (bytes_eq e.name name) (named_so rest name) is)) in
       rw (value, later) refl
     where
       or_true : (a b : Bool) → b ≡ true → (a || b) ≡ true
@@ -59,6 +60,6 @@ module _ (es : List SchemaEntry) where
       or_true false b is = is
 
   -- a document without its unknown keys has the calls of its fields
-  pub named_calls : (doc : ℕ) (ms : Members) → members_calls es doc (named_members es ms) ≡ fields_calls doc ms 0 es
+  pub named_calls : (floats : FloatNumbers) (doc : ℕ) (ms : Members) → members_calls floats es doc (named_members es ms) ≡ fields_calls floats doc ms 0 es
   unfolding members_calls
-  named_calls doc ms = ap (λ found. knows_names found >>= λ _. fields_calls doc (named_members es ms) 0 es) (none_unknown ms) ∙ same_fields doc ms 0 es (λ name is. is)
+  named_calls floats doc ms = ap (λ found. knows_names found >>= λ _. fields_calls floats doc (named_members es ms) 0 es) (none_unknown ms) ∙ same_fields floats doc ms 0 es (λ name is. is)

@@ -1,7 +1,7 @@
 -- What members give, by hand.
 use Rattle.std.proofs.Common.{◌≡◌, ℕ, true, false, [], ◌∷◌, Ok, Err, codes, refl}
-use Rattle.std.specs.Prelude.{negsuc}
-use Rattle.serde_json.specs.Data.{array, boolean, item, member, negative, no_items, no_members, null, number, object, string, unsigned}
+use Rattle.std.specs.Prelude.{Float, negsuc}
+use Rattle.serde_json.specs.Data.{Members, array, boolean, float, item, member, negative, no_items, no_members, null, number, object, string, unsigned}
 use Rattle.ii_base.specs.Schema.{SchemaEntry}
 use Rattle.ii_base.specs.declared.schema.index_record_option.IndexRecordOption.TheVariants.{Basic}
 use Rattle.ii_base.specs.declared.schema.value_type.ValueType.{ValueType}
@@ -9,6 +9,9 @@ use Rattle.ii_base.specs.declared.schema.value_type.ValueType.TheVariants as typ
 use Rattle.ii_definitions.specs.Tokens.{Call, Content, text, value}
 use Rattle.ii_documents.specs.declared.faults.ValueFault.TheVariants as faults
 use Rattle.ii_schema_text.specs.declared.unknown_keys.UnknownKeys.TheVariants.{Ignore, Refuse}
+use Rattle.ii_dates.proofs.OnLiterals.{dates_on_literals}
+use Rattle.ii_documents.specs.declared.floats.FloatNumbers.TheVariants as floats
+use Rattle.ii_documents.specs.Floats.{skipped_in_members}
 use Rattle.ii_documents.specs.JsonLines.{members_calls, read_members, unknown_key, wrong_value}
 
 abbrev entry : ValueType → SchemaEntry
@@ -18,39 +21,39 @@ abbrev call : ℕ → Content → Call
 call doc content = record { doc = doc; field = 0; content = content }
 
 -- an array has several texts
-texts : members_calls (entry types.Str ∷ []) 7 (member (codes "a") (array (item (string (codes "x y")) (item (string (codes "z")) no_items))) no_members) ≡ Ok (call 7 (text (codes "x y")) ∷ call 7 (text (codes "z")) ∷ [])
+texts : members_calls floats.Refuse (entry types.Str ∷ []) 7 (member (codes "a") (array (item (string (codes "x y")) (item (string (codes "z")) no_items))) no_members) ≡ Ok (call 7 (text (codes "x y")) ∷ call 7 (text (codes "z")) ∷ [])
 unfolding members_calls
 texts = refl
 
 -- null has none
-nothing : members_calls (entry types.Str ∷ []) 7 (member (codes "a") null no_members) ≡ Ok []
+nothing : members_calls floats.Refuse (entry types.Str ∷ []) 7 (member (codes "a") null no_members) ≡ Ok []
 unfolding members_calls
 nothing = refl
 
 -- a truth value by its number
-truth : members_calls (entry types.Bool ∷ []) 2 (member (codes "a") (boolean true) no_members) ≡ Ok (call 2 (value (0 ∷ 0 ∷ 0 ∷ 0 ∷ 0 ∷ 0 ∷ 0 ∷ 1 ∷ [])) ∷ [])
+truth : members_calls floats.Refuse (entry types.Bool ∷ []) 2 (member (codes "a") (boolean true) no_members) ≡ Ok (call 2 (value (0 ∷ 0 ∷ 0 ∷ 0 ∷ 0 ∷ 0 ∷ 0 ∷ 1 ∷ [])) ∷ [])
 unfolding members_calls
 truth = refl
 
 -- a 16-bit number by its bytes, and -1 by the number that represents it
-unsigned_number : members_calls (entry types.U64 ∷ []) 2 (member (codes "a") (number (unsigned 258)) no_members) ≡ Ok (call 2 (value (0 ∷ 0 ∷ 0 ∷ 0 ∷ 0 ∷ 0 ∷ 1 ∷ 2 ∷ [])) ∷ [])
+unsigned_number : members_calls floats.Refuse (entry types.U64 ∷ []) 2 (member (codes "a") (number (unsigned 258)) no_members) ≡ Ok (call 2 (value (0 ∷ 0 ∷ 0 ∷ 0 ∷ 0 ∷ 0 ∷ 1 ∷ 2 ∷ [])) ∷ [])
 unfolding members_calls
 unsigned_number = refl
 
-signed_number : members_calls (entry types.I64 ∷ []) 2 (member (codes "a") (number (negative (negsuc 0))) no_members) ≡ Ok (call 2 (value (127 ∷ 255 ∷ 255 ∷ 255 ∷ 255 ∷ 255 ∷ 255 ∷ 255 ∷ [])) ∷ [])
+signed_number : members_calls floats.Refuse (entry types.I64 ∷ []) 2 (member (codes "a") (number (negative (negsuc 0))) no_members) ≡ Ok (call 2 (value (127 ∷ 255 ∷ 255 ∷ 255 ∷ 255 ∷ 255 ∷ 255 ∷ 255 ∷ [])) ∷ [])
 unfolding members_calls
 signed_number = refl
 
 -- what is refused, and why
-below_zero : members_calls (entry types.U64 ∷ []) 2 (member (codes "a") (number (negative (negsuc 0))) no_members) ≡ Err (wrong_value 0 faults.OutOfRange)
+below_zero : members_calls floats.Refuse (entry types.U64 ∷ []) 2 (member (codes "a") (number (negative (negsuc 0))) no_members) ≡ Err (wrong_value 0 faults.OutOfRange)
 unfolding members_calls
 below_zero = refl
 
-no_text : members_calls (entry types.Str ∷ []) 2 (member (codes "a") (object no_members) no_members) ≡ Err (wrong_value 0 faults.WrongType)
+no_text : members_calls floats.Refuse (entry types.Str ∷ []) 2 (member (codes "a") (object no_members) no_members) ≡ Err (wrong_value 0 faults.WrongType)
 unfolding members_calls
 no_text = refl
 
-stranger : members_calls (entry types.Str ∷ []) 2 (member (codes "a") (boolean true) (member (codes "b") null no_members)) ≡ Err (unknown_key (codes "b"))
+stranger : members_calls floats.Refuse (entry types.Str ∷ []) 2 (member (codes "a") (boolean true) (member (codes "b") null no_members)) ≡ Err (unknown_key (codes "b"))
 unfolding members_calls
 stranger = refl
 
@@ -62,6 +65,37 @@ refused : read_members Refuse (entry types.Str ∷ []) (member (codes "a") (bool
 refused = refl
 
 -- a value of a field is refused as before
-ignored_beside_no_text : members_calls (entry types.Str ∷ []) 2 (read_members Ignore (entry types.Str ∷ []) (member (codes "a") (boolean true) (member (codes "b") null no_members))) ≡ Err (wrong_value 0 faults.WrongType)
+ignored_beside_no_text : members_calls floats.Refuse (entry types.Str ∷ []) 2 (read_members Ignore (entry types.Str ∷ []) (member (codes "a") (boolean true) (member (codes "b") null no_members))) ≡ Err (wrong_value 0 faults.WrongType)
 unfolding members_calls
 ignored_beside_no_text = refl
+
+-- a date by its nanoseconds: 631,152,000,000,000,000 and 2^63 are 88C24D6667470000
+date : members_calls floats.Refuse (entry types.Date ∷ []) 2 (member (codes "a") (string (codes "1990-01-01T00:00:00Z")) no_members) ≡ Ok (call 2 (value (0x88 ∷ 0xC2 ∷ 0x4D ∷ 0x66 ∷ 0x67 ∷ 0x47 ∷ 0 ∷ 0 ∷ [])) ∷ [])
+unfolding members_calls dates_on_literals
+date = refl
+
+no_date : members_calls floats.Refuse (entry types.Date ∷ []) 2 (member (codes "a") (string (codes "1990-01-01")) no_members) ≡ Err (wrong_value 0 faults.NotADate)
+unfolding members_calls dates_on_literals
+no_date = refl
+
+-- a floating-point number in a JSON value is refused, or left out and counted; in a field of numbers it is refused
+abbrev mixed : Float → Members
+mixed x = member (codes "a") (array (item (number (float x)) (item (boolean true) no_items))) no_members
+
+abbrev left : Members
+left = member (codes "a") (array (item null (item (boolean true) no_items))) no_members
+
+refused_float : (x : Float) → members_calls floats.Refuse (entry types.Json ∷ []) 2 (mixed x) ≡ Err (wrong_value 0 faults.Float)
+unfolding members_calls
+refused_float x = refl
+
+skipped_float : (x : Float) → members_calls floats.Skip (entry types.Json ∷ []) 2 (mixed x) ≡ members_calls floats.Refuse (entry types.Json ∷ []) 2 left
+unfolding members_calls
+skipped_float x = refl
+
+counted_float : (x : Float) → skipped_in_members floats.Skip (entry types.Json ∷ []) (mixed x) ≡ 1
+counted_float x = refl
+
+fraction : (x : Float) → members_calls floats.Skip (entry types.U64 ∷ []) 2 (member (codes "a") (number (float x)) no_members) ≡ Err (wrong_value 0 faults.OutOfRange)
+unfolding members_calls
+fraction x = refl

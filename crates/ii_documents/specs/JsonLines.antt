@@ -12,6 +12,7 @@ use Rattle.ii_base.specs.Schema.{SchemaEntry}
 use Rattle.ii_base.specs.Values.{flipped, number_of_bool, u64_bytes}
 use Rattle.ii_base.specs.declared.schema.value_type.ValueType.{ValueType}
 use Rattle.ii_base.specs.declared.schema.value_type.ValueType.TheVariants as types
+use Rattle.ii_dates.specs.Dates.{date_in}
 use Rattle.ii_definitions.specs.JsonKeys.{is_json}
 use Rattle.ii_definitions.specs.Tokens.{Call, Content, leaves, text, value}
 use Rattle.ii_definitions.specs.IndexCalls.{Takes, call_of, doc_of, field_of, type_of}
@@ -23,6 +24,9 @@ use Rattle.ii_documents.specs.declared.faults.ValueFault.TheVariants as value_fa
 use Rattle.ii_schema_text.specs.declared.unknown_keys.UnknownKeys.{UnknownKeys}
 use Rattle.ii_schema_text.specs.declared.unknown_keys.UnknownKeys.TheVariants.{Ignore, Refuse}
 use Rattle.ii_term_text.specs.Addresses.{address_in}
+use Rattle.ii_documents.specs.declared.floats.FloatNumbers.{FloatNumbers}
+use Rattle.ii_documents.specs.declared.floats.FloatNumbers.TheVariants as float_numbers
+use Rattle.ii_documents.specs.Floats.{without_floats}
 use Rattle.ii_documents.specs.JsonValues.{json_from}
 use Rattle.ii_documents.specs.Steps.{◌>>=◌}
 
@@ -76,20 +80,25 @@ bytes_from (Err e) = Err value_faults.NotHex
 abbrev pub address_content : List ℕ → Result Content ValueFault
 address_content t = ok_or (option_map (λ n. value (bytes_high_first 16 n)) (address_in t)) value_faults.NotAnAddress
 
--- a JSON value without floating-point numbers
-abbrev pub json_content : Bool → Data → Result Content ValueFault
-json_content expand_dots d = if has_float d then Err value_faults.Float else Ok (leaves (json_leaves expand_dots (json_from d)))
+-- a date
+abbrev pub date_content : List ℕ → Result Content ValueFault
+date_content t = ok_or (option_map (λ z. number_content (flipped z)) (date_in t)) value_faults.NotADate
+
+-- a JSON value: with a floating-point number it is refused, or such numbers are left out
+abbrev pub json_content : FloatNumbers → Bool → Data → Result Content ValueFault
+json_content float_numbers.Refuse expand_dots d = if has_float d then Err value_faults.Float else Ok (leaves (json_leaves expand_dots (json_from d)))
+json_content float_numbers.Skip expand_dots d = Ok (leaves (json_leaves expand_dots (json_from (without_floats d))))
 
 -- the content of a value for a field of a type
-abbrev pub content_in : ValueType → Bool → Data → Result Content ValueFault
-content_in types.Str dots d = ok_or (as_str d) value_faults.WrongType >>= λ t. Ok (text t)
-content_in types.U64 dots d = ok_or (as_number d) value_faults.WrongType >>= u64_content
-content_in types.I64 dots d = ok_or (as_number d) value_faults.WrongType >>= i64_content
-content_in types.Bool dots d = ok_or (as_bool d) value_faults.WrongType >>= λ b. Ok (number_content (number_of_bool b))
-content_in types.Bytes dots d = ok_or (as_str d) value_faults.WrongType >>= λ t. bytes_from (decode_of t)
-content_in types.IpAddr dots d = ok_or (as_str d) value_faults.WrongType >>= address_content
-content_in types.Json dots d = json_content dots d
-content_in types.Date dots d = Err value_faults.WrongType
+abbrev pub content_in : FloatNumbers → ValueType → Bool → Data → Result Content ValueFault
+content_in floats types.Str dots d = ok_or (as_str d) value_faults.WrongType >>= λ t. Ok (text t)
+content_in floats types.U64 dots d = ok_or (as_number d) value_faults.WrongType >>= u64_content
+content_in floats types.I64 dots d = ok_or (as_number d) value_faults.WrongType >>= i64_content
+content_in floats types.Bool dots d = ok_or (as_bool d) value_faults.WrongType >>= λ b. Ok (number_content (number_of_bool b))
+content_in floats types.Bytes dots d = ok_or (as_str d) value_faults.WrongType >>= λ t. bytes_from (decode_of t)
+content_in floats types.IpAddr dots d = ok_or (as_str d) value_faults.WrongType >>= address_content
+content_in floats types.Json dots d = json_content floats dots d
+content_in floats types.Date dots d = ok_or (as_str d) value_faults.WrongType >>= date_content
 
 -- the call of a document with the content of a field
 abbrev pub call_with_content : ℕ → ℕ → Result Content ValueFault → Result Call Refusal
@@ -97,8 +106,8 @@ call_with_content doc field (Ok content) = Ok (record { doc = doc; field = field
 call_with_content doc field (Err fault) = Err (wrong_value field fault)
 
 -- the call of a document for a value of a field
-abbrev pub value_call : ℕ → ℕ → SchemaEntry → Data → Result Call Refusal
-value_call doc field e d = call_with_content doc field (content_in e.value_type e.expands_dots d)
+abbrev pub value_call : FloatNumbers → ℕ → ℕ → SchemaEntry → Data → Result Call Refusal
+value_call floats doc field e d = call_with_content doc field (content_in floats e.value_type e.expands_dots d)
 
 -- The values of a field: none of null, several of an array, unless it is a JSON field.
 abbrev pub values_of : Bool → Data → Items
@@ -110,24 +119,24 @@ values_of json (array ds) = if json then item (array ds) no_items else ds
 values_of json (object ms) = item (object ms) no_items
 
 -- the calls of a document for the values of a field, in order
-abbrev pub items_calls : ℕ → ℕ → SchemaEntry → Items → Result (List Call) Refusal
-items_calls doc field e no_items = Ok []
-items_calls doc field e (item d ds) = do
-  c ← value_call doc field e d
-  cs ← items_calls doc field e ds
+abbrev pub items_calls : FloatNumbers → ℕ → ℕ → SchemaEntry → Items → Result (List Call) Refusal
+items_calls floats doc field e no_items = Ok []
+items_calls floats doc field e (item d ds) = do
+  c ← value_call floats doc field e d
+  cs ← items_calls floats doc field e ds
   Ok (c ∷ cs)
 
 -- the calls for the value under the name of a field: none if it isn't indexed, or has no value
-abbrev pub field_calls : ℕ → ℕ → SchemaEntry → Option Data → Result (List Call) Refusal
-field_calls doc field e None = Ok []
-field_calls doc field e (Some d) = if e.is_indexed then items_calls doc field e (values_of (is_json e.value_type) d) else Ok []
+abbrev pub field_calls : FloatNumbers → ℕ → ℕ → SchemaEntry → Option Data → Result (List Call) Refusal
+field_calls floats doc field e None = Ok []
+field_calls floats doc field e (Some d) = if e.is_indexed then items_calls floats doc field e (values_of (is_json e.value_type) d) else Ok []
 
 -- the calls of a document for fields numbered from one on, one after the other
-abbrev pub fields_calls : ℕ → Members → ℕ → List SchemaEntry → Result (List Call) Refusal
-fields_calls doc ms field [] = Ok []
-fields_calls doc ms field (e ∷ es) = do
-  cs ← field_calls doc field e (get_member e.name ms)
-  more ← fields_calls doc ms (field + 1) es
+abbrev pub fields_calls : FloatNumbers → ℕ → Members → ℕ → List SchemaEntry → Result (List Call) Refusal
+fields_calls floats doc ms field [] = Ok []
+fields_calls floats doc ms field (e ∷ es) = do
+  cs ← field_calls floats doc field e (get_member e.name ms)
+  more ← fields_calls floats doc ms (field + 1) es
   Ok (cs ++ more)
 
 -- the first key that is no field's name
@@ -141,17 +150,17 @@ knows_names None = Ok tt
 knows_names (Some key) = Err (unknown_key key)
 
 -- the calls of a document with these members
-unfoldable pub members_calls : List SchemaEntry → ℕ → Members → Result (List Call) Refusal
-members_calls es doc ms = do
+unfoldable pub members_calls : FloatNumbers → List SchemaEntry → ℕ → Members → Result (List Call) Refusal
+members_calls floats es doc ms = do
   _ ← knows_names (unknown_name_in es ms)
-  fields_calls doc ms 0 es
+  fields_calls floats doc ms 0 es
 
 -- the calls of a document in a line
 unfoldable pub line_calls : List SchemaEntry → ℕ → List ℕ → Result (List Call) Refusal
 line_calls es doc line = do
   d ← ok_or (read line) not_json
   ms ← ok_or (as_object d) not_an_object
-  members_calls es doc ms
+  members_calls float_numbers.Refuse es doc ms
 
 -- the members whose keys are names of fields
 abbrev pub named_members : List SchemaEntry → Members → Members
@@ -163,12 +172,12 @@ abbrev pub read_members : UnknownKeys → List SchemaEntry → Members → Membe
 read_members Refuse es ms = ms
 read_members Ignore es ms = named_members es ms
 
--- the calls of a document in a line, where unknown keys are refused or ignored
-unfoldable pub line_calls_by : UnknownKeys → List SchemaEntry → ℕ → List ℕ → Result (List Call) Refusal
-line_calls_by unknown es doc line = do
+-- the calls of a document in a line, where unknown keys are refused or ignored, and floating-point numbers refused or left out
+unfoldable pub line_calls_by : UnknownKeys → FloatNumbers → List SchemaEntry → ℕ → List ℕ → Result (List Call) Refusal
+line_calls_by unknown floats es doc line = do
   d ← ok_or (read line) not_json
   ms ← ok_or (as_object d) not_an_object
-  members_calls es doc (read_members unknown es ms)
+  members_calls floats es doc (read_members unknown es ms)
 
 -- A call has this document, and its field takes its value.
 pub record IsOf (es : List SchemaEntry) (doc : ℕ) (c : IndexCall) : Type 0 where

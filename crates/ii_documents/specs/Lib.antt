@@ -1,3 +1,4 @@
+pub mod Floats
 pub mod JsonLines
 pub mod JsonValues
 pub mod Steps

@@ -22,6 +22,8 @@ pub enum ValueFault {
     NotHex,
     /// The text isn't an IP address.
     NotAnAddress,
+    /// The text isn't a date by RFC 3339 between 1677-09-21 and 2262-04-11.
+    NotADate,
     /// The JSON value contains a floating-point number.
     Float,
 }
@@ -34,6 +36,7 @@ impl ValueFault {
             ValueFault::OutOfRange => "a number out of range",
             ValueFault::NotHex => "not pairs of hexadecimal digits",
             ValueFault::NotAnAddress => "not an IP address",
+            ValueFault::NotADate => "not a date like 1990-01-01T00:00:00Z, between 1677 and 2262",
             ValueFault::Float => "a floating-point number, which is not indexed",
         }
     }

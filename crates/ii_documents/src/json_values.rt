@@ -4,17 +4,17 @@ ghost use Rattle.serde_json.specs.Data as Data;
 ghost use Rattle.serde_json.specs.View.{items_view, members_view, number_view, view};
 ghost use Rattle.serde_json.specs.Written.{has_float, items_have_float, members_have_float};
 ghost use Rattle.ii_base.specs.Json.{items_from as items_made, json_of, members_from as members_made};
+ghost use Rattle.ii_documents.specs.Floats.{items_without_floats, members_without_floats, without_floats};
 ghost use Rattle.ii_documents.specs.JsonValues.{items_from, json_from, members_from, number_leaf};
 
 use ii_base::JsonValue;
 use serde_json::{Map, Number, Value};
 use std::alloc::{AllocError, Global};
-use std::num::f64_to_bits_with_nan;
 
-// Converts a value to one that an index takes.
+// Converts a value to one that an index takes, without its floating-point numbers.
 #[cycle(json)]
 pub(crate) fn json_value(alloc: Global, value: &Value) -> Result<JsonValue, AllocError>
-    ensures { IfOk result (λ v. json_of v ≡ json_from (view value.now)) }
+    ensures { IfOk result (λ v. json_of v ≡ json_from (without_floats (view value.now))) }
 {
     match value {
         Value::Null => Ok(JsonValue::Null),
@@ -28,7 +28,7 @@ pub(crate) fn json_value(alloc: Global, value: &Value) -> Result<JsonValue, Allo
 
 #[cycle(json)]
 fn json_items(alloc: Global, items: &Vec<Value>) -> Result<Vec<JsonValue>, AllocError>
-    ensures { IfOk result (λ v. items_made (map json_of v.items) ≡ items_from (items_view items.now.items)) }
+    ensures { IfOk result (λ v. items_made (map json_of v.items) ≡ items_from (items_without_floats (items_view items.now.items))) }
 {
     let mut values = Vec::with_capacity(alloc, items.len())?;
     for item in items {
@@ -42,7 +42,7 @@ fn json_members(
     alloc: Global,
     members: &Map<String, Value>,
 ) -> Result<Vec<(String, JsonValue)>, AllocError>
-    ensures { IfOk result (λ v. members_made (map (λ m. (m.0, json_of m.1)) v.items) ≡ members_from (members_view members.now.entries)) }
+    ensures { IfOk result (λ v. members_made (map (λ m. (m.0, json_of m.1)) v.items) ≡ members_from (members_without_floats (members_view members.now.entries))) }
 {
     let mut values = Vec::with_capacity(alloc, members.len())?;
     for (key, member) in members.iter() {
@@ -52,9 +52,9 @@ fn json_members(
     Ok(values)
 }
 
-// Converts a number; a floating-point number to its bits.
+// Converts a number; a floating-point number to `null`.
 fn json_number(number: &Number) -> JsonValue
-    ensures { json_of result ≡ json_from (Data.number (number_view number.now)) }
+    ensures { json_of result ≡ json_from (without_floats (Data.number (number_view number.now))) }
 {
     if let Some(number) = number.as_u64() {
         return JsonValue::U64(number);
@@ -62,10 +62,7 @@ fn json_number(number: &Number) -> JsonValue
     if let Some(number) = number.as_i64() {
         return JsonValue::I64(number);
     }
-    match number.as_f64() {
-        Some(float) => JsonValue::F64Bits(f64_to_bits_with_nan(float)),
-        None => JsonValue::F64Bits(0),
-    }
+    JsonValue::Null
 }
 
 // Returns whether a value contains a floating-point number.

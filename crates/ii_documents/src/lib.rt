@@ -3,9 +3,11 @@
 #![tactic(auto)]
 
 pub mod faults;
+pub mod floats;
 pub mod json_lines;
 mod json_values;
 mod values;
 
 pub use faults::{LineFault, ValueFault};
-pub use json_lines::{line_calls, line_calls_by};
+pub use floats::FloatNumbers;
+pub use json_lines::{LineCalls, line_calls, line_calls_by};

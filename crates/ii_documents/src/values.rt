@@ -1,14 +1,19 @@
 //! Converts values of a line to index calls.
-ghost use Rattle.std.specs.Prelude.{◌≡◌, IfOk, Bool};
+ghost use Rattle.std.specs.Prelude.{◌≡◌, ◌&&◌, IfOk, Bool};
 ghost use Rattle.serde_json.specs.View.{view};
+ghost use Rattle.serde_json.specs.Written.{has_float};
 ghost use Rattle.ii_base.specs.Schema.{SchemaEntry};
 ghost use Rattle.ii_base.specs.declared.schema.value_type.ValueType.TheVariants as types;
+ghost use Rattle.ii_documents.specs.declared.floats.FloatNumbers.{FloatNumbers};
+ghost use Rattle.ii_documents.specs.Floats.{refuses};
 ghost use Rattle.ii_documents.specs.JsonLines.{AnswersFromLine, call_with_content, content_in, value_call};
 ghost use Rattle.ii_definitions.specs.IndexCalls.{call_with, type_of};
 
 use crate::faults::{LineFault, ValueFault};
+use crate::floats::FloatNumbers;
 use crate::json_values::{has_float, json_value};
-use ii_base::{Field, FieldEntry, ValueType};
+use ii_base::{DateTime, Field, FieldEntry, ValueType};
+use ii_dates::date_of;
 use ii_definitions::IndexCall;
 use ii_docset::DocId;
 use ii_term_text::address_of;
@@ -18,12 +23,13 @@ use std::alloc::Global;
 // Converts a value of a field, which is an entry of a schema, to the call of a document.
 pub(crate) fn value_call(
     alloc: Global,
+    floats: FloatNumbers,
     doc: DocId,
     field: Field,
     entry: &FieldEntry,
     value: &Value,
 ) -> Result<IndexCall, LineFault>
-    ensures gives { AnswersFromLine (λ c. call_with entry.now.expands_dots c) result (value_call doc field entry.now (view value.now)) }
+    ensures gives { AnswersFromLine (λ c. call_with entry.now.expands_dots c) result (value_call floats doc field entry.now (view value.now)) }
     ensures typed { IfOk result (λ c. type_of c ≡ entry.now.value_type) }
 {
     match entry.value_type() {
@@ -33,14 +39,14 @@ pub(crate) fn value_call(
         ValueType::Bool => bool_call(doc, field, value),
         ValueType::Bytes => bytes_call(alloc, doc, field, value),
         ValueType::IpAddr => address_call(doc, field, value),
-        ValueType::Json => json_call(alloc, doc, field, value),
-        ValueType::Date => Err(LineFault::WrongValue(field, ValueFault::WrongType)),
+        ValueType::Json => json_call(alloc, floats, doc, field, value),
+        ValueType::Date => date_call(doc, field, value),
     }
 }
 
 // Converts a text.
 fn text_call(alloc: Global, doc: DocId, field: Field, value: &Value) -> Result<IndexCall, LineFault>
-    ensures gives { (dots : Bool) → AnswersFromLine (λ c. call_with dots c) result (call_with_content doc field (content_in types.Str dots (view value.now))) }
+    ensures gives { (floats : FloatNumbers) (dots : Bool) → AnswersFromLine (λ c. call_with dots c) result (call_with_content doc field (content_in floats types.Str dots (view value.now))) }
     ensures typed { IfOk result (λ c. type_of c ≡ types.Str) }
 {
     let Some(text) = value.as_str() else {
@@ -52,7 +58,7 @@ fn text_call(alloc: Global, doc: DocId, field: Field, value: &Value) -> Result<I
 
 // Converts an unsigned number.
 fn u64_call(doc: DocId, field: Field, value: &Value) -> Result<IndexCall, LineFault>
-    ensures gives { (dots : Bool) → AnswersFromLine (λ c. call_with dots c) result (call_with_content doc field (content_in types.U64 dots (view value.now))) }
+    ensures gives { (floats : FloatNumbers) (dots : Bool) → AnswersFromLine (λ c. call_with dots c) result (call_with_content doc field (content_in floats types.U64 dots (view value.now))) }
     ensures typed { IfOk result (λ c. type_of c ≡ types.U64) }
 {
     let Some(number) = value.as_number() else {
@@ -66,7 +72,7 @@ fn u64_call(doc: DocId, field: Field, value: &Value) -> Result<IndexCall, LineFa
 
 // Converts a signed number.
 fn i64_call(doc: DocId, field: Field, value: &Value) -> Result<IndexCall, LineFault>
-    ensures gives { (dots : Bool) → AnswersFromLine (λ c. call_with dots c) result (call_with_content doc field (content_in types.I64 dots (view value.now))) }
+    ensures gives { (floats : FloatNumbers) (dots : Bool) → AnswersFromLine (λ c. call_with dots c) result (call_with_content doc field (content_in floats types.I64 dots (view value.now))) }
     ensures typed { IfOk result (λ c. type_of c ≡ types.I64) }
 {
     let Some(number) = value.as_number() else {
@@ -80,7 +86,7 @@ fn i64_call(doc: DocId, field: Field, value: &Value) -> Result<IndexCall, LineFa
 
 // Converts a boolean.
 fn bool_call(doc: DocId, field: Field, value: &Value) -> Result<IndexCall, LineFault>
-    ensures gives { (dots : Bool) → AnswersFromLine (λ c. call_with dots c) result (call_with_content doc field (content_in types.Bool dots (view value.now))) }
+    ensures gives { (floats : FloatNumbers) (dots : Bool) → AnswersFromLine (λ c. call_with dots c) result (call_with_content doc field (content_in floats types.Bool dots (view value.now))) }
     ensures typed { IfOk result (λ c. type_of c ≡ types.Bool) }
 {
     match value.as_bool() {
@@ -96,7 +102,7 @@ fn bytes_call(
     field: Field,
     value: &Value,
 ) -> Result<IndexCall, LineFault>
-    ensures gives { (dots : Bool) → AnswersFromLine (λ c. call_with dots c) result (call_with_content doc field (content_in types.Bytes dots (view value.now))) }
+    ensures gives { (floats : FloatNumbers) (dots : Bool) → AnswersFromLine (λ c. call_with dots c) result (call_with_content doc field (content_in floats types.Bytes dots (view value.now))) }
     ensures typed { IfOk result (λ c. type_of c ≡ types.Bytes) }
 {
     let Some(text) = value.as_str() else {
@@ -110,7 +116,7 @@ fn bytes_call(
 
 // Converts a text to an address.
 fn address_call(doc: DocId, field: Field, value: &Value) -> Result<IndexCall, LineFault>
-    ensures gives { (dots : Bool) → AnswersFromLine (λ c. call_with dots c) result (call_with_content doc field (content_in types.IpAddr dots (view value.now))) }
+    ensures gives { (floats : FloatNumbers) (dots : Bool) → AnswersFromLine (λ c. call_with dots c) result (call_with_content doc field (content_in floats types.IpAddr dots (view value.now))) }
     ensures typed { IfOk result (λ c. type_of c ≡ types.IpAddr) }
 {
     let Some(text) = value.as_str() else {
@@ -122,14 +128,44 @@ fn address_call(doc: DocId, field: Field, value: &Value) -> Result<IndexCall, Li
     }
 }
 
-// Converts a JSON value without floating-point numbers.
-fn json_call(alloc: Global, doc: DocId, field: Field, value: &Value) -> Result<IndexCall, LineFault>
-    ensures gives { (dots : Bool) → AnswersFromLine (λ c. call_with dots c) result (call_with_content doc field (content_in types.Json dots (view value.now))) }
+// Converts a text to a date.
+fn date_call(doc: DocId, field: Field, value: &Value) -> Result<IndexCall, LineFault>
+    ensures gives { (floats : FloatNumbers) (dots : Bool) → AnswersFromLine (λ c. call_with dots c) result (call_with_content doc field (content_in floats types.Date dots (view value.now))) }
+    ensures typed { IfOk result (λ c. type_of c ≡ types.Date) }
+{
+    let Some(text) = value.as_str() else {
+        return Err(LineFault::WrongValue(field, ValueFault::WrongType));
+    };
+    match date_of(text) {
+        Some(nanoseconds) => Ok(IndexCall::Date(doc, field, DateTime(nanoseconds))),
+        None => Err(LineFault::WrongValue(field, ValueFault::NotADate)),
+    }
+}
+
+// Converts a JSON value. Floating-point numbers are refused or left out.
+fn json_call(
+    alloc: Global,
+    floats: FloatNumbers,
+    doc: DocId,
+    field: Field,
+    value: &Value,
+) -> Result<IndexCall, LineFault>
+    ensures gives { (dots : Bool) → AnswersFromLine (λ c. call_with dots c) result (call_with_content doc field (content_in floats types.Json dots (view value.now))) }
     ensures typed { IfOk result (λ c. type_of c ≡ types.Json) }
 {
-    if has_float(value) {
+    if is_refused(floats, value) {
         return Err(LineFault::WrongValue(field, ValueFault::Float));
     }
     let value = json_value(alloc, value)?;
     Ok(IndexCall::Json(doc, field, value))
+}
+
+// Returns whether a JSON value has a floating-point number, if these are refused.
+fn is_refused(floats: FloatNumbers, value: &Value) -> bool
+    ensures { result ≡ (refuses floats && has_float (view value.now)) }
+{
+    match floats {
+        FloatNumbers::Refuse => has_float(value),
+        FloatNumbers::Skip => false,
+    }
 }

@@ -19,8 +19,7 @@ ghost use Rattle.ii_store.specs.Collect.{CountsGarbage, HasNoGarbage, KeepsOther
 ghost use Rattle.ii_store.specs.Index.{Fails};
 ghost use Rattle.ii_store.specs.IndexMeta.{MetaState};
 ghost use Rattle.ii_store.specs.Segments.{list_in};
-ghost use Rattle.ii_tokenizers.specs.Analyzers.{prefix_analyzer};
-ghost use Rattle.ii_tokenizers.specs.Tokenizers.{analyzed_in};
+ghost use Rattle.ii_tokenizers.specs.Tokenizers.{analyzed_in, prefix_tokenizer};
 ghost use Rattle.nequllpa_merging.specs.HeldSegments.{HoldsSegment};
 ghost use Rattle.nequllpa_merging.specs.Joins.{IsJoinFault, IsRefusedJoin};
 
@@ -165,7 +164,7 @@ impl<D: Directory + Drop> Index<D> {
         default_fields: &[Field],
         text: &str,
     ) -> Result<Query, QueryParserError>
-        ensures { IsQueryOfTextBy (record { texts = record { analyze = analyzed_in self.now.schema.tokenizers; entries = self.now.schema.schema }; prefixes = analyzed_in (map prefix_analyzer self.now.schema.tokenizers); defaults = default_fields.now }) text.now result }
+        ensures { IsQueryOfTextBy (record { texts = record { analyze = analyzed_in self.now.schema.tokenizers; entries = self.now.schema.schema }; prefixes = analyzed_in (map prefix_tokenizer self.now.schema.tokenizers); defaults = default_fields.now }) text.now result }
     {
         let schema = self.schema.schema();
         let tokenizers = self.schema.tokenizers();

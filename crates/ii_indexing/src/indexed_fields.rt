@@ -326,6 +326,9 @@ impl IndexedFields {
             IndexCall::Bool(doc, field, _) => {
                 self.index_value(doc, field, &number.to_be_bytes())
             }
+            IndexCall::Date(doc, field, _) => {
+                self.index_value(doc, field, &number.to_be_bytes())
+            }
             IndexCall::Bytes(doc, field, bytes) => self.index_value(doc, field, &bytes),
             IndexCall::Ip(doc, field, address) => {
                 self.index_value(doc, field, &address.to_be_bytes())

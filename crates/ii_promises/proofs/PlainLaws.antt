@@ -13,7 +13,7 @@ use Rattle.ii_definitions.specs.IndexCalls.{call_of}
 use Rattle.ii_definitions.specs.Tokens.{Call, Piece, begin_after, call_pieces, end_after, kept_words, max_token_len, pieces_of, text_at, tokens_after, tokens_of, word_token}
 use Rattle.ii_definitions.proofs.PieceLaws.{tokens_after-append}
 use Rattle.ii_definitions.specs.declared.index_call.IndexCall.{IndexCall}
-use Rattle.ii_definitions.specs.declared.index_call.IndexCall.TheVariants.{Text, Tokens, U64, I64, Bool as Truth, Bytes, Ip, Json}
+use Rattle.ii_definitions.specs.declared.index_call.IndexCall.TheVariants.{Text, Tokens, U64, I64, Bool as Truth, Date, Bytes, Ip, Json}
 use Rattle.ii_promises.specs.OrderlyCalls.{AreOrdered, IsOrderly, num_positions_of}
 use Rattle.ii_promises.specs.PlainCalls.{IsTextOrNumber, call_size}
 
@@ -68,6 +68,7 @@ module _ (entries : List SchemaEntry) where
   plain_is_orderly (U64 doc field n) plain = omega arith
   plain_is_orderly (I64 doc field n) plain = omega arith
   plain_is_orderly (Truth doc field b) plain = omega arith
+  plain_is_orderly (Date doc field date) plain = omega arith
   plain_is_orderly (Bytes doc field bytes) plain = absurd plain
   plain_is_orderly (Ip doc field address) plain = omega arith
   plain_is_orderly (Json doc field v) plain = absurd plain
@@ -96,6 +97,7 @@ module _ (entries : List SchemaEntry) where
   call_is_small (U64 doc field n) plain = record { positions = omega arith; tokens = λ earlier. omega arith }
   call_is_small (I64 doc field n) plain = record { positions = omega arith; tokens = λ earlier. omega arith }
   call_is_small (Truth doc field b) plain = record { positions = omega arith; tokens = λ earlier. omega arith }
+  call_is_small (Date doc field date) plain = record { positions = omega arith; tokens = λ earlier. omega arith }
   call_is_small (Bytes doc field bytes) plain = absurd plain
   call_is_small (Ip doc field address) plain = record { positions = omega arith; tokens = λ earlier. omega arith }
   call_is_small (Json doc field v) plain = absurd plain

@@ -10,14 +10,12 @@ ghost use Rattle.ii_query_grammar.specs.Spelling.{has_spelling, nesting};
 ghost use Rattle.ii_query_grammar.specs.Trees.{ast_of};
 ghost use Rattle.ii_query_parser.specs.Queries.{any_of, each_of, has_fields, keeps_positions, matches, no_tree, tree, tree_of};
 ghost use Rattle.ii_query_parser.specs.QueryTexts.{text_matches, text_matches_by, text_refusal, text_refusal_by};
-ghost use Rattle.ii_tokenizers.specs.Analyzers.{analyzed};
-ghost use Rattle.ii_tokenizers.specs.Analyzers.{prefix_analyzer};
-ghost use Rattle.ii_tokenizers.specs.Tokenizers.{analyzed_in};
+ghost use Rattle.ii_tokenizers.specs.Tokenizers.{analyzed_in, prefix_tokenizer, tokenized};
 ghost use Rattle.ii_promises.specs.Texts.{GivesOrTells};
 
 use ii_query_grammar::laws::reads_what_is_spelled;
 use ii_query_parser::parse_query_by;
-use ii_tokenizers::{Analyzer, FieldAnalyzers, FieldTokenizers, OneAnalyzer};
+use ii_tokenizers::{FieldAnalyzers, FieldTokenizer, FieldTokenizers, OneAnalyzer};
 use nequllpa::{
     DocId, Fault, Field, OpenIndex, ParseError, Query, QueryCursor, QueryParserError, Schema,
     SegmentPostings, TermOrPhrase, TextAnalyzer, UserInputAst, parse, search,
@@ -82,19 +80,20 @@ pub fn texts_find_by_their_analyzers<F: FieldAnalyzers>(
     }
 }
 
-/// So it does by each of the tokenizers `ascii`, `raw`, `whitespace`, `default` and `en`, whose words are `analyzed`.
+/// So it does by each of the tokenizers `ascii`, `raw`, `whitespace`, `default` and `en`, with any stop words, whose
+/// words are `tokenized`.
 pub fn texts_find_by_each_tokenizer(
     alloc: Global,
     index: &OpenIndex,
     schema: &Schema,
     default_fields: &[Field],
-    tokenizer: &Analyzer,
+    tokenizer: &FieldTokenizer,
     text: &str,
 ) -> Result<QueryCursor<TermOrPhrase<SegmentPostings>>, QueryParserError>
     requires many { length index.now.readers ≡ length schema.now }
     ensures found { (num_docs : ℕ) (tokens : List IndexToken) → IndexHolds schema.now num_docs index.now tokens
         → IfOk result (λ cursor. (doc : ℕ) → has_doc cursor.rest doc
-        ≡ text_matches (record { texts = record { analyze = analyzed tokenizer.now; entries = schema.now }; defaults = default_fields.now }) text.now tokens doc) }
+        ≡ text_matches (record { texts = record { analyze = tokenized tokenizer.now; entries = schema.now }; defaults = default_fields.now }) text.now tokens doc) }
 {
     texts_find_what_matches(alloc, index, schema, default_fields, tokenizer, text)
 }
@@ -111,7 +110,7 @@ pub fn texts_find_by_their_tokenizers(
     requires many { length index.now.readers ≡ length schema.now }
     ensures found { (num_docs : ℕ) (tokens : List IndexToken) → IndexHolds schema.now num_docs index.now tokens
         → IfOk result (λ cursor. (doc : ℕ) → has_doc cursor.rest doc
-        ≡ text_matches_by (record { texts = record { analyze = analyzed_in tokenizers.now; entries = schema.now }; prefixes = analyzed_in (map prefix_analyzer tokenizers.now); defaults = default_fields.now }) text.now tokens doc) }
+        ≡ text_matches_by (record { texts = record { analyze = analyzed_in tokenizers.now; entries = schema.now }; prefixes = analyzed_in (map prefix_tokenizer tokenizers.now); defaults = default_fields.now }) text.now tokens doc) }
 {
     texts_find_by_their_analyzers(alloc, index, schema, default_fields, tokenizers, text)
 }

@@ -2,7 +2,7 @@
 use Rattle.std.proofs.Common.{◌≡◌, ◌∙◌, ℕ, zero, suc, ◌+◌, ◌-◌, ◌<◌, List, [], ◌∷◌, ◌++◌, append_assoc, drop, get_or, length, map, None, Some, Result, Ok, Err, refl, sym, ap, arith}
 use Rattle.std.proofs.lemmas.List.{at_drop_more}
 use Rattle.ii_query_grammar.specs.declared.parse_error.ParseError.{ParseError}
-use Rattle.ii_query_grammar.specs.Lexemes.{IsFront, SetFront, after_spaces, broken, next_value, set_front, set_lexeme, set_rest, set_values, set_values_of, unescaped, value_set, values_from, with_values}
+use Rattle.ii_query_grammar.specs.Lexemes.{SetFront, after_spaces, next_value, set_lexeme, set_rest, set_values, set_values_of, unescaped, value_set, values_from, with_values}
 use Rattle.ii_query_grammar.specs.Spelling.{quoted, values_text}
 
 -- the end of a set
@@ -38,15 +38,6 @@ with_none (Ok f) = refl
 pub same_rest : (values : List (List ℕ)) (found : Result SetFront ParseError) → set_rest (with_values values found) ≡ set_rest found
 same_rest values (Err e) = refl
 same_rest values (Ok f) = refl
-
--- the lexeme of a set
-pub front_of_set : (at : ℕ) (name rest : List ℕ) (found : Result SetFront ParseError) → set_rest found ≡ Ok rest → IsFront (set_front at name found) (record { at = at; lexeme = set_lexeme name found }) rest
-front_of_set at name rest (Err e) is = absurd (cc)
-front_of_set at name rest (Ok f) is = let same : f.rest ≡ rest = cc in record { token_is = refl; rest_is = sym same }
-
-pub broken_set : (at : ℕ) (name : List ℕ) (e : ParseError) (found : Result SetFront ParseError) → set_rest found ≡ Err e → IsFront (set_front at name found) (record { at = at; lexeme = broken e }) []
-broken_set at name e (Err o) is = let same : o ≡ e = cc in record { token_is = ap (λ (x : ParseError). record { at = at; lexeme = broken x }) (sym same); rest_is = refl }
-broken_set at name e (Ok f) is = absurd (cc)
 
 pub lexeme_is : (name : List ℕ) (values : List (List ℕ)) (found : Result SetFront ParseError) → set_values_of found ≡ Ok values → set_lexeme name found ≡ value_set (record { field_name = unescaped name; values = values })
 lexeme_is name values (Err e) is = absurd (cc)

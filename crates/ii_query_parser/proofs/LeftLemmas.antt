@@ -1,5 +1,5 @@
 -- What is left of trees without the texts that have no word.
-use Rattle.std.proofs.Common.{◌≡◌, ◌∙◌, ◌==◌, ℕ, suc, arith, Bool, true, false, true≢false, ◌&&◌, not, List, [], ◌∷◌, length, Option, None, Some, Ok, Err, Vec, Global, inl, inr, refl, sym, ap}
+use Rattle.std.proofs.Common.{◌≡◌, ◌∙◌, ◌==◌, ℕ, suc, arith, Bool, true, false, true≢false, ◌&&◌, not, List, [], ◌∷◌, length, Option, None, Some, Ok, Vec, Global, refl, sym, ap}
 use Rattle.std.specs.Option.{option_or}
 use Rattle.std.proofs.lemmas.Bool.{eqb-true}
 use Rattle.ii_base.specs.Schema.{SchemaEntry}
@@ -11,10 +11,9 @@ use Rattle.ii_query_grammar.specs.declared.user_input_ast.Delimiter.TheVariants 
 use Rattle.ii_query_parser.specs.declared.query.Query.{Query}
 use Rattle.ii_query_parser.specs.declared.query.Query.TheVariants.{All, And, Or}
 use Rattle.ii_query_parser.specs.declared.query_parser_error.QueryParserError.{QueryParserError}
-use Rattle.ii_query_parser.specs.declared.query_parser_error.QueryParserError.TheVariants as errors
 use Rattle.ii_query_parser.specs.Queries.{QueryTree, has_fields, has_tree, keeps_positions, matches, tree_matches, trees_of}
 use Rattle.ii_query_parser.specs.QuerySteps.{Adds, AreQueriesOf, HasTermsUnless, IsLeftBy, MeanEach}
-use Rattle.ii_query_parser.specs.QueryTexts.{AnalyzedFields, IsQueryBy, Means, PhraseState, Terms, are_some, ast_refusal, each_trimmed, has_values, is_wordless, left_without, none_left, refused, set_terms, terms_of, trimmed, unless}
+use Rattle.ii_query_parser.specs.QueryTexts.{AnalyzedFields, Means, PhraseState, Terms, are_some, ast_refusal, each_trimmed, has_values, is_wordless, left_without, refused, set_terms, terms_of, trimmed, unless}
 use Rattle.ii_query_parser.proofs.TermLemmas.{leaf_means}
 use Rattle.ii_query_parser.proofs.SetLemmas.{set_means}
 use Rattle.ii_query_parser.proofs.WordsQueryLemmas.{and_means, or_means, some_mean, trees_in}
@@ -64,13 +63,6 @@ some_of_any q us queries gone are is some_stay = (are.0, any_of (each_trimmed q 
 both_taken : (q : AnalyzedFields) (s t : Ast) → ast_refusal q s ≡ None → ast_refusal q t ≡ None → ast_refusal q (without s t) ≡ None
 both_taken q s t first other = ap (λ (r : Option QueryParserError). option_or r (ast_refusal q t)) first ∙ other
 
-pub first_gone : (q : AnalyzedFields) (s t : Ast) (other : Option Query) → IsLeftBy q s (Ok None) → IsLeftBy q t (Ok other) → IsLeftBy q (without s t) (Ok None)
-first_gone q s t None first other = (both_taken q s t first.0 other.0, ap (λ (u : Option Ast). left_without u (trimmed q t)) first.1)
-first_gone q s t (Some query) first other = (both_taken q s t first.0 other.0, ap (λ (u : Option Ast). left_without u (trimmed q t)) first.1)
-
-pub other_gone : (q : AnalyzedFields) (s t : Ast) (query : Query) → IsLeftBy q s (Ok (Some query)) → IsLeftBy q t (Ok None) → IsLeftBy q (without s t) (Ok (Some query))
-other_gone q s t query (taken, u, is, means) other = (both_taken q s t taken other.0, u, ap (λ (x : Option Ast). left_without x (trimmed q t)) is ∙ ap (left_without (Some u)) other.1, means)
-
 pub both_left : (q : AnalyzedFields) (s t : Ast) (first other query : Query) → ((u v : Ast) → Means q u first → Means q v other → Means q (without u v) query) → IsLeftBy q s (Ok (Some first)) → IsLeftBy q t (Ok (Some other)) → IsLeftBy q (without s t) (Ok (Some query))
 both_left q s t first other query means (taken, u, is, of_first) (also, v, too, of_other) =
     (both_taken q s t taken also, without u v, ap (λ (x : Option Ast). left_without x (trimmed q t)) is ∙ ap (left_without (Some u)) too, means u v of_first of_other)
@@ -108,19 +100,3 @@ pub left_out_is : (parts : List UserInputAst) (queries : List Query) (a b : Bool
 left_out_is [] queries a b a_is some b_is = absurd (true≢false (sym a_is ∙ some))
 left_out_is (p ∷ ps) [] a b a_is some b_is = b_is
 left_out_is (p ∷ ps) (q ∷ qs) a b a_is some b_is = b_is ∙ not_zero (length qs) (suc (length qs) == 0) refl
-
--- the answer to a tree, by what is left of it
-pub answer_some : (q : AnalyzedFields) (ast : Ast) (query : Query) → IsLeftBy q ast (Ok (Some query)) → IsQueryBy q ast (Ok query)
-answer_some q ast query (taken, t, is, means) = record {
-  taken = ap (λ (r : Option QueryParserError). option_or r (none_left (trimmed q ast))) taken ∙ ap none_left is;
-  exact = λ ts doc. means.exact ts doc ∙ rw is refl;
-  fields = means.fields;
-  positions = means.positions;
-}
-
-pub answer_none : (q : AnalyzedFields) (ast : Ast) → IsLeftBy q ast (Ok None) → IsQueryBy q ast (Err errors.NoWords)
-answer_none q ast (taken, is) = inr (ap (λ (r : Option QueryParserError). option_or r (none_left (trimmed q ast))) taken ∙ ap none_left is)
-
-pub answer_error : (q : AnalyzedFields) (ast : Ast) (e : QueryParserError) → IsLeftBy q ast (Err e) → IsQueryBy q ast (Err e)
-answer_error q ast e (inl memory) = inl memory
-answer_error q ast e (inr why) = inr (ap (λ (r : Option QueryParserError). option_or r (none_left (trimmed q ast))) why)

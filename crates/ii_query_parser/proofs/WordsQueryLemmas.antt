@@ -145,15 +145,6 @@ reads_more q parts left here part old new query is (taken, t, is_t, means) new_i
       (subst (λ (x : Option Ast). MeanEach q (put_before x (each_trimmed q (trees_in left))) (query ∷ others)) (sym is_t) (means, mean))));
 }
 
--- a part of which nothing is left
-pub reads_past : (q : AnalyzedFields) (parts left here : List UserInputAst) (part : UserInputAst) (old : List Query) → here ≡ part ∷ left → IsLeftBy q (ast_of part) (Ok None) → IsReading q parts here old → IsReading q parts left old
-reads_past q parts left here part old is (taken, gone) i = record {
-  taken = part_taken q parts left here part old is taken i;
-  mean = λ others mean.
-      i.mean others (subst (λ (ps : List UserInputAst). MeanEach q (each_trimmed q (trees_in ps)) others) (sym is)
-      (subst (λ (x : Option Ast). MeanEach q (put_before x (each_trimmed q (trees_in left))) others) (sym gone) mean));
-}
-
 pub reads_all : (q : AnalyzedFields) (parts left : List UserInputAst) (queries : Vec Query Global) → left ≡ [] → IsReading q parts left queries.items → AreQueriesOf q (trees_in parts) (Ok queries)
 reads_all q parts left queries is i = (
   i.taken ∙ ap (λ (ps : List UserInputAst). asts_refusal q (trees_in ps)) is,

@@ -22,6 +22,7 @@ field_of_error errors.NoDefaultFieldDeclared = None
 field_of_error errors.NoWords = None
 field_of_error (errors.ExpectedInt field) = Some field
 field_of_error (errors.ExpectedBool field) = Some field
+field_of_error (errors.ExpectedDate field) = Some field
 field_of_error (errors.UnsupportedPhrase field) = Some field
 field_of_error (errors.FieldDoesNotHavePositionsIndexed field) = Some field
 field_of_error (errors.UnsupportedPrefix field) = Some field

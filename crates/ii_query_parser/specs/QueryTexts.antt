@@ -13,6 +13,7 @@ use Rattle.ii_base.specs.Words.{Word}
 use Rattle.ii_base.specs.declared.doc_id.TheConstants.{TERMINATED}
 use Rattle.ii_base.specs.declared.schema.value_type.ValueType.{ValueType}
 use Rattle.ii_base.specs.declared.schema.value_type.ValueType.TheVariants as types
+use Rattle.ii_dates.specs.Dates.{date_in}
 use Rattle.ii_json.specs.FastValues.{bool_in, fast_value_in, i64_in, u64_in}
 use Rattle.ii_definitions.specs.JsonKeys.{is_json}
 use Rattle.ii_definitions.specs.Tokens.{IndexToken}
@@ -130,7 +131,7 @@ typed_terms q field keeps expand_dots path phrase types.Str = text_terms field k
 typed_terms q field keeps expand_dots path phrase types.U64 = value_term field (errors.ExpectedInt field) (option_map u64_bytes (u64_in phrase))
 typed_terms q field keeps expand_dots path phrase types.I64 = value_term field (errors.ExpectedInt field) (option_map (λ n. u64_bytes (flipped n)) (i64_in phrase))
 typed_terms q field keeps expand_dots path phrase types.Bool = value_term field (errors.ExpectedBool field) (option_map (λ b. u64_bytes (number_of_bool b)) (bool_in phrase))
-typed_terms q field keeps expand_dots path phrase types.Date = Err (errors.UnsupportedType field)
+typed_terms q field keeps expand_dots path phrase types.Date = value_term field (errors.ExpectedDate field) (option_map (λ z. u64_bytes (flipped z)) (date_in phrase))
 typed_terms q field keeps expand_dots path phrase types.Bytes = Err (errors.UnsupportedType field)
 typed_terms q field keeps expand_dots path phrase types.IpAddr = Err (errors.UnsupportedType field)
 typed_terms q field keeps expand_dots path phrase types.Json =
@@ -187,6 +188,7 @@ needs_positions errors.NoDefaultFieldDeclared = false
 needs_positions errors.NoWords = false
 needs_positions (errors.ExpectedInt field) = false
 needs_positions (errors.ExpectedBool field) = false
+needs_positions (errors.ExpectedDate field) = false
 needs_positions (errors.UnsupportedPhrase field) = false
 needs_positions (errors.UnsupportedPrefix field) = false
 needs_positions (errors.UnsupportedBound field) = false

@@ -4,7 +4,8 @@ ghost use Rattle.std.specs.Int.{w64};
 ghost use Rattle.ii_base.specs.Values.{flipped, number_of_bool, u64_bytes};
 ghost use Rattle.ii_query_parser.specs.Ranges.{is_less};
 
-/// Law: the keys of numbers and booleans are in the order of these, so that a range of values is a range of keys.
+/// Law: the keys of numbers and booleans are in the order of these, so that a range of values is a range of keys. The
+/// key of a date is that of its nanoseconds, a signed number.
 pub fn keys_have_the_order_of_values()
     ensures u64_range { (a b : ℕ) → a < 2 ^ 64 → b < 2 ^ 64 → is_less (u64_bytes a) (u64_bytes b) ≡ nat_lt a b }
     ensures i64_range { (a b : ℤ) → FitsSigned w64 a → FitsSigned w64 b → is_less (u64_bytes (flipped a)) (u64_bytes (flipped b)) ≡ int_lt a b }

@@ -14,6 +14,7 @@ use crate::prefix_analyzers::PrefixAnalyzers;
 use crate::query_parser_error::QueryParserError;
 use crate::unknown_field::names_field;
 use ii_base::{Fault, Field, IndexRecordOption, Schema, Term, TextAnalyzer, ValueType};
+use ii_dates::date_term;
 use ii_json::{bool_term, convert_to_fast_value_and_append_to_json_term, i64_term, u64_term};
 use ii_query_grammar::{Delimiter, UserInputLiteral, UserInputSet};
 use ii_tokenizers::FieldAnalyzers;
@@ -377,7 +378,13 @@ impl Place {
                 terms,
             ),
             ValueType::Json => self.push_json(alloc, analyzer, path, phrase, terms),
-            ValueType::Date | ValueType::Bytes | ValueType::IpAddr => {
+            ValueType::Date => push_read(
+                alloc,
+                date_term(alloc, self.field, phrase),
+                QueryParserError::ExpectedDate(self.field),
+                terms,
+            ),
+            ValueType::Bytes | ValueType::IpAddr => {
                 Err(QueryParserError::UnsupportedType(self.field))
             }
         }

@@ -32,6 +32,9 @@ pub enum QueryParserError {
     /// A text in a boolean field is neither `true` nor `false`.
     #[error("expected true or false")]
     ExpectedBool(Field),
+    /// A text in a field of dates is no date by RFC 3339 between 1677 and 2262.
+    #[error("expected a date like 1990-01-01T00:00:00Z, between 1677 and 2262")]
+    ExpectedDate(Field),
     /// A text with a token before its first, or 2^32 positions or more after it.
     #[error("the words of a text are out of order, or too far apart")]
     UnsupportedPhrase(Field),
@@ -47,8 +50,8 @@ pub enum QueryParserError {
     /// A path that contains byte 0.
     #[error("a path with byte 0 is not supported")]
     UnsupportedPath(Field),
-    /// A text to search for, or a bound of a range, in a field of dates, bytes or addresses.
-    #[error("queries of dates, bytes and addresses are not supported")]
+    /// A text to search for, or a bound of a range, in a field of bytes or addresses.
+    #[error("queries of bytes and addresses are not supported")]
     UnsupportedType(Field),
     /// An allocation failed.
     #[error("{0}")]
@@ -67,6 +70,7 @@ impl QueryParserError {
             QueryParserError::FieldNotIndexed(field)
             | QueryParserError::ExpectedInt(field)
             | QueryParserError::ExpectedBool(field)
+            | QueryParserError::ExpectedDate(field)
             | QueryParserError::UnsupportedPhrase(field)
             | QueryParserError::FieldDoesNotHavePositionsIndexed(field)
             | QueryParserError::UnsupportedPrefix(field)

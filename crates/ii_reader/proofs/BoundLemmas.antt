@@ -30,8 +30,7 @@ use Rattle.ii_layout.proofs.BlockDocs.{get_or-block_of}
 use Rattle.ii_check.specs.declared.freq_reading_option.FreqReadingOption.{FreqReadingOption}
 use Rattle.ii_check.specs.CheckedPositions.{PositionCounts}
 use Rattle.ii_check.specs.CheckedPostings.{CheckedPostingsState, HasDocuments, IsAtBlock, SeeksFreq, excludes, is_passed, is_read}
-use Rattle.ii_check.specs.DecodedBlocks.{DecodesAllowed, DecodesLater}
-use Rattle.ii_check.proofs.DecodedBlocksLaws.{allowed_all, allowed_last, allowed_none, allowed_on}
+use Rattle.ii_check.proofs.DecodedBlocksLaws.{allowed_last, allowed_none, allowed_on}
 use Rattle.ii_reader.specs.Bounds.{AllowsFreq, AreUnwanted, IsFirstWanted, IsPlaced, PassesBlocks, blocks_with_freq, stored_bounds, bounds_of, bounds_read, bounds_trusted, entry_bounds, freq_bound, is_wanted_at, sought_with_freq, trusted}
 use Rattle.ii_reader.specs.BlockSegmentPostings.{AreEntries, BlockSegmentPostingsState, GoesTo, IsLazy, LooksFor, doc_in_block, freq_in_block}
 use Rattle.ii_reader.specs.SegmentPostings.{WentLazily}
@@ -432,11 +431,6 @@ pub unread_decodes : (least old new decodes decodes' : ℕ) (reading : FreqReadi
 unread_decodes least old new decodes decodes' reading bounds unread forward went =
     let all = all_blocks least old new in
     rw unread (omega arith)
-
-pub unread_blocks : (least old new : ℕ) (blocks blocks' : List ℕ) (reading : FreqReadingOption) (bounds : List (ℕ × ℕ)) → is_read reading ≡ false → DecodesLater old new blocks blocks'
-    → DecodesAllowed (AllowsFreq least (trusted reading bounds)) old new blocks blocks'
-unread_blocks least old new blocks blocks' reading bounds unread later =
-    rw unread (allowed_all (AllowsFreq least []) old new blocks blocks' (λ b. ap (excludes least) (no_bound [] b (omega arith))) later)
 
 -- a cursor that goes on with another place
 pub looking_on : (target least from old_place place : ℕ) (old now next : BlockSegmentPostingsState) → IsLooking target least from old_place old now → 128 ≤ old_place → GoesTo now next next.block → now.block < next.block → excludes least (freq_bound now.bounds next.block) ≡ false

@@ -2,7 +2,7 @@
 use Rattle.std.proofs.Common.{◌≡◌, ◌∙◌, List, ℕ, Some, ap, refl}
 use Rattle.ii_base.specs.declared.schema.value_type.ValueType.{ValueType}
 use Rattle.ii_schema_text.specs.declared.field_type.FieldType.{FieldType}
-use Rattle.ii_schema_text.specs.declared.field_type.FieldType.TheVariants.{Text, U64, I64, Bool, Bytes, IpAddr, Json}
+use Rattle.ii_schema_text.specs.declared.field_type.FieldType.TheVariants.{Text, U64, I64, Bool, Date, Bytes, IpAddr, Json}
 use Rattle.ii_schema_text.specs.SchemaText.{value_type_of}
 use Rattle.ii_schema_text.specs.Settings.{type_name, type_named}
 
@@ -12,6 +12,7 @@ names Text = refl
 names U64 = refl
 names I64 = refl
 names Bool = refl
+names Date = refl
 names Bytes = refl
 names IpAddr = refl
 names Json = refl

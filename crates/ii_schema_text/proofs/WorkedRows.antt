@@ -5,11 +5,12 @@ use Rattle.std.specs.Prelude.{pos}
 use Rattle.ii_base.specs.declared.schema.index_record_option.IndexRecordOption.TheVariants.{Basic, WithFreqsAndPositions}
 use Rattle.ii_base.specs.declared.schema.value_type.ValueType.TheVariants as values
 use Rattle.ii_tokenizers.specs.declared.analyzer.Analyzer.TheVariants.{Ascii, Default, English, Raw, Whitespace}
-use Rattle.ii_tokenizers.specs.Tokenizers.{analyzer_named}
+use Rattle.ii_tokenizers.specs.Analyzers.{with_stop_word}
+use Rattle.ii_tokenizers.specs.Tokenizers.{analyzer_named, plain_tokenizer}
 use Rattle.ii_schema_text.specs.declared.faults.FieldKey.TheVariants as keys
 use Rattle.ii_schema_text.specs.declared.unknown_keys.UnknownKeys.TheVariants.{Ignore, Refuse}
 use Rattle.ii_schema_text.specs.Settings.{option_named, settings_in, type_named}
-use Rattle.ii_schema_text.specs.SchemaText.{default_in, entry_in, field_in, is_known_key, no_fields, other_unicode, stores_source_in, table_schema, tokenizer_in, unicode_in, unknown_field_key, unknown_field_tokenizer, unknown_key, unknown_keys_in, unknown_keys_named, unknown_tokenizer, wrong_key, wrong_store_source, wrong_unknown}
+use Rattle.ii_schema_text.specs.SchemaText.{default_in, entry_in, field_in, is_known_key, no_fields, other_unicode, stop_words_in, stores_source_in, table_schema, tokenizer_in, unicode_in, unknown_field_key, unknown_field_tokenizer, unknown_key, unknown_keys_in, unknown_keys_named, unknown_tokenizer, wrong_key, wrong_store_source, wrong_unknown}
 
 -- a field of texts alone has positions and norms
 text_field : table_schema (member (codes "field") (array (item (table (member (codes "name") (string (codes "a")) (member (codes "type") (string (codes "text")) no_members))) no_items)) no_members)
@@ -22,7 +23,7 @@ text_field : table_schema (member (codes "field") (array (item (table (member (c
         has_fieldnorms = true;
         expands_dots = false;
       } ∷ [];
-      tokenizers = Ascii ∷ [];
+      tokenizers = plain_tokenizer Ascii ∷ [];
       stores_source = false;
       unknown_keys = Refuse;
     })
@@ -87,7 +88,7 @@ stored_field : table_schema (member (codes "field") (array (item (table (member 
         has_fieldnorms = false;
         expands_dots = false;
       } ∷ [];
-      tokenizers = Ascii ∷ [];
+      tokenizers = plain_tokenizer Ascii ∷ [];
       stores_source = true;
       unknown_keys = Refuse;
     })
@@ -129,7 +130,7 @@ ignoring_field : table_schema (member (codes "field") (array (item (table (membe
         has_fieldnorms = false;
         expands_dots = false;
       } ∷ [];
-      tokenizers = Ascii ∷ [];
+      tokenizers = plain_tokenizer Ascii ∷ [];
       stores_source = false;
       unknown_keys = Ignore;
     })
@@ -164,14 +165,55 @@ unfolding analyzer_named
 no_default = refl
 
 -- another version of Unicode matters to words that depend on it
-other_version : unicode_in (Raw ∷ Default ∷ []) (Some (string (codes "17.0.0"))) ≡ Err (other_unicode (codes "17.0.0"))
+other_version : unicode_in (plain_tokenizer Raw ∷ plain_tokenizer Default ∷ []) (Some (string (codes "17.0.0"))) ≡ Err (other_unicode (codes "17.0.0"))
 other_version = refl
 
-other_version_of_ascii : unicode_in (Raw ∷ Ascii ∷ []) (Some (string (codes "17.0.0"))) ≡ Ok tt
+other_version_of_ascii : unicode_in (plain_tokenizer Raw ∷ plain_tokenizer Ascii ∷ []) (Some (string (codes "17.0.0"))) ≡ Ok tt
 other_version_of_ascii = refl
 
-other_version_of_english : unicode_in (English ∷ []) (Some (string (codes "17.0.0"))) ≡ Err (other_unicode (codes "17.0.0"))
+other_version_of_english : unicode_in (record { analyzer = English; stop_words = codes "the" ∷ [] } ∷ []) (Some (string (codes "17.0.0"))) ≡ Err (other_unicode (codes "17.0.0"))
 other_version_of_english = refl
 
-this_version : unicode_in (Whitespace ∷ []) (Some (string (codes "18.0.0"))) ≡ Ok tt
+this_version : unicode_in (plain_tokenizer Whitespace ∷ []) (Some (string (codes "18.0.0"))) ≡ Ok tt
 this_version = refl
+
+-- stop words are those of a list of texts
+stop_words_listed : stop_words_in English (Some (array (item (string (codes "The")) (item (string (codes "of")) no_items)))) ≡ Some (with_stop_word (with_stop_word [] (codes "The")) (codes "of"))
+stop_words_listed = refl
+
+no_stop_words : stop_words_in Default None ≡ Some []
+no_stop_words = refl
+
+-- other tokenizers have none, not even an empty list
+stop_words_of_default : stop_words_in Default (Some (array no_items)) ≡ None
+stop_words_of_default = refl
+
+stop_words_of_a_number : stop_words_in English (Some (array (item (string (codes "the")) (item (integer (pos 1)) no_items)))) ≡ None
+stop_words_of_a_number = refl
+
+a_stop_word_alone : stop_words_in English (Some (string (codes "the"))) ≡ None
+a_stop_word_alone = refl
+
+-- a field of English words without `the`, by the tokenizer of the text
+english_field : table_schema (member (codes "field") (array (item (table (member (codes "name") (string (codes "a")) (member (codes "stop_words") (array (item (string (codes "The")) no_items)) (member (codes "type") (string (codes "text")) no_members)))) no_items)) (member (codes "tokenizer") (string (codes "en")) no_members))
+    ≡ Ok (record {
+      schema = record {
+        name = codes "a";
+        value_type = values.Str;
+        option = WithFreqsAndPositions;
+        is_indexed = true;
+        has_fieldnorms = true;
+        expands_dots = false;
+      } ∷ [];
+      tokenizers = record { analyzer = English; stop_words = with_stop_word [] (codes "The") } ∷ [];
+      stores_source = false;
+      unknown_keys = Refuse;
+    })
+unfolding table_schema field_in entry_in settings_in type_named option_named is_known_key analyzer_named
+english_field = refl
+
+-- words of `default` have no stop words
+default_field : table_schema (member (codes "field") (array (item (table (member (codes "name") (string (codes "a")) (member (codes "stop_words") (array (item (string (codes "the")) no_items)) (member (codes "type") (string (codes "text")) no_members)))) no_items)) (member (codes "tokenizer") (string (codes "default")) no_members))
+    ≡ Err (wrong_key 0 keys.StopWords)
+unfolding table_schema field_in entry_in settings_in type_named option_named is_known_key analyzer_named
+default_field = refl

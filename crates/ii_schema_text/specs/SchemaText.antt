@@ -8,7 +8,9 @@ use Rattle.ii_base.specs.declared.schema.index_record_option.IndexRecordOption.T
 use Rattle.ii_base.specs.declared.schema.value_type.ValueType.{ValueType}
 use Rattle.ii_base.specs.declared.schema.value_type.ValueType.TheVariants as values
 use Rattle.ii_tokenizers.specs.declared.analyzer.Analyzer.{Analyzer}
-use Rattle.ii_tokenizers.specs.declared.analyzer.Analyzer.TheVariants.{Ascii}
+use Rattle.ii_tokenizers.specs.declared.analyzer.Analyzer.TheVariants.{Ascii, Default, English, Raw, Whitespace}
+use Rattle.ii_tokenizers.specs.declared.field_tokenizer.FieldTokenizer.{FieldTokenizer}
+use Rattle.ii_tokenizers.specs.Analyzers.{with_stop_word}
 use Rattle.ii_tokenizers.specs.Tokenizers.{analyzer_named, unicode_version, uses_unicode}
 use Rattle.ii_schema_text.specs.declared.faults.FieldKey.{FieldKey}
 use Rattle.ii_schema_text.specs.declared.faults.FieldKey.TheVariants as keys
@@ -27,7 +29,7 @@ use Rattle.ii_schema_text.specs.Steps.{◌>>=◌}
 -- A schema, the tokenizer of each of its fields, whether the lines of documents are stored, and what happens to their unknown keys.
 pub record TextSchemaState : Type 0 where
   pub schema : List SchemaEntry
-  pub tokenizers : List Analyzer
+  pub tokenizers : List FieldTokenizer
   pub stores_source : Bool
   pub unknown_keys : UnknownKeys
 
@@ -79,7 +81,7 @@ unfoldable pub is_known_key : KnownKeys → List ℕ → Bool
 is_known_key OfText key = bytes_eq key (codes "field") || (bytes_eq key (codes "tokenizer") || (bytes_eq key (codes "unicode") || (bytes_eq key (codes "store_source") || bytes_eq key (codes "unknown"))))
 is_known_key OfField key =
     bytes_eq key (codes "name") || (bytes_eq key (codes "type") || (bytes_eq key (codes "indexed")
-    || (bytes_eq key (codes "record") || (bytes_eq key (codes "fieldnorms") || (bytes_eq key (codes "expand_dots") || bytes_eq key (codes "tokenizer"))))))
+    || (bytes_eq key (codes "record") || (bytes_eq key (codes "fieldnorms") || (bytes_eq key (codes "expand_dots") || (bytes_eq key (codes "tokenizer") || bytes_eq key (codes "stop_words")))))))
 
 -- the first unknown key
 abbrev pub unknown_key_in : KnownKeys → Members → Option (List ℕ)
@@ -107,6 +109,7 @@ value_type_of types.Text = values.Str
 value_type_of types.U64 = values.U64
 value_type_of types.I64 = values.I64
 value_type_of types.Bool = values.Bool
+value_type_of types.Date = values.Date
 value_type_of types.Bytes = values.Bytes
 value_type_of types.IpAddr = values.IpAddr
 value_type_of types.Json = values.Json
@@ -165,8 +168,31 @@ abbrev pub tokenizer_in : ℕ → Analyzer → Bool → Option Data → Result A
 tokenizer_in place otherwise allowed None = Ok (if allowed then otherwise else Ascii)
 tokenizer_in place otherwise allowed (Some d) = if allowed then tokenizer_named place (as_str d) else Err (wrong_key place keys.Tokenizer)
 
+-- whether a tokenizer may have stop words: that of English
+abbrev pub takes_stop_words : Analyzer → Bool
+takes_stop_words Ascii = false
+takes_stop_words Raw = false
+takes_stop_words Whitespace = false
+takes_stop_words Default = false
+takes_stop_words English = true
+
+-- stop words and those of items in folded case, if each item is a text
+abbrev pub stop_words_from : List (List ℕ) → Items → Option (List (List ℕ))
+stop_words_from before no_items = Some before
+stop_words_from before (item d ds) = named (λ word. stop_words_from (with_stop_word before word) ds) (as_str d)
+
+-- the stop words of a list of texts
+abbrev pub stop_words_listed : Option Items → Option (List (List ℕ))
+stop_words_listed None = None
+stop_words_listed (Some items) = stop_words_from [] items
+
+-- the stop words of a field with a tokenizer: those of a list of texts, which only a field with English words may have, or none
+abbrev pub stop_words_in : Analyzer → Option Data → Option (List (List ℕ))
+stop_words_in tokenizer None = Some []
+stop_words_in tokenizer (Some d) = if takes_stop_words tokenizer then stop_words_listed (as_array d) else None
+
 -- the fields, and one more
-abbrev pub with_field : TextSchemaState → SchemaEntry → Analyzer → TextSchemaState
+abbrev pub with_field : TextSchemaState → SchemaEntry → FieldTokenizer → TextSchemaState
 with_field s e tokenizer = record s { schema = s.schema ++ e ∷ []; tokenizers = s.tokenizers ++ tokenizer ∷ [] }
 
 -- fields and the one that a table describes
@@ -174,7 +200,8 @@ unfoldable pub field_in : Analyzer → TextSchemaState → Data → Result TextS
 field_in otherwise before d = do
   e ← entry_in before.schema d
   tokenizer ← tokenizer_in (length before.schema) otherwise (takes_texts e) (get (codes "tokenizer") d)
-  Ok (with_field before e tokenizer)
+  stops ← ok_or (stop_words_in tokenizer (get (codes "stop_words") d)) (wrong_key (length before.schema) keys.StopWords)
+  Ok (with_field before e (record { analyzer = tokenizer; stop_words = stops }))
 
 -- fields and those of more tables
 abbrev pub fields_from : Analyzer → TextSchemaState → Items → Result TextSchemaState Refusal
@@ -222,12 +249,12 @@ unknown_keys_in None = Ok Refuse
 unknown_keys_in (Some d) = ok_or (named unknown_keys_named (as_str d)) wrong_unknown
 
 -- fails if a tokenizer follows another version of Unicode than this one
-abbrev pub same_unicode : List Analyzer → Option (List ℕ) → Result (Unit {0}) Refusal
+abbrev pub same_unicode : List FieldTokenizer → Option (List ℕ) → Result (Unit {0}) Refusal
 same_unicode tokenizers None = Err wrong_unicode
-same_unicode tokenizers (Some version) = if list_any uses_unicode tokenizers && not (bytes_eq version unicode_version) then Err (other_unicode version) else Ok tt
+same_unicode tokenizers (Some version) = if list_any (λ (t : FieldTokenizer). uses_unicode t.analyzer) tokenizers && not (bytes_eq version unicode_version) then Err (other_unicode version) else Ok tt
 
 -- fails if a tokenizer follows another version of Unicode than the one that the text names, if it names one
-abbrev pub unicode_in : List Analyzer → Option Data → Result (Unit {0}) Refusal
+abbrev pub unicode_in : List FieldTokenizer → Option Data → Result (Unit {0}) Refusal
 unicode_in tokenizers None = Ok tt
 unicode_in tokenizers (Some d) = same_unicode tokenizers (as_str d)
 

@@ -18,6 +18,7 @@ is_text types.Text = true
 is_text types.U64 = false
 is_text types.I64 = false
 is_text types.Bool = false
+is_text types.Date = false
 is_text types.Bytes = false
 is_text types.IpAddr = false
 is_text types.Json = false
@@ -28,6 +29,7 @@ is_json_type types.Text = false
 is_json_type types.U64 = false
 is_json_type types.I64 = false
 is_json_type types.Bool = false
+is_json_type types.Date = false
 is_json_type types.Bytes = false
 is_json_type types.IpAddr = false
 is_json_type types.Json = true
@@ -38,6 +40,7 @@ has_texts types.Text = true
 has_texts types.U64 = false
 has_texts types.I64 = false
 has_texts types.Bool = false
+has_texts types.Date = false
 has_texts types.Bytes = false
 has_texts types.IpAddr = false
 has_texts types.Json = true
@@ -49,6 +52,7 @@ type_named name =
     else if bytes_eq name (codes "u64") then Some types.U64
     else if bytes_eq name (codes "i64") then Some types.I64
     else if bytes_eq name (codes "bool") then Some types.Bool
+    else if bytes_eq name (codes "date") then Some types.Date
     else if bytes_eq name (codes "bytes") then Some types.Bytes
     else if bytes_eq name (codes "ip_addr") then Some types.IpAddr
     else if bytes_eq name (codes "json") then Some types.Json

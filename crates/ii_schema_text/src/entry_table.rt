@@ -67,6 +67,7 @@ fn entry_with(name: String, settings: Settings) -> FieldEntry
         FieldType::U64 => FieldEntry::value(name, ValueType::U64, norms),
         FieldType::I64 => FieldEntry::value(name, ValueType::I64, norms),
         FieldType::Bool => FieldEntry::value(name, ValueType::Bool, norms),
+        FieldType::Date => FieldEntry::value(name, ValueType::Date, norms),
         FieldType::Bytes => FieldEntry::value(name, ValueType::Bytes, norms),
         FieldType::IpAddr => FieldEntry::value(name, ValueType::IpAddr, norms),
         FieldType::Json => FieldEntry::json(name, settings.option, settings.expands_dots),

@@ -28,6 +28,8 @@ pub enum FieldKey {
     ExpandDots,
     /// How its texts are cut into words.
     Tokenizer,
+    /// Which words of its texts are left out.
+    StopWords,
 }
 
 impl FieldKey {
@@ -35,7 +37,7 @@ impl FieldKey {
     fn name(self) -> &'static str {
         match self {
             FieldKey::Name => "name: a text that is not empty, and that no field before has",
-            FieldKey::Type => "type: one of text, u64, i64, bool, bytes, ip_addr, json",
+            FieldKey::Type => "type: one of text, u64, i64, bool, date, bytes, ip_addr, json",
             FieldKey::Indexed => "indexed: true or false",
             FieldKey::Record =>
                 "record: one of basic, freq, position, where an indexed field has texts or JSON values",
@@ -45,6 +47,8 @@ impl FieldKey {
                 "expand_dots: true or false, where an indexed field has JSON values",
             FieldKey::Tokenizer =>
                 "tokenizer: one of default, raw, whitespace, ascii, en, where an indexed field has texts or JSON values",
+            FieldKey::StopWords =>
+                "stop_words: a list of texts, where the tokenizer of the field is en",
         }
     }
 }

@@ -14,6 +14,7 @@ pub enum FieldType {
     U64,
     I64,
     Bool,
+    Date,
     Bytes,
     IpAddr,
     Json,
@@ -29,6 +30,7 @@ impl FieldType {
             FieldType::U64 => ValueType::U64,
             FieldType::I64 => ValueType::I64,
             FieldType::Bool => ValueType::Bool,
+            FieldType::Date => ValueType::Date,
             FieldType::Bytes => ValueType::Bytes,
             FieldType::IpAddr => ValueType::IpAddr,
             FieldType::Json => ValueType::Json,
@@ -44,6 +46,7 @@ impl FieldType {
             FieldType::U64
             | FieldType::I64
             | FieldType::Bool
+            | FieldType::Date
             | FieldType::Bytes
             | FieldType::IpAddr => false,
         }
@@ -58,6 +61,7 @@ impl FieldType {
             FieldType::U64
             | FieldType::I64
             | FieldType::Bool
+            | FieldType::Date
             | FieldType::Bytes
             | FieldType::IpAddr
             | FieldType::Json => false,
@@ -73,6 +77,7 @@ impl FieldType {
             FieldType::U64
             | FieldType::I64
             | FieldType::Bool
+            | FieldType::Date
             | FieldType::Bytes
             | FieldType::IpAddr
             | FieldType::Text => false,
@@ -113,6 +118,9 @@ fn type_named(name: &str) -> Option<FieldType>
     }
     if name == "bool" {
         return Some(FieldType::Bool);
+    }
+    if name == "date" {
+        return Some(FieldType::Date);
     }
     if name == "bytes" {
         return Some(FieldType::Bytes);

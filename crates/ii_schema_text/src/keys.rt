@@ -82,5 +82,8 @@ fn is_field_key(key: &str) -> bool
     if key == "expand_dots" {
         return true;
     }
-    key == "tokenizer"
+    if key == "tokenizer" {
+        return true;
+    }
+    key == "stop_words"
 }

@@ -7,6 +7,7 @@ pub mod field_type;
 pub mod keys;
 pub mod schema_text;
 pub mod settings;
+mod stop_words;
 pub mod text_schema;
 mod tokenizers;
 pub mod unknown_keys;

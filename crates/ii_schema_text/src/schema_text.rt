@@ -24,7 +24,8 @@ use toml::{Table, Value};
 /// - `fieldnorms`, for an indexed field that isn't JSON: whether field norms are kept; the default is
 ///   `true` for texts, else `false`,
 /// - `expand_dots`, for an indexed JSON field: whether dots in keys are expanded; the default is `false`,
-/// - `tokenizer`, for an indexed text or JSON field: `default`, `raw`, `whitespace` or `ascii` (`Analyzer`).
+/// - `tokenizer`, for an indexed text or JSON field: `default`, `raw`, `whitespace`, `ascii` or `en` (`Analyzer`),
+/// - `stop_words`, for a field with the tokenizer `en`: a list of words that are left out (`StopWordFilter`).
 ///
 /// Before the tables, `tokenizer` names the tokenizer of fields that name none, `ascii` if it is missing;
 /// `unicode` names the version of Unicode that the words of an index follow; `store_source` says whether the lines
@@ -35,7 +36,8 @@ use toml::{Table, Value};
 ///
 /// The first fault: `NotToml`; `UnknownKey` for the first key, in byte order, that isn't one of the text;
 /// `WrongTokenizer` or `UnknownTokenizer`; `WrongStoreSource`; `WrongUnknown`; `NoFields`; then for each field
-/// `UnknownFieldKey`, or `WrongKey` for the first invalid key in the order of `FieldKey`, or `UnknownFieldTokenizer`;
+/// `UnknownFieldKey`, or `WrongKey` for the first invalid key in the order of `FieldKey`, or `UnknownFieldTokenizer`,
+/// which comes before `WrongKey` for `stop_words`;
 /// `TooManyFields`;
 /// `WrongUnicode`, or `OtherUnicode` for another version than this program's if a tokenizer depends on it.
 /// `OutOfMemory` if allocation fails.

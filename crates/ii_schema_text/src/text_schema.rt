@@ -5,10 +5,11 @@ ghost use Rattle.ii_schema_text.specs.SchemaText.{AnswersFromText, TextSchemaSta
 
 use crate::entry_table::entry_of;
 use crate::faults::SchemaFault;
+use crate::stop_words::stop_words_of;
 use crate::tokenizers::{takes_texts, tokenizer_of};
 use crate::unknown_keys::UnknownKeys;
 use ii_base::{FieldEntry, Schema};
-use ii_tokenizers::{Analyzer, FieldTokenizers};
+use ii_tokenizers::{Analyzer, FieldTokenizer, FieldTokenizers};
 use std::alloc::Global;
 use std::marker::Model;
 use toml::Value;
@@ -142,9 +143,13 @@ impl ReadFields {
         let place = self.entries.len();
         let entry = entry_of(alloc, self.entries.as_slice(), field)?;
         let allowed = takes_texts(&entry);
-        let tokenizer = tokenizer_of(alloc, place, default, allowed, field.get("tokenizer"))?;
+        let analyzer = tokenizer_of(alloc, place, default, allowed, field.get("tokenizer"))?;
+        let stop_words = stop_words_of(alloc, place, analyzer, field.get("stop_words"))?;
         self.entries.push(entry)?;
-        self.tokenizers.push(tokenizer)?;
+        self.tokenizers.push(FieldTokenizer {
+            analyzer,
+            stop_words,
+        })?;
         Ok(())
     }
 

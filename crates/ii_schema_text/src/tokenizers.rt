@@ -3,12 +3,13 @@ ghost use Rattle.std.specs.Prelude.{◌≡◌, option_map};
 ghost use Rattle.std.specs.List.{list_any};
 ghost use Rattle.toml.specs.View.{view};
 ghost use Rattle.ii_tokenizers.specs.declared.analyzer.Analyzer.{Analyzer};
+ghost use Rattle.ii_tokenizers.specs.declared.field_tokenizer.FieldTokenizer.{FieldTokenizer};
 ghost use Rattle.ii_tokenizers.specs.Tokenizers.{uses_unicode};
 ghost use Rattle.ii_schema_text.specs.SchemaText.{AnswersFromText, are_or_have_texts, default_in, takes_texts, tokenizer_in, unicode_in};
 
 use crate::faults::{FieldKey, SchemaFault};
 use ii_base::{FieldEntry, ValueType};
-use ii_tokenizers::{Analyzer, unicode_version};
+use ii_tokenizers::{Analyzer, FieldTokenizer, unicode_version};
 use std::alloc::Global;
 use toml::Value;
 
@@ -91,7 +92,7 @@ pub(crate) fn default_of(alloc: Global, value: Option<&Value>) -> Result<Analyze
 // Fails if a tokenizer follows another version of Unicode than the one that the text names, if it names one.
 pub(crate) fn check_unicode(
     alloc: Global,
-    tokenizers: &[Analyzer],
+    tokenizers: &[FieldTokenizer],
     value: Option<&Value>,
 ) -> Result<(), SchemaFault>
     ensures { AnswersFromText (λ (done : Unit {0}). done) result (unicode_in tokenizers.now (option_map (λ v. view v.now) value.entry)) }
@@ -113,8 +114,10 @@ pub(crate) fn check_unicode(
 }
 
 // Returns whether the words of a tokenizer depend on the version of Unicode.
-fn use_unicode(tokenizers: &[Analyzer]) -> bool
-    ensures { result ≡ list_any uses_unicode tokenizers.now }
+fn use_unicode(tokenizers: &[FieldTokenizer]) -> bool
+    ensures { result ≡ list_any (λ (t : FieldTokenizer). uses_unicode t.analyzer) tokenizers.now }
 {
-    tokenizers.iter().any(|tokenizer| tokenizer.uses_unicode())
+    tokenizers
+        .iter()
+        .any(|tokenizer| tokenizer.analyzer.uses_unicode())
 }

@@ -6,7 +6,7 @@ use Rattle.std.specs.Option.{is_some}
 use Rattle.serde_json.specs.Data.{Data}
 use Rattle.ii_base.specs.Schema.{SchemaEntry}
 use Rattle.ii_tokenizers.specs.Tokenizers.{analyzed_in}
-use Rattle.ii_tokenizers.specs.declared.analyzer.Analyzer.{Analyzer}
+use Rattle.ii_tokenizers.specs.declared.field_tokenizer.FieldTokenizer.{FieldTokenizer}
 use Rattle.ii_snippet.specs.declared.marks.MarkStyle.{MarkStyle}
 use Rattle.ii_snippet.specs.declared.object_snippets.SnippetRules.{SnippetRules}
 use Rattle.ii_snippet.specs.declared.windows.SnippetToken.{SnippetToken}
@@ -18,7 +18,7 @@ use Rattle.ii_snippet.specs.Wanted.{Wanted, snippet_token, wanted_of}
 -- how objects of a schema are shown: the tokenizers of its fields, what is wanted, how many tokens of a text are shown at most, and how they are written
 pub record SnippetRulesState : Type 0 where
   pub entries : List SchemaEntry
-  pub tokenizers : List Analyzer
+  pub tokenizers : List FieldTokenizer
   pub wants : List Wanted
   pub limit : ℕ
   pub style : MarkStyle

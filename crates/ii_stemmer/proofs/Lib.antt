@@ -1,4 +1,3 @@
 mod LetterLemmas
-mod RuleLemmas
 mod StemLemmas
 mod WorkedRows

@@ -12,6 +12,7 @@ pub record Rule : Type 0 where
   pub replacement : List ℕ
   pub condition : Condition
 
+-- a rule, from its parts
 abbrev pub rule : List ℕ → List ℕ → Condition → Rule
 rule suffix replacement condition = record { suffix = suffix; replacement = replacement; condition = condition }
 
@@ -42,6 +43,7 @@ rule_of r = rule r.suffix.now r.replacement.now r.condition
 abbrev pub rules_of : List StaticRule → List Rule
 rules_of rules = map rule_of rules
 
+-- step 1a: the plural
 unfoldable pub step_1a_rules : List Rule
 step_1a_rules =
     rule (codes "sses") (codes "ss") Always ∷
@@ -50,6 +52,7 @@ step_1a_rules =
     rule (codes "s") [] Always ∷
     []
 
+-- step 1b: past forms and participles
 unfoldable pub step_1b_rules : List Rule
 step_1b_rules =
     rule (codes "eed") (codes "ee") (MeasureAbove 0) ∷
@@ -57,9 +60,11 @@ step_1b_rules =
     rule (codes "ing") [] HasVowel ∷
     []
 
+-- step 1c: a final y after a vowel
 unfoldable pub step_1c_rules : List Rule
 step_1c_rules = rule (codes "y") (codes "i") HasVowel ∷ []
 
+-- step 2: double suffixes
 unfoldable pub step_2_rules : List Rule
 step_2_rules =
     rule (codes "ational") (codes "ate") (MeasureAbove 0) ∷
@@ -84,6 +89,7 @@ step_2_rules =
     rule (codes "biliti") (codes "ble") (MeasureAbove 0) ∷
     []
 
+-- step 3: suffixes of adjectives and nouns that are left
 unfoldable pub step_3_rules : List Rule
 step_3_rules =
     rule (codes "icate") (codes "ic") (MeasureAbove 0) ∷
@@ -95,6 +101,7 @@ step_3_rules =
     rule (codes "ness") [] (MeasureAbove 0) ∷
     []
 
+-- step 4: single suffixes after a long stem
 unfoldable pub step_4_rules : List Rule
 step_4_rules =
     rule (codes "al") [] (MeasureAbove 1) ∷
@@ -118,5 +125,6 @@ step_4_rules =
     rule (codes "ize") [] (MeasureAbove 1) ∷
     []
 
+-- step 5a: a final e
 unfoldable pub step_5a_rules : List Rule
 step_5a_rules = rule (codes "e") [] FinalE ∷ []

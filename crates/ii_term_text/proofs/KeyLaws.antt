@@ -12,6 +12,8 @@ use Rattle.ii_base.specs.Values.{flipped, json_key, number_of_bool, u64_bytes}
 use Rattle.ii_base.specs.ValueTypes.{code_of}
 use Rattle.ii_base.specs.declared.schema.value_type.ValueType.{ValueType}
 use Rattle.ii_base.specs.declared.schema.value_type.ValueType.TheVariants as types
+use Rattle.ii_dates.specs.Dates.{date_text}
+use Rattle.ii_dates.proofs.DateLaws.{date_read_back}
 use Rattle.ii_json.proofs.ParseLemmas.{i64_of_decimal, u64_of_decimal}
 use Rattle.ii_term_text.specs.KeyTexts.{IsOfField, IsScalar, KeyValue, Scalar, address, at_path, boolean, boolean_in, boolean_of, boolean_text, date, key_in, text_of_key, number_of_key, parts_of_key, raw, scalar, scalar_in, scalar_key, text_of_scalar_key, scalar_text, scalar_type, signed, text_or_bytes, text_parts, type_of_letter, unflipped, unsigned, value_key, word}
 use Rattle.ii_term_text.specs.PathTexts.{path_text}
@@ -34,13 +36,16 @@ boolean_again false = ap (λ (n : Option ℕ). n >>= boolean_of) (number_again 0
 signed_again : (z : ℤ) → FitsSigned w64 z → text_or_bytes (u64_bytes (flipped z)) (option_map (λ n. signed_decimal (unflipped n)) (number_of_key (u64_bytes (flipped z)))) ≡ signed_decimal z
 signed_again z fit = ap (λ (n : Option ℕ). text_or_bytes (u64_bytes (flipped z)) (option_map (λ n. signed_decimal (unflipped n)) n)) (number_again (flipped z) (flipped_small z fit)) ∙ ap signed_decimal (flipped_again z fit)
 
+date_again : (z : ℤ) → FitsSigned w64 z → text_or_bytes (u64_bytes (flipped z)) (option_map (λ n. date_text (unflipped n)) (number_of_key (u64_bytes (flipped z)))) ≡ date_text z
+date_again z fit = ap (λ (n : Option ℕ). text_or_bytes (u64_bytes (flipped z)) (option_map (λ n. date_text (unflipped n)) n)) (number_again (flipped z) (flipped_small z fit)) ∙ ap date_text (flipped_again z fit)
+
 -- the text of the key of a scalar is that of the scalar
 scalar_again : (s : Scalar) → IsScalar s → text_of_scalar_key (scalar_type s) (scalar_key s) ≡ scalar_text s
 scalar_again (word bytes) is = utf8_is (λ k. k) bytes is
 scalar_again (unsigned n) is = ap (λ (n' : Option ℕ). text_or_bytes (u64_bytes n) (option_map decimal n')) (number_again n is)
 scalar_again (signed z) is = signed_again z is
 scalar_again (boolean b) is = ap (λ (o : Option Bool). text_or_bytes (u64_bytes (number_of_bool b)) (option_map boolean_text o)) (boolean_again b)
-scalar_again (date z) is = signed_again z is
+scalar_again (date z) is = date_again z is
 
 -- the text of a scalar is read back
 scalar_read : (s : Scalar) → IsScalar s → scalar_in (code_of (scalar_type s) ∷ []) (scalar_text s) ≡ Some s
@@ -49,7 +54,7 @@ scalar_read (unsigned n) is = rw (u64_of_decimal n is) refl
 scalar_read (signed z) is = rw (i64_of_decimal z is) refl
 scalar_read (boolean true) is = refl
 scalar_read (boolean false) is = refl
-scalar_read (date z) is = rw (i64_of_decimal z is) refl
+scalar_read (date z) is = rw (date_read_back z is) refl
 
 -- a scalar's key in a field of its type
 field_read : (expands_dots : Bool) (s : Scalar) → IsScalar s → key_in (scalar_type s) expands_dots (scalar_text s) ≡ Some (scalar_key s)
@@ -58,7 +63,7 @@ field_read expands_dots (unsigned n) is = rw (u64_of_decimal n is) refl
 field_read expands_dots (signed z) is = rw (i64_of_decimal z is) refl
 field_read expands_dots (boolean true) is = refl
 field_read expands_dots (boolean false) is = refl
-field_read expands_dots (date z) is = rw (i64_of_decimal z is) refl
+field_read expands_dots (date z) is = rw (date_read_back z is) refl
 
 plain_text : (s : Scalar) → text_of_key (scalar_type s) (scalar_key s) ≡ text_of_scalar_key (scalar_type s) (scalar_key s)
 plain_text (word bytes) = refl

@@ -2,6 +2,7 @@
 use Rattle.std.proofs.Common.{◌≡◌, false, [], ◌∷◌, ◌++◌, None, Some, codes, decimal, refl}
 use Rattle.std.specs.Net.Text.{ipv4_text}
 use Rattle.hex.specs.Hex.{encode_lower}
+use Rattle.ii_dates.proofs.OnLiterals.{dates_on_literals}
 use Rattle.ii_base.specs.declared.schema.value_type.ValueType.TheVariants as types
 use Rattle.ii_term_text.specs.KeyTexts.{key_in, text_of_key}
 
@@ -35,3 +36,13 @@ no_number = refl
 
 no_letter_x : key_in types.Json false (codes "a x 5") ≡ None
 no_letter_x = refl
+
+-- the first instant of 1990 is 631,152,000,000,000,000 nanoseconds, which with 2^63 is 88C24D6667470000
+date_key : text_of_key types.Date (0x88 ∷ 0xC2 ∷ 0x4D ∷ 0x66 ∷ 0x67 ∷ 0x47 ∷ 0 ∷ 0 ∷ []) ≡ codes "1990-01-01T00:00:00Z"
+unfolding dates_on_literals
+date_key = refl
+
+-- the first of 2001, spelled with an offset
+date_read : key_in types.Date false (codes "2001-01-01T01:00:00+01:00") ≡ Some (0x8D ∷ 0x93 ∷ 0xA5 ∷ 0x37 ∷ 0x11 ∷ 0x35 ∷ 0 ∷ 0 ∷ [])
+unfolding dates_on_literals
+date_read = refl

@@ -16,11 +16,12 @@ use Rattle.ii_base.specs.Values.{flipped, json_key, number_of_bool, u64_bytes}
 use Rattle.ii_base.specs.ValueTypes.{code_of}
 use Rattle.ii_base.specs.declared.schema.value_type.ValueType.{ValueType}
 use Rattle.ii_base.specs.declared.schema.value_type.ValueType.TheVariants as types
+use Rattle.ii_dates.specs.Dates.{date_in, date_text}
 use Rattle.ii_json.specs.FastValues.{bool_in, i64_in, u64_in}
 use Rattle.ii_term_text.specs.Addresses.{segments_in}
 use Rattle.ii_term_text.specs.PathTexts.{cut_at_space, has_dot, path_text}
 
--- a word, a number, a boolean, or a date in nanoseconds
+-- a word, a number, a boolean, or a date in nanoseconds since 1970-01-01T00:00:00Z
 pub data Scalar : Type 0 where
   word : List ℕ → Scalar
   unsigned : ℕ → Scalar
@@ -55,7 +56,7 @@ scalar_text (word bytes) = bytes
 scalar_text (unsigned n) = decimal n
 scalar_text (signed z) = signed_decimal z
 scalar_text (boolean b) = boolean_text b
-scalar_text (date z) = signed_decimal z
+scalar_text (date z) = date_text z
 
 -- an IP address as text: ::ffff:a.b.c.d as the IPv4 address
 abbrev pub address_text : List ℕ → List ℕ
@@ -96,7 +97,7 @@ abbrev pub text_of_scalar_key : ValueType → List ℕ → List ℕ
 text_of_scalar_key types.Str key = utf8_or_bytes (λ k. k) key
 text_of_scalar_key types.U64 key = text_or_bytes key (option_map decimal (number_of_key key))
 text_of_scalar_key types.I64 key = text_or_bytes key (option_map (λ n. signed_decimal (unflipped n)) (number_of_key key))
-text_of_scalar_key types.Date key = text_or_bytes key (option_map (λ n. signed_decimal (unflipped n)) (number_of_key key))
+text_of_scalar_key types.Date key = text_or_bytes key (option_map (λ n. date_text (unflipped n)) (number_of_key key))
 text_of_scalar_key types.Bool key = text_or_bytes key (option_map boolean_text (boolean_in key))
 text_of_scalar_key types.Bytes key = bytes_text key
 text_of_scalar_key types.IpAddr key = bytes_text key
@@ -144,7 +145,7 @@ scalar_in letter text =
     else if bytes_eq letter (codes "i") then option_map signed (i64_in text)
     else if bytes_eq letter (codes "u") then option_map unsigned (u64_in text)
     else if bytes_eq letter (codes "o") then option_map boolean (bool_in text)
-    else if bytes_eq letter (codes "d") then option_map date (i64_in text)
+    else if bytes_eq letter (codes "d") then option_map date (date_in text)
     else None
 
 -- The path, the letter and the value in the text of a key of a JSON field.
@@ -172,7 +173,7 @@ key_in types.Str expands_dots text = Some text
 key_in types.U64 expands_dots text = option_map u64_bytes (u64_in text)
 key_in types.I64 expands_dots text = option_map (λ z. u64_bytes (flipped z)) (i64_in text)
 key_in types.Bool expands_dots text = option_map (λ b. u64_bytes (number_of_bool b)) (bool_in text)
-key_in types.Date expands_dots text = option_map (λ z. u64_bytes (flipped z)) (i64_in text)
+key_in types.Date expands_dots text = option_map (λ z. u64_bytes (flipped z)) (date_in text)
 key_in types.Bytes expands_dots text = result_ok (decode_of text)
 key_in types.IpAddr expands_dots text = option_map octets_of (segments_in text)
 key_in types.Json expands_dots text = json_key_in expands_dots text

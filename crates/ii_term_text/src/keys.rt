@@ -5,16 +5,18 @@ ghost use Rattle.std.specs.Int.{w64};
 ghost use Rattle.hex.specs.Hex.{encode_lower};
 ghost use Rattle.ii_base.specs.Values.{flipped};
 ghost use Rattle.ii_base.specs.declared.schema.value_type.ValueType.TheVariants as types;
+ghost use Rattle.ii_dates.specs.Dates.{date_text};
 ghost use Rattle.ii_term_text.specs.KeyTexts.{boolean_in, boolean_text, bytes_text, text_of_key, number_of_key, parts_of_key, text_of_scalar_key, text_or_bytes, unflipped, utf8_or_bytes};
 ghost use Rattle.ii_term_text.specs.PathTexts.{path_text};
 
 use crate::paths::push_path;
 use ii_base::ValueType;
+use ii_dates::push_date;
 use std::alloc::{AllocError, Global};
 use std::net::Ipv6Addr;
 
 /// Appends the text of a key of a field with values of this type: a word as it is, a number in decimal, `true`
-/// or `false`, a date as its nanoseconds, bytes in hexadecimal, an IP address; for JSON values the path, the
+/// or `false`, a date by RFC 3339 in UTC, bytes in hexadecimal, an IP address; for JSON values the path, the
 /// letter of the type and the value, separated by spaces. A key, path or value that isn't one of its type is
 /// appended in hexadecimal after `0x`.
 pub fn push_key(
@@ -46,7 +48,8 @@ fn push_scalar(
     match value_type {
         ValueType::Str => push_word(alloc, text, key),
         ValueType::U64 => push_unsigned(alloc, text, key),
-        ValueType::I64 | ValueType::Date => push_signed(alloc, text, key),
+        ValueType::I64 => push_signed(alloc, text, key),
+        ValueType::Date => push_date_of(alloc, text, key),
         ValueType::Bool => push_boolean(alloc, text, key),
         ValueType::Bytes | ValueType::IpAddr | ValueType::Json => push_bytes(alloc, text, key),
     }
@@ -96,6 +99,19 @@ fn push_signed(alloc: Global, text: &mut String, key: &[u8]) -> Result<(), Alloc
         Some(number) => {
             let number = signed(number);
             write!(text, "{number}")
+        }
+        None => push_bytes(alloc, text, key),
+    }
+}
+
+// Appends a date.
+fn push_date_of(alloc: Global, text: &mut String, key: &[u8]) -> Result<(), AllocError>
+    ensures { OnOk result (string_bytes text.new ≡ string_bytes text.old ++ text_or_bytes key.now (option_map (λ n. date_text (unflipped n)) (number_of_key key.now))) }
+{
+    match number_of_key(key) {
+        Some(number) => {
+            let nanoseconds = signed(number);
+            push_date(text, nanoseconds)
         }
         None => push_bytes(alloc, text, key),
     }

@@ -7,6 +7,7 @@ ghost use Rattle.hex.specs.Hex.{decode_of};
 ghost use Rattle.hex.specs.declared.error.FromHexError.TheVariants.{OutOfMemory};
 ghost use Rattle.ii_io.specs.Faults.{OnlyMemory};
 ghost use Rattle.ii_base.specs.Paths.{has_zero};
+ghost use Rattle.ii_dates.specs.Dates.{date_in};
 ghost use Rattle.ii_json.specs.FastValues.{bool_in, i64_in, u64_in};
 ghost use Rattle.ii_term_text.specs.Addresses.{segments_in};
 ghost use Rattle.ii_term_text.specs.KeyTexts.{AppendsScalar, boolean, date, json_key_in, key_in, scalar_in, signed, term_with, text_parts, unsigned};
@@ -15,11 +16,12 @@ use crate::addresses::octets_in;
 use crate::paths::cut_at_space;
 use hex::FromHexError;
 use ii_base::{DateTime, Fault, Field, FieldEntry, Term, ValueType};
+use ii_dates::{date_of, date_term};
 use ii_json::{bool_in, bool_term, i64_in, i64_term, u64_in, u64_term};
 use std::alloc::Global;
 
 /// Returns the term of a field that a text spells, as `push_key` writes it or in another spelling that `parse`,
-/// `hex::decode` or the address parsers accept. Returns `None` if the text spells none of the field's type. `entry`
+/// `date_of`, `hex::decode` or the address parsers accept. Returns `None` if the text spells none of the field's type. `entry`
 /// is that of the field. Returns `OutOfMemory` if allocation fails.
 pub fn term_of(
     alloc: Global,
@@ -33,7 +35,8 @@ pub fn term_of(
     match entry.value_type() {
         ValueType::Str => Ok(Some(Term::from_field_text(alloc, field, text)?)),
         ValueType::U64 => u64_term(alloc, field, text),
-        ValueType::I64 | ValueType::Date => i64_term(alloc, field, text),
+        ValueType::I64 => i64_term(alloc, field, text),
+        ValueType::Date => date_term(alloc, field, text),
         ValueType::Bool => bool_term(alloc, field, text),
         ValueType::Bytes => bytes_term(alloc, field, text),
         ValueType::IpAddr => address_term(alloc, field, text),
@@ -154,15 +157,15 @@ fn append_signed(term: &mut Term, value: &str) -> Result<bool, Fault>
     Ok(true)
 }
 
-// Appends a date in nanoseconds, and returns whether the text spells one.
+// Appends a date, and returns whether the text spells one.
 fn append_date(term: &mut Term, value: &str) -> Result<bool, Fault>
-    ensures ok { IfOk result (λ found. AppendsScalar (option_map date (i64_in value.now)) term.old term.new found) }
+    ensures ok { IfOk result (λ found. AppendsScalar (option_map date (date_in value.now)) term.old term.new found) }
     ensures only { OnlyMemory result }
 {
-    let Some(number) = i64_in(value) else {
+    let Some(nanoseconds) = date_of(value) else {
         return Ok(false);
     };
-    term.append_type_and_fast_value(DateTime(number))?;
+    term.append_type_and_fast_value(DateTime(nanoseconds))?;
     Ok(true)
 }
 

@@ -1,3 +1,8 @@
 pub mod PartLemmas
 pub mod FilterLemmas
+pub mod WordKindLemmas
+pub mod AsciiPartLemmas
+pub mod AsciiWordLemmas
+pub mod RunLemmas
+mod StopLemmas
 mod WorkedRows

@@ -1,8 +1,8 @@
 -- Computed examples of parts and of filters.
-use Rattle.std.proofs.Common.{◌≡◌, ℕ, ◌==◌, Bool, [], ◌∷◌, codes, map, refl}
+use Rattle.std.proofs.Common.{◌≡◌, ℕ, ◌==◌, Bool, [], ◌∷◌, List, codes, map, refl}
 use Rattle.ii_base.specs.Words.{Word}
 use Rattle.ii_stemmer.specs.Rules.{step_1a_rules, step_1b_rules, step_1c_rules, step_2_rules, step_3_rules, step_4_rules, step_5a_rules}
-use Rattle.ii_tokenizers.specs.Analyzers.{nonempty_parts, part_word, parts_between, remove_long, stem, words_from}
+use Rattle.ii_tokenizers.specs.Analyzers.{folded_text, nonempty_parts, part_word, parts_between, remove_long, remove_stop, stem, with_stop_word, words_from}
 
 abbrev is_comma : ℕ → Bool
 is_comma c = c == 44
@@ -39,3 +39,23 @@ pub stems : stem (words_from 0 (record { offset = 0; characters = codes "the" } 
     ∷ []
 unfolding lib.Utf8.encode step_1a_rules step_1b_rules step_1c_rules step_2_rules step_3_rules step_4_rules step_5a_rules
 stems = refl
+
+-- `old` and `seas` stay of `the old seas` without the stop word `the`, and are stemmed: positions and offsets are those of the text
+pub without_stop_words : stem (remove_stop (codes "the" ∷ []) (words_from 0 (record { offset = 0; characters = codes "the" } ∷ record { offset = 4; characters = codes "old" } ∷ record { offset = 8; characters = codes "seas" } ∷ [])))
+    ≡ record { offset_from = 4; offset_to = 7; position = 1; text = codes "old"; position_length = 1 }
+    ∷ record { offset_from = 8; offset_to = 12; position = 2; text = codes "sea"; position_length = 1 }
+    ∷ []
+unfolding lib.Utf8.encode step_1a_rules step_1b_rules step_1c_rules step_2_rules step_3_rules step_4_rules step_5a_rules
+without_stop_words = refl
+
+-- a form of a stop word is another word, and so is one in other case
+pub other_forms : map (λ (w : Word). w.position) (remove_stop (codes "sea" ∷ []) (words_from 0 (record { offset = 0; characters = codes "seas" } ∷ record { offset = 5; characters = codes "Sea" } ∷ record { offset = 9; characters = codes "sea" } ∷ []))) ≡ 0 ∷ 1 ∷ []
+unfolding lib.Utf8.encode
+other_forms = refl
+
+-- a word that is `the` in folded case is a stop word once
+pub one_more_stop_word : (word : List ℕ) → folded_text word ≡ codes "the" → with_stop_word (codes "of" ∷ []) word ≡ codes "of" ∷ codes "the" ∷ []
+one_more_stop_word word folded = rw folded refl
+
+pub same_stop_word : (word : List ℕ) → folded_text word ≡ codes "the" → with_stop_word (codes "the" ∷ []) word ≡ codes "the" ∷ []
+same_stop_word word folded = rw folded refl

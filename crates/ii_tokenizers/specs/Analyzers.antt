@@ -1,7 +1,7 @@
 -- Analyzers of texts: a text is cut into parts, these become tokens, and filters change the tokens.
-use Rattle.std.specs.Prelude.{ℕ, ◌+◌, Bool, true, false, List, [], ◌∷◌, chars, encode_utf8_all, filter, length, map, nat_lt, if◌then◌else◌}
+use Rattle.std.specs.Prelude.{ℕ, ◌+◌, Bool, true, false, not, List, [], ◌∷◌, ◌++◌, bytes_eq, chars, encode_utf8_all, filter, length, map, nat_lt, if◌then◌else◌}
 use Rattle.std.specs.Char.{is_whitespace, len_utf8}
-use Rattle.std.specs.List.{flat_map}
+use Rattle.std.specs.List.{flat_map, list_any}
 use Rattle.caseless.specs.Caseless.{default_case_fold}
 use Rattle.ucd_breaks.specs.WordBreak.{word_break}
 use Rattle.ucd_breaks.specs.declared.WordBreak.{WordBreak}
@@ -86,9 +86,13 @@ space_words text = words_from 0 (piece_parts AtWhitespace (0, text))
 abbrev pub raw_words : List ℕ → List Word
 raw_words text = words_from 0 (nonempty_parts (record { offset = 0; characters = chars text } ∷ []))
 
+-- a text with its case folded
+abbrev pub folded_text : List ℕ → List ℕ
+folded_text text = encode_utf8_all (default_case_fold (chars text))
+
 -- a token with its case folded
 abbrev pub folded : Word → Word
-folded w = record w { text = encode_utf8_all (default_case_fold (chars w.text)) }
+folded w = record w { text = folded_text w.text }
 
 -- tokens with their case folded
 abbrev pub fold_case : List Word → List Word
@@ -97,6 +101,18 @@ fold_case ws = map folded ws
 -- the tokens with fewer bytes than a limit
 abbrev pub remove_long : ℕ → List Word → List Word
 remove_long limit ws = filter (λ (w : Word). nat_lt (length w.text) limit) ws
+
+-- whether a text is one of the stop words
+abbrev pub is_stop_word : List (List ℕ) → List ℕ → Bool
+is_stop_word stops text = list_any (bytes_eq text) stops
+
+-- stop words, and one more in folded case, if it is a new one
+abbrev pub with_stop_word : List (List ℕ) → List ℕ → List (List ℕ)
+with_stop_word stops word = if is_stop_word stops (folded_text word) then stops else stops ++ folded_text word ∷ []
+
+-- the tokens that are no stop words
+abbrev pub remove_stop : List (List ℕ) → List Word → List Word
+remove_stop stops ws = filter (λ (w : Word). not (is_stop_word stops w.text)) ws
 
 -- a token with its text stemmed
 abbrev pub stemmed : Word → Word
@@ -110,17 +126,21 @@ stem ws = map stemmed ws
 abbrev pub default_words : List ℕ → List Word
 default_words text = remove_long 40 (fold_case (split_words text))
 
--- English: the default words, stemmed
-abbrev pub english_words : List ℕ → List Word
-english_words text = stem (default_words text)
+-- English: the default words that are no stop words, stemmed
+abbrev pub english_words : List (List ℕ) → List ℕ → List Word
+english_words stops text = stem (remove_stop stops (default_words text))
 
--- the tokens of a text by an analyzer
+-- the tokens of a text by an analyzer; English ones are no stop words
+abbrev pub analyzed_without : List (List ℕ) → Analyzer → List ℕ → List Word
+analyzed_without stops analyzer.Ascii text = ascii_words text
+analyzed_without stops analyzer.Raw text = raw_words text
+analyzed_without stops analyzer.Whitespace text = space_words text
+analyzed_without stops analyzer.Default text = default_words text
+analyzed_without stops analyzer.English text = english_words stops text
+
+-- the tokens of a text by an analyzer without stop words
 abbrev pub analyzed : Analyzer → List ℕ → List Word
-analyzed analyzer.Ascii text = ascii_words text
-analyzed analyzer.Raw text = raw_words text
-analyzed analyzer.Whitespace text = space_words text
-analyzed analyzer.Default text = default_words text
-analyzed analyzer.English text = english_words text
+analyzed a text = analyzed_without [] a text
 
 -- the analyzer of the beginnings and bounds of words: that of the words, unless it stems
 abbrev pub prefix_analyzer : Analyzer → Analyzer

@@ -1,2 +1,3 @@
 pub mod Analyzers
 pub mod Tokenizers
+pub mod AsciiParts

@@ -1,10 +1,11 @@
-ghost use Rattle.std.specs.Prelude.{◌≡◌, IfOk};
+ghost use Rattle.std.specs.Prelude.{◌≡◌, None, IfOk};
 ghost use Rattle.ii_io.specs.Faults.{OnlyMemory};
 ghost use Rattle.ii_base.specs.Words.{words_of};
-ghost use Rattle.ii_tokenizers.specs.Analyzers.{analyzed, default_words, english_words, prefix_analyzer};
+ghost use Rattle.ii_tokenizers.specs.Analyzers.{analyzed, analyzed_without, default_words, english_words, prefix_analyzer};
 
 use super::filters::{fold_case, remove_long, stem};
 use super::parts::{raw_words, space_words, split_words};
+use super::stop_words::StopWordFilter;
 use ii_base::{AsciiTokenizer, TextAnalyzer, TextTokens, Token, TokenList};
 use ii_io::Fault;
 use std::alloc::Global;
@@ -42,13 +43,7 @@ impl TextAnalyzer for Analyzer {
     ghost words = { analyzed };
 
     fn token_list(&self, alloc: Global, text: &str) -> Result<TokenList, Fault> {
-        match self {
-            Analyzer::Ascii => AsciiTokenizer.token_list(alloc, text),
-            Analyzer::Raw => Ok(TokenList::new(raw_words(alloc, text)?)),
-            Analyzer::Whitespace => Ok(TokenList::new(space_words(alloc, text)?)),
-            Analyzer::Default => Ok(TokenList::new(default_words(alloc, text)?)),
-            Analyzer::English => Ok(TokenList::new(english_words(alloc, text)?)),
-        }
+        token_list_without(alloc, &StopWordFilter::new(alloc), *self, text)
     }
 
     fn token_stream<'t>(&self, alloc: Global, text: &'t str) -> Result<TextTokens<'t>, Fault> {
@@ -56,6 +51,25 @@ impl TextAnalyzer for Analyzer {
             Analyzer::Ascii => AsciiTokenizer.token_stream(alloc, text),
             _ => Ok(TextTokens::Owned(self.token_list(alloc, text)?)),
         }
+    }
+}
+
+// Returns the tokens of a text by an analyzer; English ones are no stop words.
+pub(crate) fn token_list_without(
+    alloc: Global,
+    stop_words: &StopWordFilter,
+    analyzer: Analyzer,
+    text: &str,
+) -> Result<TokenList, Fault>
+    ensures ok { IfOk result (λ tokens. tokens ≡ record { current = None; to_come = analyzed_without stop_words.now analyzer text.now }) }
+    ensures only { OnlyMemory result }
+{
+    match analyzer {
+        Analyzer::Ascii => AsciiTokenizer.token_list(alloc, text),
+        Analyzer::Raw => Ok(TokenList::new(raw_words(alloc, text)?)),
+        Analyzer::Whitespace => Ok(TokenList::new(space_words(alloc, text)?)),
+        Analyzer::Default => Ok(TokenList::new(default_words(alloc, text)?)),
+        Analyzer::English => Ok(TokenList::new(english_words(alloc, stop_words, text)?)),
     }
 }
 
@@ -73,12 +87,17 @@ fn default_words(alloc: Global, text: &str) -> Result<Vec<Token>, Fault>
     Ok(tokens)
 }
 
-// Returns the words of a text, in folded case, without long ones, and stemmed.
-fn english_words(alloc: Global, text: &str) -> Result<Vec<Token>, Fault>
-    ensures ok { IfOk result (λ tokens. words_of tokens.items ≡ english_words text.now) }
+// Returns the words of a text, in folded case, without long ones and stop words, and stemmed.
+fn english_words(
+    alloc: Global,
+    stop_words: &StopWordFilter,
+    text: &str,
+) -> Result<Vec<Token>, Fault>
+    ensures ok { IfOk result (λ tokens. words_of tokens.items ≡ english_words stop_words.now text.now) }
     ensures only { OnlyMemory result }
 {
     let mut tokens = default_words(alloc, text)?;
+    stop_words.remove_stop(&mut tokens);
     stem(alloc, &mut tokens)?;
     Ok(tokens)
 }

@@ -1,5 +1,6 @@
 //! Filters, which change tokens or leave some out. Offsets and positions stay.
-ghost use Rattle.std.specs.Prelude.{◌≡◌, OnOk};
+ghost use Rattle.std.specs.Prelude.{◌≡◌, OnOk, chars, encode_utf8_all, string_bytes};
+ghost use Rattle.caseless.specs.Caseless.{default_case_fold};
 ghost use Rattle.ii_io.specs.Faults.{OnlyMemory};
 ghost use Rattle.ii_base.specs.Words.{words_of};
 ghost use Rattle.ii_tokenizers.specs.Analyzers.{fold_case, remove_long, stem};
@@ -19,8 +20,21 @@ pub fn fold_case(alloc: Global, tokens: &mut Vec<Token>) -> Result<(), Fault>
     ensures only { OnlyMemory result }
 {
     for place in 0..tokens.len() {
-        tokens[place].text = default_case_fold_str(alloc, tokens[place].text.as_str())?;
+        fold_text(alloc, &mut tokens[place].text)?;
     }
+    Ok(())
+}
+
+// Folds the case of a text, in place if it is ASCII.
+fn fold_text(alloc: Global, text: &mut String) -> Result<(), Fault>
+    ensures ok { OnOk result (string_bytes text.new ≡ encode_utf8_all (default_case_fold (chars (string_bytes text.old)))) }
+    ensures only { OnlyMemory result }
+{
+    if text.as_str().is_ascii() {
+        text.make_ascii_lowercase();
+        return Ok(());
+    }
+    *text = default_case_fold_str(alloc, text.as_str())?;
     Ok(())
 }
 

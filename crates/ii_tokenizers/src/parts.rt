@@ -4,6 +4,7 @@ ghost use Rattle.ii_io.specs.Faults.{OnlyMemory};
 ghost use Rattle.ii_base.specs.Words.{words_of};
 ghost use Rattle.ii_tokenizers.specs.Analyzers.{cuts_at, is_mark, nonempty_parts, piece_parts, raw_words, space_words, split_words, words_from};
 
+use crate::ascii_words::add_ascii_words;
 use ii_base::Token;
 use ii_io::Fault;
 use std::alloc::Global;
@@ -27,6 +28,10 @@ pub fn split_words(alloc: Global, text: &str) -> Result<Vec<Token>, Fault>
     ensures only { OnlyMemory result }
 {
     let mut tokens = Vec::new(alloc);
+    if text.is_ascii() {
+        add_ascii_words(alloc, 0, text, &mut tokens)?;
+        return Ok(tokens);
+    }
     for (at, word) in text.unicode_word_indices() {
         add_parts(alloc, Cut::AtMarks, at, word, &mut tokens)?;
     }
@@ -84,7 +89,12 @@ fn add_parts(
 }
 
 // Adds a part, if it has characters.
-fn add_part(alloc: Global, start: usize, part: &str, tokens: &mut Vec<Token>) -> Result<(), Fault>
+pub(crate) fn add_part(
+    alloc: Global,
+    start: usize,
+    part: &str,
+    tokens: &mut Vec<Token>,
+) -> Result<(), Fault>
     requires room { start + length part.now < 2 ^ 64 }
     ensures ok { OnOk result (words_of tokens.new.items ≡ words_of tokens.old.items ++ words_from (length tokens.old.items) (nonempty_parts (record { offset = start; characters = chars part.now } ∷ []))) }
     ensures only { OnlyMemory result }

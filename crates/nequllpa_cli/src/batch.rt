@@ -1,11 +1,11 @@
 //! The option `--batch` of `search`: each line of standard input is a query, and is answered by a line of JSON.
-use crate::commands::{NO, REFUSED, refuse_file};
 use crate::query_texts::{byte_of, reason_of, tell_left_out};
 use crate::searching::{Wanted, write_wanted};
 use crate::timing::Timing;
 use clap::ArgMatches;
 use ii_base::Field;
 use nequllpa_folder::{AnswerFault, OpenedIndex, quoted};
+use nequllpa_writing::{NO, REFUSED, refuse_file};
 use std::io::{self, BufRead, BufReader, BufWriter, Write};
 use std::process::ExitCode;
 

@@ -1,5 +1,6 @@
 //! The command `check`.
-use crate::commands::{NO, ended, format_given, refuse_path, status_of, tell_no_index};
+use crate::check_progress::CheckProgress;
+use crate::commands::{ended, format_given, status_of};
 use clap::ArgMatches;
 use ii_base::{Fault, Schema};
 use ii_segment_store::loading::{alive_file, file_of, load_flags};
@@ -12,6 +13,7 @@ use nequllpa_folder::{
     Checked, DamageRow, DamageRows, DamagedBlock, RowFormat, check, counts_damage, schema_of,
     store_damages,
 };
+use nequllpa_writing::{NO, len_of_files, refuse_path, tell_no_index};
 use std::fmt::Display;
 use std::io::{self, BufWriter, Write};
 use std::process::ExitCode;
@@ -36,7 +38,7 @@ pub fn answer_check(
 ) -> anyhow::Result<ExitCode> {
     let format = format_given(given);
     match load_meta(rt.alloc(), &Folder::new(rt, path)) {
-        Ok(list) => check_list(rt, path, &list, format),
+        Ok(list) => check_list(rt, path, &list, format, given.get_flag("quiet")),
         Err(StoreFault::Index(IndexFault::OtherVersion(_))) => {
             check_first_version(rt, path, format)
         }
@@ -51,6 +53,7 @@ fn check_list(
     path: &str,
     list: &IndexMeta,
     format: RowFormat,
+    is_quiet: bool,
 ) -> anyhow::Result<ExitCode> {
     let schema = match read_schema(rt, path, list.schema.as_slice(), format)? {
         Ok(schema) => schema,
@@ -63,10 +66,13 @@ fn check_list(
         changed: 0,
         checked: nothing(),
     };
+    let mut progress = CheckProgress::new(list, is_quiet);
     for segment in &list.segments {
-        if let Err(status) = check_segment(rt, path, &schema, segment, &mut sum)? {
+        progress.begin(rt)?;
+        if let Err(status) = check_segment(rt, path, &schema, segment, &mut sum, progress)? {
             return Ok(ExitCode::from(status));
         }
+        progress.end(len_of_files(segment));
     }
     print_checked(rt, &sum)?;
     ended(rt, path, Ok(sum.checked.damages == 0 && sum.changed == 0))
@@ -120,6 +126,7 @@ fn check_segment(
     schema: &Schema,
     segment: &SegmentMeta,
     sum: &mut Sum,
+    progress: CheckProgress,
 ) -> anyhow::Result<Result<(), u8>> {
     sum.documents = sum.documents.saturating_add(u64::from(segment.num_living));
     let stored = match left_of(rt, path, segment, sum)? {
@@ -129,6 +136,7 @@ fn check_segment(
     if let Err(status) = check_others(rt, path, schema, segment, sum)? {
         return Ok(Err(status));
     }
+    progress.tell_lists(rt)?;
     let rows = sum.rows_of(segment);
     let mut out = BufWriter::new(rt.alloc(), io::writer(rt))?;
     let checked = check(rt.alloc(), &mut out, rows, schema, stored);

@@ -1,25 +1,17 @@
 //! The commands other than `index`, `search` and `check`, and what all commands share.
 ghost use Rattle.std.specs.Prelude.{◌<◌, IfOk, length};
 
-use crate::orphans::orphan;
 use clap::ArgMatches;
 use ii_base::{Field, Term};
-use ii_segment_store::{StoredSegment, StoredSegments, WantedFiles, load_latest_with};
-use ii_store::{Folder, IndexFault, Kind, SegmentComponent, StoreFault};
+use ii_segment_store::{StoredSegment, StoredSegments, WantedFiles};
+use ii_store::{Kind, SegmentComponent};
 use nequllpa_folder::{
     AnswerFault, OpenedIndex, RowFormat, TermChoice, term_of, write_fields, write_postings,
     write_stats, write_stats_json, write_terms,
 };
-use std::fmt::Display;
-use std::io::{self, BufWriter, ErrorKind, Write};
+use nequllpa_writing::{NO, PROGRAM, REFUSED, loaded_at, refuse, refuse_path};
+use std::io::{self, BufWriter, Write};
 use std::process::ExitCode;
-
-/// The program's name in its messages.
-pub const PROGRAM: &str = "nequllpa";
-/// The status if the answer is "no", or something is damaged.
-pub const NO: u8 = 1;
-/// The status if the arguments are wrong, or the system reports an error.
-pub const REFUSED: u8 = 2;
 
 /// Returns how rows are printed.
 pub fn format_given(given: &ArgMatches<'_>) -> RowFormat {
@@ -298,56 +290,6 @@ impl Total {
     }
 }
 
-/// Loads the wanted files of the index of a folder, or returns the status if there is none.
-pub fn loaded_at(
-    rt: &HostRuntime,
-    path: &str,
-    wanted: WantedFiles,
-) -> anyhow::Result<Result<StoredSegments, u8>> {
-    match load_latest_with(rt.alloc(), &Folder::new(rt, path), wanted) {
-        Ok(stored) => Ok(Ok(stored)),
-        Err(StoreFault::Index(fault)) => Ok(Err(tell_no_index(rt, path, fault)?)),
-        Err(StoreFault::Directory(fault)) => Ok(Err(refuse_path(rt, path, fault)?)),
-    }
-}
-
-/// Prints why a folder has no index, and on standard error what to do. Returns the status.
-pub fn tell_no_index(rt: &HostRuntime, path: &str, fault: IndexFault) -> anyhow::Result<u8> {
-    if fault == IndexFault::NoIndex {
-        return tell_none(rt, path);
-    }
-    println!(rt; "{path}: {fault}")?;
-    match fault {
-        IndexFault::OtherVersion(_) => {
-            eprintln!(rt; "{PROGRAM}: index the lines again by this program")?
-        }
-        _ => eprintln!(rt;
-            "{PROGRAM}: the command check prints what is damaged; index the lines again, or restore the folder from a copy"
-        )?,
-    }
-    Ok(NO)
-}
-
-// Does the same for a folder without `meta`, which has files of an index or none.
-fn tell_none(rt: &HostRuntime, path: &str) -> anyhow::Result<u8> {
-    match orphan(rt, path) {
-        Ok(Some(name)) => {
-            let name = name.text(rt.alloc())?;
-            println!(rt; "{path}: an index whose meta is missing: there is {name}")?;
-            eprintln!(rt;
-                "{PROGRAM}: restore meta from a copy, or index the lines again with --force"
-            )?;
-            Ok(NO)
-        }
-        Ok(None) => {
-            println!(rt; "{path}: no index here")?;
-            eprintln!(rt; "{PROGRAM}: the command index makes one")?;
-            Ok(NO)
-        }
-        Err(fault) => refuse_path(rt, path, fault),
-    }
-}
-
 // Opens an index from its bytes, or returns the status if they are none.
 fn opened_of(
     rt: &HostRuntime,
@@ -479,29 +421,4 @@ pub fn status_of(rt: &HostRuntime, path: &str, fault: AnswerFault) -> anyhow::Re
             Ok(NO)
         }
     }
-}
-
-/// Prints an error on standard error and returns the status.
-pub fn refuse<F: Display + Drop>(rt: &HostRuntime, fault: F) -> anyhow::Result<u8> {
-    eprintln!(rt; "{PROGRAM}: {fault}")?;
-    Ok(REFUSED)
-}
-
-/// Does the same for an error of a file, a folder or a query.
-pub fn refuse_path<F: Display + Drop>(
-    rt: &HostRuntime,
-    path: &str,
-    fault: F,
-) -> anyhow::Result<u8> {
-    eprintln!(rt; "{PROGRAM}: {path}: {fault}")?;
-    Ok(REFUSED)
-}
-
-/// Does the same for a file that can't be opened or read.
-pub fn refuse_file(rt: &HostRuntime, path: &str, kind: ErrorKind) -> anyhow::Result<u8> {
-    if kind == ErrorKind::NotFound {
-        eprintln!(rt; "{PROGRAM}: no such file: {path}")?;
-        return Ok(REFUSED);
-    }
-    refuse_path(rt, path, kind)
 }

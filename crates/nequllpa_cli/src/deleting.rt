@@ -1,14 +1,13 @@
 //! The command `delete`.
-use crate::adding::refuse_commit;
-use crate::commands::{REFUSED, field_given, format_given, opened_at, status_of, term_given};
-use crate::indexing::target_of;
+use crate::commands::{field_given, opened_at, status_of, term_given};
 use crate::replacing::total;
 use clap::ArgMatches;
 use ii_base::{DocId, Term};
 use ii_segment_store::{CommitFault, WantedFiles, commit_changes, remove_slots, upgrade};
 use ii_store::Folder;
 use ii_store::collect::collect;
-use nequllpa_folder::{AnswerFault, OpenedIndex, RowFormat, docs_to_delete};
+use nequllpa_folder::{AnswerFault, OpenedIndex, docs_to_delete};
+use nequllpa_writing::{REFUSED, refuse_commit, target_of};
 use std::process::ExitCode;
 
 /// Deletes the documents that have a term.
@@ -49,7 +48,7 @@ fn delete_given(
         return Ok(ExitCode::from(REFUSED));
     };
     match term_given(rt, opened, field, text)? {
-        Ok(term) => delete_term(rt, path, opened, &term, format_given(given)),
+        Ok(term) => delete_term(rt, path, opened, &term, given.get_flag("json")),
         Err(status) => Ok(ExitCode::from(status)),
     }
 }
@@ -60,7 +59,7 @@ fn delete_term(
     path: &str,
     opened: &OpenedIndex,
     term: &Term,
-    format: RowFormat,
+    is_json: bool,
 ) -> anyhow::Result<ExitCode> {
     let docs = match docs_to_delete(rt.alloc(), opened, term) {
         Ok(docs) => docs,
@@ -75,13 +74,13 @@ fn delete_term(
         }
     }
     drop(docs);
-    tell_deleted(rt, format, count)?;
+    tell_deleted(rt, is_json, count)?;
     Ok(ExitCode::SUCCESS)
 }
 
 // Prints how many documents were deleted.
-fn tell_deleted(rt: &HostRuntime, format: RowFormat, count: u64) -> anyhow::Result<()> {
-    if format.is_json() {
+fn tell_deleted(rt: &HostRuntime, is_json: bool, count: u64) -> anyhow::Result<()> {
+    if is_json {
         println!(rt; "{{\"deleted\":{count}}}")?;
     } else {
         println!(rt; "{count} documents deleted")?;

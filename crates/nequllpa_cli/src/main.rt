@@ -3,16 +3,11 @@
 
 mod adding;
 mod batch;
+mod check_progress;
 mod checking;
 mod commands;
 mod deleting;
 mod getting;
-mod indexing;
-mod keyed_lines;
-mod memory;
-mod merging;
-mod new_segments;
-mod orphans;
 mod query_texts;
 mod replacing;
 mod searching;
@@ -20,16 +15,13 @@ mod snippet_style;
 mod timing;
 mod usage;
 
-use adding::{answer_add, answer_upgrade};
+use adding::answer_add;
 use checking::answer_check;
 use clap::ArgMatches;
-use commands::{
-    PROGRAM, REFUSED, answer_fields, answer_postings, answer_stats, answer_terms, refuse,
-};
+use commands::{answer_fields, answer_postings, answer_stats, answer_terms};
 use deleting::answer_delete;
 use getting::answer_get;
-use indexing::answer_index;
-use merging::answer_merge;
+use nequllpa_writing::{PROGRAM, REFUSED, answer_index, answer_merge, answer_upgrade, refuse};
 use searching::answer_search;
 use std::io;
 use std::process::ExitCode;

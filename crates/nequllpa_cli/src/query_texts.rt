@@ -1,9 +1,9 @@
 //! Messages about a query text: why it is refused, and which fields a phrase is not searched in.
-use crate::commands::{PROGRAM, refuse_path};
 use ii_base::{Fault, Field, TextAnalyzer, TokenStream};
 use ii_query_parser::{QueryParserError, UserInputAst, parse, unknown_field_name};
-use ii_tokenizers::{Analyzer, FieldAnalyzers};
+use ii_tokenizers::{FieldAnalyzers, FieldTokenizer};
 use nequllpa_folder::OpenedIndex;
+use nequllpa_writing::{PROGRAM, refuse_path};
 use std::alloc::{AllocError, Global};
 
 /// Prints why a text is no query, with the name of the field concerned. Returns the status.
@@ -99,8 +99,8 @@ fn tell_fields(
         if entry.index_record_option().has_positions() {
             continue;
         }
-        let analyzer = *opened.tokenizers().analyzer(*field);
-        if has_default_phrase(rt.alloc(), analyzer, ast).unwrap_or(false) {
+        let tokenizer = opened.tokenizers().analyzer(*field);
+        if has_default_phrase(rt.alloc(), tokenizer, ast).unwrap_or(false) {
             let name = entry.name();
             eprintln!(rt;
                 "{PROGRAM}: the field {name} keeps no positions, so the phrase is not looked up in it; a word such as don't is a phrase of two"
@@ -114,7 +114,7 @@ fn tell_fields(
 #[cycle(has_default_phrase)]
 fn has_default_phrase(
     alloc: Global,
-    analyzer: Analyzer,
+    tokenizer: &FieldTokenizer,
     ast: &UserInputAst,
 ) -> Result<bool, Fault> {
     match ast {
@@ -122,16 +122,16 @@ fn has_default_phrase(
             if literal.field_name.is_some() {
                 return Ok(false);
             }
-            has_words(alloc, analyzer, literal.phrase.as_str())
+            has_words(alloc, tokenizer, literal.phrase.as_str())
         }
         UserInputAst::All | UserInputAst::Range(_) | UserInputAst::Set(_) => Ok(false),
-        UserInputAst::And(parts) => have_default_phrase(alloc, analyzer, parts),
-        UserInputAst::Or(parts) => have_default_phrase(alloc, analyzer, parts),
+        UserInputAst::And(parts) => have_default_phrase(alloc, tokenizer, parts),
+        UserInputAst::Or(parts) => have_default_phrase(alloc, tokenizer, parts),
         UserInputAst::AndNot(first, other) => {
-            if has_default_phrase(alloc, analyzer, first)? {
+            if has_default_phrase(alloc, tokenizer, first)? {
                 return Ok(true);
             }
-            has_default_phrase(alloc, analyzer, other)
+            has_default_phrase(alloc, tokenizer, other)
         }
     }
 }
@@ -139,11 +139,11 @@ fn has_default_phrase(
 #[cycle(has_default_phrase)]
 fn have_default_phrase(
     alloc: Global,
-    analyzer: Analyzer,
+    tokenizer: &FieldTokenizer,
     parts: &Vec<UserInputAst>,
 ) -> Result<bool, Fault> {
     for part in parts {
-        if has_default_phrase(alloc, analyzer, part)? {
+        if has_default_phrase(alloc, tokenizer, part)? {
             return Ok(true);
         }
     }
@@ -151,8 +151,8 @@ fn have_default_phrase(
 }
 
 // Whether a text has several words.
-fn has_words(alloc: Global, analyzer: Analyzer, text: &str) -> Result<bool, Fault> {
-    let mut stream = analyzer.token_stream(alloc, text)?;
+fn has_words(alloc: Global, tokenizer: &FieldTokenizer, text: &str) -> Result<bool, Fault> {
+    let mut stream = tokenizer.token_stream(alloc, text)?;
     if !stream.advance() {
         return Ok(false);
     }

@@ -1,5 +1,4 @@
 //! Documents that replace others: those that have the same key.
-use crate::adding::{refuse_commit, tell_added};
 use crate::commands::{opened_at, status_of};
 use ii_base::{DocId, Fault, Term};
 use ii_segment_store::{
@@ -7,38 +6,65 @@ use ii_segment_store::{
 };
 use ii_store::Folder;
 use ii_store::collect::collect;
-use nequllpa_folder::{AnswerFault, OpenedIndex, RowFormat, docs_to_delete};
+use nequllpa_folder::{AnswerFault, OpenedIndex, docs_to_delete};
+use nequllpa_writing::{Replacement, refuse_commit, settle, tell_added};
 use std::alloc::Global;
 use std::process::ExitCode;
 
-/// Deletes the documents of an index that have one of these keys, and adds a segment, all at once. Prints how many
-/// documents were added and deleted.
+/// Deletes the documents of an index that have one of the keys, and adds those that replace them, all at once. Prints
+/// how many documents were added and deleted. Then merges segments, if that is wanted.
 pub fn replace_keys(
     rt: &HostRuntime,
     path: &str,
-    segment: SegmentFiles,
-    keys: Vec<Term>,
-    bad_lines: u64,
-    format: RowFormat,
+    replacement: Replacement<'_>,
+    is_json: bool,
 ) -> anyhow::Result<ExitCode> {
+    let Replacement {
+        segments,
+        segment,
+        keys,
+        left_out,
+        merges,
+    } = replacement;
+    let status = match replaced(rt, path, &segment, keys.as_slice())? {
+        Ok(count) => {
+            let num_docs = u64::from(segment.num_docs);
+            tell_added(rt, is_json, num_docs, Some(count), left_out)?;
+            if let Some(budget) = merges {
+                settle(rt, path, budget)?;
+            }
+            ExitCode::SUCCESS
+        }
+        Err(status) => ExitCode::from(status),
+    };
+    drop(segments);
+    Ok(status)
+}
+
+// Replaces the documents that have one of these keys by those of a segment. Returns how many there were, or the
+// status if that fails.
+fn replaced(
+    rt: &HostRuntime,
+    path: &str,
+    segment: &SegmentFiles,
+    keys: &[Term],
+) -> anyhow::Result<Result<u64, u8>> {
     let opened = match opened_at(rt, path, WantedFiles::All)? {
         Ok(opened) => opened,
-        Err(status) => return Ok(ExitCode::from(status)),
+        Err(status) => return Ok(Err(status)),
     };
-    let replaced = match docs_with_keys(rt.alloc(), &opened, keys.as_slice()) {
+    let replaced = match docs_with_keys(rt.alloc(), &opened, keys) {
         Ok(replaced) => replaced,
-        Err(fault) => return Ok(ExitCode::from(status_of(rt, path, AnswerFault::Index(fault))?)),
+        Err(fault) => return Ok(Err(status_of(rt, path, AnswerFault::Index(fault))?)),
     };
     drop(opened);
     let count = total(&replaced);
-    let committed = commit(rt, path, replaced.as_slice(), &segment);
+    let committed = commit(rt, path, replaced.as_slice(), segment);
     drop(replaced);
-    if let Err(fault) = committed {
-        return Ok(ExitCode::from(refuse_commit(rt, path, fault)?));
+    match committed {
+        Ok(()) => Ok(Ok(count)),
+        Err(fault) => Ok(Err(refuse_commit(rt, path, fault)?)),
     }
-    let num_docs = u64::from(segment.num_docs);
-    tell_added(rt, format, num_docs, Some(count), bad_lines)?;
-    Ok(ExitCode::SUCCESS)
 }
 
 // Returns the living documents that have one of these keys, segment by segment, in ascending order, each once.

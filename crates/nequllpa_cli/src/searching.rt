@@ -1,8 +1,6 @@
 //! The command `search`.
 use crate::batch::answer_batch;
-use crate::commands::{
-    PROGRAM, REFUSED, ended, field_named, format_given, number_given, opened_at, refuse,
-};
+use crate::commands::{ended, field_named, format_given, number_given, opened_at};
 use crate::getting::NOT_STORED;
 use crate::query_texts::{refuse_query, tell_left_out};
 use crate::snippet_style::style_given;
@@ -15,6 +13,7 @@ use nequllpa_folder::{
     AnswerFault, BestListing, CountFormat, Listing, OpenedIndex, RowFormat, StoredPart, are_stored,
     id_field_of_all, write_best, write_count, write_listing,
 };
+use nequllpa_writing::{PROGRAM, REFUSED, refuse};
 use std::alloc::Global;
 use std::io::{self, BufWriter, Write};
 use std::process::ExitCode;

@@ -1,6 +1,6 @@
 //! How long the parts of a command take, which the option `--timing` prints.
-use crate::commands::PROGRAM;
 use clap::ArgMatches;
+use nequllpa_writing::PROGRAM;
 use std::time::Instant;
 
 /// The start of a part of a command, if its time is printed.

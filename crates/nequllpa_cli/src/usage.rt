@@ -1,6 +1,6 @@
 //! The commands and their `--help`.
-use crate::commands::PROGRAM;
 use clap::{Arg, ArgAction, Command};
+use nequllpa_writing::PROGRAM;
 use std::alloc::{AllocError, Global};
 
 /// The version of the program.
@@ -48,7 +48,8 @@ static FOLDER: Word = Word {
     help: "The folder of the index",
 };
 
-static USAGES: [Usage; 12] = [
+// The commands that write an index, in the order of the help.
+static WRITING: [Usage; 5] = [
     Usage {
         name: "index",
         about: "Indexes JSON lines: the index replaces the one that the folder had. Input that takes more memory than --memory becomes several segments",
@@ -69,6 +70,11 @@ static USAGES: [Usage; 12] = [
                 help: "Leaves out lines that are no documents, prints why for each, and counts them",
             },
             Word {
+                name: "skip-floats",
+                given: Given::Flag,
+                help: "Leaves out numbers with a fraction or an exponent in the values of JSON fields, and counts them; without it a line with one is no document",
+            },
+            Word {
                 name: "memory",
                 given: Given::Value("SIZE"),
                 help: "About how much memory lines take before they are written as a segment, as 256MB, in B, KB, MB or GB (512MB unless given)",
@@ -86,7 +92,7 @@ static USAGES: [Usage; 12] = [
             Word {
                 name: "json",
                 given: Given::Flag,
-                help: "Prints a JSON object: indexed, the number of documents, and left_out, that of the lines that were left out",
+                help: "Prints a JSON object: indexed, the number of documents, and left_out, that of the lines that were left out; with --skip-floats also skipped_floats, the number of numbers",
             },
         ],
     },
@@ -125,9 +131,14 @@ static USAGES: [Usage; 12] = [
                 help: "Leaves out lines that are no documents, prints why for each, and counts them",
             },
             Word {
+                name: "skip-floats",
+                given: Given::Flag,
+                help: "Leaves out numbers with a fraction or an exponent in the values of JSON fields, and counts them; without it a line with one is no document",
+            },
+            Word {
                 name: "json",
                 given: Given::Flag,
-                help: "Prints a JSON object: added, the number of documents, with --replace-by replaced, and left_out, the number of the lines that were left out",
+                help: "Prints a JSON object: added, the number of documents, with --replace-by replaced, and left_out, the number of the lines that were left out; with --skip-floats also skipped_floats, the number of numbers",
             },
         ],
     },
@@ -170,6 +181,10 @@ static USAGES: [Usage; 12] = [
             help: "Prints a JSON object: version, which is 2, and upgraded, whether the index was of version 1",
         }],
     },
+];
+
+// The commands that read an index, in the order of the help.
+static READING: [Usage; 7] = [
     Usage {
         name: "search",
         about: "Prints the documents that match a query, numbered from 0 in the order of their lines; status 1 where there are none",
@@ -326,11 +341,18 @@ static USAGES: [Usage; 12] = [
     Usage {
         name: "check",
         about: "Checks that each file is as it was saved, walks every list of every term, compares the norms with the counts, and reads all stored lines; prints for each damage the file, the field, the term, the part and the range of its bytes; status 1 if something is damaged",
-        words: &[Word {
-            name: "json",
-            given: Given::Flag,
-            help: "Prints a JSON object for each damage: damage, segment, file, field, term, bytes and document, as far as it has them; and one with documents, files, changed_files, terms, postings, positions and damages at the end",
-        }],
+        words: &[
+            Word {
+                name: "quiet",
+                given: Given::Flag,
+                help: "Prints no progress on standard error; of an index of less than 16 MiB none is printed anyway",
+            },
+            Word {
+                name: "json",
+                given: Given::Flag,
+                help: "Prints a JSON object for each damage: damage, segment, file, field, term, bytes and document, as far as it has them; and one with documents, files, changed_files, terms, postings, positions and damages at the end",
+            },
+        ],
     },
     Usage {
         name: "stats",
@@ -345,14 +367,29 @@ static USAGES: [Usage; 12] = [
 
 /// Builds the command line of the program.
 pub fn command<'a>(alloc: Global) -> Result<Command<'a>, AllocError> {
-    let mut command = Command::new(alloc, PROGRAM)
+    let command = Command::new(alloc, PROGRAM)
         .version(VERSION)
         .about(
             "Indexes JSON lines into a folder, searches the index and inspects it. Status 0: done; 1: no document, no such term, a bad line, no index, or a damaged one; 2: usage or the system",
         )
         .subcommand_required(true)
         .arg_required_else_help(true);
-    for usage in &USAGES {
+    with_reading(alloc, with_writing(alloc, command)?)
+}
+
+// Adds the commands that write an index.
+fn with_writing<'a>(alloc: Global, command: Command<'a>) -> Result<Command<'a>, AllocError> {
+    let mut command = command;
+    for usage in &WRITING {
+        command = with_subcommand(command, subcommand(alloc, usage))?;
+    }
+    Ok(command)
+}
+
+// Adds the commands that read an index.
+fn with_reading<'a>(alloc: Global, command: Command<'a>) -> Result<Command<'a>, AllocError> {
+    let mut command = command;
+    for usage in &READING {
         command = with_subcommand(command, subcommand(alloc, usage))?;
     }
     Ok(command)

@@ -495,7 +495,9 @@ pub(crate) fn tokenizer_name(opened: &OpenedIndex, field: Field) -> Option<&'sta
         return None;
     }
     match entry.value_type() {
-        ValueType::Str | ValueType::Json => Some(opened.tokenizers().analyzer(field).name()),
+        ValueType::Str | ValueType::Json => {
+            Some(opened.tokenizers().analyzer(field).analyzer.name())
+        },
         _ => None,
     }
 }

@@ -8,8 +8,7 @@ ghost use Rattle.ii_definitions.specs.Tokens.{IndexToken};
 ghost use Rattle.ii_query_parser.specs.Queries.{has_fields, keeps_positions, matches};
 ghost use Rattle.ii_query_parser.specs.QueryTexts.{IsQueryOfTextBy, field_named};
 ghost use Rattle.ii_schema_text.specs.SchemaText.{text_schema, tokenized_schema};
-ghost use Rattle.ii_tokenizers.specs.Analyzers.{prefix_analyzer};
-ghost use Rattle.ii_tokenizers.specs.Tokenizers.{analyzed_in};
+ghost use Rattle.ii_tokenizers.specs.Tokenizers.{analyzed_in, prefix_tokenizer};
 ghost use Rattle.nequllpa_folder.specs.OpenedSegments.{OpensAs};
 
 use crate::faults::OpenFault;
@@ -91,7 +90,7 @@ impl OpenedIndex {
         default_fields: &[Field],
         text: &str,
     ) -> Result<Query, QueryParserError>
-        ensures { IsQueryOfTextBy (record { texts = record { analyze = analyzed_in self.now.tokenizers; entries = self.now.schema }; prefixes = analyzed_in (map prefix_analyzer self.now.tokenizers); defaults = default_fields.now }) text.now result }
+        ensures { IsQueryOfTextBy (record { texts = record { analyze = analyzed_in self.now.tokenizers; entries = self.now.schema }; prefixes = analyzed_in (map prefix_tokenizer self.now.tokenizers); defaults = default_fields.now }) text.now result }
     {
         parse_query_by(alloc, &self.schema, default_fields, &self.tokenizers, text)
     }

@@ -45,7 +45,7 @@ may_more es n old new may of =
     record { each = each_more es n old new each of; ordered = ordered_more es n old new each may.ordered of }
 
 -- the calls of one document more
-pub adds_line : (s : DocumentsState) (cs : List Call) (line : List ℕ) → nat_lt s.num_docs TERMINATED ≡ true → may_be_stored s.lines line ≡ true → line_calls_by s.unknown_keys s.schema s.num_docs line ≡ Ok cs → next_calls s line ≡ Ok cs
+pub adds_line : (s : DocumentsState) (cs : List Call) (line : List ℕ) → nat_lt s.num_docs TERMINATED ≡ true → may_be_stored s.lines line ≡ true → line_calls_by s.unknown_keys s.floats s.schema s.num_docs line ≡ Ok cs → next_calls s line ≡ Ok cs
 adds_line s cs line room short said = rw (room, short, said) refl
 
 -- one line more

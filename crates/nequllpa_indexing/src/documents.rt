@@ -22,7 +22,7 @@ use crate::long_words::count_long_words;
 use ii_base::{Fault, LimitName, Schema, TextAnalyzer};
 use ii_counts::CountsWriter;
 use ii_docset::{DocId, TERMINATED};
-use ii_documents::{LineFault, line_calls_by};
+use ii_documents::{FloatNumbers, LineFault, line_calls_by};
 use ii_indexing::{IndexCall, IndexWriters, Indexer, write_index};
 use ii_schema_text::UnknownKeys;
 use ii_segment_store::SegmentFiles;
@@ -33,13 +33,16 @@ use std::marker::Model;
 
 /// Documents to be indexed, as the index calls of their lines, and the lines themselves if they are stored.
 ///
-/// Its model is the schema, the number of documents, the calls, the lines, and what happens to unknown keys.
+/// Its model is the schema, the number of documents, the calls, the lines, what happens to unknown keys and to
+/// floating-point numbers, and how many of the latter were left out.
 pub struct Documents {
     schema: Schema,
     num_docs: DocId,
     calls: Vec<IndexCall>,
     lines: Option<Vec<String>>,
     unknown_keys: UnknownKeys,
+    floats: FloatNumbers,
+    skipped_floats: u64,
 }
 
 // Makes each drop a call.
@@ -51,6 +54,8 @@ impl Drop for Documents {
             calls: _,
             lines: _,
             unknown_keys: _,
+            floats: _,
+            skipped_floats: _,
         } = self;
     }
 }
@@ -70,6 +75,8 @@ impl Model for Documents {
       calls = map (call_of d.schema) d.calls.items;
       lines = lines_view d.lines;
       unknown_keys = d.unknown_keys;
+      floats = d.floats;
+      skipped_floats = d.skipped_floats;
     } };
 
     ghost invariant = { λ d. (d.num_docs ≤ TERMINATED) × MayAllBeIndexed d.schema d.num_docs d.calls.items × AreLinesOf d.num_docs (lines_view d.lines) };
@@ -77,9 +84,9 @@ impl Model for Documents {
 
 impl Documents {
     /// Creates an empty list of documents, with the fields of a schema. Lines aren't stored, and those with unknown
-    /// keys are refused.
+    /// keys or floating-point numbers are refused.
     pub fn new(alloc: Global, schema: Schema) -> Documents
-        ensures { result ≡ record { schema = schema; num_docs = 0; calls = []; lines = None; unknown_keys = UnknownKeys.Refuse } }
+        ensures { result ≡ record { schema = schema; num_docs = 0; calls = []; lines = None; unknown_keys = UnknownKeys.Refuse; floats = FloatNumbers.Refuse; skipped_floats = 0 } }
     {
         Documents {
             schema,
@@ -87,13 +94,15 @@ impl Documents {
             calls: Vec::new(alloc),
             lines: None,
             unknown_keys: UnknownKeys::Refuse,
+            floats: FloatNumbers::Refuse,
+            skipped_floats: 0,
         }
     }
 
     /// Creates an empty list of documents, with the fields of a schema. Each line is stored, and those with unknown
-    /// keys are refused.
+    /// keys or floating-point numbers are refused.
     pub fn storing(alloc: Global, schema: Schema) -> Documents
-        ensures { result ≡ record { schema = schema; num_docs = 0; calls = []; lines = Some []; unknown_keys = UnknownKeys.Refuse } }
+        ensures { result ≡ record { schema = schema; num_docs = 0; calls = []; lines = Some []; unknown_keys = UnknownKeys.Refuse; floats = FloatNumbers.Refuse; skipped_floats = 0 } }
     {
         Documents {
             schema,
@@ -101,6 +110,8 @@ impl Documents {
             calls: Vec::new(alloc),
             lines: Some(Vec::new(alloc)),
             unknown_keys: UnknownKeys::Refuse,
+            floats: FloatNumbers::Refuse,
+            skipped_floats: 0,
         }
     }
 
@@ -111,6 +122,16 @@ impl Documents {
     {
         let mut documents = self;
         documents.unknown_keys = unknown_keys;
+        documents
+    }
+
+    /// Returns the same documents. In lines that are added from now on, floating-point numbers in the values of JSON
+    /// fields are refused or left out. In a field of another type they are always refused.
+    pub fn with_floats(self, floats: FloatNumbers) -> Documents
+        ensures { result ≡ record self { floats = floats } }
+    {
+        let mut documents = self;
+        documents.floats = floats;
         documents
     }
 
@@ -126,6 +147,20 @@ impl Documents {
         ensures { result ≡ self.now.unknown_keys }
     {
         self.unknown_keys
+    }
+
+    /// Returns what happens to floating-point numbers in the values of JSON fields.
+    pub fn floats(&self) -> FloatNumbers
+        ensures { result ≡ self.now.floats }
+    {
+        self.floats
+    }
+
+    /// Returns how many floating-point numbers were left out of the lines, at most 2^64 - 1.
+    pub fn skipped_floats(&self) -> u64
+        ensures { result ≡ self.now.skipped_floats }
+    {
+        self.skipped_floats
     }
 
     /// Returns the number of documents, at most `TERMINATED`. The documents' calls may be indexed in
@@ -152,13 +187,23 @@ impl Documents {
         if !may_be_stored(&self.lines, line) {
             return Err(LineFault::TooLong);
         }
-        let mut calls = line_calls_by(alloc, &self.schema, self.unknown_keys, self.num_docs, line)?;
+        let read = line_calls_by(
+            alloc,
+            &self.schema,
+            self.unknown_keys,
+            self.floats,
+            self.num_docs,
+            line,
+        )?;
+        let skipped_floats = read.skipped_floats;
+        let mut calls = read.calls;
         push_line(alloc, &mut self.lines, line)?;
         if self.calls.append(&mut calls).is_err() {
             pop_line(&mut self.lines);
             return Err(LineFault::OutOfMemory);
         }
         self.num_docs += 1;
+        self.skipped_floats = self.skipped_floats.saturating_add(skipped_floats);
         Ok(())
     }
 
@@ -191,6 +236,8 @@ impl Documents {
             calls,
             lines: _,
             unknown_keys: _,
+            floats: _,
+            skipped_floats: _,
         } = self;
         index_counted(alloc, schema, num_docs, calls, analyzers)
     }
@@ -218,6 +265,8 @@ impl Documents {
             calls,
             lines: _,
             unknown_keys: _,
+            floats: _,
+            skipped_floats: _,
         } = self;
         write_index(alloc, schema, num_docs, calls, analyzer, writers)
     }

@@ -79,9 +79,16 @@ static FOUND: [(&[Kind], DocId, &[Call], &[Key], &str); 13] = [
         &[],
         "0 tokens of 0 terms",
     ),
-    // values of each type
+    // values of each type; the date is 1990-01-01T00:00:00Z
     (
-        &[Kind::U64, Kind::I64, Kind::Bool, Kind::Ip, Kind::Bytes],
+        &[
+            Kind::U64,
+            Kind::I64,
+            Kind::Bool,
+            Kind::Ip,
+            Kind::Bytes,
+            Kind::Date,
+        ],
         1,
         &[
             (0, 0, Said::U64(5)),
@@ -89,6 +96,7 @@ static FOUND: [(&[Kind], DocId, &[Call], &[Key], &str); 13] = [
             (0, 2, Said::Bool(true)),
             (0, 3, Said::Ip(1)),
             (0, 4, Said::Bytes(b"abc")),
+            (0, 5, Said::Date(631152000000000000)),
         ],
         &[
             (0, &[0, 0, 0, 0, 0, 0, 0, 5]),
@@ -97,8 +105,9 @@ static FOUND: [(&[Kind], DocId, &[Call], &[Key], &str); 13] = [
             (2, &[0, 0, 0, 0, 0, 0, 0, 1]),
             (3, &[0, 0, 0, 0, 0, 0, 0, 0, 0, 0, 0, 0, 0, 0, 0, 1]),
             (4, b"abc"),
+            (5, &[0x88, 0xC2, 0x4D, 0x66, 0x67, 0x47, 0, 0]),
         ],
-        "0:1: ; ; 0:1: ; 0:1: ; 0:1: ; 0:1: ; 1 tokens of 1 terms",
+        "0:1: ; ; 0:1: ; 0:1: ; 0:1: ; 0:1: ; 0:1: ; 1 tokens of 1 terms",
     ),
     // JSON fields count positions per path
     (

@@ -4,8 +4,8 @@ ghost use Rattle.ii_base.specs.declared.doc_id.TheConstants.{TERMINATED};
 ghost use Rattle.ii_definitions.specs.IndexCalls.{MayAllBeIndexed, MayBeIndexed, type_of};
 
 use ii_base::{
-    AsciiTokenizer, Fault, Field, FieldEntry, IndexRecordOption, JsonValue, Schema, Term, Token,
-    TokenList, ValueType,
+    AsciiTokenizer, DateTime, Fault, Field, FieldEntry, IndexRecordOption, JsonValue, Schema, Term,
+    Token, TokenList, ValueType,
 };
 use ii_docset::{DocId, DocSet, Postings, TERMINATED};
 use ii_indexing::{IndexCall, IndexWriters, write_index};
@@ -28,6 +28,7 @@ pub enum Kind {
     U64,
     I64,
     Bool,
+    Date,
     Bytes,
     Ip,
 }
@@ -54,6 +55,8 @@ pub enum Said {
     U64(u64),
     I64(i64),
     Bool(bool),
+    /// A date, in nanoseconds.
+    Date(i64),
     Bytes(&'static [u8]),
     Ip(u128),
     /// A JSON object of leaves.
@@ -78,6 +81,7 @@ fn entry_of(alloc: Global, kind: &Kind) -> Result<FieldEntry, Fault> {
         Kind::U64 => FieldEntry::value(name, ValueType::U64, false),
         Kind::I64 => FieldEntry::value(name, ValueType::I64, false),
         Kind::Bool => FieldEntry::value(name, ValueType::Bool, false),
+        Kind::Date => FieldEntry::value(name, ValueType::Date, false),
         Kind::Bytes => FieldEntry::value(name, ValueType::Bytes, false),
         Kind::Ip => FieldEntry::value(name, ValueType::IpAddr, false),
     })
@@ -187,6 +191,7 @@ pub fn call_of(alloc: Global, call: &Call) -> Result<IndexCall, Fault> {
         Said::U64(number) => IndexCall::U64(doc, field, *number),
         Said::I64(number) => IndexCall::I64(doc, field, *number),
         Said::Bool(truth) => IndexCall::Bool(doc, field, *truth),
+        Said::Date(nanoseconds) => IndexCall::Date(doc, field, DateTime(*nanoseconds)),
         Said::Bytes(bytes) => IndexCall::Bytes(doc, field, Vec::from_slice(alloc, bytes)?),
         Said::Ip(address) => IndexCall::Ip(doc, field, *address),
         Said::Object(leaves) => IndexCall::Json(doc, field, object_of(alloc, leaves)?),
@@ -212,6 +217,7 @@ fn type_in(call: &IndexCall) -> ValueType
         IndexCall::U64(_, _, _) => ValueType::U64,
         IndexCall::I64(_, _, _) => ValueType::I64,
         IndexCall::Bool(_, _, _) => ValueType::Bool,
+        IndexCall::Date(_, _, _) => ValueType::Date,
         IndexCall::Bytes(_, _, _) => ValueType::Bytes,
         IndexCall::Ip(_, _, _) => ValueType::IpAddr,
         IndexCall::Json(_, _, _) => ValueType::Json,

@@ -75,8 +75,8 @@ impl FieldEntry {
         }
     }
 
-    /// Creates a field of other values: `U64`, `I64`, `Bool`, `Bytes` or `IpAddr`. Of a term it keeps only
-    /// the documents.
+    /// Creates a field of other values: `U64`, `I64`, `Bool`, `Date`, `Bytes` or `IpAddr`. Of a term it keeps
+    /// only the documents.
     pub fn value(name: String, value_type: ValueType, norms: bool) -> FieldEntry
         requires { is_plain value_type ≡ true }
         ensures { result ≡ record {

@@ -9,5 +9,5 @@ use Rattle.ii_documents.proofs.json_lines.push_items.Given as goal
 abbrev pub invariant-loop-item : goal.invariant-loop-item
 invariant-loop-item l =
     (e : SchemaEntry) → slice_get l.schema l.field ≡ Some e → e.is_indexed ≡ true
-    → IsAdding l.schema l.doc l.fn.calls.items l.calls.items (items_calls l.doc l.field e (items_view l.item-items))
-    (items_calls l.doc l.field e (items_view (drop l.item-index l.item-items)))
+    → IsAdding l.schema l.doc l.fn.calls.items l.calls.items (items_calls l.floats l.doc l.field e (items_view l.item-items))
+    (items_calls l.floats l.doc l.field e (items_view (drop l.item-index l.item-items)))

@@ -2,6 +2,7 @@ use Rattle.std.proofs.Common.{◌≡◌, ◌∙◌, map, ap, append-nil, rules, 
 use Rattle.std.proofs.lemmas.List.{take_all}
 use Rattle.serde_json.specs.View.{view}
 use Rattle.ii_base.specs.Json.{items_from as items_made, json_of}
+use Rattle.ii_documents.specs.Floats.{without_floats}
 use Rattle.ii_documents.specs.JsonValues.{json_from}
 use Rattle.ii_documents.proofs.JsonLemmas.{given_members, given_pair, items_are, made_members, made_pair, of_pairs}
 use Rattle.ii_documents.proofs.json_values.+json.Goals as goal
@@ -9,8 +10,8 @@ use Rattle.ii_documents.proofs.json_values.+json.Goals as goal
 pub json_items-returns : goal.json_items-returns
 json_items-returns t c =
     let taken = take_all c.loop-item.item-index c.deref-item-items.result.now (search rules) in
-    let all : map json_of c.loop-item.values.items ≡ map (λ v. json_from (view v)) c.args.items.now.items =
-    c.loop-item.invariant ∙ ap (λ vs. map (λ v. json_from (view v)) vs) (taken ∙ c.deref-item-items.ensures.value) in
+    let all : map json_of c.loop-item.values.items ≡ map (λ v. json_from (without_floats (view v))) c.args.items.now.items =
+    c.loop-item.invariant ∙ ap (λ vs. map (λ v. json_from (without_floats (view v))) vs) (taken ∙ c.deref-item-items.ensures.value) in
     ap items_made all ∙ items_are c.args.items.now.items
 
 pub json_members-returns : goal.json_members-returns

@@ -1,7 +1,7 @@
 use Rattle.std.proofs.Common.{◌≡◌, List, arith, inl, subst}
 use Rattle.ii_base.specs.Schema.{SchemaEntry}
 use Rattle.ii_segment_store.specs.Contents.{files_contents}
-use Rattle.ii_tokenizers.specs.declared.analyzer.Analyzer.{Analyzer}
+use Rattle.ii_tokenizers.specs.declared.field_tokenizer.FieldTokenizer.{FieldTokenizer}
 use Rattle.ii_tokenizers.specs.Tokenizers.{analyzed_in}
 use Rattle.ii_index.specs.Segments.{segment_of}
 use Rattle.ii_index.proofs.IndexLemmas.{added_or_not, none_added, same_files_hold, segment_added}
@@ -27,7 +27,7 @@ returns-in-Ok-append_segment-clause-added g c = λ known n ts holds.
     let words = analyzed_in c.args.schema.now.tokenizers in
     let held : HoldsSegment c.args.schema.now.schema contents (segment_of words c.args.documents) =
     subst (λ (es : List SchemaEntry). HoldsSegment es contents (segment_of words c.args.documents)) c.requires.schema
-    (subst (λ (by : List Analyzer). HoldsSegment c.args.documents.schema contents (segment_of (analyzed_in by) c.args.documents)) c.tokenizers.ensures c.in-Ok.ensures.holds) in
+    (subst (λ (by : List FieldTokenizer). HoldsSegment c.args.documents.schema contents (segment_of (analyzed_in by) c.args.documents)) c.tokenizers.ensures c.in-Ok.ensures.holds) in
     segment_added c.args.schema.now.schema words c.args.documents n ts (g.D.Directory.seen c.args.directory.now) (g.D.Directory.seen c.append_segment.new.directory) contents (c.in-Ok-append_segment.ensures.appended known) held holds
 
 pub returns-in-Ok-append_segment-clause-leaves_one : goal.returns-in-Ok-append_segment-clause-leaves_one
@@ -36,7 +36,7 @@ returns-in-Ok-append_segment-clause-leaves_one g c = λ known n ts holds files l
     let words = analyzed_in c.args.schema.now.tokenizers in
     let held : HoldsSegment c.args.schema.now.schema contents (segment_of words c.args.documents) =
     subst (λ (es : List SchemaEntry). HoldsSegment es contents (segment_of words c.args.documents)) c.requires.schema
-    (subst (λ (by : List Analyzer). HoldsSegment c.args.documents.schema contents (segment_of (analyzed_in by) c.args.documents)) c.tokenizers.ensures c.in-Ok.ensures.holds) in
+    (subst (λ (by : List FieldTokenizer). HoldsSegment c.args.documents.schema contents (segment_of (analyzed_in by) c.args.documents)) c.tokenizers.ensures c.in-Ok.ensures.holds) in
     added_or_not c.args.schema.now.schema words c.args.documents n ts (g.D.Directory.seen c.args.directory.now) files contents ((c.append_segment.ensures.leaves_one known).each files left) held holds
 
 pub returns-clause-leaves_one : goal.returns-clause-leaves_one
@@ -45,7 +45,7 @@ returns-clause-leaves_one g c = λ known n ts holds files left.
     let words = analyzed_in c.args.schema.now.tokenizers in
     let held : HoldsSegment c.args.schema.now.schema contents (segment_of words c.args.documents) =
     subst (λ (es : List SchemaEntry). HoldsSegment es contents (segment_of words c.args.documents)) c.requires.schema
-    (subst (λ (by : List Analyzer). HoldsSegment c.args.documents.schema contents (segment_of (analyzed_in by) c.args.documents)) c.tokenizers.ensures c.in-Ok.ensures.holds) in
+    (subst (λ (by : List FieldTokenizer). HoldsSegment c.args.documents.schema contents (segment_of (analyzed_in by) c.args.documents)) c.tokenizers.ensures c.in-Ok.ensures.holds) in
     added_or_not c.args.schema.now.schema words c.args.documents n ts (g.D.Directory.seen c.args.directory.now) files contents ((c.append_segment.ensures.leaves_one known).each files left) held holds
 
 pub returns-clause-fault : goal.returns-clause-fault
@@ -54,5 +54,5 @@ returns-clause-fault g c = λ known.
     let words = analyzed_in c.args.schema.now.tokenizers in
     let held : HoldsSegment c.args.schema.now.schema contents (segment_of words c.args.documents) =
     subst (λ (es : List SchemaEntry). HoldsSegment es contents (segment_of words c.args.documents)) c.requires.schema
-    (subst (λ (by : List Analyzer). HoldsSegment c.args.documents.schema contents (segment_of (analyzed_in by) c.args.documents)) c.tokenizers.ensures c.in-Ok.ensures.holds) in
+    (subst (λ (by : List FieldTokenizer). HoldsSegment c.args.documents.schema contents (segment_of (analyzed_in by) c.args.documents)) c.tokenizers.ensures c.in-Ok.ensures.holds) in
     (contents, held, c.in-Err-append_segment.ensures.fault known)

@@ -1,7 +1,7 @@
 use Rattle.std.proofs.Common.{List, ℕ, inr, subst, sym}
 use Rattle.ii_base.specs.Schema.{SchemaEntry}
 use Rattle.ii_segment_store.specs.Contents.{files_contents}
-use Rattle.ii_tokenizers.specs.declared.analyzer.Analyzer.{Analyzer}
+use Rattle.ii_tokenizers.specs.declared.field_tokenizer.FieldTokenizer.{FieldTokenizer}
 use Rattle.ii_tokenizers.specs.Tokenizers.{analyzed_in}
 use Rattle.ii_index.specs.Deletes.{AreReached, HoldsWithout, docs_in_files}
 use Rattle.ii_index.specs.Segments.{segment_of}
@@ -18,7 +18,7 @@ returns-in-Err-docs_of_files-clause-fault c =
     let words = analyzed_in c.args.schema.now.tokenizers in
     let held : HoldsSegment c.args.schema.now.schema contents (segment_of words c.args.documents) =
     subst (λ (es : List SchemaEntry). HoldsSegment es contents (segment_of words c.args.documents)) c.requires.schema
-    (subst (λ (by : List Analyzer). HoldsSegment c.args.documents.schema contents (segment_of (analyzed_in by) c.args.documents)) c.tokenizers.ensures c.in-Ok.ensures.holds) in
+    (subst (λ (by : List FieldTokenizer). HoldsSegment c.args.documents.schema contents (segment_of (analyzed_in by) c.args.documents)) c.tokenizers.ensures c.in-Ok.ensures.holds) in
     inr (inr (contents, held, subst (λ (es : List SchemaEntry). IsRefusal (docs_in_files Pending es c.args.deletes.now contents) c.in-Err-docs_of_files.fault) c.schema.ensures c.in-Err-docs_of_files.ensures.err))
 
 pub returns-in-Ok-files_without-clause-holds : goal.returns-in-Ok-files_without-clause-holds
@@ -29,7 +29,7 @@ returns-in-Ok-files_without-clause-holds c =
     let left = files_contents c.in-Ok-files_without.files in
     let held : HoldsSegment c.args.schema.now.schema contents (segment_of words c.args.documents) =
     subst (λ (es : List SchemaEntry). HoldsSegment es contents (segment_of words c.args.documents)) c.requires.schema
-    (subst (λ (by : List Analyzer). HoldsSegment c.args.documents.schema contents (segment_of (analyzed_in by) c.args.documents)) c.tokenizers.ensures c.in-Ok.ensures.holds) in
+    (subst (λ (by : List FieldTokenizer). HoldsSegment c.args.documents.schema contents (segment_of (analyzed_in by) c.args.documents)) c.tokenizers.ensures c.in-Ok.ensures.holds) in
     let reached = subst (λ (es : List SchemaEntry). AreReached Pending es c.args.deletes.now contents docs) c.schema.ensures c.in-Ok-docs_of_files.ensures.reached in
     let there = c.in-Ok-files_without.ensures.holds (segment_of words c.args.documents) (subst (λ (es : List SchemaEntry). HoldsSegment es contents (segment_of words c.args.documents)) (sym c.schema-2.ensures) held) in
     left_holds c.args.schema.now c.args.documents c.args.deletes.now docs left (reached (segment_of words c.args.documents) held)
@@ -43,7 +43,7 @@ returns-clause-fault c =
     let docs = c.in-Ok-docs_of_files.docs.items in
     let held : HoldsSegment c.args.schema.now.schema contents (segment_of words c.args.documents) =
     subst (λ (es : List SchemaEntry). HoldsSegment es contents (segment_of words c.args.documents)) c.requires.schema
-    (subst (λ (by : List Analyzer). HoldsSegment c.args.documents.schema contents (segment_of (analyzed_in by) c.args.documents)) c.tokenizers.ensures c.in-Ok.ensures.holds) in
+    (subst (λ (by : List FieldTokenizer). HoldsSegment c.args.documents.schema contents (segment_of (analyzed_in by) c.args.documents)) c.tokenizers.ensures c.in-Ok.ensures.holds) in
     let reached = subst (λ (es : List SchemaEntry). AreReached Pending es c.args.deletes.now contents docs) c.schema.ensures c.in-Ok-docs_of_files.ensures.reached in
     left_fault c.args.schema.now c.args.documents c.args.deletes.now docs c.as_slice.result.now c.schema-2.result.now c.in-Ok.files c.in-Err-files_without.fault c.as_slice.ensures.value c.schema-2.ensures c.in-Ok.ensures.counted held
     (reached (segment_of words c.args.documents) held) c.in-Err-files_without.ensures.fault

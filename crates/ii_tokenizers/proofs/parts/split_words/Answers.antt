@@ -1,12 +1,13 @@
-use Rattle.std.proofs.Common.{length, sym, ◌∙◌, refl, arith}
+use Rattle.std.proofs.Common.{length, sym, ap, ◌∙◌, refl, arith}
 use Rattle.std.specs.List.{flat_map}
 use Rattle.std.proofs.lemmas.List.{append-nil, length-map}
 use Rattle.std.proofs.lemmas.List.Elements.{All-filter, All-head, All-rest}
 use Rattle.unicode_segmentation.proofs.SegmentsLemmas.{IsPieceOf, All-IsPieceOf}
 use Rattle.unicode_segmentation.specs.Iter.{unicode_word_indices_left}
 use Rattle.ii_base.specs.Words.{word_of, words_of}
-use Rattle.ii_tokenizers.specs.Analyzers.{piece_parts}
+use Rattle.ii_tokenizers.specs.Analyzers.{piece_parts, words_from}
 use Rattle.ii_tokenizers.specs.declared.parts.Cut.TheVariants.{AtMarks}
+use Rattle.ii_tokenizers.proofs.AsciiWordLemmas.{ascii_is_rule}
 use Rattle.ii_tokenizers.proofs.PartLemmas.{added_parts}
 use Rattle.ii_tokenizers.proofs.parts.split_words.Goals as goal
 
@@ -32,3 +33,8 @@ loop-at-preserved c = (
 
 pub returns-clause-ok : goal.returns-clause-ok
 returns-clause-ok c = rw (c.in-None.ensures.steps.0, append-nil) at c.loop-at.invariant.1
+
+pub returns-then-is_ascii-clause-ok : goal.returns-then-is_ascii-clause-ok
+returns-then-is_ascii-clause-ok c =
+    (rw c.new-tokens.ensures.items at c.in_ok-add_ascii_words.ensures.ok)
+    ∙ ap (words_from 0) (sym (ascii_is_rule c.args.text.now c.if-is_ascii.ensures.cases))

@@ -85,6 +85,23 @@ returns-in-Bool-clause-refused g c =
     (subst (λ (n : ℕ). CallRefused (g.A.TextAnalyzer.words c.args.analyzer.now) c.args.self.now c.index_value-in-Bool.result (record { doc = c.in-Bool.doc; field = c.in-Bool.field; content = value (u64_bytes n) }) types.Bool) number
     (value_call_refused (g.A.TextAnalyzer.words c.args.analyzer.now) c.args.self.now c.index_value-in-Bool.result c.in-Bool.doc c.in-Bool.field (u64_bytes c.number-number.result) types.Bool (record { typed = refl; basic = λ o. refl }) (λ entries ps takes known. told entries ps (u64_bytes c.number-number.result) takes known)))
 
+pub returns-in-Date-clause-stored : goal.returns-in-Date-clause-stored
+returns-in-Date-clause-stored g c =
+    let number = c.number-number.ensures ∙ ap number_in c.in-Date.is in
+    let told = subst (λ (l : List ℕ). OnOk c.index_value-in-Date.result (ValueHeld c.args.self.now c.index_value-in-Date.new.self c.in-Date.doc c.in-Date.field l)) c.to_be_bytes-in-Date.ensures c.index_value-in-Date.ensures.stored in
+    let stored = on_ok c.index_value-in-Date.result _ _ (λ h entries ps takes known. h entries ps (u64_bytes c.number-number.result) takes known) told in
+    subst (λ (x : IndexCall). OnOk c.index_value-in-Date.result (CallStored (g.A.TextAnalyzer.words c.args.analyzer.now) c.args.self.now c.index_value-in-Date.new.self (call_with c.args.expand_dots x) (type_of x))) (sym c.in-Date.is)
+    (subst (λ (n : ℕ). OnOk c.index_value-in-Date.result (CallStored (g.A.TextAnalyzer.words c.args.analyzer.now) c.args.self.now c.index_value-in-Date.new.self (record { doc = c.in-Date.doc; field = c.in-Date.field; content = value (u64_bytes n) }) types.Date)) number
+    (on_both c.index_value-in-Date.result _ _ _ (value_call (g.A.TextAnalyzer.words c.args.analyzer.now) c.args.self.now c.index_value-in-Date.new.self c.in-Date.doc c.in-Date.field (u64_bytes c.number-number.result) types.Date (record { typed = refl; basic = λ o. refl })) stored c.index_value-in-Date.ensures.same_paths))
+
+pub returns-in-Date-clause-refused : goal.returns-in-Date-clause-refused
+returns-in-Date-clause-refused g c =
+    let number = c.number-number.ensures ∙ ap number_in c.in-Date.is in
+    let told = subst (λ (l : List ℕ). HeldRefused c.args.self.now c.index_value-in-Date.result c.in-Date.doc c.in-Date.field l) c.to_be_bytes-in-Date.ensures c.index_value-in-Date.ensures.refused in
+    subst (λ (x : IndexCall). CallRefused (g.A.TextAnalyzer.words c.args.analyzer.now) c.args.self.now c.index_value-in-Date.result (call_with c.args.expand_dots x) (type_of x)) (sym c.in-Date.is)
+    (subst (λ (n : ℕ). CallRefused (g.A.TextAnalyzer.words c.args.analyzer.now) c.args.self.now c.index_value-in-Date.result (record { doc = c.in-Date.doc; field = c.in-Date.field; content = value (u64_bytes n) }) types.Date) number
+    (value_call_refused (g.A.TextAnalyzer.words c.args.analyzer.now) c.args.self.now c.index_value-in-Date.result c.in-Date.doc c.in-Date.field (u64_bytes c.number-number.result) types.Date (record { typed = refl; basic = λ o. refl }) (λ entries ps takes known. told entries ps (u64_bytes c.number-number.result) takes known)))
+
 pub returns-in-Bytes-clause-stored : goal.returns-in-Bytes-clause-stored
 returns-in-Bytes-clause-stored g c =
     let told = subst (λ (l : List ℕ). OnOk c.index_value-in-Bytes.result (ValueHeld c.args.self.now c.index_value-in-Bytes.new.self c.in-Bytes.doc c.in-Bytes.field l)) c.deref.ensures.value c.index_value-in-Bytes.ensures.stored in

@@ -1,6 +1,7 @@
 use Rattle.std.proofs.Common.{[]}
 use Rattle.ii_base.specs.Options.{has_positions}
 use Rattle.ii_base.specs.Values.{flipped, number_of_bool, u64_bytes}
+use Rattle.ii_dates.specs.Dates.{date_in}
 use Rattle.ii_json.specs.FastValues.{bool_in, i64_in, u64_in}
 use Rattle.ii_query_parser.specs.declared.query_parser_error.QueryParserError.TheVariants as errors
 use Rattle.ii_query_parser.proofs.TermLemmas.{str_adds, value_adds}
@@ -21,6 +22,12 @@ returns-in-I64 g c =
     let term = c.i64_term.ensures in
     let put = c.push_read-in-I64.ensures in
     rw c.in-I64.is (value_adds c.args.self.field (has_positions c.args.self.option) (λ n. u64_bytes (flipped n)) (i64_in c.args.phrase.now) (errors.ExpectedInt c.args.self.field) c.i64_term.result c.args.terms.now.items c.push_read-in-I64.new.terms.items c.push_read-in-I64.result term.ok term.only put.read put.refused)
+
+pub returns-in-Date : goal.returns-in-Date
+returns-in-Date g c =
+    let term = c.date_term.ensures in
+    let put = c.push_read-in-Date.ensures in
+    rw c.in-Date.is (value_adds c.args.self.field (has_positions c.args.self.option) (λ z. u64_bytes (flipped z)) (date_in c.args.phrase.now) (errors.ExpectedDate c.args.self.field) c.date_term.result c.args.terms.now.items c.push_read-in-Date.new.terms.items c.push_read-in-Date.result term.ok term.only put.read put.refused)
 
 pub returns-in-Bool : goal.returns-in-Bool
 returns-in-Bool g c =

@@ -1,18 +1,21 @@
 //! The command `index`.
 ghost use Rattle.std.specs.Prelude.{◌≡◌, [], None, Some, if◌then◌else◌};
+ghost use Rattle.ii_documents.specs.declared.floats.FloatNumbers.TheVariants as floats;
 
-use crate::commands::{NO, PROGRAM, REFUSED, format_given, refuse, refuse_file, refuse_path};
+use crate::float_paths::float_path;
 use crate::keyed_lines::{KeyedLines, LineRefusal};
+use crate::left_out::LeftOut;
 use crate::memory::{Budget, budget_given};
+use crate::messages::{NO, PROGRAM, REFUSED, refuse, refuse_file, refuse_path};
 use crate::new_segments::{Former, NewSegments};
 use crate::orphans::refuse_orphan;
+use crate::schemas::text_schema_of;
 use clap::ArgMatches;
 use ii_base::{Field, Term, ValueType};
-use ii_documents::{LineFault, ValueFault};
+use ii_documents::{FloatNumbers, LineFault, ValueFault};
 use ii_schema_text::{SchemaFault, TextSchema, field_name_at, new_schema_text, read_text_schema};
 use ii_store::FolderLock;
 use ii_tokenizers::FieldTokenizers;
-use nequllpa_folder::{RowFormat, text_schema_of};
 use nequllpa_indexing::{Documents, InputFault, MAX_TOKEN_LEN, add_line};
 use serde_json::Error as JsonError;
 use std::alloc::Global;
@@ -22,8 +25,8 @@ use std::mem::replace;
 use std::process::ExitCode;
 use std::time::Instant;
 
-// The number of input bytes between two lines of progress.
-const STEP: u64 = 16 << 20;
+/// The number of input bytes between two lines of progress. Of an index with fewer bytes no progress is printed.
+pub const STEP: u64 = 16 << 20;
 
 // The file name for standard input.
 const STANDARD_INPUT: &str = "-";
@@ -45,6 +48,8 @@ pub struct Intake<'a> {
     unwritten: u64,
     tokenizers: FieldTokenizers,
     long_words: u64,
+    // how many numbers with a fraction the segments have left out
+    skipped_floats: u64,
     // the lines, if their documents replace others
     keyed: Option<KeyedLines>,
     skips_bad: bool,
@@ -93,7 +98,7 @@ pub fn answer_index(
     }
     match intake.finish(rt)? {
         Ok(taken) => {
-            tell_indexed(rt, format_given(given), taken)?;
+            tell_indexed(rt, given.get_flag("json"), taken)?;
             Ok(ExitCode::SUCCESS)
         }
         Err(status) => Ok(ExitCode::from(status)),
@@ -103,7 +108,7 @@ pub fn answer_index(
 /// Returns an empty list of documents, whose lines are stored, and whose unknown keys are ignored, if the schema's text
 /// says so, and the tokenizers of their fields.
 pub fn documents_for(alloc: Global, schema: TextSchema) -> (Documents, FieldTokenizers)
-    ensures documents { result.0 ≡ record { schema = schema.schema; num_docs = 0; calls = []; lines = if schema.stores_source then Some [] else None; unknown_keys = schema.unknown_keys } }
+    ensures documents { result.0 ≡ record { schema = schema.schema; num_docs = 0; calls = []; lines = if schema.stores_source then Some [] else None; unknown_keys = schema.unknown_keys; floats = floats.Refuse; skipped_floats = 0 } }
     ensures tokenizers { result.1 ≡ schema.tokenizers }
 {
     let stores_source = schema.stores_source();
@@ -193,6 +198,7 @@ pub fn begun<'a>(
         tell_memory(rt, budget, keyed.is_some())?;
     }
     let (documents, tokenizers) = documents_for(rt.alloc(), schema);
+    let documents = documents.with_floats(floats_given(given));
     Ok(Intake {
         segments,
         most_bytes: budget.bytes_of_lines(),
@@ -200,6 +206,7 @@ pub fn begun<'a>(
         unwritten: 0,
         tokenizers,
         long_words: 0,
+        skipped_floats: 0,
         keyed,
         skips_bad: given.get_flag("skip-bad"),
         is_quiet,
@@ -208,6 +215,14 @@ pub fn begun<'a>(
         reported: 0,
         begun,
     })
+}
+
+// Returns what happens to numbers with a fraction.
+fn floats_given(given: &ArgMatches<'_>) -> FloatNumbers {
+    if given.get_flag("skip-floats") {
+        return FloatNumbers::Skip;
+    }
+    FloatNumbers::Refuse
 }
 
 // Prints how much memory lines take.
@@ -346,8 +361,10 @@ pub struct Kept<'a> {
 /// What was taken of the input.
 #[derive(Clone, Copy)]
 pub struct Taken {
+    /// The number of documents.
     pub num_docs: u64,
-    pub bad_lines: u64,
+    /// How many lines, and numbers with a fraction, were left out.
+    pub left_out: LeftOut,
 }
 
 impl<'a> Intake<'a> {
@@ -364,7 +381,7 @@ impl<'a> Intake<'a> {
         match intake.segments.commit(rt)? {
             Ok(()) => Ok(Ok(Taken {
                 num_docs: intake.segments.num_docs(),
-                bad_lines: intake.bad_lines,
+                left_out: LeftOut::new(intake.bad_lines, &intake.documents, intake.skipped_floats),
             })),
             Err(status) => Ok(Err(status)),
         }
@@ -385,8 +402,17 @@ impl<'a> Intake<'a> {
             Ok(schema) => schema,
             Err(fault) => return Ok(Err(refuse(rt, fault)?)),
         };
+        if !self.is_quiet && self.unwritten >= STEP {
+            eprintln!(rt;
+                "{PROGRAM}: writing a segment of {} documents",
+                self.documents.num_docs()
+            )?;
+        }
         let (none, _) = documents_for(rt.alloc(), schema);
+        let none = none.with_floats(self.documents.floats());
         let documents = replace(&mut self.documents, none);
+        let skipped_floats = documents.skipped_floats();
+        self.skipped_floats = self.skipped_floats.saturating_add(skipped_floats);
         self.unwritten = 0;
         self.segments.add(rt, documents, &self.tokenizers)
     }
@@ -409,6 +435,7 @@ impl<'a> Intake<'a> {
             unwritten: _,
             tokenizers,
             long_words: _,
+            skipped_floats: _,
             keyed,
             skips_bad: _,
             is_quiet: _,
@@ -494,7 +521,7 @@ impl<'a> Intake<'a> {
                 tell_not_json(rt, name, number, line, error)?
             }
             LineRefusal::Input(InputFault::Line(LineFault::WrongValue(field, reason))) => {
-                self.tell_value(rt, name, number, *field, *reason)?
+                self.tell_value(rt, name, number, line, *field, *reason)?
             }
             _ => eprintln!(rt; "{name}:{number}: {fault}")?,
         }
@@ -512,6 +539,7 @@ impl<'a> Intake<'a> {
         rt: &HostRuntime,
         name: &str,
         number: u64,
+        line: &[u8],
         field: Field,
         reason: ValueFault,
     ) -> anyhow::Result<()> {
@@ -522,6 +550,9 @@ impl<'a> Intake<'a> {
         }
         let entry = schema.get_field_entry(field);
         let field = entry.name();
+        if reason == ValueFault::Float {
+            return tell_float(rt, name, number, line, field);
+        }
         if reason != ValueFault::OutOfRange {
             eprintln!(rt; "{name}:{number}: {field}: {reason}")?;
             return Ok(());
@@ -559,6 +590,27 @@ impl<'a> Intake<'a> {
         )?;
         Ok(())
     }
+}
+
+// Prints that a value of a field of JSON values has a number with a fraction, and its path.
+fn tell_float(
+    rt: &HostRuntime,
+    name: &str,
+    number: u64,
+    line: &[u8],
+    field: &str,
+) -> anyhow::Result<()> {
+    let path = match std::str::from_utf8(line) {
+        Ok(line) => float_path(rt.alloc(), line, field)?,
+        Err(_) => None,
+    };
+    let reason = ValueFault::Float;
+    match path {
+        Some(path) => eprintln!(rt; "{name}:{number}: {path}: {reason}")?,
+        None => eprintln!(rt; "{name}:{number}: {field}: {reason}")?,
+    }
+    eprintln!(rt; "{PROGRAM}: --skip-floats leaves such numbers out")?;
+    Ok(())
 }
 
 // Prints why a line can't be read as JSON, and where.
@@ -618,18 +670,15 @@ pub fn tell_long_words(rt: &HostRuntime, is_quiet: bool, count: u64) -> anyhow::
     Ok(())
 }
 
-// Prints how many documents were indexed and how many lines were skipped.
-fn tell_indexed(rt: &HostRuntime, format: RowFormat, taken: Taken) -> anyhow::Result<()> {
-    let Taken {
-        num_docs,
-        bad_lines,
-    } = taken;
-    if format.is_json() {
-        println!(rt; "{{\"indexed\":{num_docs},\"left_out\":{bad_lines}}}")?;
-    } else if bad_lines > 0 {
-        println!(rt; "{num_docs} documents indexed, {bad_lines} lines left out")?;
+// Prints how many documents were indexed and how many lines and numbers were left out.
+fn tell_indexed(rt: &HostRuntime, is_json: bool, taken: Taken) -> anyhow::Result<()> {
+    let Taken { num_docs, left_out } = taken;
+    if is_json {
+        let left_out = left_out.json(rt.alloc())?;
+        println!(rt; "{{\"indexed\":{num_docs},{left_out}}}")?;
     } else {
-        println!(rt; "{num_docs} documents indexed")?;
+        let left_out = left_out.words(rt.alloc())?;
+        println!(rt; "{num_docs} documents indexed{left_out}")?;
     }
     Ok(())
 }

@@ -1,5 +1,5 @@
 //! Files of an index whose `meta` is missing.
-use crate::commands::{PROGRAM, REFUSED, refuse_path};
+use crate::messages::{PROGRAM, REFUSED, refuse_path};
 use ii_store::{Directory, DirectoryFault, Folder, Name, SegmentComponent, SegmentId};
 use std::io::ErrorKind;
 

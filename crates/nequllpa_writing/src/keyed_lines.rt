@@ -2,7 +2,7 @@
 use ii_base::{Fault, Field, Term, TextAnalyzer, TokenStream};
 use ii_definitions::IndexCall;
 use ii_documents::{LineFault, line_calls_by};
-use ii_tokenizers::{Analyzer, FieldAnalyzers, FieldTokenizers};
+use ii_tokenizers::{FieldAnalyzers, FieldTokenizer, FieldTokenizers};
 use indexmap::IndexMap;
 use nequllpa_indexing::{Documents, InputFault, MAX_TOKEN_LEN, add_line};
 use std::alloc::{AllocError, Global};
@@ -73,8 +73,9 @@ impl KeyedLines {
             return Ok(());
         }
         let unknown = documents.unknown_keys();
-        let calls = match line_calls_by(alloc, documents.schema(), unknown, 0, text) {
-            Ok(calls) => calls,
+        let floats = documents.floats();
+        let calls = match line_calls_by(alloc, documents.schema(), unknown, floats, 0, text) {
+            Ok(line) => line.calls,
             Err(fault) => return Err(LineRefusal::Input(InputFault::Line(fault))),
         };
         match only_key(alloc, tokenizers, self.field, calls.as_slice()) {
@@ -167,7 +168,10 @@ fn key_of(
         IndexCall::Text(_, field, text) => {
             only_word(alloc, tokenizers.analyzer(*field), text.as_str())
         }
-        IndexCall::U64(_, _, _) | IndexCall::I64(_, _, _) | IndexCall::Bool(_, _, _) => {
+        IndexCall::U64(_, _, _)
+        | IndexCall::I64(_, _, _)
+        | IndexCall::Bool(_, _, _)
+        | IndexCall::Date(_, _, _) => {
             Ok(Some(Vec::from_slice(alloc, &call.number().to_be_bytes())?))
         }
         IndexCall::Bytes(_, _, bytes) => Ok(Some(bytes.clone()?)),
@@ -179,8 +183,12 @@ fn key_of(
 }
 
 // Returns the word of a text, if it has exactly one, which is indexed.
-fn only_word(alloc: Global, analyzer: &Analyzer, text: &str) -> Result<Option<Vec<u8>>, Fault> {
-    let mut words = analyzer.token_stream(alloc, text)?;
+fn only_word(
+    alloc: Global,
+    tokenizer: &FieldTokenizer,
+    text: &str,
+) -> Result<Option<Vec<u8>>, Fault> {
+    let mut words = tokenizer.token_stream(alloc, text)?;
     if !words.advance() {
         return Ok(None);
     }

@@ -1,8 +1,7 @@
 //! The new segments of an index: each is written once its lines take the memory that they may, and all are added at
 //! once.
-use crate::adding::refuse_commit;
-use crate::commands::{PROGRAM, refuse, refuse_path};
 use crate::indexing::Target;
+use crate::messages::{PROGRAM, refuse, refuse_commit, refuse_path};
 use ii_segment_store::{CommitFault, PendingSegments, remove_slots, upgrade};
 use ii_store::collect::collect;
 use ii_store::{Directory, DirectoryFault, Folder, IndexFault, Name, StoreFault};

@@ -1,5 +1,5 @@
 //! The memory that a command may take for lines, and for what it merges.
-use crate::commands::{PROGRAM, REFUSED};
+use crate::messages::{PROGRAM, REFUSED};
 use clap::ArgMatches;
 
 // The bytes of memory, unless `--memory` is given.

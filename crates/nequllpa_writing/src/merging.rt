@@ -1,15 +1,14 @@
 //! The command `merge`, and the merges after `add`.
-use crate::adding::refuse_commit;
-use crate::commands::{NO, PROGRAM, format_given, loaded_at, refuse_path, tell_no_index};
 use crate::indexing::target_of;
 use crate::memory::Budget;
+use crate::messages::{NO, PROGRAM, loaded_at, refuse_commit, refuse_path, tell_no_index};
+use crate::schemas::text_schema_of;
 use clap::ArgMatches;
 use ii_segment_store::loading::file_of;
 use ii_segment_store::{StoredSegments, WantedFiles};
 use ii_store::collect::collect;
 use ii_store::segments::load_meta;
 use ii_store::{Folder, IndexFault, IndexMeta, SegmentComponent, SegmentMeta, StoreFault};
-use nequllpa_folder::{RowFormat, schema_of};
 use nequllpa_merging::{JoinFault, MergeFault, first_to_merge, first_within, merge_last};
 use std::alloc::{AllocError, Global};
 use std::process::ExitCode;
@@ -24,23 +23,23 @@ pub fn answer_merge(
         Ok(target) => target,
         Err(status) => return Ok(ExitCode::from(status)),
     };
-    let merged = merged(rt, path, format_given(given));
+    let merged = merged(rt, path, given.get_flag("json"));
     drop(target);
     merged
 }
 
 // Does it, once the folder is locked.
-fn merged(rt: &HostRuntime, path: &str, format: RowFormat) -> anyhow::Result<ExitCode> {
+fn merged(rt: &HostRuntime, path: &str, is_json: bool) -> anyhow::Result<ExitCode> {
     let folder = Folder::new(rt, path);
     match load_meta(rt.alloc(), &folder) {
-        Ok(list) => merge_all(rt, path, list, format),
-        Err(StoreFault::Index(IndexFault::OtherVersion(_))) => tell_one(rt, path, format),
+        Ok(list) => merge_all(rt, path, list, is_json),
+        Err(StoreFault::Index(IndexFault::OtherVersion(_))) => tell_one(rt, path, is_json),
         Err(fault) => Ok(ExitCode::from(refuse_store(rt, path, fault)?)),
     }
 }
 
 // Prints that an index of version 1 is one segment.
-fn tell_one(rt: &HostRuntime, path: &str, format: RowFormat) -> anyhow::Result<ExitCode> {
+fn tell_one(rt: &HostRuntime, path: &str, is_json: bool) -> anyhow::Result<ExitCode> {
     let StoredSegments {
         schema: _,
         segments,
@@ -52,18 +51,18 @@ fn tell_one(rt: &HostRuntime, path: &str, format: RowFormat) -> anyhow::Result<E
     for segment in &segments {
         count = count.saturating_add(u64::from(segment.alive.num_living()));
     }
-    tell_merged(rt, format, 0, count)?;
+    tell_merged(rt, is_json, 0, count)?;
     Ok(ExitCode::SUCCESS)
 }
 
 // Prints how many segments were merged, and how many documents the index has.
 fn tell_merged(
     rt: &HostRuntime,
-    format: RowFormat,
+    is_json: bool,
     segments: usize,
     num_docs: u64,
 ) -> anyhow::Result<()> {
-    if format.is_json() {
+    if is_json {
         println!(rt; "{{\"merged\":{segments},\"documents\":{num_docs}}}")?;
     } else if segments == 0 {
         println!(rt; "nothing to merge, {num_docs} documents")?;
@@ -78,18 +77,18 @@ fn merge_all(
     rt: &HostRuntime,
     path: &str,
     list: IndexMeta,
-    format: RowFormat,
+    is_json: bool,
 ) -> anyhow::Result<ExitCode> {
     let count = list.segments.len();
     let num_docs = num_living(&list);
     if count < 2 && !has_deletes(&list) {
-        tell_merged(rt, format, 0, num_docs)?;
+        tell_merged(rt, is_json, 0, num_docs)?;
         return Ok(ExitCode::SUCCESS);
     }
     if let Err(status) = merge_from(rt, path, &list, 0)? {
         return Ok(ExitCode::from(status));
     }
-    tell_merged(rt, format, count, num_docs)?;
+    tell_merged(rt, is_json, count, num_docs)?;
     Ok(ExitCode::SUCCESS)
 }
 
@@ -120,12 +119,12 @@ fn merge_from(
     list: &IndexMeta,
     first: usize,
 ) -> anyhow::Result<Result<(), u8>> {
-    let fields = match schema_of(rt.alloc(), list.schema.as_slice()) {
-        Ok(fields) => fields,
+    let schema = match text_schema_of(rt.alloc(), list.schema.as_slice()) {
+        Ok(schema) => schema,
         Err(fault) => return Ok(Err(refuse_path(rt, path, fault)?)),
     };
     let mut folder = Folder::new(rt, path);
-    if let Err(fault) = merge_last(rt.alloc(), &mut folder, &fields, first) {
+    if let Err(fault) = merge_last(rt.alloc(), &mut folder, schema.schema(), first) {
         return Ok(Err(refuse_join(rt, path, fault)?));
     }
     match collect(rt.alloc(), &mut folder) {
@@ -188,8 +187,8 @@ fn settled(rt: &HostRuntime, path: &str, budget: Budget) -> anyhow::Result<()> {
     if first == list.segments.len() {
         return Ok(());
     }
-    let fields = schema_of(rt.alloc(), list.schema.as_slice())?;
-    merge_last(rt.alloc(), &mut folder, &fields, first)?;
+    let schema = text_schema_of(rt.alloc(), list.schema.as_slice())?;
+    merge_last(rt.alloc(), &mut folder, schema.schema(), first)?;
     collect(rt.alloc(), &mut folder)?;
     Ok(())
 }
@@ -221,8 +220,8 @@ impl Counted {
     }
 }
 
-// Returns how many bytes the files of a segment have.
-fn len_of_files(segment: &SegmentMeta) -> u64 {
+/// Returns how many bytes the files of a segment have.
+pub fn len_of_files(segment: &SegmentMeta) -> u64 {
     let mut len = 0u64;
     for file in &segment.files {
         len = len.saturating_add(file.len);

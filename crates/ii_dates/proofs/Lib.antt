@@ -1,0 +1,3 @@
+pub mod DateLaws
+pub mod OnLiterals
+mod WorkedRows

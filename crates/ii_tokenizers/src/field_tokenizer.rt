@@ -1,0 +1,53 @@
+//! The tokenizer that a schema gives a field.
+ghost use Rattle.std.specs.Prelude.{◌≡◌};
+ghost use Rattle.ii_tokenizers.specs.Tokenizers.{plain_tokenizer, prefix_tokenizer, tokenized};
+
+use crate::analyzer::{Analyzer, token_list_without};
+use crate::stop_words::StopWordFilter;
+use ii_base::{TextAnalyzer, TextTokens, TokenList};
+use ii_io::Fault;
+use std::alloc::Global;
+
+/// How the texts of a field are cut into tokens: an analyzer, and the stop words that it leaves out.
+#[derive(Drop)]
+pub struct FieldTokenizer {
+    /// The analyzer.
+    pub analyzer: Analyzer,
+    /// The stop words. `Analyzer::English` alone leaves them out.
+    pub stop_words: StopWordFilter,
+}
+
+impl FieldTokenizer {
+    /// Creates a tokenizer without stop words.
+    pub fn new(alloc: Global, analyzer: Analyzer) -> FieldTokenizer
+        ensures { result ≡ plain_tokenizer analyzer }
+    {
+        FieldTokenizer {
+            analyzer,
+            stop_words: StopWordFilter::new(alloc),
+        }
+    }
+
+    /// Creates the tokenizer of the beginnings of words, and of the bounds of ranges of words: it cuts as this one,
+    /// but doesn't stem (`Analyzer::for_prefixes`), and has no stop words.
+    pub fn for_prefixes(&self, alloc: Global) -> FieldTokenizer
+        ensures { result ≡ prefix_tokenizer self.now }
+    {
+        FieldTokenizer::new(alloc, self.analyzer.for_prefixes())
+    }
+}
+
+impl TextAnalyzer for FieldTokenizer {
+    ghost words = { tokenized };
+
+    fn token_list(&self, alloc: Global, text: &str) -> Result<TokenList, Fault> {
+        token_list_without(alloc, &self.stop_words, self.analyzer, text)
+    }
+
+    fn token_stream<'t>(&self, alloc: Global, text: &'t str) -> Result<TextTokens<'t>, Fault> {
+        match self.analyzer {
+            Analyzer::Ascii => Analyzer::Ascii.token_stream(alloc, text),
+            _ => Ok(TextTokens::Owned(self.token_list(alloc, text)?)),
+        }
+    }
+}
