@@ -1,6 +1,7 @@
 mod AliveLemmas
 pub mod AscentLemmas
 pub mod AsciiLemmas
+pub mod BufferLemmas
 pub mod CharLemmas
 pub mod CleanLemmas
 mod JsonRows

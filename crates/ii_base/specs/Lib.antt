@@ -8,6 +8,7 @@ pub mod Paths
 pub mod Schema
 pub mod Terms
 pub mod TextTokens
+pub mod TokenPlaces
 pub mod ValueTypes
 pub mod Values
 pub mod Words

@@ -1,5 +1,6 @@
 -- The tokens of a text, and the remaining ones of a stream.
-use Rattle.std.specs.Prelude.{ℕ, List, map, string_bytes, Option}
+use Rattle.std.specs.Prelude.{ℕ, List, Option, filter, length, map, nat_lt, string_bytes}
+use Rattle.std.specs.Char.{to_ascii_lowercase}
 use Rattle.ii_base.specs.declared.tokenizer.token.Token.{Token}
 use Rattle.ii_base.specs.declared.tokenizer.token_view.TokenView.{TokenView}
 
@@ -39,3 +40,11 @@ words_of ts = map word_of ts
 pub record TokenListState : Type 0 where
   pub current : Option Word
   pub to_come : List Word
+
+-- a token with its ASCII capitals replaced by small letters
+abbrev pub lowercase_word : Word → Word
+lowercase_word w = record w { text = map to_ascii_lowercase w.text }
+
+-- the tokens with fewer bytes than a limit
+abbrev pub remove_long : ℕ → List Word → List Word
+remove_long limit ws = filter (λ (w : Word). nat_lt (length w.text) limit) ws

@@ -33,6 +33,7 @@ pub use tokenizer::ascii_tokenizer::{AsciiTokenizer, AsciiTokens};
 pub use tokenizer::text_analyzer::TextAnalyzer;
 pub use tokenizer::text_tokens::TextTokens;
 pub use tokenizer::token::Token;
+pub use tokenizer::token_buffer::{BufferedTokens, TokenBuffer};
 pub use tokenizer::token_list::TokenList;
 pub use tokenizer::token_stream::TokenStream;
 pub use tokenizer::token_view::TokenView;

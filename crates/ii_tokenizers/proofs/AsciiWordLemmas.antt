@@ -10,10 +10,11 @@ use Rattle.ucd_breaks.specs.WordBreak.{word_break}
 use Rattle.unicode_segmentation.specs.Segments.{cut, has_alphanumeric, is_alphanumeric, prepend, segments, with_offsets}
 use Rattle.unicode_segmentation.specs.Word.{is_extend_num_let, is_word_break}
 use Rattle.unicode_segmentation.proofs.AsciiLemmas.{is_alphanumeric_ascii}
-use Rattle.ii_tokenizers.specs.Analyzers.{cuts_at, nonempty_parts, parts_between, piece_parts, unicode_pieces}
+use Rattle.ii_tokenizers.specs.Analyzers.{cuts_at, nonempty_parts, parts_between, piece_parts, rule_parts}
 use Rattle.ii_tokenizers.specs.AsciiParts.{ascii_parts, is_word_character}
 use Rattle.ii_tokenizers.specs.declared.parts.Cut.TheVariants.{AtMarks}
 use Rattle.ii_tokenizers.proofs.AsciiPartLemmas.{AllAscii, AllAscii-back, AllAscii-front, AllAscii-is, AreCut, IsAscii-all, IsPiece, no_runs, parted, piece_runs, runs, runs_join, unbroken_piece}
+use Rattle.ii_tokenizers.proofs.SpaceLemmas.{piece_has}
 use Rattle.ii_tokenizers.proofs.WordKindLemmas.{are_parted, breaks_here, is_gap, is_inner, is_word_kind, kind_of, mark_apart, only_underscore, word_stays}
 
 abbrev mark : ℕ → Bool
@@ -93,9 +94,6 @@ filter_first f test x xs = by_case (test x) refl
     by_case true is = rw is refl
     by_case false is = rw is refl
 
-abbrev piece_has : ℕ × List ℕ → Bool
-piece_has piece = has_alphanumeric piece.1
-
 -- the parts of a piece
 one_piece : (n : ℕ) (p rest : List ℕ) → AllAscii p → IsPiece word mark letter p rest → cond (piece_has (n, encode_utf8_all p)) (piece_parts AtMarks (n, encode_utf8_all p)) [] ≡ runs word mark letter n p
 unfolding has_alphanumeric
@@ -119,10 +117,12 @@ pieces_runs n cs (p ∷ ps) low are =
     ∙ sym (runs_join word mark letter n p rest whole are.2)
     ∙ ap (runs word mark letter n) (sym are.1)
 
--- the law
-pub ascii_is_rule : (text : List ℕ) → IsAscii text → flat_map (piece_parts AtMarks) (unicode_pieces text) ≡ ascii_parts 0 text
+-- the law, at any offset
+pub ascii_rule_parts : (n : ℕ) (text : List ℕ) → IsAscii text → rule_parts n text ≡ ascii_parts n text
 unfolding segments
-ascii_is_rule text ascii =
+ascii_rule_parts n text ascii =
     let low = AllAscii-is text ascii in
-    ap (λ (cs : List ℕ). flat_map (piece_parts AtMarks) (filter piece_has (with_offsets 0 (map encode_utf8_all (cut is_word_break [] cs []))))) (chars-IsAscii text ascii)
-    ∙ pieces_runs 0 text (cut is_word_break [] text []) low (cut_pieces [] text low)
+    ap (λ (cs : List ℕ). flat_map (piece_parts AtMarks) (filter piece_has (with_offsets n (map encode_utf8_all (cut is_word_break [] cs []))))) (chars-IsAscii text ascii)
+    ∙ pieces_runs n text (cut is_word_break [] text []) low (cut_pieces [] text low)
+
+-- at the start

@@ -1,40 +1,46 @@
 -- Laws of filters.
-use Rattle.std.proofs.Common.{◌≡◌, ℕ, Bool, true, false, List, [], ◌∷◌, ◌++◌, length, nat_lt, take, drop, string_bytes, refl, sym, ap, ◌∙◌, filter, get_or, map, set, ◌<◌, ◌+◌, subst, arith}
-use Rattle.std.proofs.Math.ListN.{get_or-map}
-use Rattle.std.proofs.lemmas.List.{length-map, map-set}
-use Rattle.std.proofs.lemmas.List.Edits.{map_over_more}
+use Rattle.std.proofs.Common.{◌≡◌, ℕ, ◌+◌, ◌<◌, Bool, true, false, List, [], ◌∷◌, ◌++◌, Some, filter, map, take, refl, sym, ap, ap₂, ◌∙◌, arith, append-nil}
+use Rattle.std.specs.Prelude.{IsAscii, chars, encode_utf8_all, slice_get}
+use Rattle.std.specs.Char.{to_ascii_lowercase}
+use Rattle.std.specs.List.{All}
 use Rattle.std.proofs.lemmas.Bool.Decides.{nat_tests}
+use Rattle.std.proofs.lemmas.List.{map-append, take_more}
+use Rattle.std.proofs.lemmas.List.Elements.{All-head, All-rest, filter-append}
+use Rattle.std.proofs.lemmas.Option.{get_or_from_slice_get, slice_get_within}
 use Rattle.std.proofs.lemmas.Str.{chars-IsAscii, encodes-IsAscii}
 use Rattle.std.proofs.lemmas.Str.Ascii.{IsAscii-map}
-use Rattle.std.specs.Char.{to_ascii_lowercase}
-use Rattle.std.specs.Prelude.{IsAscii, chars, encode_utf8_all}
 use Rattle.caseless.specs.Caseless.{default_case_fold}
 use Rattle.caseless.proofs.CaselessLemmas.{All-chars, default_case_fold-ascii}
-use Rattle.ii_base.specs.declared.tokenizer.token.Token.{Token}
-use Rattle.ii_base.specs.Words.{Word, word_of, words_of}
-use Rattle.ii_tokenizers.specs.Analyzers.{remove_long}
+use Rattle.ii_base.specs.Words.{Word, lowercase_word}
+use Rattle.ii_tokenizers.specs.Analyzers.{fold_case}
 
--- the tokens that stay are those whose words stay
-pub kept_by : (test : List ℕ → Bool) (ts : List Token) → words_of (filter (λ (t : Token). test (string_bytes t.text)) ts) ≡ filter (λ (w : Word). test w.text) (words_of ts)
-kept_by test [] = refl
-kept_by test (t ∷ ts) = by_case (test (string_bytes t.text)) refl (kept_by test ts)
-  where
-    by_case : (b : Bool) → test (string_bytes t.text) ≡ b → words_of (filter (λ (u : Token). test (string_bytes u.text)) ts) ≡ filter (λ (w : Word). test w.text) (words_of ts)
-        → words_of (filter (λ (u : Token). test (string_bytes u.text)) (t ∷ ts)) ≡ filter (λ (w : Word). test w.text) (words_of (t ∷ ts))
-    by_case true is rest = rw is (ap (λ (ws : List Word). word_of t ∷ ws) rest)
-    by_case false is rest = rw is rest
+-- ---- one token more
 
--- short tokens
-pub kept_words : (limit : ℕ) (ts : List Token) → words_of (filter (λ (t : Token). nat_lt (length (string_bytes t.text)) limit) ts) ≡ remove_long limit (words_of ts)
-kept_words limit ts = kept_by (λ (text : List ℕ). nat_lt (length text) limit) ts
+module _ (ws : List Word) (k : ℕ) (w : Word) (here : slice_get ws k ≡ Some w) where
+  one_more : take (k + 1) ws ≡ take k ws ++ w ∷ []
+  one_more = take_more ws k w (slice_get_within ws k w here) ∙ ap (λ (v : Word). take k ws ++ v ∷ []) (get_or_from_slice_get ws k w w here)
 
--- one token more is changed
-pub changed_next : (change : Word → Word) (old now : List Token) (k : ℕ) (t u : Token) → k < length old → words_of now ≡ map change (take k (words_of old)) ++ drop k (words_of old) → t ≡ get_or now k t → word_of u ≡ change (word_of t)
-    → words_of (set now k u) ≡ map change (take (k + 1) (words_of old)) ++ drop (k + 1) (words_of old)
-changed_next change old now k t u within is here made =
-    map-set word_of now k u
-    ∙ ap (set (words_of now) k) made
-    ∙ map_over_more change (words_of old) (words_of now) k (word_of t) (subst (λ (n : ℕ). k < n) (sym (length-map old word_of)) within) is (ap word_of here ∙ sym (get_or-map word_of now k t))
+  -- it is changed
+  pub changed_next : (change : Word → Word) (old new : List Word) → old ≡ map change (take k ws) → new ≡ old ++ change w ∷ [] → new ≡ map change (take (k + 1) ws)
+  changed_next change old new is added =
+      added ∙ ap (λ (vs : List Word). vs ++ change w ∷ []) is ∙ sym (ap (map change) one_more ∙ map-append change (take k ws) (w ∷ []))
+
+  filtered : (test : Word → Bool) → filter test (take (k + 1) ws) ≡ filter test (take k ws) ++ filter test (w ∷ [])
+  filtered test = ap (filter test) one_more ∙ filter-append test (take k ws) (w ∷ [])
+
+  -- it stays
+  pub kept_next : (test : Word → Bool) (old new : List Word) → old ≡ filter test (take k ws) → new ≡ old ++ w ∷ [] → test w ≡ true → new ≡ filter test (take (k + 1) ws)
+  kept_next test old new is added stays =
+      let last : filter test (w ∷ []) ≡ w ∷ [] = rw stays refl in
+      added ∙ ap (λ (vs : List Word). vs ++ w ∷ []) is ∙ sym (filtered test ∙ ap (λ (vs : List Word). filter test (take k ws) ++ vs) last)
+
+  -- it is left out
+  pub left_out : (test : Word → Bool) (old : List Word) → old ≡ filter test (take k ws) → test w ≡ false → old ≡ filter test (take (k + 1) ws)
+  left_out test old is goes =
+      let last : filter test (w ∷ []) ≡ [] = rw goes refl in
+      is ∙ sym (filtered test ∙ ap (λ (vs : List Word). filter test (take k ws) ++ vs) last ∙ append-nil (filter test (take k ws)))
+
+-- ---- the case of ASCII texts
 
 -- the case of ASCII text is folded byte by byte
 pub fold-ascii : (bs : List ℕ) → IsAscii bs → map to_ascii_lowercase bs ≡ encode_utf8_all (default_case_fold (chars bs))
@@ -45,3 +51,9 @@ fold-ascii bs ascii =
   where
     lower_ascii : (c : ℕ) → c < 128 → to_ascii_lowercase c < 128
     lower_ascii c below = grind (arith, nat_tests)
+
+-- if all texts are ASCII
+pub lowercase_folds : (ws : List Word) → All (λ (w : Word). IsAscii w.text) ws → map lowercase_word ws ≡ fold_case ws
+lowercase_folds [] ascii = refl
+lowercase_folds (w ∷ ws) ascii =
+    ap₂ (λ (text : List ℕ) (vs : List Word). record w { text = text } ∷ vs) (fold-ascii w.text (All-head (λ (v : Word). IsAscii v.text) w ws ascii)) (lowercase_folds ws (All-rest (λ (v : Word). IsAscii v.text) w ws _ refl ascii))

@@ -1,8 +1,10 @@
 pub mod PartLemmas
 pub mod FilterLemmas
 pub mod WordKindLemmas
+pub mod SpaceLemmas
 pub mod AsciiPartLemmas
 pub mod AsciiWordLemmas
 pub mod RunLemmas
+pub mod StretchLemmas
 mod StopLemmas
 mod WorkedRows

@@ -1,8 +1,8 @@
 -- Computed examples of parts and of filters.
 use Rattle.std.proofs.Common.{◌≡◌, ℕ, ◌==◌, Bool, [], ◌∷◌, List, codes, map, refl}
-use Rattle.ii_base.specs.Words.{Word}
+use Rattle.ii_base.specs.Words.{Word, remove_long}
 use Rattle.ii_stemmer.specs.Rules.{step_1a_rules, step_1b_rules, step_1c_rules, step_2_rules, step_3_rules, step_4_rules, step_5a_rules}
-use Rattle.ii_tokenizers.specs.Analyzers.{folded_text, nonempty_parts, part_word, parts_between, remove_long, remove_stop, stem, with_stop_word, words_from}
+use Rattle.ii_tokenizers.specs.Analyzers.{folded_text, nonempty_parts, part_word, parts_between, remove_stop, stem, with_stop_word, words_from}
 
 abbrev is_comma : ℕ → Bool
 is_comma c = c == 44

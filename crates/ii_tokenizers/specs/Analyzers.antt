@@ -10,7 +10,7 @@ use Rattle.unicode_segmentation.specs.Segments.{has_alphanumeric, with_offsets}
 use Rattle.unicode_segmentation.specs.Word.{word_bounds}
 use Rattle.ii_stemmer.specs.Porter.{porter}
 use Rattle.ii_base.specs.AsciiWords.{ascii_words}
-use Rattle.ii_base.specs.Words.{Word}
+use Rattle.ii_base.specs.Words.{Word, remove_long}
 use Rattle.ii_tokenizers.specs.declared.analyzer.Analyzer.{Analyzer}
 use Rattle.ii_tokenizers.specs.declared.analyzer.Analyzer.TheVariants as analyzer
 use Rattle.ii_tokenizers.specs.declared.parts.Cut.{Cut}
@@ -66,17 +66,21 @@ abbrev pub words_from : ℕ → List Part → List Word
 words_from position [] = []
 words_from position (p ∷ ps) = part_word position p ∷ words_from (position + 1) ps
 
--- the words of a text by the rules of Unicode, each with its offset
-abbrev pub unicode_pieces : List ℕ → List (ℕ × List ℕ)
-unicode_pieces text = filter (λ (piece : ℕ × List ℕ). has_alphanumeric piece.1) (with_offsets 0 (word_bounds text))
+-- the words of a text by the rules of Unicode, each with its offset; the first byte of the text is at an offset
+abbrev pub unicode_pieces : ℕ → List ℕ → List (ℕ × List ℕ)
+unicode_pieces offset text = filter (λ (piece : ℕ × List ℕ). has_alphanumeric piece.1) (with_offsets offset (word_bounds text))
 
 -- the parts of a piece of a text, given its offset
 abbrev pub piece_parts : Cut → ℕ × List ℕ → List Part
 piece_parts cut piece = nonempty_parts (parts_between (cuts_at cut) piece.0 (chars piece.1))
 
+-- these words, cut at the marks inside them
+abbrev pub rule_parts : ℕ → List ℕ → List Part
+rule_parts offset text = flat_map (piece_parts AtMarks) (unicode_pieces offset text)
+
 -- the words of a text by the rules of Unicode, cut at the marks inside them
 abbrev pub split_words : List ℕ → List Word
-split_words text = words_from 0 (flat_map (piece_parts AtMarks) (unicode_pieces text))
+split_words text = words_from 0 (rule_parts 0 text)
 
 -- the runs of characters that are no white space
 abbrev pub space_words : List ℕ → List Word
@@ -97,10 +101,6 @@ folded w = record w { text = folded_text w.text }
 -- tokens with their case folded
 abbrev pub fold_case : List Word → List Word
 fold_case ws = map folded ws
-
--- the tokens with fewer bytes than a limit
-abbrev pub remove_long : ℕ → List Word → List Word
-remove_long limit ws = filter (λ (w : Word). nat_lt (length w.text) limit) ws
 
 -- whether a text is one of the stop words
 abbrev pub is_stop_word : List (List ℕ) → List ℕ → Bool

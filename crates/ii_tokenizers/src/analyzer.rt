@@ -1,12 +1,13 @@
-ghost use Rattle.std.specs.Prelude.{◌≡◌, None, IfOk};
+ghost use Rattle.std.specs.Prelude.{◌≡◌, IfOk};
 ghost use Rattle.ii_io.specs.Faults.{OnlyMemory};
-ghost use Rattle.ii_base.specs.Words.{words_of};
 ghost use Rattle.ii_tokenizers.specs.Analyzers.{analyzed, analyzed_without, default_words, english_words, prefix_analyzer};
 
-use super::filters::{fold_case, remove_long, stem};
+use super::filters::{fold_case, stem};
 use super::parts::{raw_words, space_words, split_words};
 use super::stop_words::StopWordFilter;
-use ii_base::{AsciiTokenizer, TextAnalyzer, TextTokens, Token, TokenList};
+use ii_base::{
+    AsciiTokenizer, BufferedTokens, TextAnalyzer, TextTokens, TokenBuffer, TokenList, TokenStream,
+};
 use ii_io::Fault;
 use std::alloc::Global;
 
@@ -43,47 +44,46 @@ impl TextAnalyzer for Analyzer {
     ghost words = { analyzed };
 
     fn token_list(&self, alloc: Global, text: &str) -> Result<TokenList, Fault> {
-        token_list_without(alloc, &StopWordFilter::new(alloc), *self, text)
+        let mut tokens = self.token_stream(alloc, text)?;
+        TokenList::from_stream(alloc, &mut tokens)
     }
 
     fn token_stream<'t>(&self, alloc: Global, text: &'t str) -> Result<TextTokens<'t>, Fault> {
-        match self {
-            Analyzer::Ascii => AsciiTokenizer.token_stream(alloc, text),
-            _ => Ok(TextTokens::Owned(self.token_list(alloc, text)?)),
-        }
+        token_stream_without(alloc, &StopWordFilter::new(alloc), *self, text)
     }
 }
 
-// Returns the tokens of a text by an analyzer; English ones are no stop words.
-pub(crate) fn token_list_without(
+// Returns the stream of the tokens of a text by an analyzer; English ones are no stop words.
+pub(crate) fn token_stream_without<'t>(
     alloc: Global,
     stop_words: &StopWordFilter,
     analyzer: Analyzer,
-    text: &str,
-) -> Result<TokenList, Fault>
-    ensures ok { IfOk result (λ tokens. tokens ≡ record { current = None; to_come = analyzed_without stop_words.now analyzer text.now }) }
+    text: &'t str,
+) -> Result<TextTokens<'t>, Fault>
+    ensures ok { IfOk result (λ tokens. ⟦<TextTokens<'t> as TokenStream>⟧.to_come tokens ≡ analyzed_without stop_words.now analyzer text.now) }
     ensures only { OnlyMemory result }
 {
-    match analyzer {
-        Analyzer::Ascii => AsciiTokenizer.token_list(alloc, text),
-        Analyzer::Raw => Ok(TokenList::new(raw_words(alloc, text)?)),
-        Analyzer::Whitespace => Ok(TokenList::new(space_words(alloc, text)?)),
-        Analyzer::Default => Ok(TokenList::new(default_words(alloc, text)?)),
-        Analyzer::English => Ok(TokenList::new(english_words(alloc, stop_words, text)?)),
-    }
+    let tokens = match analyzer {
+        Analyzer::Ascii => return AsciiTokenizer.token_stream(alloc, text),
+        Analyzer::Raw => raw_words(alloc, text)?,
+        Analyzer::Whitespace => space_words(alloc, text)?,
+        Analyzer::Default => default_words(alloc, text)?,
+        Analyzer::English => english_words(alloc, stop_words, text)?,
+    };
+    Ok(TextTokens::Buffered(BufferedTokens::new(tokens)))
 }
 
 // The longest token, in bytes, is shorter than this.
 const LIMIT: usize = 40;
 
 // Returns the words of a text, in folded case, without long ones.
-fn default_words(alloc: Global, text: &str) -> Result<Vec<Token>, Fault>
-    ensures ok { IfOk result (λ tokens. words_of tokens.items ≡ default_words text.now) }
+fn default_words(alloc: Global, text: &str) -> Result<TokenBuffer, Fault>
+    ensures ok { IfOk result (λ tokens. tokens ≡ default_words text.now) }
     ensures only { OnlyMemory result }
 {
     let mut tokens = split_words(alloc, text)?;
     fold_case(alloc, &mut tokens)?;
-    remove_long(LIMIT, &mut tokens);
+    tokens.remove_long(LIMIT);
     Ok(tokens)
 }
 
@@ -92,12 +92,11 @@ fn english_words(
     alloc: Global,
     stop_words: &StopWordFilter,
     text: &str,
-) -> Result<Vec<Token>, Fault>
-    ensures ok { IfOk result (λ tokens. words_of tokens.items ≡ english_words stop_words.now text.now) }
+) -> Result<TokenBuffer, Fault>
+    ensures ok { IfOk result (λ tokens. tokens ≡ english_words stop_words.now text.now) }
     ensures only { OnlyMemory result }
 {
-    let mut tokens = default_words(alloc, text)?;
-    stop_words.remove_stop(&mut tokens);
-    stem(alloc, &mut tokens)?;
-    Ok(tokens)
+    let tokens = default_words(alloc, text)?;
+    let tokens = stop_words.remove_stop(alloc, tokens)?;
+    stem(alloc, &tokens)
 }

@@ -3,50 +3,43 @@ ghost use Rattle.std.specs.Prelude.{◌≡◌, ◌+◌, ◌<◌, ◌++◌, ◌�
 ghost use Rattle.std.specs.Char.{is_ascii_alphanumeric};
 ghost use Rattle.std.specs.List.{list_any, take_while};
 ghost use Rattle.ii_io.specs.Faults.{OnlyMemory};
-ghost use Rattle.ii_base.specs.Words.{words_of};
 ghost use Rattle.ii_tokenizers.specs.Analyzers.{words_from};
 ghost use Rattle.ii_tokenizers.specs.AsciiParts.{ascii_parts, is_word_character, spoken_parts};
 
 use crate::parts::add_part;
-use ii_base::Token;
+use ii_base::TokenBuffer;
 use ii_io::Fault;
-use std::alloc::Global;
 
 /// Adds the words of an ASCII text whose first byte is at an offset: the maximal runs of letters, digits and
 /// underscores that have a letter or a digit.
 ///
 /// Returns `OutOfMemory` if an allocation fails.
-pub fn add_ascii_words(
-    alloc: Global,
-    at: usize,
-    text: &str,
-    tokens: &mut Vec<Token>,
-) -> Result<(), Fault>
+pub fn add_ascii_words(at: usize, text: &str, tokens: &mut TokenBuffer) -> Result<(), Fault>
     requires ascii { IsAscii text.now }
     requires room { at + length text.now < 2 ^ 64 }
-    ensures ok { OnOk result (words_of tokens.new.items ≡ words_of tokens.old.items ++ words_from (length tokens.old.items) (ascii_parts at text.now)) }
+    ensures ok { OnOk result (tokens.new ≡ tokens.old ++ words_from (length tokens.old) (ascii_parts at text.now)) }
     ensures only { OnlyMemory result }
 {
     let mut start = 0;
     while start < text.len() {
         let end = start + run_len(&text.as_bytes()[start..]);
-        add_run(alloc, at + start, &text[start..end], tokens)?;
+        add_run(at + start, &text[start..end], tokens)?;
         start = end + 1;
     }
     Ok(())
 }
 
 // Adds a run, if it has a letter or a digit.
-fn add_run(alloc: Global, start: usize, run: &str, tokens: &mut Vec<Token>) -> Result<(), Fault>
+fn add_run(start: usize, run: &str, tokens: &mut TokenBuffer) -> Result<(), Fault>
     requires ascii { IsAscii run.now }
     requires room { start + length run.now < 2 ^ 64 }
-    ensures ok { OnOk result (words_of tokens.new.items ≡ words_of tokens.old.items ++ words_from (length tokens.old.items) (spoken_parts (record { offset = start; characters = run.now } ∷ []))) }
+    ensures ok { OnOk result (tokens.new ≡ tokens.old ++ words_from (length tokens.old) (spoken_parts (record { offset = start; characters = run.now } ∷ []))) }
     ensures only { OnlyMemory result }
 {
     if !has_letter_or_digit(run.as_bytes()) {
         return Ok(());
     }
-    add_part(alloc, start, run, tokens)
+    add_part(start, run, tokens)
 }
 
 // Returns the number of letters, digits and underscores at the start of these bytes.

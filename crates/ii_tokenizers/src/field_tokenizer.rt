@@ -2,7 +2,7 @@
 ghost use Rattle.std.specs.Prelude.{◌≡◌};
 ghost use Rattle.ii_tokenizers.specs.Tokenizers.{plain_tokenizer, prefix_tokenizer, tokenized};
 
-use crate::analyzer::{Analyzer, token_list_without};
+use crate::analyzer::{Analyzer, token_stream_without};
 use crate::stop_words::StopWordFilter;
 use ii_base::{TextAnalyzer, TextTokens, TokenList};
 use ii_io::Fault;
@@ -41,13 +41,11 @@ impl TextAnalyzer for FieldTokenizer {
     ghost words = { tokenized };
 
     fn token_list(&self, alloc: Global, text: &str) -> Result<TokenList, Fault> {
-        token_list_without(alloc, &self.stop_words, self.analyzer, text)
+        let mut tokens = self.token_stream(alloc, text)?;
+        TokenList::from_stream(alloc, &mut tokens)
     }
 
     fn token_stream<'t>(&self, alloc: Global, text: &'t str) -> Result<TextTokens<'t>, Fault> {
-        match self.analyzer {
-            Analyzer::Ascii => Analyzer::Ascii.token_stream(alloc, text),
-            _ => Ok(TextTokens::Owned(self.token_list(alloc, text)?)),
-        }
+        token_stream_without(alloc, &self.stop_words, self.analyzer, text)
     }
 }

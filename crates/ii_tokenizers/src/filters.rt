@@ -1,12 +1,11 @@
 //! Filters, which change tokens or leave some out. Offsets and positions stay.
-ghost use Rattle.std.specs.Prelude.{◌≡◌, OnOk, chars, encode_utf8_all, string_bytes};
-ghost use Rattle.caseless.specs.Caseless.{default_case_fold};
+ghost use Rattle.std.specs.Prelude.{◌≡◌, ◌++◌, ◌∷◌, [], IfOk, OnErr, OnOk};
 ghost use Rattle.ii_io.specs.Faults.{OnlyMemory};
-ghost use Rattle.ii_base.specs.Words.{words_of};
-ghost use Rattle.ii_tokenizers.specs.Analyzers.{fold_case, remove_long, stem};
+ghost use Rattle.ii_base.specs.Words.{seen_word};
+ghost use Rattle.ii_tokenizers.specs.Analyzers.{fold_case, folded, stem, stemmed};
 
 use caseless::default_case_fold_str;
-use ii_base::Token;
+use ii_base::{TokenBuffer, TokenView};
 use ii_io::Fault;
 use ii_stemmer::stem_word;
 use std::alloc::Global;
@@ -14,47 +13,59 @@ use std::alloc::Global;
 /// Folds the case of each token, so that words that differ in case alone become the same (`STRASSE` and
 /// `Straße` become `strasse`).
 ///
-/// Returns `OutOfMemory` if an allocation fails; some tokens are then folded.
-pub fn fold_case(alloc: Global, tokens: &mut Vec<Token>) -> Result<(), Fault>
-    ensures ok { OnOk result (words_of tokens.new.items ≡ fold_case (words_of tokens.old.items)) }
+/// Returns `OutOfMemory` if an allocation fails; the tokens are then unchanged.
+pub fn fold_case(alloc: Global, tokens: &mut TokenBuffer) -> Result<(), Fault>
+    ensures ok { OnOk result (tokens.new ≡ fold_case tokens.old) }
+    ensures err { OnErr result (tokens.new ≡ tokens.old) }
     ensures only { OnlyMemory result }
 {
-    for place in 0..tokens.len() {
-        fold_text(alloc, &mut tokens[place].text)?;
-    }
-    Ok(())
-}
-
-// Folds the case of a text, in place if it is ASCII.
-fn fold_text(alloc: Global, text: &mut String) -> Result<(), Fault>
-    ensures ok { OnOk result (string_bytes text.new ≡ encode_utf8_all (default_case_fold (chars (string_bytes text.old)))) }
-    ensures only { OnlyMemory result }
-{
-    if text.as_str().is_ascii() {
-        text.make_ascii_lowercase();
+    if tokens.is_ascii() {
+        tokens.make_ascii_lowercase();
         return Ok(());
     }
-    *text = default_case_fold_str(alloc, text.as_str())?;
+    let mut folded = TokenBuffer::new(alloc);
+    for index in 0..tokens.len() {
+        push_folded(alloc, tokens.get(index), &mut folded)?;
+    }
+    *tokens = folded;
     Ok(())
 }
 
-/// Removes the tokens of at least `limit` bytes.
-pub fn remove_long(limit: usize, tokens: &mut Vec<Token>)
-    ensures { words_of tokens.new.items ≡ remove_long limit (words_of tokens.old.items) }
+// Adds a token in folded case.
+fn push_folded(alloc: Global, token: TokenView<'_>, tokens: &mut TokenBuffer) -> Result<(), Fault>
+    ensures ok { OnOk result (tokens.new ≡ tokens.old ++ folded (seen_word token.entry) ∷ []) }
+    ensures only { OnlyMemory result }
 {
-    tokens.retain(|token| token.text.len() < limit);
+    let text = default_case_fold_str(alloc, token.text)?;
+    tokens.push(TokenView {
+        text: text.as_str(),
+        ..token
+    })
 }
 
 /// Replaces the text of each token by its stem, so that the forms of an English word become the same (`sail` and
 /// `sailing` become `sail`). Texts with other characters than `a` to `z` are kept.
 ///
-/// Returns `OutOfMemory` if an allocation fails; some tokens are then stemmed.
-pub fn stem(alloc: Global, tokens: &mut Vec<Token>) -> Result<(), Fault>
-    ensures ok { OnOk result (words_of tokens.new.items ≡ stem (words_of tokens.old.items)) }
+/// Returns `OutOfMemory` if an allocation fails.
+pub fn stem(alloc: Global, tokens: &TokenBuffer) -> Result<TokenBuffer, Fault>
+    ensures ok { IfOk result (λ stems. stems ≡ stem tokens.now) }
     ensures only { OnlyMemory result }
 {
-    for place in 0..tokens.len() {
-        tokens[place].text = stem_word(alloc, tokens[place].text.as_str())?;
+    let mut stems = TokenBuffer::new(alloc);
+    for index in 0..tokens.len() {
+        push_stem(alloc, tokens.get(index), &mut stems)?;
     }
-    Ok(())
+    Ok(stems)
+}
+
+// Adds the stem of a token.
+fn push_stem(alloc: Global, token: TokenView<'_>, stems: &mut TokenBuffer) -> Result<(), Fault>
+    ensures ok { OnOk result (stems.new ≡ stems.old ++ stemmed (seen_word token.entry) ∷ []) }
+    ensures only { OnlyMemory result }
+{
+    let text = stem_word(alloc, token.text)?;
+    stems.push(TokenView {
+        text: text.as_str(),
+        ..token
+    })
 }

@@ -1,11 +1,11 @@
 //! Cuts a text into the parts that become tokens.
-ghost use Rattle.std.specs.Prelude.{◌≡◌, ◌+◌, ◌<◌, ◌++◌, ◌∷◌, ◌^◌, [], chars, length, OnOk, IfOk};
+ghost use Rattle.std.specs.Prelude.{◌≡◌, ◌+◌, ◌<◌, ◌≤◌, ◌++◌, ◌∷◌, ◌⊎◌, ◌^◌, [], chars, length, OnOk, IfOk};
 ghost use Rattle.ii_io.specs.Faults.{OnlyMemory};
-ghost use Rattle.ii_base.specs.Words.{words_of};
-ghost use Rattle.ii_tokenizers.specs.Analyzers.{cuts_at, is_mark, nonempty_parts, piece_parts, raw_words, space_words, split_words, words_from};
+ghost use Rattle.ii_tokenizers.specs.Analyzers.{cuts_at, is_mark, nonempty_parts, piece_parts, raw_words, rule_parts, space_words, split_words, words_from};
+ghost use Rattle.ii_tokenizers.specs.AsciiParts.{IsBehindSpace};
 
 use crate::ascii_words::add_ascii_words;
-use ii_base::Token;
+use ii_base::{TokenBuffer, TokenView};
 use ii_io::Fault;
 use std::alloc::Global;
 use ucd_breaks::WordBreak;
@@ -23,29 +23,67 @@ pub enum Cut {
 /// Returns the words of a text by the rules of Unicode (UAX #29), cut at the marks inside them.
 ///
 /// Returns `OutOfMemory` if an allocation fails.
-pub fn split_words(alloc: Global, text: &str) -> Result<Vec<Token>, Fault>
-    ensures ok { IfOk result (λ tokens. words_of tokens.items ≡ split_words text.now) }
+pub fn split_words(alloc: Global, text: &str) -> Result<TokenBuffer, Fault>
+    ensures ok { IfOk result (λ tokens. tokens ≡ split_words text.now) }
     ensures only { OnlyMemory result }
 {
-    let mut tokens = Vec::new(alloc);
-    if text.is_ascii() {
-        add_ascii_words(alloc, 0, text, &mut tokens)?;
-        return Ok(tokens);
-    }
-    for (at, word) in text.unicode_word_indices() {
-        add_parts(alloc, Cut::AtMarks, at, word, &mut tokens)?;
+    let mut tokens = TokenBuffer::new(alloc);
+    let mut start = 0;
+    while start < text.len() {
+        let end = stretch_end(text.as_bytes(), start);
+        add_stretch(alloc, start, &text[start..end], &mut tokens)?;
+        start = end;
     }
     Ok(tokens)
+}
+
+// The bytes of a stretch, at least, unless the text ends before. Each is cut as ASCII or by the rules of Unicode.
+const STRETCH: usize = 64;
+
+// Returns where the stretch from an offset on ends: behind a space and before a letter or digit, or with the text.
+fn stretch_end(bytes: &[u8], start: usize) -> usize
+    requires { start < length bytes.now }
+    ensures after { start < result }
+    ensures cut { (result ≡ length bytes.now) ⊎ IsBehindSpace bytes.now result }
+{
+    let mut end = start.saturating_add(STRETCH);
+    while end < bytes.len() {
+        if bytes[end - 1] == b' ' && bytes[end].is_ascii_alphanumeric() {
+            return end;
+        }
+        end += 1;
+    }
+    bytes.len()
+}
+
+// Adds the words of a stretch of a text, whose first byte is at an offset.
+fn add_stretch(
+    alloc: Global,
+    at: usize,
+    stretch: &str,
+    tokens: &mut TokenBuffer,
+) -> Result<(), Fault>
+    requires room { at + length stretch.now < 2 ^ 64 }
+    ensures ok { OnOk result (tokens.new ≡ tokens.old ++ words_from (length tokens.old) (rule_parts at stretch.now)) }
+    ensures only { OnlyMemory result }
+{
+    if stretch.is_ascii() {
+        return add_ascii_words(at, stretch, tokens);
+    }
+    for (place, word) in stretch.unicode_word_indices() {
+        add_parts(alloc, Cut::AtMarks, at + place, word, tokens)?;
+    }
+    Ok(())
 }
 
 /// Returns the runs of characters of a text that are no white space.
 ///
 /// Returns `OutOfMemory` if an allocation fails.
-pub fn space_words(alloc: Global, text: &str) -> Result<Vec<Token>, Fault>
-    ensures ok { IfOk result (λ tokens. words_of tokens.items ≡ space_words text.now) }
+pub fn space_words(alloc: Global, text: &str) -> Result<TokenBuffer, Fault>
+    ensures ok { IfOk result (λ tokens. tokens ≡ space_words text.now) }
     ensures only { OnlyMemory result }
 {
-    let mut tokens = Vec::new(alloc);
+    let mut tokens = TokenBuffer::new(alloc);
     add_parts(alloc, Cut::AtWhitespace, 0, text, &mut tokens)?;
     Ok(tokens)
 }
@@ -53,12 +91,12 @@ pub fn space_words(alloc: Global, text: &str) -> Result<Vec<Token>, Fault>
 /// Returns the complete text as a token, or none if it is empty.
 ///
 /// Returns `OutOfMemory` if an allocation fails.
-pub fn raw_words(alloc: Global, text: &str) -> Result<Vec<Token>, Fault>
-    ensures ok { IfOk result (λ tokens. words_of tokens.items ≡ raw_words text.now) }
+pub fn raw_words(alloc: Global, text: &str) -> Result<TokenBuffer, Fault>
+    ensures ok { IfOk result (λ tokens. tokens ≡ raw_words text.now) }
     ensures only { OnlyMemory result }
 {
-    let mut tokens = Vec::new(alloc);
-    add_part(alloc, 0, text, &mut tokens)?;
+    let mut tokens = TokenBuffer::new(alloc);
+    add_part(0, text, &mut tokens)?;
     Ok(tokens)
 }
 
@@ -68,48 +106,43 @@ fn add_parts(
     cut: Cut,
     at: usize,
     piece: &str,
-    tokens: &mut Vec<Token>,
+    tokens: &mut TokenBuffer,
 ) -> Result<(), Fault>
     requires room { at + length piece.now < 2 ^ 64 }
-    ensures ok { OnOk result (words_of tokens.new.items ≡ words_of tokens.old.items ++ words_from (length tokens.old.items) (piece_parts cut (at, piece.now))) }
+    ensures ok { OnOk result (tokens.new ≡ tokens.old ++ words_from (length tokens.old) (piece_parts cut (at, piece.now))) }
     ensures only { OnlyMemory result }
 {
     let mut start = at;
     let mut part = String::new(alloc);
     for c in piece.chars() {
         if cuts_at(cut, c) {
-            add_part(alloc, start, part.as_str(), tokens)?;
+            add_part(start, part.as_str(), tokens)?;
             start += part.as_str().len() + c.len_utf8();
             part.clear();
         } else {
             part.push(c)?;
         }
     }
-    add_part(alloc, start, part.as_str(), tokens)
+    add_part(start, part.as_str(), tokens)
 }
 
 // Adds a part, if it has characters.
-pub(crate) fn add_part(
-    alloc: Global,
-    start: usize,
-    part: &str,
-    tokens: &mut Vec<Token>,
-) -> Result<(), Fault>
+pub(crate) fn add_part(start: usize, part: &str, tokens: &mut TokenBuffer) -> Result<(), Fault>
     requires room { start + length part.now < 2 ^ 64 }
-    ensures ok { OnOk result (words_of tokens.new.items ≡ words_of tokens.old.items ++ words_from (length tokens.old.items) (nonempty_parts (record { offset = start; characters = chars part.now } ∷ []))) }
+    ensures ok { OnOk result (tokens.new ≡ tokens.old ++ words_from (length tokens.old) (nonempty_parts (record { offset = start; characters = chars part.now } ∷ []))) }
     ensures only { OnlyMemory result }
 {
     if part.is_empty() {
         return Ok(());
     }
-    tokens.push(Token {
+    let position = tokens.len();
+    tokens.push(TokenView {
         offset_from: start,
         offset_to: start + part.len(),
-        position: tokens.len(),
-        text: String::from_str(alloc, part)?,
+        position,
+        text: part,
         position_length: 1,
-    })?;
-    Ok(())
+    })
 }
 
 // Returns whether a text is cut at a character.

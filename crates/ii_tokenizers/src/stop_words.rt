@@ -1,11 +1,10 @@
 //! The filter of stop words.
-ghost use Rattle.std.specs.Prelude.{◌≡◌, [], OnErr, OnOk};
+ghost use Rattle.std.specs.Prelude.{◌≡◌, ◌++◌, [], IfOk, OnErr, OnOk};
 ghost use Rattle.ii_io.specs.Faults.{OnlyMemory};
-ghost use Rattle.ii_base.specs.Words.{words_of};
 ghost use Rattle.ii_tokenizers.specs.Analyzers.{is_stop_word, remove_stop, with_stop_word};
 
 use caseless::default_case_fold_str;
-use ii_base::Token;
+use ii_base::TokenBuffer;
 use ii_io::Fault;
 use indexmap::IndexSet;
 use std::alloc::Global;
@@ -56,13 +55,23 @@ impl StopWordFilter {
         self.words.contains(text)
     }
 
-    /// Removes the tokens that are stop words. The others keep their positions and offsets.
-    pub fn remove_stop(&self, tokens: &mut Vec<Token>)
-        ensures { words_of tokens.new.items ≡ remove_stop self.now (words_of tokens.old.items) }
+    /// Returns the tokens that are no stop words. They keep their positions and offsets.
+    ///
+    /// Returns `OutOfMemory` if an allocation fails.
+    pub fn remove_stop(&self, alloc: Global, tokens: TokenBuffer) -> Result<TokenBuffer, Fault>
+        ensures ok { IfOk result (λ kept. kept ≡ remove_stop self.now tokens) }
+        ensures only { OnlyMemory result }
     {
         if self.words.is_empty() {
-            return;
+            return Ok(tokens);
         }
-        tokens.retain(|token| !self.contains(token.text.as_str()));
+        let mut kept = TokenBuffer::new(alloc);
+        for index in 0..tokens.len() {
+            let token = tokens.get(index);
+            if !self.contains(token.text) {
+                kept.push(token)?;
+            }
+        }
+        Ok(kept)
     }
 }

@@ -1,13 +1,16 @@
 use super::ascii_tokenizer::AsciiTokens;
+use super::token_buffer::BufferedTokens;
 use super::token_list::TokenList;
 use super::token_stream::TokenStream;
 use super::token_view::TokenView;
 
-/// Iterates over the tokens of a text, as a list of them or borrowed from the text.
+/// Iterates over the tokens of a text, as a list or a buffer of them, or borrowed from the text.
 #[derive(Drop)]
 pub enum TextTokens<'t> {
     /// The tokens of a list.
     Owned(TokenList),
+    /// The tokens of a buffer.
+    Buffered(BufferedTokens),
     /// The tokens of `AsciiTokenizer`, which it finds one by one.
     Ascii(AsciiTokens<'t>),
 }
@@ -23,6 +26,7 @@ impl<'t> TokenStream for TextTokens<'t> {
     fn advance(&mut self) -> bool {
         match self {
             TextTokens::Owned(tokens) => tokens.advance(),
+            TextTokens::Buffered(tokens) => tokens.advance(),
             TextTokens::Ascii(tokens) => tokens.advance(),
         }
     }
@@ -31,6 +35,7 @@ impl<'t> TokenStream for TextTokens<'t> {
     fn token(&self) -> TokenView<'_> {
         match self {
             TextTokens::Owned(tokens) => tokens.token(),
+            TextTokens::Buffered(tokens) => tokens.token(),
             TextTokens::Ascii(tokens) => tokens.token(),
         }
     }

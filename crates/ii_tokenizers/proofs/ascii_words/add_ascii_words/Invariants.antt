@@ -1,13 +1,12 @@
 use Rattle.std.proofs.Common.{◌≡◌, ◌+◌, ◌-◌, ◌≤◌, ◌++◌, drop, length}
-use Rattle.ii_base.specs.Words.{words_of}
 use Rattle.ii_tokenizers.specs.Analyzers.{words_from}
 use Rattle.ii_tokenizers.specs.AsciiParts.{ascii_parts}
 use Rattle.ii_tokenizers.proofs.ascii_words.add_ascii_words.Given as goal
 
 abbrev pub invariant-loop-start : goal.invariant-loop-start
 invariant-loop-start l =
-    (words_of l.tokens.items ++ words_from (length l.tokens.items) (ascii_parts (l.at + l.start) (drop l.start l.text))
-    ≡ words_of l.fn.tokens.items ++ words_from (length l.fn.tokens.items) (ascii_parts l.at l.text))
+    (l.tokens ++ words_from (length l.tokens) (ascii_parts (l.at + l.start) (drop l.start l.text))
+    ≡ l.fn.tokens ++ words_from (length l.fn.tokens) (ascii_parts l.at l.text))
     × (l.start ≤ length l.text + 1)
 
 abbrev pub decreases-loop-start : goal.decreases-loop-start

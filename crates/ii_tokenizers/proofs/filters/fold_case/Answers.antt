@@ -1,15 +1,13 @@
-use Rattle.std.proofs.Common.{◌≡◌, ◌<◌, length, ◌∙◌, arith, ap, List, ℕ}
-use Rattle.std.proofs.lemmas.List.{length-set}
-use Rattle.ii_base.specs.Words.{word_of}
-use Rattle.ii_tokenizers.specs.Analyzers.{folded}
-use Rattle.ii_tokenizers.proofs.FilterLemmas.{changed_next}
+use Rattle.std.proofs.Common.{◌∙◌, ap, take_all, arith}
+use Rattle.ii_tokenizers.specs.Analyzers.{fold_case, folded}
+use Rattle.ii_tokenizers.proofs.FilterLemmas.{changed_next, lowercase_folds}
 use Rattle.ii_tokenizers.proofs.filters.fold_case.Goals as goal
 
-pub loop-place-preserved : goal.loop-place-preserved
-loop-place-preserved c =
-    let within : c.loop-place.place < length c.args.tokens.now.items = omega (arith) in
-    let made : word_of (record c.index_mut.result.now { text = c.fold_text.new.text }) ≡ folded (word_of c.index_mut.result.now) =
-    ap (λ (bs : List ℕ). record (word_of c.index_mut.result.now) { text = bs }) c.in_ok-fold_text.ensures.ok in (
-      changed_next folded c.args.tokens.now.items c.loop-place.tokens.items c.loop-place.place c.index_mut.result.now _ within c.loop-place.invariant.0 c.index_mut.ensures.value made,
-      length-set _ _ _ ∙ c.loop-place.invariant.1,
-    )
+pub returns-then-is_ascii-clause-ok : goal.returns-then-is_ascii-clause-ok
+returns-then-is_ascii-clause-ok c = c.make_ascii_lowercase.ensures ∙ lowercase_folds c.args.tokens.now (c.is_ascii.ensures c.if-is_ascii.true)
+
+pub loop-index-preserved : goal.loop-index-preserved
+loop-index-preserved c = changed_next c.args.tokens.now c.loop-index.index _ c.get.ensures folded c.loop-index.folded c.push_folded.new.tokens c.loop-index.invariant c.in_ok-push_folded.ensures.ok
+
+pub returns-clause-ok : goal.returns-clause-ok
+returns-clause-ok c = c.loop-index.invariant ∙ ap fold_case (take_all c.loop-index.index c.args.tokens.now (omega (arith, c.loop-index-test.false, c.len-index-end.ensures)))

@@ -1,8 +1,6 @@
-use Rattle.std.proofs.Common.{◌≡◌, ◌++◌, drop, length, take}
-use Rattle.ii_base.specs.Words.{words_of}
+use Rattle.std.proofs.Common.{◌≡◌, take}
 use Rattle.ii_tokenizers.specs.Analyzers.{fold_case}
 use Rattle.ii_tokenizers.proofs.filters.fold_case.Given as goal
 
-abbrev pub invariant-loop-place : goal.invariant-loop-place
-invariant-loop-place l =
-    (words_of l.tokens.items ≡ fold_case (take l.place (words_of l.fn.tokens.items)) ++ drop l.place (words_of l.fn.tokens.items)) × (length l.tokens.items ≡ length l.fn.tokens.items)
+abbrev pub invariant-loop-index : goal.invariant-loop-index
+invariant-loop-index l = l.folded ≡ fold_case (take l.index l.fn.tokens)

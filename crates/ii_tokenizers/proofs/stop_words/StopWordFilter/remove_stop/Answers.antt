@@ -1,14 +1,21 @@
-use Rattle.std.proofs.Common.{◌∙◌, List, not, ap, rules, ℕ}
+use Rattle.std.proofs.Common.{◌∙◌, ap, arith, not, sym, take_all}
 use Rattle.std.specs.Prelude.{string_bytes}
-use Rattle.std.proofs.lemmas.Fn.{filter_same}
-use Rattle.ii_base.specs.Words.{words_of}
-use Rattle.ii_tokenizers.specs.Analyzers.{is_stop_word}
-use Rattle.ii_tokenizers.proofs.FilterLemmas.{kept_by}
+use Rattle.ii_base.specs.Words.{Word}
+use Rattle.ii_tokenizers.specs.Analyzers.{is_stop_word, remove_stop}
+use Rattle.ii_tokenizers.proofs.FilterLemmas.{kept_next, left_out}
 use Rattle.ii_tokenizers.proofs.StopLemmas.{all_stay}
 use Rattle.ii_tokenizers.proofs.stop_words.StopWordFilter.remove_stop.Goals as goal
+use Rattle.ii_tokenizers.proofs.stop_words.StopWordFilter.remove_stop.Goals.{then-not-contains+in_ok-push, else-not-contains}
 
-pub returns-then-is_empty : goal.returns-then-is_empty
-returns-then-is_empty c = all_stay string_bytes c.args.self.now c.self.inside.words.keys c.self.view_is (c.is_empty.ensures.0 c.if-is_empty.true) (words_of c.args.tokens.now.items)
+pub returns-then-is_empty-clause-ok : goal.returns-then-is_empty-clause-ok
+returns-then-is_empty-clause-ok c = all_stay string_bytes c.args.self.now c.self.inside.words.keys c.self.view_is (c.is_empty.ensures.0 c.if-is_empty.true) c.args.tokens
 
-pub returns : goal.returns
-returns c = ap words_of (filter_same _ _ _ (λ x b f' k. search rules) _ _ c.retain.ensures.filtered) ∙ kept_by (λ (text : List ℕ). not (is_stop_word c.args.self.now text)) c.args.tokens.now.items
+pub loop-index-preserved : goal.loop-index-preserved
+loop-index-preserved c =
+    elim c.if-not-contains.branch [
+      | then-not-contains+in_ok-push w ↦ w.kept-is ∙ kept_next c.args.tokens c.loop-index.index _ c.get-token.ensures (λ (t : Word). not (is_stop_word c.args.self.now t.text)) c.loop-index.kept w.push.new.self c.loop-index.invariant w.in_ok-push.ensures.ok (ap not (sym c.contains.ensures ∙ w.if-not-contains.true))
+      | else-not-contains w ↦ w.kept-is ∙ left_out c.args.tokens c.loop-index.index _ c.get-token.ensures (λ (t : Word). not (is_stop_word c.args.self.now t.text)) c.loop-index.kept c.loop-index.invariant (ap not (sym c.contains.ensures ∙ w.if-not-contains.false))
+    ]
+
+pub returns-clause-ok : goal.returns-clause-ok
+returns-clause-ok c = c.loop-index.invariant ∙ ap (remove_stop c.args.self.now) (take_all c.loop-index.index c.args.tokens (omega (arith, c.loop-index-test.false, c.len-index-end.ensures)))
