@@ -1,11 +1,13 @@
 -- Laws of the parts of texts.
-use Rattle.std.proofs.Common.{◌≡◌, ℕ, suc, ◌+◌, ◌<◌, Bool, true, false, ◌&&◌, List, [], ◌∷◌, ◌++◌, chars, length, nat_lt, refl, sym, ap, ◌∙◌, subst, arith, append_assoc, length-append}
-use Rattle.std.specs.Prelude.{encode_utf8_all, Err, Ok, OnOk, Result}
+use Rattle.std.proofs.Common.{◌≡◌, ℕ, suc, ◌+◌, ◌-◌, ◌<◌, Bool, true, false, ◌&&◌, List, [], ◌∷◌, ◌++◌, ap₂, chars, drop, drop-drop, length, nat_lt, refl, sym, take, ap, ◌∙◌, subst, arith, append_assoc, length-append}
+use Rattle.std.specs.Prelude.{encode_utf8_all, Err, IsCharBoundary, Ok, OnOk, Result}
 use Rattle.std.specs.Char.{encode_utf8, len_utf8}
+use Rattle.std.specs.List.{slice_range}
 use Rattle.std.specs.Str.{IsUtf8}
+use Rattle.std.proofs.Math.Seq.{drop-append_seam, take-append_seam}
 use Rattle.std.proofs.lemmas.Bool.{and_parts, lt-ltb}
 use Rattle.std.proofs.lemmas.List.{append-nil}
-use Rattle.std.proofs.lemmas.Str.{IsUtf8-past_char, chars-append, chars-nil, chars_from_encodes, cons_from_encodes, encodes-chars, length-encode}
+use Rattle.std.proofs.lemmas.Str.{IsCharBoundary-past_char, IsUtf8-drop, IsUtf8-past_char, chars-append, chars-nil, chars_from_encodes, cons_from_encodes, encodes-chars, length-encode}
 use Rattle.unicode_segmentation.proofs.TextLemmas.{chars-encode_utf8}
 use lib.Utf8.{scalar, scalars}
 use Rattle.ii_base.specs.Words.{Word}
@@ -122,6 +124,24 @@ cut_step test start next front empty rest after c utf8 is none next_is cuts =
 
 pub end_step : (test : ℕ → Bool) (start : ℕ) (front rest : List ℕ) → length rest ≡ 0 → parts_of test start front rest ≡ record { offset = start; characters = chars front } ∷ []
 end_step test start front rest none = rw (no_text rest none, chars-nil) (ends_at_end test start (start + length front) (chars front))
+
+-- a character of a text is passed
+pub record Passes (text after : List ℕ) (end next c : ℕ) : Type 0 where
+  pub rest_is : drop next text ≡ after
+  pub character : slice_range text end next ≡ encode_utf8 c
+  pub boundary : IsCharBoundary text next
+
+pub passes : (text rest after : List ℕ) (end next c : ℕ) → IsUtf8 text → IsCharBoundary text end → rest ≡ drop end text → rest ≡ encode_utf8 c ++ after → next ≡ end + len_utf8 c → Passes text after end next c
+passes text rest after end next c utf8 boundary rest_is step next_is =
+    let here : drop end text ≡ encode_utf8 c ++ after = sym rest_is ∙ step in
+    let size = length-encode c in
+    let past : drop (length (encode_utf8 c)) (drop end text) ≡ drop next text = drop-drop (length (encode_utf8 c)) end text ∙ ap (λ (i : ℕ). drop i text) (omega (arith, size, next_is)) in
+    let one : next - end ≡ length (encode_utf8 c) = omega (arith, size, next_is) in
+    record {
+      rest_is = sym past ∙ ap (drop (length (encode_utf8 c))) here ∙ drop-append_seam (encode_utf8 c) after;
+      character = ap₂ (λ (n : ℕ) (bs : List ℕ). take n bs) one here ∙ take-append_seam (encode_utf8 c) after;
+      boundary = subst (IsCharBoundary text) (sym next_is) (IsCharBoundary-past_char text after end c boundary.0 (IsUtf8-drop text end utf8 boundary) here);
+    }
 
 pub ok_then : {A E : Type 0} {P Q : Type 0} (result : Result A E) → (P → Q) → OnOk result P → OnOk result Q
 ok_then (Ok a) from here = from here

@@ -27,18 +27,22 @@ pub fn split_words(alloc: Global, text: &str) -> Result<TokenBuffer, Fault>
     ensures ok { IfOk result (λ tokens. tokens ≡ split_words text.now) }
     ensures only { OnlyMemory result }
 {
-    let mut tokens = TokenBuffer::new(alloc);
+    let mut tokens = TokenBuffer::with_capacity(alloc, text.len())?;
+    if text.is_ascii() {
+        add_ascii_words(0, text, &mut tokens)?;
+        return Ok(tokens);
+    }
     let mut start = 0;
     while start < text.len() {
         let end = stretch_end(text.as_bytes(), start);
-        add_stretch(alloc, start, &text[start..end], &mut tokens)?;
+        add_stretch(start, &text[start..end], &mut tokens)?;
         start = end;
     }
     Ok(tokens)
 }
 
 // The bytes of a stretch, at least, unless the text ends before. Each is cut as ASCII or by the rules of Unicode.
-const STRETCH: usize = 64;
+const STRETCH: usize = 16;
 
 // Returns where the stretch from an offset on ends: behind a space and before a letter or digit, or with the text.
 fn stretch_end(bytes: &[u8], start: usize) -> usize
@@ -57,12 +61,7 @@ fn stretch_end(bytes: &[u8], start: usize) -> usize
 }
 
 // Adds the words of a stretch of a text, whose first byte is at an offset.
-fn add_stretch(
-    alloc: Global,
-    at: usize,
-    stretch: &str,
-    tokens: &mut TokenBuffer,
-) -> Result<(), Fault>
+fn add_stretch(at: usize, stretch: &str, tokens: &mut TokenBuffer) -> Result<(), Fault>
     requires room { at + length stretch.now < 2 ^ 64 }
     ensures ok { OnOk result (tokens.new ≡ tokens.old ++ words_from (length tokens.old) (rule_parts at stretch.now)) }
     ensures only { OnlyMemory result }
@@ -71,7 +70,7 @@ fn add_stretch(
         return add_ascii_words(at, stretch, tokens);
     }
     for (place, word) in stretch.unicode_word_indices() {
-        add_parts(alloc, Cut::AtMarks, at + place, word, tokens)?;
+        add_parts(Cut::AtMarks, at + place, word, tokens)?;
     }
     Ok(())
 }
@@ -83,8 +82,8 @@ pub fn space_words(alloc: Global, text: &str) -> Result<TokenBuffer, Fault>
     ensures ok { IfOk result (λ tokens. tokens ≡ space_words text.now) }
     ensures only { OnlyMemory result }
 {
-    let mut tokens = TokenBuffer::new(alloc);
-    add_parts(alloc, Cut::AtWhitespace, 0, text, &mut tokens)?;
+    let mut tokens = TokenBuffer::with_capacity(alloc, text.len())?;
+    add_parts(Cut::AtWhitespace, 0, text, &mut tokens)?;
     Ok(tokens)
 }
 
@@ -95,35 +94,28 @@ pub fn raw_words(alloc: Global, text: &str) -> Result<TokenBuffer, Fault>
     ensures ok { IfOk result (λ tokens. tokens ≡ raw_words text.now) }
     ensures only { OnlyMemory result }
 {
-    let mut tokens = TokenBuffer::new(alloc);
+    let mut tokens = TokenBuffer::with_capacity(alloc, text.len())?;
     add_part(0, text, &mut tokens)?;
     Ok(tokens)
 }
 
 // Adds the parts of a piece of a text, whose first byte is at an offset.
-fn add_parts(
-    alloc: Global,
-    cut: Cut,
-    at: usize,
-    piece: &str,
-    tokens: &mut TokenBuffer,
-) -> Result<(), Fault>
+fn add_parts(cut: Cut, at: usize, piece: &str, tokens: &mut TokenBuffer) -> Result<(), Fault>
     requires room { at + length piece.now < 2 ^ 64 }
     ensures ok { OnOk result (tokens.new ≡ tokens.old ++ words_from (length tokens.old) (piece_parts cut (at, piece.now))) }
     ensures only { OnlyMemory result }
 {
-    let mut start = at;
-    let mut part = String::new(alloc);
+    let mut start = 0;
+    let mut end = 0;
     for c in piece.chars() {
+        let next = end + c.len_utf8();
         if cuts_at(cut, c) {
-            add_part(start, part.as_str(), tokens)?;
-            start += part.as_str().len() + c.len_utf8();
-            part.clear();
-        } else {
-            part.push(c)?;
+            add_part(at + start, &piece[start..end], tokens)?;
+            start = next;
         }
+        end = next;
     }
-    add_part(start, part.as_str(), tokens)
+    add_part(at + start, &piece[start..end], tokens)
 }
 
 // Adds a part, if it has characters.

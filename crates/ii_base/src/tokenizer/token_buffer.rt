@@ -1,4 +1,4 @@
-ghost use Rattle.std.specs.Prelude.{◌≡◌, ◌++◌, ◌∷◌, ◌<◌, [], true, Some, IsAscii, IsUtf8, length, map, slice_get, string_bytes, OnErr, OnOk};
+ghost use Rattle.std.specs.Prelude.{◌≡◌, ◌++◌, ◌∷◌, ◌<◌, [], true, Some, IsAscii, IsUtf8, length, map, slice_get, string_bytes, IfOk, OnErr, OnOk};
 ghost use Rattle.std.specs.List.{All};
 ghost use Rattle.ii_io.specs.Faults.{OnlyMemory};
 ghost use Rattle.ii_base.specs.Words.{Word, lowercase_word, remove_long, seen_word};
@@ -51,6 +51,19 @@ impl TokenBuffer {
             texts: String::new(alloc),
             places: Vec::new(alloc),
         }
+    }
+
+    /// Creates a buffer without tokens that has room for texts of `num_bytes` bytes, and for some tokens.
+    ///
+    /// Returns `OutOfMemory` if an allocation fails.
+    pub fn with_capacity(alloc: Global, num_bytes: usize) -> Result<TokenBuffer, Fault>
+        ensures ok { IfOk result (λ tokens. tokens ≡ []) }
+        ensures only { OnlyMemory result }
+    {
+        Ok(TokenBuffer {
+            texts: String::with_capacity(alloc, num_bytes)?,
+            places: Vec::with_capacity(alloc, (num_bytes / 8).min(64))?,
+        })
     }
 
     /// Adds a token behind the others.

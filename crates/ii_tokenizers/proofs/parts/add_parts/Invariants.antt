@@ -1,5 +1,6 @@
-use Rattle.std.proofs.Common.{◌≡◌, ◌+◌, ◌++◌, length, string_bytes}
-use Rattle.std.specs.Str.{IsUtf8}
+use Rattle.std.proofs.Common.{◌≡◌, ◌+◌, ◌≤◌, ◌++◌, drop, length}
+use Rattle.std.specs.Prelude.{IsCharBoundary}
+use Rattle.std.specs.List.{slice_range}
 use Rattle.std.specs.Str.Iter.{chars_rest}
 use Rattle.ii_tokenizers.specs.Analyzers.{cuts_at, nonempty_parts, piece_parts, words_from}
 use Rattle.ii_tokenizers.proofs.PartLemmas.{parts_of}
@@ -7,7 +8,7 @@ use Rattle.ii_tokenizers.proofs.parts.add_parts.Given as goal
 
 abbrev pub invariant-loop-c : goal.invariant-loop-c
 invariant-loop-c l =
-    (l.tokens ++ words_from (length l.tokens) (nonempty_parts (parts_of (cuts_at l.cut) l.start (string_bytes l.part) (chars_rest l.c-iterator)))
+    (l.tokens ++ words_from (length l.tokens) (nonempty_parts (parts_of (cuts_at l.cut) (l.at + l.start) (slice_range l.piece l.start l.end) (drop l.end l.piece)))
     ≡ l.fn.tokens ++ words_from (length l.fn.tokens) (piece_parts l.cut (l.at, l.piece)))
-    × (l.start + length (string_bytes l.part) + length (chars_rest l.c-iterator) ≡ l.at + length l.piece)
-    × IsUtf8 (chars_rest l.c-iterator)
+    × (chars_rest l.c-iterator ≡ drop l.end l.piece)
+    × (l.start ≤ l.end) × IsCharBoundary l.piece l.start × IsCharBoundary l.piece l.end

@@ -2,11 +2,12 @@ use Rattle.std.proofs.Common.{◌≡◌, ◌⊎◌, ◌++◌, ◌∙◌, ap, ari
 use Rattle.ii_tokenizers.specs.Analyzers.{rule_parts, words_from}
 use Rattle.ii_tokenizers.specs.AsciiParts.{IsBehindSpace}
 use Rattle.std.proofs.lemmas.Str.{IsCharBoundary-start}
+use Rattle.ii_tokenizers.proofs.AsciiWordLemmas.{ascii_rule_parts}
 use Rattle.ii_tokenizers.proofs.StretchLemmas.{stretch_boundary, stretch_step, stretches_end}
 use Rattle.ii_tokenizers.proofs.parts.split_words.Goals as goal
 
 pub loop-start-init : goal.loop-start-init
-loop-start-init c = (rw c.new-tokens.ensures refl, IsCharBoundary-start c.args.text.now c.utf8.text)
+loop-start-init c = (rw c.in_ok-tokens.ensures.ok refl, IsCharBoundary-start c.args.text.now c.utf8.text)
 
 pub loop-start-preserved : goal.loop-start-preserved
 loop-start-preserved c =
@@ -19,3 +20,8 @@ loop-start-preserved c =
 
 pub returns-clause-ok : goal.returns-clause-ok
 returns-clause-ok c = sym (stretches_end c.loop-start.tokens c.args.text.now c.loop-start.start (omega (arith, c.loop-start-test.false))) ∙ c.loop-start.invariant.0
+
+pub returns-then-is_ascii-clause-ok : goal.returns-then-is_ascii-clause-ok
+returns-then-is_ascii-clause-ok c =
+    (rw c.in_ok-tokens.ensures.ok at c.in_ok-add_ascii_words.ensures.ok)
+    ∙ ap (words_from 0) (sym (ascii_rule_parts 0 c.args.text.now c.if-is_ascii.ensures.cases))
