@@ -4,5 +4,6 @@ pub mod WordKindLemmas
 pub mod AsciiPartLemmas
 pub mod AsciiWordLemmas
 pub mod RunLemmas
+pub mod OnLiterals
 mod StopLemmas
 mod WorkedRows
