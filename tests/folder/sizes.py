@@ -1,6 +1,6 @@
 #!/usr/bin/env python3
 """Runs each command of `nequllpa` once on input of a large size, with ample memory: 1,000,000 documents, 100,000 words
-and 1,000,000 numbers, 10,000 fields, a text of 10 MB, a query of 12,000 words. No command may fail with `out of
+and 1,000,000 numbers, 10,000 fields, a text of 10 MB, a document of 50 MB, a query of 12,000 words. No command may fail with `out of
 memory`, which every contract allows, and each answer must be the one that the numbers of the input give.
 
     sizes.py          as the gate runs it
@@ -22,6 +22,7 @@ DOCS = 1_000_000
 WORDS = 100_000
 FIELDS = 10_000
 TEXT = 2_500_000  # words of 3 letters and a space
+DOCUMENT = 50_000_000  # bytes
 ASKED = 12_000  # an argument has at most 128 KB
 SCHEMA = '[[field]]\nname = "word"\ntype = "text"\n\n[[field]]\nname = "number"\ntype = "u64"\n\n[[field]]\nname = "even"\ntype = "bool"\n'
 
@@ -120,6 +121,17 @@ def long_text(user, text):
     user.wants(['postings', 'text', 'body', 'ten', '--positions'], f'0 {text // 10} {" ".join(str(place) for place in range(9, text // 10 * 10, 10))}\n')
 
 
+def large_document(user, size):
+    """A document of many bytes, whose words have capitals."""
+    text = 'The old man and the SEA. ' * (size // 25) + 'odd end'
+    user.index('large', '[[field]]\nname = "body"\ntype = "text"\n', [json.dumps({'body': text})])
+    user.wants(['search', 'large', '"THE sea odd"'], '0\n')
+    user.wants(['search', 'large', '"sea odd old"'], '', status=1)
+    user.wants(['terms', 'large', 'body'], ''.join(f'1 {word}\n' for word in ('and', 'end', 'man', 'odd', 'old', 'sea', 'the')))
+    user.wants(['postings', 'large', 'body', 'the'], f'0 {size // 25 * 2}\n')
+    user.wants(['postings', 'large', 'body', 'odd', '--positions'], f'0 1 {size // 25 * 6}\n')
+
+
 def main():
     if 'NEQULLPA' not in os.environ and not programs.build(PROGRAM):
         print('tests/folder: the program was not built')
@@ -131,10 +143,11 @@ def main():
             many_documents(user, DOCS // parts, WORDS // parts, ASKED)
             many_fields(user, FIELDS // parts)
             long_text(user, TEXT // parts)
+            large_document(user, DOCUMENT // parts)
         except Failed as why:
             print(f'tests/folder: {why}')
             return 1
-    print(f'tests/folder: {DOCS // parts} documents, {WORDS // parts} words, {FIELDS // parts} fields, a text of {TEXT // parts * 4 / 1e6:.0f} MB, {user.runs} runs, in {time.time() - begun:.0f} s')
+    print(f'tests/folder: {DOCS // parts} documents, {WORDS // parts} words, {FIELDS // parts} fields, a text of {TEXT // parts * 4 / 1e6:.0f} MB, a document of {DOCUMENT // parts / 1e6:.0f} MB, {user.runs} runs, in {time.time() - begun:.0f} s')
     return 0
 
 

@@ -64,3 +64,16 @@ def change(folder, name, text):
     meta = meta.replace(entry(old), entry(text))
     put(folder, name, text)
     put(folder, 'meta', meta + hashlib.sha256(meta).digest())
+
+
+def change_schema(folder, old, new):
+    """Replaces a text of the schema of an index of version 2 by another one."""
+    with open(os.path.join(folder, 'meta'), 'rb') as file:
+        meta = file.read()[:-32]
+    size, = struct.unpack_from('<I', meta, 28)
+    schema = meta[32:32 + size]
+    if schema.count(old) != 1:
+        raise ValueError(f'the schema has {old} {schema.count(old)} times')
+    schema = schema.replace(old, new)
+    meta = meta[:28] + struct.pack('<I', len(schema)) + schema + meta[32 + size:]
+    put(folder, 'meta', meta + hashlib.sha256(meta).digest())

@@ -9,6 +9,7 @@ import hashlib
 import json
 import os
 import random
+import shutil
 import struct
 import sys
 
@@ -16,9 +17,11 @@ sys.dont_write_bytecode = True
 HERE = os.path.dirname(os.path.abspath(__file__))
 sys.path.insert(0, HERE)
 import analyzers
+import cuts
 import porter
 import texts
 import users
+import versions
 from users import Failed
 
 SEED = 20261127
@@ -44,6 +47,129 @@ EARLIER = {
     'pos.0': 'fPsL3fPsL5fPer10000000000000UA0000000031000',
     'fieldnorm.0': '0s{a50000000000000620000000031000',
 }
+
+# Single texts in a field with a tokenizer, and their words with the positions of these. `stopped` is English without `the`.
+ANALYZED = (
+    ('ascii', 'The old man\u2019s \u201csea\u201d', [(0, 'The'), (1, 'old'), (2, 'man\u2019s'), (3, '\u201csea\u201d')]),
+    ('default', 'The old man\u2019s \u201csea\u201d', [(0, 'the'), (1, 'old'), (2, 'man'), (3, 's'), (4, 'sea')]),
+    ('default', 'STRASSE Stra\u00dfe', [(0, 'strasse'), (1, 'strasse')]),
+    ('default', 'e.g. 3.14 foo_bar', [(0, 'e'), (1, 'g'), (2, '3'), (3, '14'), (4, 'foo_bar')]),
+    ('default', '\u8001\u4eba', [(0, '\u8001'), (1, '\u4eba')]),
+    ('default', '\U0001f44d --', []),
+    ('default', '', []),
+    ('default', f'a {"x" * 39} b', [(0, 'a'), (1, 'x' * 39), (2, 'b')]),
+    ('default', f'a {"y" * 40} b', [(0, 'a'), (2, 'b')]),
+    # 28 bytes, and 42 in folded case
+    ('default', f'a {chr(0x149) * 14} b', [(0, 'a'), (2, 'b')]),
+    ('default', 'sea\u0301', [(0, 'sea\u0301')]),
+    ('default', 'se\u00e1', [(0, 'se\u00e1')]),
+    ('raw', 'ID-7 a', [(0, 'ID-7 a')]),
+    ('whitespace', ' a  b-c ', [(0, 'a'), (1, 'b-c')]),
+    ('stopped', 'the old seas', [(1, 'old'), (2, 'sea')]),
+    ('en', 'caresses ponies ties cats feed agreed plastered motoring sing', list(enumerate('caress poni ti cat feed agre plaster motor sing'.split()))),
+    ('en', 'hopping falling filing happy sky relational generalizations oscillators be', list(enumerate('hop fall file happi sky relat gener oscil be'.split()))))
+
+# Documents, and what queries find in them.
+QUERIED_SCHEMA = '''\
+[[field]]
+name = "body"
+type = "text"
+[[field]]
+name = "plain"
+type = "text"
+tokenizer = "ascii"
+[[field]]
+name = "word"
+type = "text"
+[[field]]
+name = "tag"
+type = "text"
+tokenizer = "raw"
+[[field]]
+name = "n"
+type = "i64"
+[[field]]
+name = "one"
+type = "i64"
+[[field]]
+name = "j"
+type = "json"
+[[field]]
+name = "when"
+type = "date"
+'''
+QUERIED = (
+    {'body': 'The sea', 'plain': 'The sea', 'word': 'sea', 'tag': 'b c', 'n': -5, 'one': -1, 'j': {'p': 2 ** 63 - 1}, 'when': '1990-01-01T00:00:00Z'},
+    {'body': 'sea\u2019s', 'plain': 'sea\u2019s', 'word': 'search', 'tag': 'x', 'n': 0, 'one': 1, 'j': {'p': 2 ** 63}, 'when': '2001-01-01T00:00:00Z'},
+    {'word': 'set', 'tag': 'd', 'n': 7, 'j': {'p': 'z', 'pq': 2 ** 63, 'o': 2 ** 63 - 1}},
+    {'word': 'sf', 'j': {'p': True, 'p.q': 2 ** 63 - 1}})
+# Words without a field's name are those of `word`.
+FOUND = (
+    ('body:SEA', [0, 1]), ('plain:SEA', []),
+    ('n:[-5 TO 7}', [0, 1]), ('n:{-5 TO *]', [1, 2]), ('n:>=7', [2]), ('n:[7 TO 0]', []),
+    ('j.p:[9223372036854775807 TO *]', [0, 1]), ('j.p:{9223372036854775807 TO *]', [1]), ('j.p:[* TO 9223372036854775807]', [0]), ('j.p:[9223372036854775808 TO 9223372036854775807]', []),
+    ('j.p:*', [0, 1, 2, 3]), ('j.p:[a TO *]', [2]),
+    ('se*', [0, 1, 2]), ('sea*', [0, 1]), ('*', [0, 1, 2, 3]), ('* AND NOT se*', [3]), ('SE*', [0, 1, 2]), ('word:zz*', []), ('word:*', [0, 1, 2, 3]), ('word:[set TO sea]', []),
+    ('when:["2001-01-01T00:00:00Z" TO "1990-01-01T00:00:00Z"]', []), ('when:{"1990-01-01T00:00:00Z" TO *]', [1]),
+    ('tag:IN [a "b c" d]', [0, 2]))
+# The keys of fields of numbers and dates, one after the other in the file of terms.
+KEYS = ('7FFFFFFFFFFFFFFF 8000000000000001', '88C24D6667470000 8D93A53711350000')
+
+LITERAL = '; put the word in quotes to search for it as it is'
+WILDCARDS = 'wildcards (s*a, s?a) are not supported, but for a * that ends a word' + LITERAL
+FUZZY = 'fuzzy words and phrases with slop (sea~1, "new york"~2) are not supported' + LITERAL
+RANGES = 'a range needs the name of a field before it, as in year:[1 TO 2]' + LITERAL
+REFUSING_SCHEMA = '''\
+[[field]]
+name = "body"
+type = "text"
+[[field]]
+name = "bare"
+type = "text"
+record = "basic"
+[[field]]
+name = "year"
+type = "u64"
+[[field]]
+name = "flag"
+type = "bool"
+[[field]]
+name = "mark"
+type = "bytes"
+[[field]]
+name = "note"
+type = "text"
+indexed = false
+'''
+# Texts that are no queries over these fields, and why.
+REFUSED = (
+    ('se?', 'at byte 2: ' + WILDCARDS), ('*a', 'at byte 0: ' + WILDCARDS), ('a*b', 'at byte 1: ' + WILDCARDS),
+    ('/re/', 'at byte 0: regular expressions (/se.*/) are not supported' + LITERAL),
+    ('sea~1', 'at byte 3: ' + FUZZY), ('"a b"~99999999999', 'at byte 5: ' + FUZZY), ('"a a b"~2', 'at byte 7: ' + FUZZY),
+    ('a^2', 'at byte 1: boosts (sea^2) are not supported' + LITERAL),
+    ('+a', 'at byte 0: required clauses (+sea) are not supported; join the words that must all match with AND'),
+    ('the-sea*', 'field body: a prefix must be the start of one word, in a field of texts'),
+    ('year:1*', 'field year: a prefix must be the start of one word, in a field of texts'),
+    ('[1 TO 2]', 'at byte 0: ' + RANGES), ('{1 TO 2}', 'at byte 0: ' + RANGES),
+    ('>1', 'at byte 0: a comparison needs the name of a field before it, as in year:>7' + LITERAL),
+    ('IN [a]', 'at byte 0: a set needs the name of a field before it, as in tag:IN [a b]; put the word IN in quotes to search for it as it is'),
+    ('year:[1 TO 2', 'at byte 12: expected ] or } after the bounds of a range'),
+    ('year:[1 2]', 'at byte 8: expected the word TO between two bounds, as in year:[1 TO 2]'),
+    ('year:[1 TO ]', 'at byte 11: expected a bound: a word, a text in quotes, or * within brackets'),
+    ('year:IN [1', 'at byte 10: expected a value of the set, a word or a text in quotes, or the ] that ends it'),
+    ('year:[a TO 2]', 'field year: expected a number'), ('year:x', 'field year: expected a number'),
+    ('body:["a b" TO c]', 'field body: a bound of a range must be one word'),
+    ('flag:x', 'field flag: expected true or false'), ('bare:"a b"', 'field bare: the field keeps no positions, which a phrase needs'),
+    ('mark:00', 'field mark: queries of bytes and addresses are not supported'), ('note:a', 'field note: the field is not indexed'),
+    ('NOT a', 'at byte 5: something must be searched for that is not excluded: add a word without a minus'),
+    ('a AND NOT', 'at byte 9: expected a word, a phrase or an opening parenthesis to exclude; put NOT or the minus in quotes to search for it'),
+    ('a AND', 'at byte 5: expected a word, a phrase or an opening parenthesis'),
+    ('body: a', 'at byte 5: expected a word or a phrase after the colon'),
+    ('"a', 'at byte 2: expected a closing quote'), ('(a', 'at byte 2: expected a closing parenthesis'),
+    ('a)', 'at byte 1: expected the end of the query: this parenthesis closes none'),
+    ('(' * 129 + 'a' + ')' * 129, 'at byte 128: expected at most 128 open parentheses'),
+    ('', 'at byte 0: the query is empty: write a word to search for'),
+    ('...', 'no word to search for'), ('...*', 'no word to search for'))
 
 
 class User(users.User):
@@ -215,6 +341,94 @@ def rows(user):
     user.wants(['search', 'other', '"A b"'], 0, '0\n')
 
 
+def single_texts(user):
+    """The words of single texts by each tokenizer, and their positions."""
+    names = [*analyzers.WORDS_BY, 'stopped']
+    settings = {name: f'tokenizer = "{name}"\n' for name in names} | {'stopped': 'tokenizer = "en"\nstop_words = ["the"]\n'}
+    user.write('single.toml', ''.join(f'[[field]]\nname = "{name}"\ntype = "text"\n{settings[name]}' for name in names))
+    user.wants(['index', 'single', '--schema', 'single.toml'], 0, f'{len(ANALYZED)} documents indexed\n', given=''.join(json.dumps({name: text}) + '\n' for name, text, words in ANALYZED).encode())
+    for field in names:
+        wanted = {}
+        for doc, (name, text, words) in enumerate(ANALYZED):
+            for position, word in words if name == field else ():
+                wanted.setdefault(word, {}).setdefault(doc, []).append(position)
+        user.wants(['terms', 'single', field], 0, ''.join(f'{len(wanted[word])} {word}\n' for word in sorted(wanted, key=str.encode)))
+        for word, docs in wanted.items():
+            user.wants(['postings', 'single', '--positions', '--', field, word], 0, ''.join(f'{doc} {len(places)} {" ".join(map(str, places))}\n' for doc, places in docs.items()))
+
+
+def single_queries(user):
+    """What single queries find, which keys values have, and why a text is no query."""
+    user.write('queried.toml', QUERIED_SCHEMA)
+    user.wants(['index', 'queried', '--schema', 'queried.toml'], 0, f'{len(QUERIED)} documents indexed\n', given=''.join(json.dumps(line) + '\n' for line in QUERIED).encode())
+    for query, found in FOUND:
+        user.wants(['search', 'queried', query, '--field', 'word'], 0 if found else 1, ''.join(f'{doc}\n' for doc in found))
+    with open(user.path('queried', f'{0:016x}.term'), 'rb') as file:
+        terms = file.read()
+    for keys in KEYS:
+        if terms.count(bytes.fromhex(keys)) != 1:
+            raise Failed(f'the file of terms has no keys {keys}')
+    user.write('refused.toml', REFUSING_SCHEMA)
+    user.wants(['index', 'refused', '--schema', 'refused.toml'], 0, given=b'{"body": "a b", "year": 1}\n')
+    for query, reason in REFUSED:
+        user.wants(['search', 'refused', '--', query], 2, '', f'nequllpa: {query}: {reason}\n')
+    # longer than an argument may be
+    query, begin = f'year:IN [{"1 " * 65536}1]', len(f'year:IN [{"1 " * 65536}')
+    answer = {'query': query, 'error': f'at byte {begin}: expected at most 65536 values in a set', 'byte': begin}
+    user.wants(['search', 'refused', '--batch'], 2, json.dumps(answer, separators=(',', ':')) + '\n', given=query.encode())
+
+
+def foreign(user):
+    """An index whose schema names a tokenizer that this program doesn't know, or another version of Unicode: commands refuse
+    it and change nothing, unless no words depend on it."""
+    user.write('known.toml', '[[field]]\nname = "body"\ntype = "text"\ntokenizer = "default"\n')
+    user.wants(['index', 'known', '--schema', 'known.toml'], 0, '1 documents indexed\n', given=b'{"body": "The sea"}\n')
+    for old, new, reason in (
+            ('tokenizer = "default"\nunicode', 'tokenizer = "thai"\nunicode', 'unknown tokenizer thai: one of default, raw, whitespace, ascii, en'),
+            ('type = "text"\ntokenizer = "default"', 'type = "text"\ntokenizer = "thai"', 'field 0: unknown tokenizer thai: one of default, raw, whitespace, ascii, en'),
+            ('unicode = "18.0.0"', 'unicode = "19.0.0"', "its words are by Unicode 19.0.0, which this program doesn't have: index again")):
+        for version in (2, 1):
+            shutil.rmtree(user.path('foreign'), ignore_errors=True)
+            shutil.copytree(user.path('known'), user.path('foreign'))
+            versions.change_schema(user.path('foreign'), old.encode(), new.encode())
+            if version == 1:
+                versions.to_first(user.path('foreign'))
+            files = cuts.contents(user.path('foreign'))
+            for words in (['search', 'foreign', 'sea'], ['fields', 'foreign'], ['terms', 'foreign', 'body'], ['check', 'foreign']):
+                user.wants(words, 1, f'foreign: the schema: {reason}\n')
+            user.wants(['add', 'foreign'], 2, '', f'nequllpa: foreign: the schema: {reason}\n', given=b'{"body": "a new sea"}\n')
+            if cuts.contents(user.path('foreign')) != files:
+                raise Failed(f'an index with {new} was changed')
+    user.write('raw.toml', '[[field]]\nname = "body"\ntype = "text"\ntokenizer = "raw"\n')
+    user.wants(['index', 'ids', '--schema', 'raw.toml'], 0, '1 documents indexed\n', given=b'{"body": "The sea"}\n')
+    versions.change_schema(user.path('ids'), b'unicode = "18.0.0"', b'unicode = "19.0.0"')
+    user.wants(['search', 'ids', '"The sea"'], 0, '0\n')
+    user.wants(['add', 'ids'], 0, '1 documents added\n', given=b'{"body": "The sea"}\n')
+    user.wants(['search', 'ids', '"The sea"'], 0, '0\n1\n')
+
+
+def long_words(user):
+    """A word of a megabyte in a text of each tokenizer and in queries: it is left out, and its position stays free."""
+    long, names = 'x' * 1_000_000, list(analyzers.WORDS_BY)
+    user.write('long.toml', ''.join(f'[[field]]\nname = "{name}"\ntype = "text"\ntokenizer = "{name}"\n' for name in names))
+    line = {name: [f'a {long} b', long] for name in names}
+    user.wants(['index', 'long', '--schema', 'long.toml'], 0, '1 documents indexed\n', 'nequllpa: 6 words of more than 65530 bytes are not indexed\n', json.dumps(line).encode())
+    for name in names:
+        user.wants(['terms', 'long', name], 0, '' if name == 'raw' else '1 a\n1 b\n')
+        if name != 'raw':
+            user.wants(['postings', 'long', name, 'b', '--positions'], 0, '0 1 2\n')
+    asked = [f'{name}:{query}' for name in names for query in (long, f'"a {long} b"', f'{long}*', f'[{long} TO *]')]
+    answers = user.wants(['search', 'long', '--batch'], 2, given=''.join(query + '\n' for query in asked).encode()).splitlines()
+    # a long word is no word of `default`
+    cut = {'"a ': ',"docs":[{"doc":0}]}', long + '*': ',"error":"no word to search for"}', long: ',"error":"no word to search for"}', f'[{long}': ',"error":"field %s: a bound of a range must be one word"}'}
+    for query, answer in zip(asked, answers, strict=True):
+        name, text = query.split(':')
+        begin = f'{{"query":{json.dumps(query)}'
+        end = ',"docs":[]}' if name not in ('default', 'en') else next(end.replace('%s', name) for start, end in cut.items() if text.startswith(start))
+        if answer != begin + end:
+            raise Failed(f'{query[:40]}: {answer[len(begin):][:200]!r}; wanted {end!r}')
+
+
 def stems(user):
     """Compares the stems of words with those that another program gives. Returns how many."""
     with open(os.path.join(HERE, '..', 'stems', 'porter.txt')) as file:
@@ -248,6 +462,11 @@ def earlier(user):
     for query, found in (('the', [1]), ('The', [0]), ('man\u2019s', [1]), ('man', [])):
         user.wants(['search', 'earlier', query], 0 if found else 1, ''.join(f'{doc}\n' for doc in found))
     user.wants(['check', 'earlier'], 0)
+    shutil.copytree(user.path('earlier'), user.path('upgraded'))
+    user.wants(['upgrade', 'upgraded'], 0, 'the index is of version 2 now\n')
+    if '0 body text position fieldnorms tokenizer ascii: 5 terms, 5 tokens\n' not in user.wants(['fields', 'upgraded'], 0):
+        raise Failed('fields of an upgraded index without tokenizers')
+    user.wants(['search', 'upgraded', 'the'], 0, '1\n')
     user.wants(['add', 'earlier'], 0, '1 documents added\n', given=b'{"body": "The man"}\n')
     for query, found in (('the', [1]), ('The', [0, 2]), ('man', [2])):
         user.wants(['search', 'earlier', query], 0, ''.join(f'{doc}\n' for doc in found))
@@ -288,6 +507,10 @@ def each_tokenizer(user):
     """Goes through all of it. Returns what was seen."""
     chosen = random.Random(SEED)
     rows(user)
+    single_texts(user)
+    single_queries(user)
+    foreign(user)
+    long_words(user)
     num_stems = stems(user)
     earlier(user)
     num_pages = pages(user, chosen)

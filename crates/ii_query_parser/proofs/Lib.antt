@@ -7,6 +7,7 @@ pub mod RangeTextLemmas
 pub mod SetLemmas
 pub mod SetRows
 pub mod TermLemmas
+mod TokenizerRows
 pub mod TreeLemmas
 pub mod TrimmedRows
 pub mod ValueOrder

@@ -1,13 +1,14 @@
 -- Ranges in texts of queries, each computed.
-use Rattle.std.specs.Prelude.{◌≡◌, ℕ, ℤ, pos, negsuc, true, false, List, [], ◌∷◌, ◌++◌, Option, None, Some, Ok, codes, filter, refl, replicate}
+use Rattle.std.specs.Prelude.{◌≡◌, ◌^◌, ◌-◌, ℕ, ℤ, pos, negsuc, true, false, List, [], ◌∷◌, ◌++◌, Option, None, Some, Ok, codes, filter, refl, replicate}
 use Rattle.ii_base.specs.AsciiWords.{ascii_words}
+use Rattle.ii_base.specs.Json.{Leaf, text_leaf, u64_leaf}
 use Rattle.ii_base.specs.Schema.{SchemaEntry}
 use Rattle.ii_base.specs.Terms.{TermState}
 use Rattle.ii_base.specs.Values.{flipped, u64_bytes}
 use Rattle.ii_base.specs.declared.schema.index_record_option.IndexRecordOption.TheVariants.{Basic}
 use Rattle.ii_base.specs.declared.schema.value_type.ValueType.{ValueType}
 use Rattle.ii_base.specs.declared.schema.value_type.ValueType.TheVariants as types
-use Rattle.ii_definitions.specs.Tokens.{Call, IndexToken, text, tokens_of, value}
+use Rattle.ii_definitions.specs.Tokens.{Call, IndexToken, leaves, text, tokens_of, value}
 use Rattle.ii_query_grammar.specs.Lexemes.{tokens}
 use Rattle.ii_query_grammar.specs.Trees.{inclusive, exclusive, unbounded}
 use Rattle.ii_query_grammar.specs.declared.parse_error.Expected.TheVariants.{RangeEnd}
@@ -80,6 +81,48 @@ words_between = refl
 abbrev words_without : docs_of (codes "body:* AND NOT se*") ≡ 3 ∷ []
 unfolding tokens
 words_without = refl
+
+abbrev prefix_of_three : docs_of (codes "se*") ≡ 0 ∷ 1 ∷ 2 ∷ []
+unfolding tokens
+prefix_of_three = refl
+
+abbrev prefix_of_two : docs_of (codes "sea*") ≡ 0 ∷ 1 ∷ []
+unfolding tokens
+prefix_of_two = refl
+
+abbrev all_without : docs_of (codes "* AND NOT se*") ≡ 3 ∷ 4 ∷ []
+unfolding tokens
+all_without = refl
+
+-- values at paths: the greatest signed number, the number above it, this one at two other paths, and a text
+abbrev leaf : ℕ → List ℕ → Leaf → Call
+leaf doc path l = record { doc = doc; field = 2; content = leaves ((path, l) ∷ []) }
+
+abbrev path_values : List IndexToken
+path_values = tokens_of ascii_words (leaf 0 (codes "p") (u64_leaf (2 ^ 63 - 1)) ∷ leaf 1 (codes "p") (u64_leaf (2 ^ 63)) ∷ leaf 2 (codes "pq") (u64_leaf (2 ^ 63)) ∷ leaf 3 (codes "o") (u64_leaf (2 ^ 63)) ∷ leaf 4 (codes "p") (text_leaf (codes "z")) ∷ [])
+
+abbrev docs_at_path : List ℕ → List ℕ
+docs_at_path query = filter (λ (doc : ℕ). text_matches_by fields query path_values doc) (0 ∷ 1 ∷ 2 ∷ 3 ∷ 4 ∷ [])
+
+abbrev integers_at_path : docs_at_path (codes "j.p:[9223372036854775807 TO *]") ≡ 0 ∷ 1 ∷ []
+unfolding tokens
+integers_at_path = refl
+
+abbrev unsigned_at_path : docs_at_path (codes "j.p:>9223372036854775807") ≡ 1 ∷ []
+unfolding tokens
+unsigned_at_path = refl
+
+abbrev upside_down_at_path : docs_at_path (codes "j.p:[9223372036854775808 TO 9223372036854775807]") ≡ []
+unfolding tokens
+upside_down_at_path = refl
+
+abbrev words_at_path : docs_at_path (codes "j.p:[a TO *]") ≡ 4 ∷ []
+unfolding tokens
+words_at_path = refl
+
+abbrev any_value_at_path : docs_at_path (codes "j.p:*") ≡ 0 ∷ 1 ∷ 4 ∷ []
+unfolding tokens
+any_value_at_path = refl
 
 abbrev no_word : refusal_of (codes "body:[\"a b\" TO c]") ≡ Some (errors.UnsupportedBound 1)
 unfolding tokens

@@ -1,6 +1,6 @@
 -- Phrases and ranges in texts of words, each computed.
 use Rattle.std.proofs.Common.{Global, Vec}
-use Rattle.std.specs.Prelude.{◌≡◌, ℕ, [], ◌∷◌, List, Option, None, Some, codes, filter, refl}
+use Rattle.std.specs.Prelude.{◌≡◌, ℕ, [], ◌∷◌, Bool, true, false, List, Option, None, Some, codes, filter, map, refl}
 use Rattle.std.specs.List.{list_any}
 use Rattle.ii_base.specs.AsciiWords.{ascii_words}
 use Rattle.ii_base.specs.Terms.{TermState}
@@ -9,7 +9,9 @@ use Rattle.ii_query_parser.specs.declared.query.PhraseTerm.{PhraseTerm}
 use Rattle.ii_query_parser.specs.declared.term_range.KeyBound.{KeyBound}
 use Rattle.ii_query_parser.specs.declared.term_range.KeyBound.TheVariants.{Excluded, Included, Unbounded}
 use Rattle.ii_query_parser.specs.Queries.{has_phrase, is_token_in}
+use Rattle.ii_query_grammar.specs.Trees.{unbounded}
 use Rattle.ii_query_parser.specs.QueryTexts.{PhraseState, words_phrase}
+use Rattle.ii_query_parser.specs.Ranges.{in_keys}
 
 -- a text in a field of a document
 abbrev said : ℕ → ℕ → List ℕ → Call
@@ -104,3 +106,13 @@ to_excluded set is = rw is refl
 -- upside down
 pub between_none : (set sea : Vec ℕ Global) → set.items ≡ codes "set" → sea.items ≡ codes "sea" → docs_between [] (Included set) (Included sea) ≡ []
 between_none set sea is also = rw (is, also) refl
+
+-- keys of any bytes: the greatest byte has no next one
+abbrev starts_with : List ℕ → List ℕ → Bool
+starts_with start = in_keys (record { prefix = record { field = 0; value = start }; lower = unbounded; upper = unbounded })
+
+pub from_61_ff : map (starts_with (0x61 ∷ 0xFF ∷ [])) ((0x61 ∷ []) ∷ (0x61 ∷ 0xFE ∷ []) ∷ (0x61 ∷ 0xFF ∷ []) ∷ (0x61 ∷ 0xFF ∷ 0x00 ∷ []) ∷ (0x61 ∷ 0xFF ∷ 0xFF ∷ []) ∷ (0x62 ∷ []) ∷ []) ≡ false ∷ false ∷ true ∷ true ∷ true ∷ false ∷ []
+from_61_ff = refl
+
+pub from_ff_ff : map (starts_with (0xFF ∷ 0xFF ∷ [])) ((0xFE ∷ 0xFF ∷ []) ∷ (0xFF ∷ []) ∷ (0xFF ∷ 0xFE ∷ 0xFF ∷ []) ∷ (0xFF ∷ 0xFF ∷ []) ∷ (0xFF ∷ 0xFF ∷ 0xFF ∷ []) ∷ []) ≡ false ∷ false ∷ false ∷ true ∷ true ∷ []
+from_ff_ff = refl

@@ -13,6 +13,13 @@ number_text = refl
 signed_text : text_of_key types.I64 (127 ∷ 255 ∷ 255 ∷ 255 ∷ 255 ∷ 255 ∷ 255 ∷ 254 ∷ []) ≡ codes "-" ++ decimal 2
 signed_text = refl
 
+-- the keys of -1 and of 1
+minus_one_read : key_in types.I64 false (codes "-1") ≡ Some (0x7F ∷ 0xFF ∷ 0xFF ∷ 0xFF ∷ 0xFF ∷ 0xFF ∷ 0xFF ∷ 0xFF ∷ [])
+minus_one_read = refl
+
+one_read : key_in types.I64 false (codes "1") ≡ Some (0x80 ∷ 0 ∷ 0 ∷ 0 ∷ 0 ∷ 0 ∷ 0 ∷ 1 ∷ [])
+one_read = refl
+
 boolean_key : text_of_key types.Bool (0 ∷ 0 ∷ 0 ∷ 0 ∷ 0 ∷ 0 ∷ 0 ∷ 1 ∷ []) ≡ codes "true"
 boolean_key = refl
 

@@ -6,5 +6,6 @@ pub mod AsciiPartLemmas
 pub mod AsciiWordLemmas
 pub mod RunLemmas
 pub mod StretchLemmas
+pub mod OnLiterals
 mod StopLemmas
 mod WorkedRows
