@@ -1,5 +1,6 @@
 //! The filter of stop words.
-ghost use Rattle.std.specs.Prelude.{◌≡◌, ◌++◌, [], IfOk, OnErr, OnOk};
+ghost use Rattle.std.specs.Prelude.{◌≡◌, [], IfOk, OnErr, OnOk, length, slice_get};
+ghost use Rattle.std.specs.Option.{option_copied};
 ghost use Rattle.ii_io.specs.Faults.{OnlyMemory};
 ghost use Rattle.ii_tokenizers.specs.Analyzers.{is_stop_word, remove_stop, with_stop_word};
 
@@ -53,6 +54,23 @@ impl StopWordFilter {
         ensures { result ≡ is_stop_word self.now text.now }
     {
         self.words.contains(text)
+    }
+
+    /// Returns the number of stop words.
+    pub fn len(&self) -> usize
+        ensures { result ≡ length self.now }
+    {
+        self.words.len()
+    }
+
+    /// Returns the stop word at an index, in the order in which they were added, in folded case.
+    pub fn get(&self, index: usize) -> Option<&str>
+        ensures { option_copied result ≡ slice_get self.now index }
+    {
+        match self.words.get_index(index) {
+            Some(word) => Some(word.as_str()),
+            None => None,
+        }
     }
 
     /// Returns the tokens that are no stop words. They keep their positions and offsets.
