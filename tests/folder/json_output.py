@@ -88,12 +88,12 @@ ROWS = (
     (['postings', JSON, 'k s sea', '--positions'], 0, [{'doc': 0, 'freq': 2, 'positions': [0, 1]}, {'doc': 2, 'freq': 1, 'positions': [1]}]),
     (['postings', JSON, 'a\\.b o false', '--positions'], 0, [{'doc': 2, 'freq': 1, 'positions': []}]),
 )
-FIELD_KEYS = ('number', 'field', 'type', 'indexed', 'record', 'fieldnorms', 'expand_dots', 'tokenizer', 'terms', 'tokens')
+FIELD_KEYS = ('number', 'field', 'type', 'indexed', 'record', 'fieldnorms', 'expand_dots', 'tokenizer', 'stop_words', 'terms', 'tokens')
 FIELDS = (
-    (0, 'body', 'text', True, 'position', True, False, 'ascii', 2, 6), (1, 'tag', 'text', True, 'freq', False, False, 'raw', 3, 4), (2, 'word', 'text', True, 'basic', True, False, 'ascii', 1, 3),
-    (3, 'n', 'u64', True, 'basic', False, False, None, 1, 1), (4, 'change', 'i64', True, 'basic', False, False, None, 1, 1), (5, 'flag', 'bool', True, 'basic', False, False, None, 2, 3),
-    (6, 'mark', 'bytes', True, 'basic', False, False, None, 2, 2), (7, 'addr', 'ip_addr', True, 'basic', False, False, None, 2, 3), (8, JSON, 'json', True, 'position', False, False, 'ascii', 5, 7),
-    (9, 'note', 'text', False, None, None, None, None, 0, 0))
+    (0, 'body', 'text', True, 'position', True, False, 'ascii', None, 2, 6), (1, 'tag', 'text', True, 'freq', False, False, 'raw', None, 3, 4), (2, 'word', 'text', True, 'basic', True, False, 'ascii', None, 1, 3),
+    (3, 'n', 'u64', True, 'basic', False, False, None, None, 1, 1), (4, 'change', 'i64', True, 'basic', False, False, None, None, 1, 1), (5, 'flag', 'bool', True, 'basic', False, False, None, None, 2, 3),
+    (6, 'mark', 'bytes', True, 'basic', False, False, None, None, 2, 2), (7, 'addr', 'ip_addr', True, 'basic', False, False, None, None, 2, 3), (8, JSON, 'json', True, 'position', False, False, 'ascii', None, 5, 7),
+    (9, 'note', 'text', False, None, None, None, None, None, 0, 0))
 PATHS = (('a\\.b', 'bool', 1), ('k', 'text', 2), ('x\\ y', 'i64', 1), ('x\\ y', 'u64', 1))
 TYPES = {'s': 'text', 'i': 'i64', 'u': 'u64', 'o': 'bool'}
 FILE_KINDS = {'schema': 'schema', 'terms': 'term', 'postings': 'idx', 'positions': 'pos', 'field_norms': 'norm', 'counts': 'count', 'stored_documents': 'store'}
@@ -275,9 +275,10 @@ class Reader(random_folders.Reader):
         """Returns what `fields` prints of a field."""
         setting, is_text = field.setting, field.kind in ('text', 'json')
         if setting.get('indexed') is False:
-            return field_row((number, setting['name'], field.kind, False, None, None, None, None, 0, 0))
+            return field_row((number, setting['name'], field.kind, False, None, None, None, None, None, 0, 0))
         norms = setting.get('fieldnorms', field.kind == 'text')
-        return field_row((number, setting['name'], field.kind, True, field.records(), norms, setting.get('expand_dots', False), setting.get('tokenizer', 'ascii') if is_text else None, len(field.lists), field.tokens))
+        stops = list(dict.fromkeys(word.casefold() for word in setting.get('stop_words', ()))) or None
+        return field_row((number, setting['name'], field.kind, True, field.records(), norms, setting.get('expand_dots', False), setting.get('tokenizer', 'ascii') if is_text else None, stops, len(field.lists), field.tokens))
 
     def paths_of(self, field):
         """Returns the paths of a field, each with the type and the number of its terms, in their order."""

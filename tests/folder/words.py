@@ -246,8 +246,10 @@ def compares(user, chosen, default):
     readings = {}
     for number, (name, kind, tokenizer) in enumerate(FIELDS):
         tokenizer = tokenizer or default or 'default'
-        if f'{number} {name} {kind} position' not in told or f'tokenizer {tokenizer}: ' not in told.split(f'{number} {name} ')[1].split('\n')[0]:
-            raise Failed(f'fields: {name} has no tokenizer {tokenizer} in {told!r}')
+        stops = list(dict.fromkeys(word.casefold() for word in STOPS.get(name, ())))
+        cut = f'tokenizer {tokenizer}' + (f' stop_words {json.dumps(stops, separators=(",", ":"), ensure_ascii=False)}' if stops else '')
+        if f'{number} {name} {kind} position' not in told or f'{cut}: ' not in told.split(f'{number} {name} ')[1].split('\n')[0]:
+            raise Failed(f'fields: {name} has no {cut} in {told!r}')
         words_by = words_of(name, tokenizer)
         readings[name] = (words_by, [places_of(line, name, words_by) for line in lines])
         counts = {}

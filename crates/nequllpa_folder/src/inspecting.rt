@@ -5,11 +5,14 @@ ghost use Rattle.ii_docset.specs.Cursor.{IsCurrent};
 
 use crate::faults::AnswerFault;
 use crate::finding::first_docs;
-use crate::json_rows::{write_field_json, write_posting_json, write_space_json, write_term_json};
+use crate::json_rows::{
+    write_field_json, write_posting_json, write_separator, write_space_json, write_term_json,
+};
 use crate::merged_terms::{MergedTerm, MergedTerms};
 use crate::opened::Opened;
 use crate::opened_index::{Bases, OpenedIndex, reader_of};
 use crate::row_format::RowFormat;
+use crate::stored_part::write_quoted;
 use ii_base::{Fault, Field, FieldEntry, IndexRecordOption, Part, Term, ValueType};
 use ii_docset::{DocSet, Postings, TERMINATED};
 use ii_reader::SegmentPostings;
@@ -384,11 +387,12 @@ fn write_posting<W: Write>(
     Ok(())
 }
 
-/// Writes a line for each field: its number, name and type, what it records, and its numbers of terms and
-/// tokens. Below a JSON field it writes a line for each path and type. A JSON line is an object with `number`, `field`,
-/// `type` and `indexed`, for an indexed field `record`, `fieldnorms`, `expand_dots`, and `tokenizer` if it has texts,
-/// and with `terms` and `tokens`; that of a path one with `field`, `path`, `type`, `terms`, and `bytes`, an object with
-/// `postings` and `positions`.
+/// Writes a line for each field: its number, name and type, what it records, its tokenizer if it has texts, its stop
+/// words, as an array of JSON strings, if it has some, and its numbers of terms and tokens. Below a JSON field it
+/// writes a line for each path and type. A JSON line is an object with `number`, `field`, `type` and `indexed`, for an
+/// indexed field `record`, `fieldnorms`, `expand_dots`, `tokenizer` if it has texts, and `stop_words` if it has some,
+/// and with `terms` and `tokens`; that of a path one with `field`, `path`, `type`, `terms`, and `bytes`, an object
+/// with `postings` and `positions`.
 pub fn write_fields<W: Write>(
     alloc: Global,
     out: &mut W,
@@ -430,6 +434,7 @@ fn write_field<W: Write>(
     if let Some(name) = tokenizer_name(opened, field) {
         write!(out, " tokenizer {name}")?;
     }
+    write_stop_words(alloc, out, opened, field, " stop_words ")?;
     writeln!(
         out,
         ": {} terms, {} tokens",
@@ -500,6 +505,31 @@ pub(crate) fn tokenizer_name(opened: &OpenedIndex, field: Field) -> Option<&'sta
         },
         _ => None,
     }
+}
+
+// Writes the stop words of a field as an array, with a text before it, if it has some.
+pub(crate) fn write_stop_words<W: Write>(
+    alloc: Global,
+    out: &mut W,
+    opened: &OpenedIndex,
+    field: Field,
+    before: &str,
+) -> Result<(), AnswerFault>
+    requires { field < length opened.now.schema }
+{
+    let stop_words = &opened.tokenizers().analyzer(field).stop_words;
+    if stop_words.len() == 0 {
+        return Ok(());
+    }
+    write!(out, "{before}[")?;
+    for place in 0..stop_words.len() {
+        if let Some(word) = stop_words.get(place) {
+            write_separator(out, place)?;
+            write_quoted(alloc, out, word)?;
+        }
+    }
+    write!(out, "]")?;
+    Ok(())
 }
 
 // Returns the name of an option in the text of a schema.

@@ -3,7 +3,7 @@ ghost use Rattle.std.specs.Prelude.{◌<◌, length};
 ghost use Rattle.ii_docset.specs.Cursor.{IsCurrent};
 
 use crate::faults::AnswerFault;
-use crate::inspecting::{Space, num_terms, num_tokens, option_name, tokenizer_name};
+use crate::inspecting::{Space, num_terms, num_tokens, option_name, tokenizer_name, write_stop_words};
 use crate::opened_index::OpenedIndex;
 use crate::row_format::RowFormat;
 use crate::stored_part::write_quoted;
@@ -90,6 +90,7 @@ pub(crate) fn write_field_json<W: Write>(
     if let Some(name) = tokenizer_name(opened, field) {
         write!(out, ",\"tokenizer\":\"{name}\"")?;
     }
+    write_stop_words(alloc, out, opened, field, ",\"stop_words\":")?;
     write!(
         out,
         ",\"terms\":{terms},\"tokens\":{tokens}}}{}",
