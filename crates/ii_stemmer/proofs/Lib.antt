@@ -1,3 +1,4 @@
 mod LetterLemmas
 mod StemLemmas
+mod SuffixLemmas
 mod WorkedRows

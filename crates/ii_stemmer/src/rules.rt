@@ -54,6 +54,11 @@ fn has_suffix(rule: &Rule, word: &[u8]) -> bool
     ensures fits { IsTrue result → length rule.now.suffix.now ≤ length word.now }
     ensures value { result ≡ ends_with eqb word.now rule.now.suffix.now }
 {
+    let n = rule.suffix.len();
+    // Most suffixes differ in their last letter.
+    if n > 0 && n <= word.len() && rule.suffix[n - 1] != word[word.len() - 1] {
+        return false;
+    }
     word.ends_with(rule.suffix)
 }
 

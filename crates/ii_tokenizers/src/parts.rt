@@ -1,5 +1,5 @@
 //! Cuts a text into the parts that become tokens.
-ghost use Rattle.std.specs.Prelude.{◌≡◌, ◌+◌, ◌<◌, ◌≤◌, ◌++◌, ◌∷◌, ◌⊎◌, ◌^◌, [], chars, length, OnOk, IfOk};
+ghost use Rattle.std.specs.Prelude.{◌≡◌, ◌+◌, ◌<◌, ◌≤◌, ◌++◌, ◌∷◌, ◌⊎◌, ◌^◌, [], true, chars, length, OnOk, IfOk};
 ghost use Rattle.ii_io.specs.Faults.{OnlyMemory};
 ghost use Rattle.ii_tokenizers.specs.Analyzers.{cuts_at, is_mark, nonempty_parts, piece_parts, raw_words, rule_parts, space_words, split_words, words_from};
 ghost use Rattle.ii_tokenizers.specs.AsciiParts.{IsBehindSpace};
@@ -41,23 +41,45 @@ pub fn split_words(alloc: Global, text: &str) -> Result<TokenBuffer, Fault>
     Ok(tokens)
 }
 
-// The bytes of a stretch, at least, unless the text ends before. Each is cut as ASCII or by the rules of Unicode.
-const STRETCH: usize = 16;
-
 // Returns where the stretch from an offset on ends: behind a space and before a letter or digit, or with the text.
+// It ends before the first character past ASCII if it can, else at the next such place.
 fn stretch_end(bytes: &[u8], start: usize) -> usize
     requires { start < length bytes.now }
     ensures after { start < result }
     ensures cut { (result ≡ length bytes.now) ⊎ IsBehindSpace bytes.now result }
 {
-    let mut end = start.saturating_add(STRETCH);
-    while end < bytes.len() {
-        if bytes[end - 1] == b' ' && bytes[end].is_ascii_alphanumeric() {
-            return end;
+    let end = start + ascii_len(&bytes[start..]);
+    let mut place = end;
+    while place > start && end < bytes.len() {
+        if is_behind_space(bytes, place) {
+            return place;
         }
-        end += 1;
+        place -= 1;
+    }
+    let mut next = end.max(start + 1);
+    while next < bytes.len() {
+        if is_behind_space(bytes, next) {
+            return next;
+        }
+        next += 1;
     }
     bytes.len()
+}
+
+// Returns the number of ASCII characters at the start of these bytes.
+fn ascii_len(bytes: &[u8]) -> usize
+    ensures { result ≤ length bytes.now }
+{
+    bytes.iter().take_while(|b| b.is_ascii()).count()
+}
+
+// Returns whether an offset is behind a space and before a letter or digit.
+fn is_behind_space(bytes: &[u8], place: usize) -> bool
+    requires first { 0 < place }
+    requires within { place < length bytes.now }
+    ensures { result ≡ true → IsBehindSpace bytes.now place }
+{
+    bytes[place - 1] == b' ' && bytes[place].is_ascii_alphanumeric()
 }
 
 // Adds the words of a stretch of a text, whose first byte is at an offset.
