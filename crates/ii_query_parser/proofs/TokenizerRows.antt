@@ -2,7 +2,6 @@
 use Rattle.std.specs.Prelude.{◌≡◌, ℕ, true, false, List, [], ◌∷◌, ◌++◌, Option, Some, codes, encode_utf8_all, filter, refl}
 use Rattle.ii_base.specs.declared.schema.index_record_option.IndexRecordOption.TheVariants.{WithFreqsAndPositions}
 use Rattle.ii_base.specs.declared.schema.value_type.ValueType.TheVariants.{Str}
-use Rattle.ii_stemmer.specs.Rules.{step_1a_rules, step_1b_rules, step_1c_rules, step_2_rules, step_3_rules, step_4_rules, step_5a_rules}
 use Rattle.ii_tokenizers.specs.Tokenizers.{plain_tokenizer, prefix_tokenizer, tokenized}
 use Rattle.ii_tokenizers.specs.declared.analyzer.Analyzer.TheVariants.{Ascii, Default, English, Raw}
 use Rattle.ii_tokenizers.specs.declared.field_tokenizer.FieldTokenizer.{FieldTokenizer}
@@ -66,11 +65,11 @@ abbrev without_the : FieldTokenizer
 without_the = record { analyzer = English; stop_words = codes "the" ∷ [] }
 
 pub stop_word_and_sea : docs_of without_the (codes "The Sea") (codes "old seas") (codes "the man") (codes "the AND sea") ≡ 0 ∷ 1 ∷ []
-unfolding tokens words_on_literals step_1a_rules step_1b_rules step_1c_rules step_2_rules step_3_rules step_4_rules step_5a_rules
+unfolding tokens words_on_literals
 stop_word_and_sea = refl
 
 pub sea_alone : docs_of without_the (codes "The Sea") (codes "old seas") (codes "the man") (codes "sea") ≡ 0 ∷ 1 ∷ []
-unfolding tokens words_on_literals step_1a_rules step_1b_rules step_1c_rules step_2_rules step_3_rules step_4_rules step_5a_rules
+unfolding tokens words_on_literals
 sea_alone = refl
 
 pub stop_word_alone : refusal_of without_the (codes "the") ≡ Some errors.NoWords
@@ -79,5 +78,5 @@ stop_word_alone = refl
 
 -- the start of a word isn't stemmed, and is no stop word: `running` is the start of no stem
 pub prefix_of_a_stop_word : docs_of without_the (codes "theory") (codes "the man") (codes "running") (codes "the* OR running*") ≡ 0 ∷ []
-unfolding tokens words_on_literals step_1a_rules step_1b_rules step_1c_rules step_2_rules step_3_rules step_4_rules step_5a_rules
+unfolding tokens words_on_literals
 prefix_of_a_stop_word = refl

@@ -150,12 +150,12 @@ unfolding words_on_literals
 whitespace_of_marks = refl
 
 pub english_without_the : analyzed_without (codes "the" ∷ []) English (codes "the old seas") ≡ token 4 7 1 (codes "old") ∷ token 8 12 2 (codes "sea") ∷ []
-unfolding words_on_literals step_1a_rules step_1b_rules step_1c_rules step_2_rules step_3_rules step_4_rules step_5a_rules
+unfolding words_on_literals
 english_without_the = refl
 
 -- stop words are compared with folded words: `The` is one
 pub english_without_a_capital : analyzed_without (codes "the" ∷ []) English (codes "The Seas") ≡ token 4 8 1 (codes "sea") ∷ []
-unfolding words_on_literals step_1a_rules step_1b_rules step_1c_rules step_2_rules step_3_rules step_4_rules step_5a_rules
+unfolding words_on_literals
 english_without_a_capital = refl
 
 -- the words of prefixes aren't stemmed, and none is left out
