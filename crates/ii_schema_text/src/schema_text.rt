@@ -17,7 +17,7 @@ use toml::{Table, Value};
 
 /// Reads a schema, its tokenizers, whether lines are stored, and what happens to unknown keys, from TOML: a table `[[field]]` for each field, in order, with these keys:
 /// - `name`: a text that isn't empty and differs from the names before it,
-/// - `type`: `text`, `u64`, `i64`, `bool`, `bytes`, `ip_addr` or `json`,
+/// - `type`: `text`, `u64`, `i64`, `bool`, `bytes`, `ip_addr`, `date` or `json`,
 /// - `indexed`: whether it is indexed; the default is `true`,
 /// - `record`, for an indexed text or JSON field: what is kept of a term: `basic`, `freq` or `position`,
 ///   the default,
