@@ -20,7 +20,7 @@ use Rattle.ii_ranking.specs.Combinations.{Adds, AreCombined, add, any_of, both, 
 use Rattle.ii_ranking.specs.Scores.{IsScoreFault, Scored, first_of, phrase_score, query_damage, query_score, tree_score, tree_scores, trees_damage}
 
 -- sums of scores don't depend on how they are grouped
-add_grouped : (a b c : ℕ) → add (add a b) c ≡ add a (add b c)
+pub add_grouped : (a b c : ℕ) → add (add a b) c ≡ add a (add b c)
 add_grouped a b c = omega arith
 
 either_grouped : (a b c : Option ℕ) → either (either a b) c ≡ either a (either b c)
@@ -30,7 +30,7 @@ either_grouped (Some a) (Some b) None = refl
 either_grouped (Some a) (Some b) (Some c) = ap (λ (s : ℕ). Some s) (add_grouped a b c)
 
 -- a score in front of those of some parts
-either_first : (score : Option ℕ) (scores : List (Option ℕ)) → fold either score scores ≡ either score (any_of scores)
+pub either_first : (score : Option ℕ) (scores : List (Option ℕ)) → fold either score scores ≡ either score (any_of scores)
 either_first score scores = ap (λ (s : Option ℕ). fold either s scores) (sym (none_more score)) ∙ later score None scores
   where
     none_more : (s : Option ℕ) → either s None ≡ s

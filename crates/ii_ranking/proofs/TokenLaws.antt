@@ -50,11 +50,11 @@ use Rattle.ii_ranking.specs.declared.top_docs.TopDocs.{TopDocs}
 use Rattle.ii_ranking.proofs.TopLemmas.{scored_alike}
 
 -- Scores of documents below a number are made of the same, for terms of the first n fields.
-record AreAlike (n num_docs : ℕ) (a b : Scored) : Type 0 where
-  statistics : a.statistics ≡ b.statistics
-  entries : (requested : IndexRecordOption) (term : TermState) → term.field < n → a.entries requested term ≡ b.entries requested term
-  has_in : (range : TermRange) (doc : ℕ) → range.prefix.field < n → a.has_in range doc ≡ b.has_in range doc
-  norm_id : (field doc : ℕ) → doc < num_docs → a.norm_id field doc ≡ b.norm_id field doc
+pub record AreAlike (n num_docs : ℕ) (a b : Scored) : Type 0 where
+  pub statistics : a.statistics ≡ b.statistics
+  pub entries : (requested : IndexRecordOption) (term : TermState) → term.field < n → a.entries requested term ≡ b.entries requested term
+  pub has_in : (range : TermRange) (doc : ℕ) → range.prefix.field < n → a.has_in range doc ≡ b.has_in range doc
+  pub norm_id : (field doc : ℕ) → doc < num_docs → a.norm_id field doc ≡ b.norm_id field doc
 
 -- what a count scores, given the numbers of an index and the norm id of the document
 abbrev score_with : Statistics → List TermState → ℕ → ℕ → ℕ → ℕ
@@ -64,7 +64,7 @@ module _ (n num_docs : ℕ) (a b : Scored) (alike : AreAlike n num_docs a b) (do
   same_term : (term : TermState) → term.field < n → term_score a term doc ≡ term_score b term doc
   same_term term field = λ j. option_map (λ (e : Entry). score_with (alike.statistics j) (term ∷ []) term.field (alike.norm_id term.field doc below j) e.term_freq) (entry_at (alike.entries WithFreqs term field j) doc)
 
-  same_parts : (others : List PhraseTerm) → list_all (λ (o : PhraseTerm). nat_lt o.term.field n) others ≡ true → parts_of a others ≡ parts_of b others
+  pub same_parts : (others : List PhraseTerm) → list_all (λ (o : PhraseTerm). nat_lt o.term.field n) others ≡ true → parts_of a others ≡ parts_of b others
   same_parts [] fields = refl
   same_parts (o ∷ os) fields =
       let h = and_parts (nat_lt o.term.field n) (list_all (λ (p : PhraseTerm). nat_lt p.term.field n) os) fields in
@@ -141,7 +141,7 @@ module _ (schema : List SchemaEntry) (num_docs : ℕ) (index : OpenIndexState) (
       by true = get_or-map-range_with_len (λ (d : ℕ). id_of_norm (doc_count d field ts)) 0 num_docs doc doc 1 below (omega arith)
       by false = refl
 
-  held_alike : (statistics : Statistics) → AreAlike (length schema) num_docs (scored_in index statistics) (scored_by_tokens schema ts statistics)
+  pub held_alike : (statistics : Statistics) → AreAlike (length schema) num_docs (scored_in index statistics) (scored_by_tokens schema ts statistics)
   held_alike statistics = record {
     statistics = refl;
     entries = λ requested term field. ap opened_or_none (held_list requested term field);

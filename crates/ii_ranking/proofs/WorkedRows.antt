@@ -12,6 +12,7 @@ use Rattle.ii_definitions.specs.Tokens.{IndexToken}
 use Rattle.ii_query_parser.specs.Queries.{no_tree, one_phrase, one_term, tree}
 use Rattle.ii_query_parser.specs.Queries as queries
 use Rattle.ii_ranking.specs.Scores.{scored_by_tokens, tree_score}
+use Rattle.ii_ranking.specs.Shares.{ShareState, tree_shares}
 use Rattle.ii_ranking.specs.TokenCounts.{num_tokens_of, phrase_starts}
 
 -- a word of a text in field 0
@@ -68,3 +69,29 @@ score_of_both = refl
 
 pub no_score : tree_score (scored_by_tokens schema texts numbers) (one_phrase (term (codes "the")) (record { distance = 1; term = term (codes "sea") } ∷ [])) 0 ≡ None
 no_score = refl
+
+-- the share of a word, each of which has this weight
+abbrev word_share : List ℕ → ℕ → ℕ → ℕ → ShareState
+word_share text count norm_id score = record { part = one_term (term text); weight = 1682366; count = count; norm_id = norm_id; score = score }
+
+-- "the" and "old" have a share each; where "the sea" has to match too, there is none
+pub shares_of_both : tree_shares (scored_by_tokens schema texts numbers) (queries.each_of (tree (one_term (term (codes "the"))) (tree (one_term (term (codes "old"))) no_tree))) 0
+    ≡ word_share (codes "the") 1 3 55825604729 ∷ word_share (codes "old") 1 3 55825604729 ∷ []
+unfolding log2_fixed count_leading_zeros id_of_norm norm_of_id
+shares_of_both = refl
+
+pub no_shares : tree_shares (scored_by_tokens schema texts numbers) (queries.each_of (tree (one_term (term (codes "the"))) (tree (one_phrase (term (codes "the")) (record { distance = 1; term = term (codes "sea") } ∷ [])) no_tree))) 0 ≡ []
+unfolding log2_fixed count_leading_zeros id_of_norm norm_of_id
+no_shares = refl
+
+-- a phrase has one share, with the weight of both words
+pub shares_of_any : tree_shares (scored_by_tokens schema texts numbers) (queries.any_of (tree (one_term (term (codes "the"))) (tree (one_phrase (term (codes "the")) (record { distance = 1; term = term (codes "sea") } ∷ [])) no_tree))) 1
+    ≡ word_share (codes "the") 2 5 64382810291 ∷ record { part = one_phrase (term (codes "the")) (record { distance = 1; term = term (codes "sea") } ∷ []); weight = 3364732; count = 1; norm_id = 5; score = 90932431040 } ∷ []
+unfolding log2_fixed count_leading_zeros id_of_norm norm_of_id
+shares_of_any = refl
+
+-- what is excluded has no share
+pub shares_without : tree_shares (scored_by_tokens schema texts numbers) (queries.without (one_term (term (codes "old"))) (one_phrase (term (codes "the")) (record { distance = 1; term = term (codes "sea") } ∷ []))) 0
+    ≡ word_share (codes "old") 1 3 55825604729 ∷ []
+unfolding log2_fixed count_leading_zeros id_of_norm norm_of_id
+shares_without = refl

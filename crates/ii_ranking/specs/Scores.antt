@@ -1,5 +1,5 @@
 -- What a document scores by a query: BM25 for terms and phrases, the sum of what matches else.
-use Rattle.std.specs.Prelude.{◌≡◌, ◌⊎◌, ℕ, ◌^◌, ◌==◌, Bool, List, [], ◌∷◌, Option, None, Some, Result, Ok, Err, if◌then◌else◌, filter, length, map, min, nat_le, nat_lt, slice_index_or, unwrap_or}
+use Rattle.std.specs.Prelude.{◌≡◌, ◌⊎◌, ℕ, ◌^◌, ◌==◌, ◌<◌, Bool, List, [], ◌∷◌, Option, None, Some, Result, Ok, Err, if◌then◌else◌, filter, length, map, min, nat_le, nat_lt, slice_index_or, unwrap_or}
 use Rattle.std.specs.List.{find, list_any}
 use Rattle.std.specs.Option.{option_map}
 use Rattle.ii_io.specs.declared.faults.Fault.{Fault}
@@ -13,7 +13,7 @@ use Rattle.ii_base.specs.Terms.{TermState}
 use Rattle.ii_base.specs.declared.doc_id.TheConstants.{TERMINATED}
 use Rattle.ii_base.specs.declared.schema.index_record_option.IndexRecordOption.{IndexRecordOption}
 use Rattle.ii_base.specs.declared.schema.index_record_option.IndexRecordOption.TheVariants.{WithFreqs, WithFreqsAndPositions}
-use Rattle.ii_docset.specs.Cursor.{from_doc}
+use Rattle.ii_docset.specs.Cursor.{doc_at, from_doc}
 use Rattle.ii_docset.specs.Intersection.{has_doc}
 use Rattle.ii_fieldnorm.specs.Norms.{id_of_norm}
 use Rattle.ii_bm25.specs.Bm25.{bm25_score, bm25_weight}
@@ -181,3 +181,9 @@ from_part doc p = record { distance = p.distance; rest = from_doc doc p.rest }
 -- The terms of a phrase are at their first documents from this one on.
 abbrev pub AreFrom : ℕ → List PhrasePartState → List PhrasePartState → Type 0
 AreFrom doc old new = new ≡ map (from_part doc) old
+
+-- A cursor dropped the documents below this one, which is now its current document.
+pub record IsAt (doc : ℕ) (old new : List Entry) : Type 0 where
+  pub below : doc < TERMINATED
+  pub current : doc_at new ≡ doc
+  pub rest : new ≡ from_doc doc old

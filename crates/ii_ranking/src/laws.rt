@@ -1,5 +1,6 @@
 //! Laws of all indexes and queries.
 ghost use Rattle.ii_ranking.specs.OneIndex.{ScoresAreLocal, SegmentsScoreAsOne};
+ghost use Rattle.ii_ranking.specs.Shares.{ScoredHaveShares, SharesAddUp};
 ghost use Rattle.ii_ranking.specs.TokenCounts.{MatchesScore, PhrasesScoreByStarts, TermsScoreByCounts};
 ghost use Rattle.ii_ranking.specs.TokenScores.{ScoresAreOfTokens};
 
@@ -23,4 +24,10 @@ pub fn scores_count_tokens()
 pub fn segments_score_as_one()
     ensures local { ScoresAreLocal }
     ensures same { SegmentsScoreAsOne }
+{}
+
+/// Law of shares: the shares of a document add up to its score, and it has shares if and only if it has a score.
+pub fn shares_add_up()
+    ensures sum { SharesAddUp }
+    ensures some { ScoredHaveShares }
 {}

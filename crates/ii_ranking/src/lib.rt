@@ -9,14 +9,16 @@ pub mod range_scores;
 pub mod ranking;
 pub mod scores;
 pub mod segments;
+pub mod shares;
 pub mod statistics;
 pub mod term_scores;
 pub mod top_docs;
 
 pub use ii_bm25::{Bm25StatisticsProvider, SCORE_ONE, Score};
-pub use laws::{scores_are_of_tokens, scores_count_tokens};
+pub use laws::{scores_are_of_tokens, scores_count_tokens, shares_add_up};
 pub use ranking::search;
 pub use scores::score_docs;
 pub use segments::{RankedSegment, search_segments};
+pub use shares::{Share, explain};
 pub use statistics::GatheredStatistics;
 pub use top_docs::TopDocs;

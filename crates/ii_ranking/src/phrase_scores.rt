@@ -16,7 +16,7 @@ ghost use Rattle.ii_ranking.specs.Combinations.{Adds};
 ghost use Rattle.ii_ranking.specs.Scores.{AreFrom, IsScoreFault, damage_of, if_occurs, norm_id_in, norms_damage, num_starts, parts_damage, parts_of, phrase_count, phrase_damage, phrase_score, scored_in};
 
 use crate::combination::add_at;
-use crate::term_scores::{norm_id, norms_of};
+use crate::term_scores::{goes_to, norm_id, norms_of};
 use ii_base::{DocId, Fault, IndexRecordOption, TERMINATED, Term};
 use ii_bm25::{Bm25StatisticsProvider, Bm25Weight, Score, idf};
 use ii_docset::{DocSet, Postings};
@@ -122,8 +122,33 @@ pub(crate) fn add_phrase<S: Bm25StatisticsProvider>(
     add_starts(alloc, &mut cursor, &mut parts, &norms, &weight, scores)
 }
 
+// Returns how many times a phrase begins in a document.
+pub(crate) fn count_phrase(
+    alloc: Global,
+    index: &OpenIndex,
+    first: &Term,
+    others: &[PhraseTerm],
+    doc: DocId,
+) -> Result<u32, Fault>
+    requires first { first.now.field < length index.now.readers }
+    requires others { list_all (λ o. nat_lt o.term.field (length index.now.readers)) others.now ≡ true }
+    ensures count { (S : Statistics) → IfOk result (λ count. count ≡ phrase_count ((scored_in index.now S).entries WithFreqsAndPositions first.now) (parts_of (scored_in index.now S) others.now) doc) }
+    ensures sound { OnOk result (phrase_damage index.now first.now others.now ≡ norms_damage (body_of first.now.field index.now.fieldnorms)) }
+    ensures fault { IfErr result (IsScoreFault (phrase_damage index.now first.now others.now)) }
+{
+    let mut cursor = postings_of(index, first, IndexRecordOption::WithFreqsAndPositions)?;
+    let mut parts = phrase_cursors(alloc, index, others)?;
+    if !goes_to(&mut cursor, doc) {
+        return Ok(0);
+    }
+    let mut starts = Vec::new(alloc);
+    let mut positions = Vec::new(alloc);
+    let count = count_starts(&mut cursor, &mut parts, doc, &mut starts, &mut positions)?;
+    Ok(count)
+}
+
 // Returns the norms of a phrase's field, and the phrase's weight.
-fn phrase_norms<S: Bm25StatisticsProvider>(
+pub(crate) fn phrase_norms<S: Bm25StatisticsProvider>(
     alloc: Global,
     index: &OpenIndex,
     statistics: &S,

@@ -1,16 +1,17 @@
 //! The scores of the documents that have a term.
-ghost use Rattle.std.specs.Prelude.{◌≡◌, ◌<◌, ◌∷◌, [], ℕ, List, Option, None, IfOk, IfErr, OnOk, length};
+ghost use Rattle.std.specs.Prelude.{◌≡◌, ◌<◌, ◌∷◌, [], ℕ, List, Option, None, IfOk, IfErr, OnOk, length, true};
 ghost use Rattle.std.specs.Option.{option_map};
 ghost use Rattle.ii_io.specs.Faults.{OnlyMemory};
 ghost use Rattle.ii_io.specs.Composite.{body_of};
 ghost use Rattle.ii_base.specs.declared.schema.index_record_option.IndexRecordOption.TheVariants.{WithFreqs};
 ghost use Rattle.ii_bm25.specs.Bm25.{bm25_score, bm25_weight};
 ghost use Rattle.ii_bm25.specs.Statistics.{idfs_of};
+ghost use Rattle.ii_docset.specs.Intersection.{has_doc};
 ghost use Rattle.ii_fieldnorm.specs.Readers.{norms_of_ids};
 ghost use Rattle.ii_reader.specs.InvertedIndexReader.{IsRefusal};
 ghost use Rattle.ii_search.specs.Found.{docs_of_term};
 ghost use Rattle.ii_ranking.specs.Combinations.{Adds};
-ghost use Rattle.ii_ranking.specs.Scores.{IsScoreFault, entry_at, norm_id_in, norms_damage, scored_in, term_damage, term_score};
+ghost use Rattle.ii_ranking.specs.Scores.{IsAt, IsScoreFault, entry_at, norm_id_in, norms_damage, scored_in, term_damage, term_score};
 
 use crate::combination::add_at;
 use ii_base::{DocId, Fault, Field, IndexRecordOption, TERMINATED, Term};
@@ -42,7 +43,7 @@ pub(crate) fn add_term<S: Bm25StatisticsProvider>(
 }
 
 // Returns the weight of a term.
-fn weight_of<S: Bm25StatisticsProvider>(
+pub(crate) fn weight_of<S: Bm25StatisticsProvider>(
     alloc: Global,
     statistics: &S,
     term: &Term,
@@ -79,6 +80,18 @@ pub(crate) fn norm_id(norms: &Option<FieldNormReader>, doc: DocId) -> u8
         }
         None => 1,
     }
+}
+
+// Goes to a document, and returns whether a cursor has it.
+pub(crate) fn goes_to<D: DocSet>(cursor: &mut D, doc: DocId) -> bool
+    ensures found { result ≡ has_doc (D.rest cursor.old) doc }
+    ensures here { result ≡ true → IsAt doc (D.rest cursor.old) (D.rest cursor.new) }
+{
+    let current = cursor.doc();
+    if doc < current || doc >= TERMINATED {
+        return false;
+    }
+    cursor.seek(doc) == doc
 }
 
 // Adds what the documents of a cursor score. The cursor is at its end afterwards.
