@@ -3,7 +3,9 @@ ghost use Rattle.std.specs.Prelude.{◌<◌, length};
 ghost use Rattle.ii_docset.specs.Cursor.{IsCurrent};
 
 use crate::faults::AnswerFault;
-use crate::inspecting::{Space, num_terms, num_tokens, option_name, tokenizer_name, write_stop_words};
+use crate::inspecting::{
+    Space, num_terms, num_tokens, option_name, tokenizer_name, write_stop_words,
+};
 use crate::opened_index::OpenedIndex;
 use crate::row_format::RowFormat;
 use crate::stored_part::write_quoted;
