@@ -3,6 +3,7 @@ pub mod FolderLaws
 pub mod MergingLaws
 mod IndexLaws
 pub mod RankingLaws
+mod ShareSumLaws
 mod TokenOrderLaws
 mod WordScoreLaws
 mod SegmentLaws

@@ -1,6 +1,6 @@
 // The best documents of a query.
-ghost use Rattle.std.specs.Prelude.{◌≡◌, ◌<◌, ◌≤◌, ◌^◌, ◌⊎◌, ◌&&◌, ◌==◌, ◌∷◌, ℕ, List, [], IfErr, IfOk, None, Some, bytes_eq, count_by, filter, get_or, length, map, min, true};
-ghost use Rattle.std.specs.List.{All, Contains, range_with_len};
+ghost use Rattle.std.specs.Prelude.{◌≡◌, ◌<◌, ◌≤◌, ◌-◌, ◌^◌, ◌⊎◌, ◌&&◌, ◌==◌, ◌∷◌, ℕ, List, [], IfErr, IfOk, None, Some, bytes_eq, count_by, filter, get_or, length, map, min, true};
+ghost use Rattle.std.specs.List.{All, Contains, range_with_len, sum_by};
 ghost use Rattle.ii_base.specs.Options.{has_freq};
 ghost use Rattle.ii_base.specs.declared.schema.value_type.ValueType.TheVariants.{Str};
 ghost use Rattle.ii_bm25.specs.Bm25.{bm25_score, bm25_weight};
@@ -17,11 +17,15 @@ ghost use Rattle.ii_ranking.specs.Statistics.{statistics_of};
 ghost use Rattle.ii_ranking.specs.TokenScores.{token_score};
 ghost use Rattle.ii_base.specs.Schema.{SchemaEntry};
 ghost use Rattle.ii_ranking.specs.Segments.{segment_of};
+ghost use Rattle.ii_ranking.specs.declared.shares.Share.{Share};
 ghost use Rattle.ii_segment_search.specs.Searcher.{HaveFields, MayAsk, Reaches, SegmentsHold, total_living};
 ghost use Rattle.ii_segments.specs.Segments.{Segment, index_tokens, num_docs_of, type_of_field};
 
 use ii_ranking::laws::segments_score_as_one;
-use ii_ranking::{GatheredStatistics, RankedSegment, Score, TopDocs, search, search_segments};
+use ii_ranking::{
+    GatheredStatistics, RankedSegment, Score, Share, TopDocs, explain, score_docs, search,
+    search_segments, shares_add_up,
+};
 use nequllpa::{
     DocId, Fault, IndexCall, OpenIndex, Query, Schema, Term, TextAnalyzer, index_in_ram,
 };
@@ -134,4 +138,29 @@ pub fn segments_are_ranked_as_one_index(
     segments_score_as_one();
     let docs = TopDocs::with_limit(limit);
     search_segments(alloc, segments, statistics, query, &docs)
+}
+
+/// The shares of a document add up to the score that `score_docs` gives it, at most 2^64 - 1. They add up to 0 where it
+/// has no score.
+pub fn the_shares_add_up_to_the_score<'q>(
+    alloc: Global,
+    index: &OpenIndex,
+    num_docs: DocId,
+    statistics: &GatheredStatistics,
+    query: &'q Query,
+    doc: DocId,
+) -> Result<(Score, Vec<Share<'q>>), Fault>
+    requires fields { has_fields (length index.now.readers) query.now ≡ true }
+    requires doc { doc < num_docs }
+    ensures { IfOk result (λ r. r.0 ≡ min (2 ^ 64 - 1) (sum_by (λ (s : Share). s.score) r.1.items)) }
+{
+    shares_add_up();
+    let scores = score_docs(alloc, index, num_docs, statistics, query)?;
+    let score = scores[doc as usize];
+    drop(scores);
+    let shares = explain(alloc, index, statistics, query, doc)?;
+    match score {
+        Some(score) => Ok((score, shares)),
+        None => Ok((0, shares)),
+    }
 }
