@@ -4,7 +4,7 @@ ghost use Rattle.std.specs.Prelude.{◌≡◌, ◌<◌, length, IfOk};
 
 use ii_alive::AliveBits;
 use ii_ranking::{
-    GatheredStatistics, RankedSegment, Score, TopDocs, score_docs, search, search_segments,
+    GatheredStatistics, RankedSegment, Score, TopDocs, explain, score_docs, search, search_segments,
 };
 use nequllpa::{
     AsciiTokenizer, DocId, Fault, Field, FieldEntry, IndexCall, IndexRecordOption, OpenIndex,
@@ -240,5 +240,42 @@ fn scores(alloc: Global, text: &str) -> Result<Vec<Option<Score>>, Fault> {
 fn documents_that_match_have_a_score(rt: HostRuntime) -> Result<(), Fail> {
     let scores = scores(rt.alloc(), "\"the sea\"")?;
     assert_eq!(rt; scores.as_slice(), [None, Some(90_932_431_040)].as_slice());
+    Ok(())
+}
+
+// Writes how often each part of a query occurs in a document, and what it scores.
+fn explained(alloc: Global, text: &str, doc: DocId) -> Result<String, Fault> {
+    let index = index_of_two(alloc, SHORT, LONG)?;
+    let statistics = statistics(alloc, &index, 2)?;
+    let query = query(alloc, text)?;
+    let schema = schema(alloc)?;
+    let mut written = String::new(alloc);
+    if !query.has_fields(&schema) {
+        return Ok(written);
+    }
+    let shares = explain(alloc, &index, &statistics, &query, doc)?;
+    for share in &shares {
+        write!(written, "{}:{},", share.count, share.score)?;
+    }
+    Ok(written)
+}
+
+// A text, a document, and the shares of its score: they sum to those of `SEA_ROWS`.
+static SHARE_ROWS: [(&str, DocId, &str); 7] = [
+    ("the OR old", 1, "2:64382810291,1:45466215520,"),
+    ("the AND old", 0, "1:55825604729,1:55825604729,"),
+    ("the AND red", 0, ""),
+    ("\"old sea\"", 1, "1:90932431040,"),
+    ("old NOT \"the sea\"", 0, "1:55825604729,"),
+    ("old NOT \"the sea\"", 1, ""),
+    ("o*", 1, "1:274877906944,"),
+];
+
+#[test]
+fn scores_have_shares(rt: HostRuntime) -> Result<(), Fail> {
+    for (text, doc, wanted) in &SHARE_ROWS {
+        let shares = explained(rt.alloc(), text, *doc)?;
+        assert_eq!(rt; shares.as_str(), *wanted);
+    }
     Ok(())
 }
