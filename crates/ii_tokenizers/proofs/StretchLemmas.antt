@@ -1,26 +1,21 @@
 -- Texts that are cut into stretches behind a space and before a letter or digit.
-use Rattle.std.proofs.Common.{◌≡◌, ℕ, suc, ◌+◌, ◌-◌, ◌<◌, ◌≤◌, true, List, [], ◌∷◌, ◌++◌, length, take, drop, get_or, refl, sym, ap, ap₂, ◌∙◌, ◌⊎◌, inl, inr, subst, arith, append-nil, drop-drop, length-drop, take_all}
+use Rattle.std.proofs.Common.{◌≡◌, ℕ, suc, ◌+◌, ◌-◌, ◌<◌, ◌≤◌, List, [], ◌∷◌, ◌++◌, length, take, drop, get_or, refl, sym, ap, ap₂, ◌∙◌, ◌⊎◌, inl, inr, subst, arith, append-nil, drop-drop, length-drop, take_all}
 use Rattle.std.specs.Prelude.{IsCharBoundary, IsUtf8}
 use Rattle.std.proofs.Math.Seq.{drop-cons, take-suc}
 use Rattle.std.proofs.lemmas.List.{drop_all, get_or-drop, length-take-le, take-append-drop}
 use Rattle.std.proofs.lemmas.Str.{IsCharBoundary-before_ascii, IsCharBoundary-end, IsUtf8-between, IsUtf8-drop}
 use Rattle.std.proofs.lemmas.Str.Ascii.{IsAscii-nil}
-use Rattle.std.proofs.lemmas.Bool.Decides.{nat_tests}
-use Rattle.std.specs.Char.{is_ascii_alphanumeric}
 use Rattle.ii_base.specs.Words.{Word}
 use Rattle.ii_tokenizers.specs.Analyzers.{Part, rule_parts, words_from}
 use Rattle.ii_tokenizers.specs.AsciiParts.{IsBehindSpace}
 use Rattle.ii_tokenizers.proofs.PartLemmas.{added_parts}
 use Rattle.ii_tokenizers.proofs.AsciiWordLemmas.{ascii_rule_parts}
 use Rattle.ii_tokenizers.proofs.RunLemmas.{no_more}
-use Rattle.ii_tokenizers.proofs.SpaceLemmas.{parts_at_space}
-
-letter_low : (c : ℕ) → is_ascii_alphanumeric c ≡ true → c < 128
-letter_low c is = grind (arith, nat_tests)
+use Rattle.ii_tokenizers.proofs.SpaceLemmas.{low_letter, parts_at_space}
 
 -- a place behind a space lies between two characters
 pub behind_space : (text : List ℕ) (i : ℕ) → IsBehindSpace text i → IsCharBoundary text i
-behind_space text i is = IsCharBoundary-before_ascii text i is.1 (letter_low (get_or text i 0) is.3)
+behind_space text i is = IsCharBoundary-before_ascii text i is.1 (low_letter (get_or text i 0) is.3)
 
 -- a stretch, and what follows it
 pub stretch_first : (text : List ℕ) (start end : ℕ) → IsUtf8 text → IsCharBoundary text start → start < end → IsBehindSpace text end
