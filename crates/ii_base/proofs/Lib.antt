@@ -9,6 +9,8 @@ pub mod OptionLemmas
 mod PathLemmas
 mod PathRows
 pub mod ResultLemmas
+pub mod RunLemmas
+pub mod RunTokenLemmas
 mod SplitLemmas
 mod WeightLemmas
 mod WorkedRows

@@ -4,7 +4,9 @@ pub mod Entries
 pub mod Json
 pub mod JsonWeight
 pub mod Options
+pub mod Parts
 pub mod Paths
+pub mod RunTokens
 pub mod Schema
 pub mod Terms
 pub mod TextTokens

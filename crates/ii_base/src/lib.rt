@@ -30,6 +30,7 @@ pub use schema::schema_fields::SchemaFields;
 pub use schema::term::Term;
 pub use schema::value_type::ValueType;
 pub use tokenizer::ascii_tokenizer::{AsciiTokenizer, AsciiTokens};
+pub use tokenizer::run_tokens::RunTokens;
 pub use tokenizer::text_analyzer::TextAnalyzer;
 pub use tokenizer::text_tokens::TextTokens;
 pub use tokenizer::token::Token;

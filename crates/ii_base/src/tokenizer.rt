@@ -1,4 +1,5 @@
 pub mod ascii_tokenizer;
+pub mod run_tokens;
 pub mod text_analyzer;
 pub mod text_tokens;
 pub mod token;

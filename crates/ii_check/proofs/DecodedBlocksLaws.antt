@@ -110,13 +110,6 @@ unfolding later_still later_last
 allowed_last P old new blocks blocks' allowed (inl same) = record { later = later_still old new blocks blocks' same; only = tt }
 allowed_last P old new blocks blocks' allowed (inr on) = record { later = later_last old new blocks blocks' (inr on); only = (allowed, tt) }
 
-pub allowed_all : (P : ℕ → Type 0) (old new : ℕ) (blocks blocks' : List ℕ) → ((b : ℕ) → P b) → DecodesLater old new blocks blocks' → DecodesAllowed P old new blocks blocks'
-allowed_all P old new blocks blocks' all later = record { later = later; only = each later.added }
-  where
-    each : (bs : List ℕ) → AllByRecursion P bs
-    each [] = tt
-    each (b ∷ bs) = (all b, each bs)
-
 pub allowed_weaker : (P Q : ℕ → Type 0) (old new : ℕ) (blocks blocks' : List ℕ) → ((b : ℕ) → old < b → b ≤ new → P b → Q b) → DecodesAllowed P old new blocks blocks' → DecodesAllowed Q old new blocks blocks'
 allowed_weaker P Q old new blocks blocks' weaker d = record { later = d.later; only = each (old + 1) d.later.added (omega arith) d.later.ascend d.only }
   where

@@ -7,7 +7,9 @@ use Rattle.std.proofs.lemmas.Bool.{lt-ltb, or_parts}
 use Rattle.std.proofs.lemmas.List.Elements.{filter-append}
 use Rattle.std.proofs.lemmas.Str.Ascii.{IsAscii-cons, IsAscii-nil}
 use Rattle.unicode_segmentation.proofs.BoolLemmas.{and-true, or-false, or-true}
-use Rattle.ii_tokenizers.specs.Analyzers.{Part, in_front, nonempty_parts, parts_between}
+use Rattle.ii_base.proofs.RunLemmas.{AllAscii, one_byte}
+use Rattle.ii_base.specs.Parts.{Part, in_front, parts_between}
+use Rattle.ii_tokenizers.specs.Analyzers.{nonempty_parts}
 
 -- ---- parts that are cut at the same characters
 
@@ -21,14 +23,6 @@ first_part test n (c ∷ cs) = by_case (test c) refl (first_part test (n + len_u
     by_case true is rest = (record { offset = n; characters = [] }, parts_between test (n + len_utf8 c) cs, rw is refl)
     by_case false is rest = (record { offset = n; characters = c ∷ rest.0.characters }, rest.1, rw is (ap (in_front n c) rest.2))
 
--- the characters are all ASCII
-abbrev pub AllAscii : List ℕ → Type 0
-AllAscii [] = ⊤
-AllAscii (c ∷ cs) = (c < 128) × AllAscii cs
-
-pub one_byte : (c : ℕ) → c < 128 → len_utf8 c ≡ 1
-one_byte c below = rw (lt-ltb c 128 below) refl
-
 pub AllAscii-front : (xs ys : List ℕ) → AllAscii (xs ++ ys) → AllAscii xs
 AllAscii-front [] ys all = tt
 AllAscii-front (x ∷ xs) ys all = (all.0, AllAscii-front xs ys all.1)
@@ -40,10 +34,6 @@ AllAscii-back (x ∷ xs) ys all = AllAscii-back xs ys all.1
 pub IsAscii-all : (cs : List ℕ) → AllAscii cs → IsAscii cs
 IsAscii-all [] all = IsAscii-nil
 IsAscii-all (c ∷ cs) all = IsAscii-cons c cs all.0 (IsAscii-all cs all.1)
-
-pub AllAscii-is : (cs : List ℕ) → IsAscii cs → AllAscii cs
-AllAscii-is [] ascii = tt
-AllAscii-is (c ∷ cs) ascii = (ascii 0, AllAscii-is cs (λ (i : ℕ). ascii (suc i)))
 
 -- a text cut at a character that passes the test
 pub parts_split : (test : ℕ → Bool) (n : ℕ) (xs ys : List ℕ) (y : ℕ) → AllAscii (xs ++ y ∷ ys) → test y ≡ true

@@ -10,10 +10,11 @@ use Rattle.ucd_breaks.specs.WordBreak.{word_break}
 use Rattle.unicode_segmentation.specs.Segments.{cut, has_alphanumeric, is_alphanumeric, prepend, segments, with_offsets}
 use Rattle.unicode_segmentation.specs.Word.{is_extend_num_let, is_word_break}
 use Rattle.unicode_segmentation.proofs.AsciiLemmas.{is_alphanumeric_ascii}
-use Rattle.ii_tokenizers.specs.Analyzers.{cuts_at, nonempty_parts, parts_between, piece_parts, rule_parts}
-use Rattle.ii_tokenizers.specs.AsciiParts.{ascii_parts, is_word_character}
+use Rattle.ii_base.specs.Parts.{ascii_parts, is_word_character, parts_between}
+use Rattle.ii_tokenizers.specs.Analyzers.{cuts_at, nonempty_parts, piece_parts, rule_parts}
 use Rattle.ii_tokenizers.specs.declared.parts.Cut.TheVariants.{AtMarks}
-use Rattle.ii_tokenizers.proofs.AsciiPartLemmas.{AllAscii, AllAscii-back, AllAscii-front, AllAscii-is, AreCut, IsAscii-all, IsPiece, no_runs, parted, piece_runs, runs, runs_join, unbroken_piece}
+use Rattle.ii_base.proofs.RunLemmas.{AllAscii, AllAscii-is}
+use Rattle.ii_tokenizers.proofs.AsciiPartLemmas.{AllAscii-back, AllAscii-front, AreCut, IsAscii-all, IsPiece, no_runs, parted, piece_runs, runs, runs_join, unbroken_piece}
 use Rattle.ii_tokenizers.proofs.SpaceLemmas.{piece_has}
 use Rattle.ii_tokenizers.proofs.WordKindLemmas.{are_parted, breaks_here, is_gap, is_inner, is_word_kind, kind_of, mark_apart, only_underscore, word_stays}
 

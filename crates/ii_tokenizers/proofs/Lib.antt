@@ -5,6 +5,7 @@ pub mod SpaceLemmas
 pub mod AsciiPartLemmas
 pub mod AsciiWordLemmas
 pub mod RunLemmas
+pub mod LowercaseLemmas
 pub mod StretchLemmas
 pub mod OnLiterals
 mod StopLemmas

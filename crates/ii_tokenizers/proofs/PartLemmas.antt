@@ -11,17 +11,18 @@ use Rattle.std.proofs.lemmas.Str.{IsCharBoundary-past_char, IsUtf8-drop, IsUtf8-
 use Rattle.unicode_segmentation.proofs.TextLemmas.{chars-encode_utf8}
 use lib.Utf8.{scalar, scalars}
 use Rattle.ii_base.specs.Words.{Word}
-use Rattle.ii_tokenizers.specs.Analyzers.{Part, in_front, nonempty_parts, part_word, parts_between, words_from}
+use Rattle.ii_base.specs.Parts.{Part, in_front, part_word, part_words, parts_between}
+use Rattle.ii_tokenizers.specs.Analyzers.{nonempty_parts}
 
 no_text : (bs : List ℕ) → length bs ≡ 0 → bs ≡ []
 no_text [] none = refl
 no_text (b ∷ bs) none = absurd (omega (arith, none))
 
 -- an empty part is no token
-pub empty_part : (n start : ℕ) (part : List ℕ) → length part ≡ 0 → words_from n (nonempty_parts (record { offset = start; characters = chars part } ∷ [])) ≡ []
+pub empty_part : (n start : ℕ) (part : List ℕ) → length part ≡ 0 → part_words n (nonempty_parts (record { offset = start; characters = chars part } ∷ [])) ≡ []
 empty_part n start part none =
     let empty : chars part ≡ [] = ap chars (no_text part none) ∙ chars-nil in
-    ap (λ (cs : List ℕ). words_from n (nonempty_parts (record { offset = start; characters = cs } ∷ []))) empty
+    ap (λ (cs : List ℕ). part_words n (nonempty_parts (record { offset = start; characters = cs } ∷ []))) empty
 
 some_chars : (part : List ℕ) → IsUtf8 part → 0 < length part → (cs : List ℕ) → chars part ≡ cs → 0 < length cs
 some_chars part utf8 some [] is =
@@ -33,7 +34,7 @@ some_chars part utf8 some (c ∷ cs) is = omega (arith)
 abbrev text_word : ℕ → ℕ → List ℕ → Word
 text_word n start part = record { offset_from = start; offset_to = start + length part; position = n; text = part; position_length = 1 }
 
-pub one_part : (n start : ℕ) (part : List ℕ) → IsUtf8 part → 0 < length part → words_from n (nonempty_parts (record { offset = start; characters = chars part } ∷ [])) ≡ text_word n start part ∷ []
+pub one_part : (n start : ℕ) (part : List ℕ) → IsUtf8 part → 0 < length part → part_words n (nonempty_parts (record { offset = start; characters = chars part } ∷ [])) ≡ text_word n start part ∷ []
 one_part n start part utf8 some =
     let there : nat_lt 0 (length (chars part)) ≡ true = lt-ltb 0 (length (chars part)) (some_chars part utf8 some (chars part) refl) in
     rw (there, encodes-chars part utf8) refl
@@ -147,23 +148,23 @@ pub ok_then : {A E : Type 0} {P Q : Type 0} (result : Result A E) → (P → Q) 
 ok_then (Ok a) from here = from here
 ok_then (Err e) from here = tt
 
-pub words_from-append : (n : ℕ) (ps qs : List Part) → words_from n (ps ++ qs) ≡ words_from n ps ++ words_from (n + length (words_from n ps)) qs
-words_from-append n [] qs =
+pub part_words-append : (n : ℕ) (ps qs : List Part) → part_words n (ps ++ qs) ≡ part_words n ps ++ part_words (n + length (part_words n ps)) qs
+part_words-append n [] qs =
     let same : n ≡ n + 0 = omega arith in
-    ap (λ (k : ℕ). words_from k qs) same
-words_from-append n (p ∷ ps) qs =
-    let same : n + 1 + length (words_from (n + 1) ps) ≡ n + suc (length (words_from (n + 1) ps)) = omega arith in
-    ap (λ (ws : List Word). part_word n p ∷ ws) (words_from-append (n + 1) ps qs ∙ ap (λ (k : ℕ). words_from (n + 1) ps ++ words_from k qs) same)
+    ap (λ (k : ℕ). part_words k qs) same
+part_words-append n (p ∷ ps) qs =
+    let same : n + 1 + length (part_words (n + 1) ps) ≡ n + suc (length (part_words (n + 1) ps)) = omega arith in
+    ap (λ (ws : List Word). part_word n p ∷ ws) (part_words-append (n + 1) ps qs ∙ ap (λ (k : ℕ). part_words (n + 1) ps ++ part_words k qs) same)
 
 -- the tokens of some parts were added, and those after them are still to come
-pub added_parts : (old new : List Word) (n m : ℕ) (ps qs : List Part) → new ≡ old ++ words_from n ps → n ≡ length old → m ≡ length new → new ++ words_from m qs ≡ old ++ words_from n (ps ++ qs)
+pub added_parts : (old new : List Word) (n m : ℕ) (ps qs : List Part) → new ≡ old ++ part_words n ps → n ≡ length old → m ≡ length new → new ++ part_words m qs ≡ old ++ part_words n (ps ++ qs)
 added_parts old new n m ps qs added before after =
-    let some = words_from n ps in
+    let some = part_words n ps in
     let size : m ≡ n + length some = after ∙ ap length added ∙ length-append old some ∙ ap (λ (k : ℕ). k + length some) (sym before) in
-    ap (λ (k : ℕ). new ++ words_from k qs) size
-    ∙ ap (λ (ws : List Word). ws ++ words_from (n + length some) qs) added
-    ∙ append_assoc old some (words_from (n + length some) qs)
-    ∙ ap (λ (ws : List Word). old ++ ws) (sym (words_from-append n ps qs))
+    ap (λ (k : ℕ). new ++ part_words k qs) size
+    ∙ ap (λ (ws : List Word). ws ++ part_words (n + length some) qs) added
+    ∙ append_assoc old some (part_words (n + length some) qs)
+    ∙ ap (λ (ws : List Word). old ++ ws) (sym (part_words-append n ps qs))
 
 nonempty_first : (p : Part) (ps : List Part) → nonempty_parts (p ∷ ps) ≡ nonempty_parts (p ∷ []) ++ nonempty_parts ps
 nonempty_first p ps = by_case (nat_lt 0 (length p.characters)) refl
@@ -173,6 +174,6 @@ nonempty_first p ps = by_case (nat_lt 0 (length p.characters)) refl
     by_case false is = rw is refl
 
 -- the tokens of a part were added
-pub added_part : (old new : List Word) (n m : ℕ) (p : Part) (ps : List Part) → new ≡ old ++ words_from n (nonempty_parts (p ∷ [])) → n ≡ length old → m ≡ length new → new ++ words_from m (nonempty_parts ps) ≡ old ++ words_from n (nonempty_parts (p ∷ ps))
+pub added_part : (old new : List Word) (n m : ℕ) (p : Part) (ps : List Part) → new ≡ old ++ part_words n (nonempty_parts (p ∷ [])) → n ≡ length old → m ≡ length new → new ++ part_words m (nonempty_parts ps) ≡ old ++ part_words n (nonempty_parts (p ∷ ps))
 added_part old new n m p ps added before after =
-    added_parts old new n m (nonempty_parts (p ∷ [])) (nonempty_parts ps) added before after ∙ ap (λ (qs : List Part). old ++ words_from n qs) (sym (nonempty_first p ps))
+    added_parts old new n m (nonempty_parts (p ∷ [])) (nonempty_parts ps) added before after ∙ ap (λ (qs : List Part). old ++ part_words n qs) (sym (nonempty_first p ps))

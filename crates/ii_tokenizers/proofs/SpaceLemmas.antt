@@ -52,7 +52,7 @@ space_apart ALetter is = refl
 space_apart Numeric is = refl
 space_apart _ is = cc
 
-low_letter : (y : ℕ) → is_ascii_alphanumeric y ≡ true → y < 128
+pub low_letter : (y : ℕ) → is_ascii_alphanumeric y ≡ true → y < 128
 low_letter y is = grind (arith, nat_tests)
 
 letter_kind : (y : ℕ) → is_ascii_alphanumeric y ≡ true → is_letter_or_digit (word_break y) ≡ true

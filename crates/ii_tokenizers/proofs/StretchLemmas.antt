@@ -1,26 +1,22 @@
 -- Texts that are cut into stretches behind a space and before a letter or digit.
-use Rattle.std.proofs.Common.{◌≡◌, ℕ, suc, ◌+◌, ◌-◌, ◌<◌, ◌≤◌, true, List, [], ◌∷◌, ◌++◌, length, take, drop, get_or, refl, sym, ap, ap₂, ◌∙◌, ◌⊎◌, inl, inr, subst, arith, append-nil, drop-drop, length-drop, take_all}
+use Rattle.std.proofs.Common.{◌≡◌, ℕ, suc, ◌+◌, ◌-◌, ◌<◌, ◌≤◌, List, [], ◌∷◌, ◌++◌, length, take, drop, get_or, refl, sym, ap, ap₂, ◌∙◌, ◌⊎◌, inl, inr, subst, arith, append-nil, drop-drop, length-drop, take_all}
 use Rattle.std.specs.Prelude.{IsCharBoundary, IsUtf8}
 use Rattle.std.proofs.Math.Seq.{drop-cons, take-suc}
 use Rattle.std.proofs.lemmas.List.{drop_all, get_or-drop, length-take-le, take-append-drop}
 use Rattle.std.proofs.lemmas.Str.{IsCharBoundary-before_ascii, IsCharBoundary-end, IsUtf8-between, IsUtf8-drop}
 use Rattle.std.proofs.lemmas.Str.Ascii.{IsAscii-nil}
-use Rattle.std.proofs.lemmas.Bool.Decides.{nat_tests}
-use Rattle.std.specs.Char.{is_ascii_alphanumeric}
 use Rattle.ii_base.specs.Words.{Word}
-use Rattle.ii_tokenizers.specs.Analyzers.{Part, rule_parts, words_from}
-use Rattle.ii_tokenizers.specs.AsciiParts.{IsBehindSpace}
+use Rattle.ii_base.specs.Parts.{Part, part_words}
+use Rattle.ii_tokenizers.specs.Analyzers.{rule_parts}
+use Rattle.ii_tokenizers.specs.Stretches.{IsBehindSpace}
 use Rattle.ii_tokenizers.proofs.PartLemmas.{added_parts}
 use Rattle.ii_tokenizers.proofs.AsciiWordLemmas.{ascii_rule_parts}
-use Rattle.ii_tokenizers.proofs.RunLemmas.{no_more}
-use Rattle.ii_tokenizers.proofs.SpaceLemmas.{parts_at_space}
-
-letter_low : (c : ℕ) → is_ascii_alphanumeric c ≡ true → c < 128
-letter_low c is = grind (arith, nat_tests)
+use Rattle.ii_base.proofs.RunLemmas.{no_more}
+use Rattle.ii_tokenizers.proofs.SpaceLemmas.{low_letter, parts_at_space}
 
 -- a place behind a space lies between two characters
 pub behind_space : (text : List ℕ) (i : ℕ) → IsBehindSpace text i → IsCharBoundary text i
-behind_space text i is = IsCharBoundary-before_ascii text i is.1 (letter_low (get_or text i 0) is.3)
+behind_space text i is = IsCharBoundary-before_ascii text i is.1 (low_letter (get_or text i 0) is.3)
 
 -- a stretch, and what follows it
 pub stretch_first : (text : List ℕ) (start end : ℕ) → IsUtf8 text → IsCharBoundary text start → start < end → IsBehindSpace text end
@@ -50,21 +46,21 @@ nothing_left n i text past = ap (rule_parts n) (drop_all i text past) ∙ ascii_
 
 -- the tokens of a stretch were added
 pub stretch_step : (old new : List Word) (text : List ℕ) (start end : ℕ) → IsUtf8 text → IsCharBoundary text start → start < end → (end ≡ length text) ⊎ IsBehindSpace text end
-    → new ≡ old ++ words_from (length old) (rule_parts start (take (end - start) (drop start text)))
-    → new ++ words_from (length new) (rule_parts end (drop end text)) ≡ old ++ words_from (length old) (rule_parts start (drop start text))
+    → new ≡ old ++ part_words (length old) (rule_parts start (take (end - start) (drop start text)))
+    → new ++ part_words (length new) (rule_parts end (drop end text)) ≡ old ++ part_words (length old) (rule_parts start (drop start text))
 stretch_step old new text start end utf8 boundary order (inl last) added =
     let size : length (drop start text) ≤ end - start = omega (arith, length-drop start text, last) in
-    ap (λ (ps : List Part). new ++ words_from (length new) ps) (nothing_left end end text (omega (arith, last)))
+    ap (λ (ps : List Part). new ++ part_words (length new) ps) (nothing_left end end text (omega (arith, last)))
     ∙ append-nil new
     ∙ added
-    ∙ ap (λ (bs : List ℕ). old ++ words_from (length old) (rule_parts start bs)) (take_all (end - start) (drop start text) size)
+    ∙ ap (λ (bs : List ℕ). old ++ part_words (length old) (rule_parts start bs)) (take_all (end - start) (drop start text) size)
 stretch_step old new text start end utf8 boundary order (inr behind) added =
     added_parts old new (length old) (length new) (rule_parts start (take (end - start) (drop start text))) (rule_parts end (drop end text)) added refl refl
-    ∙ ap (λ (ps : List Part). old ++ words_from (length old) ps) (sym (stretch_first text start end utf8 boundary order behind))
+    ∙ ap (λ (ps : List Part). old ++ part_words (length old) ps) (sym (stretch_first text start end utf8 boundary order behind))
 
 -- past the end
-pub stretches_end : (words : List Word) (text : List ℕ) (start : ℕ) → length text ≤ start → words ++ words_from (length words) (rule_parts start (drop start text)) ≡ words
-stretches_end words text start past = ap (λ (ps : List Part). words ++ words_from (length words) ps) (nothing_left start start text past) ∙ append-nil words
+pub stretches_end : (words : List Word) (text : List ℕ) (start : ℕ) → length text ≤ start → words ++ part_words (length words) (rule_parts start (drop start text)) ≡ words
+stretches_end words text start past = ap (λ (ps : List Part). words ++ part_words (length words) ps) (nothing_left start start text past) ∙ append-nil words
 
 -- a stretch ends between two characters
 pub stretch_boundary : (text : List ℕ) (end : ℕ) → (end ≡ length text) ⊎ IsBehindSpace text end → IsCharBoundary text end

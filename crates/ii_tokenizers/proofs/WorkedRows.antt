@@ -4,7 +4,8 @@ use Rattle.ii_base.specs.Words.{Word, remove_long}
 use Rattle.ii_stemmer.specs.Rules.{step_1a_rules, step_1b_rules, step_1c_rules, step_2_rules, step_3_rules, step_4_rules, step_5a_rules}
 use Rattle.ii_tokenizers.specs.declared.analyzer.Analyzer.TheVariants.{Ascii, Default, English, Raw, Whitespace}
 use Rattle.ii_tokenizers.proofs.OnLiterals.{words_on_literals}
-use Rattle.ii_tokenizers.specs.Analyzers.{analyzed, analyzed_without, folded_text, nonempty_parts, part_word, parts_between, remove_stop, stem, with_stop_word, words_from}
+use Rattle.ii_base.specs.Parts.{part_word, part_words, parts_between}
+use Rattle.ii_tokenizers.specs.Analyzers.{analyzed, analyzed_without, folded_text, nonempty_parts, remove_stop, stem, with_stop_word}
 use Rattle.ii_tokenizers.specs.Tokenizers.{prefix_tokenizer, tokenized}
 
 abbrev is_comma : ℕ → Bool
@@ -30,12 +31,12 @@ unfolding lib.Utf8.encode
 word_of_part = refl
 
 -- tokens of fewer than three bytes: the position of the one that is left out stays free
-pub short_ones : map (λ (w : Word). w.position) (remove_long 3 (words_from 0 (record { offset = 0; characters = 97 ∷ [] } ∷ record { offset = 2; characters = 97 ∷ 98 ∷ 99 ∷ [] } ∷ record { offset = 6; characters = 98 ∷ [] } ∷ []))) ≡ 0 ∷ 2 ∷ []
+pub short_ones : map (λ (w : Word). w.position) (remove_long 3 (part_words 0 (record { offset = 0; characters = 97 ∷ [] } ∷ record { offset = 2; characters = 97 ∷ 98 ∷ 99 ∷ [] } ∷ record { offset = 6; characters = 98 ∷ [] } ∷ []))) ≡ 0 ∷ 2 ∷ []
 unfolding lib.Utf8.encode
 short_ones = refl
 
 -- `the`, `old` and `seas` of `the old seas`: the stem of the last is `sea`, and each offset and position stays
-pub stems : stem (words_from 0 (record { offset = 0; characters = codes "the" } ∷ record { offset = 4; characters = codes "old" } ∷ record { offset = 8; characters = codes "seas" } ∷ []))
+pub stems : stem (part_words 0 (record { offset = 0; characters = codes "the" } ∷ record { offset = 4; characters = codes "old" } ∷ record { offset = 8; characters = codes "seas" } ∷ []))
     ≡ record { offset_from = 0; offset_to = 3; position = 0; text = codes "the"; position_length = 1 }
     ∷ record { offset_from = 4; offset_to = 7; position = 1; text = codes "old"; position_length = 1 }
     ∷ record { offset_from = 8; offset_to = 12; position = 2; text = codes "sea"; position_length = 1 }
@@ -44,7 +45,7 @@ unfolding lib.Utf8.encode step_1a_rules step_1b_rules step_1c_rules step_2_rules
 stems = refl
 
 -- `old` and `seas` stay of `the old seas` without the stop word `the`, and are stemmed: positions and offsets are those of the text
-pub without_stop_words : stem (remove_stop (codes "the" ∷ []) (words_from 0 (record { offset = 0; characters = codes "the" } ∷ record { offset = 4; characters = codes "old" } ∷ record { offset = 8; characters = codes "seas" } ∷ [])))
+pub without_stop_words : stem (remove_stop (codes "the" ∷ []) (part_words 0 (record { offset = 0; characters = codes "the" } ∷ record { offset = 4; characters = codes "old" } ∷ record { offset = 8; characters = codes "seas" } ∷ [])))
     ≡ record { offset_from = 4; offset_to = 7; position = 1; text = codes "old"; position_length = 1 }
     ∷ record { offset_from = 8; offset_to = 12; position = 2; text = codes "sea"; position_length = 1 }
     ∷ []
@@ -52,7 +53,7 @@ unfolding lib.Utf8.encode step_1a_rules step_1b_rules step_1c_rules step_2_rules
 without_stop_words = refl
 
 -- a form of a stop word is another word, and so is one in other case
-pub other_forms : map (λ (w : Word). w.position) (remove_stop (codes "sea" ∷ []) (words_from 0 (record { offset = 0; characters = codes "seas" } ∷ record { offset = 5; characters = codes "Sea" } ∷ record { offset = 9; characters = codes "sea" } ∷ []))) ≡ 0 ∷ 1 ∷ []
+pub other_forms : map (λ (w : Word). w.position) (remove_stop (codes "sea" ∷ []) (part_words 0 (record { offset = 0; characters = codes "seas" } ∷ record { offset = 5; characters = codes "Sea" } ∷ record { offset = 9; characters = codes "sea" } ∷ []))) ≡ 0 ∷ 1 ∷ []
 unfolding lib.Utf8.encode
 other_forms = refl
 

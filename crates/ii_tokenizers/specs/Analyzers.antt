@@ -1,6 +1,6 @@
 -- Analyzers of texts: a text is cut into parts, these become tokens, and filters change the tokens.
-use Rattle.std.specs.Prelude.{ℕ, ◌+◌, Bool, true, false, not, List, [], ◌∷◌, ◌++◌, bytes_eq, chars, encode_utf8_all, filter, length, map, nat_lt, if◌then◌else◌}
-use Rattle.std.specs.Char.{is_whitespace, len_utf8}
+use Rattle.std.specs.Prelude.{ℕ, Bool, true, false, not, List, [], ◌∷◌, ◌++◌, bytes_eq, chars, encode_utf8_all, filter, length, map, nat_lt, if◌then◌else◌}
+use Rattle.std.specs.Char.{is_whitespace}
 use Rattle.std.specs.List.{flat_map, list_any}
 use Rattle.caseless.specs.Caseless.{default_case_fold}
 use Rattle.ucd_breaks.specs.WordBreak.{word_break}
@@ -10,28 +10,12 @@ use Rattle.unicode_segmentation.specs.Segments.{has_alphanumeric, with_offsets}
 use Rattle.unicode_segmentation.specs.Word.{word_bounds}
 use Rattle.ii_stemmer.specs.Porter.{porter}
 use Rattle.ii_base.specs.AsciiWords.{ascii_words}
+use Rattle.ii_base.specs.Parts.{Part, part_words, parts_between}
 use Rattle.ii_base.specs.Words.{Word, remove_long}
 use Rattle.ii_tokenizers.specs.declared.analyzer.Analyzer.{Analyzer}
 use Rattle.ii_tokenizers.specs.declared.analyzer.Analyzer.TheVariants as analyzer
 use Rattle.ii_tokenizers.specs.declared.parts.Cut.{Cut}
 use Rattle.ii_tokenizers.specs.declared.parts.Cut.TheVariants.{AtMarks, AtWhitespace}
-
--- A part of a text: where its first byte is, and its characters.
-pub record Part : Type 0 where
-  pub offset : ℕ
-  pub characters : List ℕ
-
--- parts, with a character put in front of the first
-abbrev pub in_front : ℕ → ℕ → List Part → List Part
-in_front offset c [] = record { offset = offset; characters = c ∷ [] } ∷ []
-in_front offset c (p ∷ ps) = record { offset = offset; characters = c ∷ p.characters } ∷ ps
-
--- the parts of characters between those that pass a test, some of them empty; the first character is at an offset
-unfoldable pub parts_between : (ℕ → Bool) → ℕ → List ℕ → List Part
-parts_between test offset [] = record { offset = offset; characters = [] } ∷ []
-parts_between test offset (c ∷ cs) =
-    let rest = parts_between test (offset + len_utf8 c) cs in
-    if test c then record { offset = offset; characters = [] } ∷ rest else in_front offset c rest
 
 -- whether a kind of character of words is a mark that may be inside them: an apostrophe, a quote, a point, a comma, a colon and the like
 abbrev pub is_mark : WordBreak → Bool
@@ -51,21 +35,6 @@ cuts_at AtWhitespace c = is_whitespace c
 abbrev pub nonempty_parts : List Part → List Part
 nonempty_parts ps = filter (λ (p : Part). nat_lt 0 (length p.characters)) ps
 
--- the token of a part, at a position
-abbrev pub part_word : ℕ → Part → Word
-part_word position p = record {
-  offset_from = p.offset;
-  offset_to = p.offset + length (encode_utf8_all p.characters);
-  position = position;
-  text = encode_utf8_all p.characters;
-  position_length = 1;
-}
-
--- parts as tokens, the first at a position
-abbrev pub words_from : ℕ → List Part → List Word
-words_from position [] = []
-words_from position (p ∷ ps) = part_word position p ∷ words_from (position + 1) ps
-
 -- the words of a text by the rules of Unicode, each with its offset; the first byte of the text is at an offset
 abbrev pub unicode_pieces : ℕ → List ℕ → List (ℕ × List ℕ)
 unicode_pieces offset text = filter (λ (piece : ℕ × List ℕ). has_alphanumeric piece.1) (with_offsets offset (word_bounds text))
@@ -80,15 +49,15 @@ rule_parts offset text = flat_map (piece_parts AtMarks) (unicode_pieces offset t
 
 -- the words of a text by the rules of Unicode, cut at the marks inside them
 abbrev pub split_words : List ℕ → List Word
-split_words text = words_from 0 (rule_parts 0 text)
+split_words text = part_words 0 (rule_parts 0 text)
 
 -- the runs of characters that are no white space
 abbrev pub space_words : List ℕ → List Word
-space_words text = words_from 0 (piece_parts AtWhitespace (0, text))
+space_words text = part_words 0 (piece_parts AtWhitespace (0, text))
 
 -- the complete text, if it has a character
 abbrev pub raw_words : List ℕ → List Word
-raw_words text = words_from 0 (nonempty_parts (record { offset = 0; characters = chars text } ∷ []))
+raw_words text = part_words 0 (nonempty_parts (record { offset = 0; characters = chars text } ∷ []))
 
 -- a text with its case folded
 abbrev pub folded_text : List ℕ → List ℕ

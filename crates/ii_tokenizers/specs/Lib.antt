@@ -1,3 +1,3 @@
 pub mod Analyzers
 pub mod Tokenizers
-pub mod AsciiParts
+pub mod Stretches

@@ -6,7 +6,8 @@ use super::filters::{fold_case, stem};
 use super::parts::{raw_words, space_words, split_words};
 use super::stop_words::StopWordFilter;
 use ii_base::{
-    AsciiTokenizer, BufferedTokens, TextAnalyzer, TextTokens, TokenBuffer, TokenList, TokenStream,
+    AsciiTokenizer, BufferedTokens, RunTokens, TextAnalyzer, TextTokens, TokenBuffer, TokenList,
+    TokenStream,
 };
 use ii_io::Fault;
 use std::alloc::Global;
@@ -67,7 +68,7 @@ pub(crate) fn token_stream_without<'t>(
         Analyzer::Ascii => return AsciiTokenizer.token_stream(alloc, text),
         Analyzer::Raw => raw_words(alloc, text)?,
         Analyzer::Whitespace => space_words(alloc, text)?,
-        Analyzer::Default => default_words(alloc, text)?,
+        Analyzer::Default => return default_tokens(alloc, text),
         Analyzer::English => english_words(alloc, stop_words, text)?,
     };
     Ok(TextTokens::Buffered(BufferedTokens::new(tokens)))
@@ -75,6 +76,20 @@ pub(crate) fn token_stream_without<'t>(
 
 // The longest token, in bytes, is shorter than this.
 const LIMIT: usize = 40;
+
+// Returns the stream of the words of a text, in folded case, without long ones. Those of an ASCII text are found one by
+// one.
+fn default_tokens<'t>(alloc: Global, text: &'t str) -> Result<TextTokens<'t>, Fault>
+    ensures ok { IfOk result (λ tokens. ⟦<TextTokens<'t> as TokenStream>⟧.to_come tokens ≡ default_words text.now) }
+    ensures only { OnlyMemory result }
+{
+    if text.is_ascii() {
+        let mut lower = String::from_str(alloc, text)?;
+        lower.make_ascii_lowercase();
+        return Ok(TextTokens::Runs(RunTokens::new(lower, LIMIT)));
+    }
+    Ok(TextTokens::Buffered(BufferedTokens::new(default_words(alloc, text)?)))
+}
 
 // Returns the words of a text, in folded case, without long ones.
 fn default_words(alloc: Global, text: &str) -> Result<TokenBuffer, Fault>

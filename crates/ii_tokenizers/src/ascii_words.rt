@@ -1,13 +1,11 @@
 //! Cuts ASCII texts into the words that the rules of Unicode give, byte by byte.
 ghost use Rattle.std.specs.Prelude.{◌≡◌, ◌+◌, ◌<◌, ◌++◌, ◌∷◌, ◌^◌, [], IsAscii, length, OnOk};
-ghost use Rattle.std.specs.Char.{is_ascii_alphanumeric};
-ghost use Rattle.std.specs.List.{list_any, take_while};
 ghost use Rattle.ii_io.specs.Faults.{OnlyMemory};
-ghost use Rattle.ii_tokenizers.specs.Analyzers.{words_from};
-ghost use Rattle.ii_tokenizers.specs.AsciiParts.{ascii_parts, is_word_character, spoken_parts};
+ghost use Rattle.ii_base.specs.Parts.{ascii_parts, part_words, spoken_parts};
 
 use crate::parts::add_part;
 use ii_base::TokenBuffer;
+use ii_base::tokenizer::run_tokens::{has_letter_or_digit, run_len};
 use ii_io::Fault;
 
 /// Adds the words of an ASCII text whose first byte is at an offset: the maximal runs of letters, digits and
@@ -17,7 +15,7 @@ use ii_io::Fault;
 pub fn add_ascii_words(at: usize, text: &str, tokens: &mut TokenBuffer) -> Result<(), Fault>
     requires ascii { IsAscii text.now }
     requires room { at + length text.now < 2 ^ 64 }
-    ensures ok { OnOk result (tokens.new ≡ tokens.old ++ words_from (length tokens.old) (ascii_parts at text.now)) }
+    ensures ok { OnOk result (tokens.new ≡ tokens.old ++ part_words (length tokens.old) (ascii_parts at text.now)) }
     ensures only { OnlyMemory result }
 {
     let mut start = 0;
@@ -33,32 +31,11 @@ pub fn add_ascii_words(at: usize, text: &str, tokens: &mut TokenBuffer) -> Resul
 fn add_run(start: usize, run: &str, tokens: &mut TokenBuffer) -> Result<(), Fault>
     requires ascii { IsAscii run.now }
     requires room { start + length run.now < 2 ^ 64 }
-    ensures ok { OnOk result (tokens.new ≡ tokens.old ++ words_from (length tokens.old) (spoken_parts (record { offset = start; characters = run.now } ∷ []))) }
+    ensures ok { OnOk result (tokens.new ≡ tokens.old ++ part_words (length tokens.old) (spoken_parts (record { offset = start; characters = run.now } ∷ []))) }
     ensures only { OnlyMemory result }
 {
     if !has_letter_or_digit(run.as_bytes()) {
         return Ok(());
     }
     add_part(start, run, tokens)
-}
-
-// Returns the number of letters, digits and underscores at the start of these bytes.
-fn run_len(bytes: &[u8]) -> usize
-    ensures { result ≡ length (take_while is_word_character bytes.now) }
-{
-    bytes.iter().take_while(|b| is_word_byte(**b)).count()
-}
-
-// Returns whether a byte is a letter, a digit or the underscore.
-fn is_word_byte(byte: u8) -> bool
-    ensures { result ≡ is_word_character byte }
-{
-    matches!(byte, b'0'..=b'9' | b'A'..=b'Z' | b'a'..=b'z' | b'_')
-}
-
-// Returns whether one of these bytes is a letter or a digit.
-fn has_letter_or_digit(bytes: &[u8]) -> bool
-    ensures { result ≡ list_any is_ascii_alphanumeric bytes.now }
-{
-    bytes.iter().any(|b| b.is_ascii_alphanumeric())
 }

@@ -1,8 +1,9 @@
 //! Cuts a text into the parts that become tokens.
 ghost use Rattle.std.specs.Prelude.{◌≡◌, ◌+◌, ◌<◌, ◌≤◌, ◌++◌, ◌∷◌, ◌⊎◌, ◌^◌, [], true, chars, length, OnOk, IfOk};
 ghost use Rattle.ii_io.specs.Faults.{OnlyMemory};
-ghost use Rattle.ii_tokenizers.specs.Analyzers.{cuts_at, is_mark, nonempty_parts, piece_parts, raw_words, rule_parts, space_words, split_words, words_from};
-ghost use Rattle.ii_tokenizers.specs.AsciiParts.{IsBehindSpace};
+ghost use Rattle.ii_base.specs.Parts.{part_words};
+ghost use Rattle.ii_tokenizers.specs.Analyzers.{cuts_at, is_mark, nonempty_parts, piece_parts, raw_words, rule_parts, space_words, split_words};
+ghost use Rattle.ii_tokenizers.specs.Stretches.{IsBehindSpace};
 
 use crate::ascii_words::add_ascii_words;
 use ii_base::{TokenBuffer, TokenView};
@@ -85,7 +86,7 @@ fn is_behind_space(bytes: &[u8], place: usize) -> bool
 // Adds the words of a stretch of a text, whose first byte is at an offset.
 fn add_stretch(at: usize, stretch: &str, tokens: &mut TokenBuffer) -> Result<(), Fault>
     requires room { at + length stretch.now < 2 ^ 64 }
-    ensures ok { OnOk result (tokens.new ≡ tokens.old ++ words_from (length tokens.old) (rule_parts at stretch.now)) }
+    ensures ok { OnOk result (tokens.new ≡ tokens.old ++ part_words (length tokens.old) (rule_parts at stretch.now)) }
     ensures only { OnlyMemory result }
 {
     if stretch.is_ascii() {
@@ -124,7 +125,7 @@ pub fn raw_words(alloc: Global, text: &str) -> Result<TokenBuffer, Fault>
 // Adds the parts of a piece of a text, whose first byte is at an offset.
 fn add_parts(cut: Cut, at: usize, piece: &str, tokens: &mut TokenBuffer) -> Result<(), Fault>
     requires room { at + length piece.now < 2 ^ 64 }
-    ensures ok { OnOk result (tokens.new ≡ tokens.old ++ words_from (length tokens.old) (piece_parts cut (at, piece.now))) }
+    ensures ok { OnOk result (tokens.new ≡ tokens.old ++ part_words (length tokens.old) (piece_parts cut (at, piece.now))) }
     ensures only { OnlyMemory result }
 {
     let mut start = 0;
@@ -143,7 +144,7 @@ fn add_parts(cut: Cut, at: usize, piece: &str, tokens: &mut TokenBuffer) -> Resu
 // Adds a part, if it has characters.
 pub(crate) fn add_part(start: usize, part: &str, tokens: &mut TokenBuffer) -> Result<(), Fault>
     requires room { start + length part.now < 2 ^ 64 }
-    ensures ok { OnOk result (tokens.new ≡ tokens.old ++ words_from (length tokens.old) (nonempty_parts (record { offset = start; characters = chars part.now } ∷ []))) }
+    ensures ok { OnOk result (tokens.new ≡ tokens.old ++ part_words (length tokens.old) (nonempty_parts (record { offset = start; characters = chars part.now } ∷ []))) }
     ensures only { OnlyMemory result }
 {
     if part.is_empty() {

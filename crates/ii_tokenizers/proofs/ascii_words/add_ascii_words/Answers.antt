@@ -1,9 +1,9 @@
 use Rattle.std.proofs.Common.{refl, ◌≡◌, ◌+◌, ◌++◌, ◌∙◌, ap, arith, drop, length, sym, append-nil, length-drop, List, ℕ}
 use Rattle.std.proofs.lemmas.List.Sums.{prefix_len-le-length}
 use Rattle.std.specs.List.{prefix_len}
-use Rattle.ii_tokenizers.specs.Analyzers.{Part, words_from}
-use Rattle.ii_tokenizers.specs.AsciiParts.{is_word_character}
-use Rattle.ii_tokenizers.proofs.RunLemmas.{no_more, run_size, run_step}
+use Rattle.ii_base.specs.Parts.{Part, is_word_character, part_words}
+use Rattle.ii_base.proofs.RunLemmas.{no_more, run_size}
+use Rattle.ii_tokenizers.proofs.RunLemmas.{run_step}
 use Rattle.ii_tokenizers.proofs.ascii_words.add_ascii_words.Goals as goal
 
 pub loop-start-preserved : goal.loop-start-preserved
@@ -20,4 +20,4 @@ pub returns-clause-ok : goal.returns-clause-ok
 returns-clause-ok c =
     let words = c.loop-start.tokens in
     let none = no_more (c.args.at + c.loop-start.start) c.loop-start.start c.args.text.now (omega (arith, c.loop-start-test.false)) in
-    sym (append-nil words) ∙ ap (λ (ps : List Part). words ++ words_from (length c.loop-start.tokens) ps) (sym none) ∙ c.loop-start.invariant.0
+    sym (append-nil words) ∙ ap (λ (ps : List Part). words ++ part_words (length c.loop-start.tokens) ps) (sym none) ∙ c.loop-start.invariant.0

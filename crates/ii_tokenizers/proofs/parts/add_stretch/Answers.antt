@@ -4,7 +4,8 @@ use Rattle.std.proofs.lemmas.List.{append-nil}
 use Rattle.std.proofs.lemmas.List.Elements.{All-filter, All-head, All-rest}
 use Rattle.unicode_segmentation.proofs.SegmentsLemmas.{IsPieceOf, All-IsPieceOf}
 use Rattle.unicode_segmentation.specs.Iter.{unicode_word_indices_left}
-use Rattle.ii_tokenizers.specs.Analyzers.{Part, piece_parts, words_from}
+use Rattle.ii_base.specs.Parts.{Part, part_words}
+use Rattle.ii_tokenizers.specs.Analyzers.{piece_parts}
 use Rattle.ii_tokenizers.specs.declared.parts.Cut.TheVariants.{AtMarks}
 use Rattle.ii_tokenizers.proofs.AsciiWordLemmas.{ascii_rule_parts}
 use Rattle.ii_tokenizers.proofs.PartLemmas.{added_parts, ok_then}
@@ -16,7 +17,7 @@ loop-place-init c = (
   rw (c.into_iter-place-iterator.ensures.into_iter_gives, c.unicode_word_indices-place-items.ensures.left)
       (All-filter _ (IsPieceOf c.args.stretch.now) _ (All-IsPieceOf _ _ c.utf8.stretch)),
   rw (c.into_iter-place-iterator.ensures.into_iter_gives, c.unicode_word_indices-place-items.ensures.left)
-      (ap (λ (ps : List Part). c.args.tokens.now ++ words_from (length c.args.tokens.now) ps) (sym (shifted_parts c.args.at c.args.stretch.now))),
+      (ap (λ (ps : List Part). c.args.tokens.now ++ part_words (length c.args.tokens.now) ps) (sym (shifted_parts c.args.at c.args.stretch.now))),
 )
 
 pub add_parts-requires : goal.add_parts-requires
@@ -37,4 +38,4 @@ returns-clause-ok c = rw (c.in-None.ensures.steps.0, append-nil) at c.loop-place
 
 pub returns-then-is_ascii-clause-ok : goal.returns-then-is_ascii-clause-ok
 returns-then-is_ascii-clause-ok c =
-    ok_then c.add_ascii_words.result (λ ok. ok ∙ ap (λ (ps : List Part). c.args.tokens.now ++ words_from (length c.args.tokens.now) ps) (sym (ascii_rule_parts c.args.at c.args.stretch.now c.if-is_ascii.ensures.cases))) c.add_ascii_words.ensures.ok
+    ok_then c.add_ascii_words.result (λ ok. ok ∙ ap (λ (ps : List Part). c.args.tokens.now ++ part_words (length c.args.tokens.now) ps) (sym (ascii_rule_parts c.args.at c.args.stretch.now c.if-is_ascii.ensures.cases))) c.add_ascii_words.ensures.ok

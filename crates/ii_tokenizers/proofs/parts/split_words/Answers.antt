@@ -1,6 +1,7 @@
 use Rattle.std.proofs.Common.{◌≡◌, ◌⊎◌, ◌++◌, ◌∙◌, ap, arith, length, refl, subst, sym, List, ℕ}
-use Rattle.ii_tokenizers.specs.Analyzers.{rule_parts, words_from}
-use Rattle.ii_tokenizers.specs.AsciiParts.{IsBehindSpace}
+use Rattle.ii_base.specs.Parts.{part_words}
+use Rattle.ii_tokenizers.specs.Analyzers.{rule_parts}
+use Rattle.ii_tokenizers.specs.Stretches.{IsBehindSpace}
 use Rattle.std.proofs.lemmas.Str.{IsCharBoundary-start}
 use Rattle.ii_tokenizers.proofs.AsciiWordLemmas.{ascii_rule_parts}
 use Rattle.ii_tokenizers.proofs.StretchLemmas.{stretch_boundary, stretch_step, stretches_end}
@@ -12,7 +13,7 @@ loop-start-init c = (rw c.in_ok-tokens.ensures.ok refl, IsCharBoundary-start c.a
 pub loop-start-preserved : goal.loop-start-preserved
 loop-start-preserved c =
     let cut : (c.stretch_end-end.result ≡ length c.args.text.now) ⊎ IsBehindSpace c.args.text.now c.stretch_end-end.result = subst (λ (bs : List ℕ). (c.stretch_end-end.result ≡ length bs) ⊎ IsBehindSpace bs c.stretch_end-end.result) c.as_bytes.ensures.value c.stretch_end-end.ensures.cut in
-    let added = c.in_ok-add_stretch.ensures.ok ∙ ap (λ (bs : List ℕ). c.loop-start.tokens ++ words_from (length c.loop-start.tokens) (rule_parts c.loop-start.start bs)) c.range.ensures.value in (
+    let added = c.in_ok-add_stretch.ensures.ok ∙ ap (λ (bs : List ℕ). c.loop-start.tokens ++ part_words (length c.loop-start.tokens) (rule_parts c.loop-start.start bs)) c.range.ensures.value in (
       stretch_step c.loop-start.tokens c.add_stretch.new.tokens c.args.text.now c.loop-start.start c.stretch_end-end.result c.utf8.text c.loop-start.invariant.1 c.stretch_end-end.ensures.after cut added
           ∙ c.loop-start.invariant.0,
       stretch_boundary c.args.text.now c.stretch_end-end.result cut,
@@ -24,4 +25,4 @@ returns-clause-ok c = sym (stretches_end c.loop-start.tokens c.args.text.now c.l
 pub returns-then-is_ascii-clause-ok : goal.returns-then-is_ascii-clause-ok
 returns-then-is_ascii-clause-ok c =
     (rw c.in_ok-tokens.ensures.ok at c.in_ok-add_ascii_words.ensures.ok)
-    ∙ ap (words_from 0) (sym (ascii_rule_parts 0 c.args.text.now c.if-is_ascii.ensures.cases))
+    ∙ ap (part_words 0) (sym (ascii_rule_parts 0 c.args.text.now c.if-is_ascii.ensures.cases))
