@@ -1,3 +1,4 @@
+mod AddressRows
 pub mod BoundLemmas
 pub mod LeftLemmas
 pub mod PrefixRows

@@ -20,11 +20,11 @@ use Rattle.ii_query_parser.specs.declared.query_parser_error.QueryParserError.Th
 abbrev entry : List ℕ → ValueType → SchemaEntry
 entry name type = record { name = name; value_type = type; option = Basic; is_indexed = true; has_fieldnorms = false; expands_dots = false }
 
-abbrev fields : AnalyzedFields
+abbrev pub fields : AnalyzedFields
 fields = record {
   texts = record {
     analyze = λ field. ascii_words;
-    entries = entry (codes "n") types.I64 ∷ entry (codes "body") types.Str ∷ entry (codes "j") types.Json ∷ entry (codes "ip") types.IpAddr ∷ [];
+    entries = entry (codes "n") types.I64 ∷ entry (codes "body") types.Str ∷ entry (codes "j") types.Json ∷ entry (codes "ip") types.IpAddr ∷ entry (codes "mark") types.Bytes ∷ [];
   };
   prefixes = λ field. ascii_words;
   defaults = 1 ∷ [];
@@ -143,10 +143,6 @@ no_field = refl
 abbrev no_word_at_path : refusal_of (codes "j.p:[1 TO \"a b\"]") ≡ Some (errors.UnsupportedBound 2)
 unfolding tokens
 no_word_at_path = refl
-
-abbrev address_bound : refusal_of (codes "ip:>a") ≡ Some (errors.UnsupportedType 3)
-unfolding tokens
-address_bound = refl
 
 -- one range
 abbrev only : KeyRange → KeyRanges

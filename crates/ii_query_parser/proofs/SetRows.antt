@@ -46,10 +46,6 @@ abbrev no_field : refusal_of (codes "m:IN []") ≡ Some errors.FieldDoesNotExist
 unfolding tokens set_values
 no_field = refl
 
-abbrev address : refusal_of (codes "ip:IN [a]") ≡ Some (errors.UnsupportedType 3)
-unfolding tokens set_values
-address = refl
-
 abbrev no_end : refusal_of (codes "n:IN [1 2") ≡ Some (errors.SyntaxError SetValue 9)
 unfolding tokens set_values
 no_end = refl

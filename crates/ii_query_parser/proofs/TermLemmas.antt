@@ -249,6 +249,17 @@ value_adds field keeps key (Some b) error (Ok t) old new (Err e) is memory adds 
 value_adds field keeps key read error (Err fault) old new (Err e) is memory adds refused = inl (cc)
 value_adds field keeps key read error (Err fault) old new (Ok done) is memory adds refused = absurd (cc)
 
+-- and that of bytes, which are their own key
+pub bytes_add : (field : ℕ) (keeps : Bool) (read : Option (List ℕ)) (error : QueryParserError) (term : Result (Option TermState) Fault) (old new : List PhraseState) (r : Result (Unit {0}) QueryParserError)
+    → IfOk term (λ (t : Option TermState). t ≡ option_map (λ (k : List ℕ). record { field = field; value = k }) read) → OnlyMemory term → IfOk term (λ (t : Option TermState). AddsMaybe t error old new r) → IfErr term (λ (fault : Fault). r ≡ Err (errors.Fault fault))
+    → AddsIn (value_term field error read) field keeps old new r
+bytes_add field keeps read error term old new r is memory adds refused =
+    subst (λ (o : Option (List ℕ)). AddsIn (value_term field error o) field keeps old new r) (same read) (value_adds field keeps (λ k. k) read error term old new r is memory adds refused)
+  where
+    same : (o : Option (List ℕ)) → option_map (λ (k : List ℕ). k) o ≡ o
+    same None = refl
+    same (Some k) = refl
+
 -- what a text is looked up by is of its field
 text_in : (field : ℕ) (keeps : Bool) (value : Option TermState) (ws : List Word) (words : Option PhraseState) (ts : List PhraseState) → IfSome value (λ t. t.field ≡ field) → ((p : PhraseState) → words ≡ Some p → IsOfField field p) → text_terms field keeps value ws words ≡ Ok ts
     → AllByRecursion (IsPhraseIn field keeps) ts

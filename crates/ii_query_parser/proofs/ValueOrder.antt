@@ -1,4 +1,4 @@
--- The order of the keys of numbers is that of the numbers.
+-- The order of the keys of values is that of the values.
 use Rattle.std.proofs.Common.{◌≡◌, ◌∙◌, ℕ, zero, suc, ◌+◌, ◌-◌, ◌*◌, ◌/◌, ◌%◌, ◌^◌, ◌<◌, ◌≤◌, Bool, true, false, cond, nat_lt, Equal, Greater, Less, Ordering, refl, sym, ap, arith}
 use Rattle.std.specs.Prelude.{◌==◌, ◌&&◌, not, ℤ, pos, negsuc, int_lt, FitsSigned}
 use Rattle.std.specs.Int.{w64}
@@ -6,9 +6,10 @@ use Rattle.std.specs.Cmp.{nat_cmp_is, ranked}
 use Rattle.std.specs.Cmp.Lexicographic.{slice_cmp}
 use Rattle.std.specs.Int.{byte_at, bytes_high_first}
 use Rattle.std.specs.Ordering.{MatchOrdering, is_lt, nat_cmp, ordering_then}
-use Rattle.std.proofs.Math.Nat.{add-mul, add_assoc, div-add-mod', div-one, mod-eq_of_lt, mod-lt, mul-add-mod_self_right, mul-le-mul_right, mul_assoc, one-le-pow, pow-succ'}
+use Rattle.std.proofs.Math.Nat.{add-mul, add_assoc, div-add-mod', mod-eq_of_lt, mod-lt, mul-add-mod_self_right, mul-le-mul_right, mul_assoc, one-le-pow, pow-succ'}
 use Rattle.std.proofs.lemmas.Bool.{le-ltb, lt-ltb, ltb-false, ltb-true}
 use Rattle.ii_base.specs.Values.{flipped, number_of_bool, u64_bytes}
+use Rattle.ii_term_text.proofs.AddressBytes.{byte_is}
 use Rattle.ii_query_parser.specs.Ranges.{is_less}
 
 -- numbers of two digits to a base are in the order of the first ones, and then of the others
@@ -31,10 +32,6 @@ by_digits base x y r s r_low s_low = nat_cmp_is (x * base + r) (y * base + s) (o
 -- a power of 256 is above zero
 some_power : (k : ℕ) → 0 < 256 ^ k
 some_power k = let least = one-le-pow k 256 (omega arith) in omega arith
-
-byte_is : (k n : ℕ) → byte_at k n ≡ n / 256 ^ k % 256
-byte_is zero n = ap (λ (m : ℕ). m % 256) (sym (div-one n))
-byte_is (suc k) n = refl
 
 -- the lowest bytes of a number, by the first of them and the others
 front_byte : (k n : ℕ) → n % 256 ^ suc k ≡ byte_at k n * 256 ^ k + n % 256 ^ k
@@ -76,6 +73,13 @@ u64_order a b a_low b_low =
     let first : a % 256 ^ 8 ≡ a = mod-eq_of_lt a_low in
     let other : b % 256 ^ 8 ≡ b = mod-eq_of_lt b_low in
     ap is_lt (by_bytes 8 a b) ∙ rw (first, other) (less_is a b)
+
+-- those of addresses
+pub address_order : (a b : ℕ) → a < 2 ^ 128 → b < 2 ^ 128 → is_less (bytes_high_first 16 a) (bytes_high_first 16 b) ≡ nat_lt a b
+address_order a b a_low b_low =
+    let first : a % 256 ^ 16 ≡ a = mod-eq_of_lt a_low in
+    let other : b % 256 ^ 16 ≡ b = mod-eq_of_lt b_low in
+    ap is_lt (by_bytes 16 a b) ∙ rw (first, other) (less_is a b)
 
 same_order : (p q r s : ℕ) → (p < q → r < s) → (q ≤ p → s ≤ r) → nat_lt p q ≡ nat_lt r s
 same_order p q r s less more = by (nat_lt p q) refl

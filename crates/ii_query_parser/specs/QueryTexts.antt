@@ -1,7 +1,10 @@
 -- What the text of a query means, by the fields of a schema.
 use Rattle.std.specs.Prelude.{◌≡◌, ◌⊎◌, is_some, ℕ, Bool, true, false, ◌&&◌, ◌||◌, ◌==◌, ◌+◌, ◌-◌, not, List, [], ◌∷◌, ◌++◌, Option, None, Some, Result, Ok, Err, bytes_eq, drop, if◌then◌else◌, length, map, nat_eq, nat_le, nat_lt, option_map, position, slice_get, take}
+use Rattle.std.specs.Int.{bytes_high_first}
 use Rattle.std.specs.List.{find, list_all, list_any, position_from, starts_with}
 use Rattle.std.specs.Option.{option_or, option_to_list}
+use Rattle.std.specs.Result.{result_ok}
+use Rattle.hex.specs.Hex.{decode_of}
 use Rattle.ii_io.specs.declared.faults.Fault.TheVariants.{OutOfMemory}
 use Rattle.ii_base.specs.Options.{has_positions}
 use Rattle.ii_base.specs.Paths.{has_zero, path_bytes, segments_of}
@@ -15,6 +18,7 @@ use Rattle.ii_base.specs.declared.schema.value_type.ValueType.{ValueType}
 use Rattle.ii_base.specs.declared.schema.value_type.ValueType.TheVariants as types
 use Rattle.ii_dates.specs.Dates.{date_in}
 use Rattle.ii_json.specs.FastValues.{bool_in, fast_value_in, i64_in, u64_in}
+use Rattle.ii_term_text.specs.Addresses.{address_in}
 use Rattle.ii_definitions.specs.JsonKeys.{is_json}
 use Rattle.ii_definitions.specs.Tokens.{IndexToken}
 use Rattle.ii_query_grammar.specs.Parsed.{parsed}
@@ -132,8 +136,8 @@ typed_terms q field keeps expand_dots path phrase types.U64 = value_term field (
 typed_terms q field keeps expand_dots path phrase types.I64 = value_term field (errors.ExpectedInt field) (option_map (λ n. u64_bytes (flipped n)) (i64_in phrase))
 typed_terms q field keeps expand_dots path phrase types.Bool = value_term field (errors.ExpectedBool field) (option_map (λ b. u64_bytes (number_of_bool b)) (bool_in phrase))
 typed_terms q field keeps expand_dots path phrase types.Date = value_term field (errors.ExpectedDate field) (option_map (λ z. u64_bytes (flipped z)) (date_in phrase))
-typed_terms q field keeps expand_dots path phrase types.Bytes = Err (errors.UnsupportedType field)
-typed_terms q field keeps expand_dots path phrase types.IpAddr = Err (errors.UnsupportedType field)
+typed_terms q field keeps expand_dots path phrase types.Bytes = value_term field (errors.ExpectedBytes field) (result_ok (decode_of phrase))
+typed_terms q field keeps expand_dots path phrase types.IpAddr = value_term field (errors.ExpectedIpAddr field) (option_map (λ n. bytes_high_first 16 n) (address_in phrase))
 typed_terms q field keeps expand_dots path phrase types.Json =
     if has_zero path then Err (errors.UnsupportedPath field)
     else text_terms field keeps (path_value field expand_dots path phrase) (q.analyze phrase) (words_phrase (record { field = field; value = path_key expand_dots path ++ text_key [] }) (q.analyze phrase))
@@ -189,11 +193,12 @@ needs_positions errors.NoWords = false
 needs_positions (errors.ExpectedInt field) = false
 needs_positions (errors.ExpectedBool field) = false
 needs_positions (errors.ExpectedDate field) = false
+needs_positions (errors.ExpectedBytes field) = false
+needs_positions (errors.ExpectedIpAddr field) = false
 needs_positions (errors.UnsupportedPhrase field) = false
 needs_positions (errors.UnsupportedPrefix field) = false
 needs_positions (errors.UnsupportedBound field) = false
 needs_positions (errors.UnsupportedPath field) = false
-needs_positions (errors.UnsupportedType field) = false
 needs_positions (errors.Fault fault) = false
 
 -- whether a default field is left out, since a phrase needs positions and the field keeps none

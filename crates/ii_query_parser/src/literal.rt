@@ -17,6 +17,7 @@ use ii_base::{Fault, Field, IndexRecordOption, Schema, Term, TextAnalyzer, Value
 use ii_dates::date_term;
 use ii_json::{bool_term, convert_to_fast_value_and_append_to_json_term, i64_term, u64_term};
 use ii_query_grammar::{Delimiter, UserInputLiteral, UserInputSet};
+use ii_term_text::{address_term, bytes_term};
 use ii_tokenizers::FieldAnalyzers;
 use std::alloc::Global;
 
@@ -384,9 +385,18 @@ impl Place {
                 QueryParserError::ExpectedDate(self.field),
                 terms,
             ),
-            ValueType::Bytes | ValueType::IpAddr => {
-                Err(QueryParserError::UnsupportedType(self.field))
-            }
+            ValueType::Bytes => push_read(
+                alloc,
+                bytes_term(alloc, self.field, phrase),
+                QueryParserError::ExpectedBytes(self.field),
+                terms,
+            ),
+            ValueType::IpAddr => push_read(
+                alloc,
+                address_term(alloc, self.field, phrase),
+                QueryParserError::ExpectedIpAddr(self.field),
+                terms,
+            ),
         }
     }
 

@@ -86,15 +86,17 @@ pub fn query_of<A: TextAnalyzer>(
 ///   `FieldDoesNotHavePositionsIndexed` if there are several and the field keeps no positions.
 /// - In a field of numbers or booleans, a text is the value that Rust's `parse` gives; `ExpectedInt` or
 ///   `ExpectedBool` if there is none. In a field of dates it is the date that `date_of` of `ii_dates` reads;
-///   `ExpectedDate` if there is none.
+///   `ExpectedDate` if there is none. In a field of bytes it is pairs of hexadecimal digits, in one of addresses an
+///   IPv4 or IPv6 address, of which `address_of` of `ii_term_text` reads the number; `ExpectedBytes` or
+///   `ExpectedIpAddr` if it is none.
 /// - At a JSON path, a text matches as a token or phrase, as in a text field, or as a value: a signed number,
 ///   an unsigned one or a boolean.
 /// - A text without tokens, which at a JSON path is no value either, is left out of the query: `the AND "-"` is
 ///   `the`, and so is `the AND NOT "-"`. A set is left out if all its values are. `NoWords` if nothing is left, and
 ///   for a prefix without a token.
 /// - A range matches the documents that have a value of the field, or at the JSON path, between its bounds:
-///   numbers and dates in their order, `false` before `true`, tokens in the order of their bytes. No document has one between
-///   bounds in the wrong order. A bound is a value as above; in a text field, a text of which the field's analyzer of
+///   numbers, dates and addresses in their order, `false` before `true`, tokens and bytes in the order of their bytes. No
+///   document has one between bounds in the wrong order. A bound is a value as above; in a text field, a text of which the field's analyzer of
 ///   prefixes and bounds (`FieldAnalyzers::prefix_analyzer`) makes one token, otherwise `UnsupportedBound`. At a JSON
 ///   path, bounds that are all integers are between integers; other bounds are between the tokens of texts.
 /// - A prefix, which ends with `*`, matches the documents that have a token which starts with the one token that this
@@ -102,7 +104,6 @@ pub fn query_of<A: TextAnalyzer>(
 /// - A set matches the documents that one of its values matches, each as a text in quotes after the set's name. It
 ///   matches none if it has no values.
 /// - `*` matches all documents. Its query is `Query::All(TERMINATED)`, which no number of documents exceeds.
-/// - `UnsupportedType` for a text or a bound in a field of bytes or addresses.
 ///
 /// # Errors
 ///

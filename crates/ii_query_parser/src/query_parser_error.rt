@@ -35,6 +35,12 @@ pub enum QueryParserError {
     /// A text in a field of dates is no date by RFC 3339 between 1677 and 2262.
     #[error("expected a date like 1990-01-01T00:00:00Z, between 1677 and 2262")]
     ExpectedDate(Field),
+    /// A text in a field of bytes is not pairs of hexadecimal digits.
+    #[error("expected pairs of hexadecimal digits")]
+    ExpectedBytes(Field),
+    /// A text in a field of addresses is no IPv4 or IPv6 address.
+    #[error("expected an address like 10.0.0.1 or ::1")]
+    ExpectedIpAddr(Field),
     /// A text with a token before its first, or 2^32 positions or more after it.
     #[error("the words of a text are out of order, or too far apart")]
     UnsupportedPhrase(Field),
@@ -50,9 +56,6 @@ pub enum QueryParserError {
     /// A path that contains byte 0.
     #[error("a path with byte 0 is not supported")]
     UnsupportedPath(Field),
-    /// A text to search for, or a bound of a range, in a field of bytes or addresses.
-    #[error("queries of bytes and addresses are not supported")]
-    UnsupportedType(Field),
     /// An allocation failed.
     #[error("{0}")]
     Fault(Fault),
@@ -71,12 +74,13 @@ impl QueryParserError {
             | QueryParserError::ExpectedInt(field)
             | QueryParserError::ExpectedBool(field)
             | QueryParserError::ExpectedDate(field)
+            | QueryParserError::ExpectedBytes(field)
+            | QueryParserError::ExpectedIpAddr(field)
             | QueryParserError::UnsupportedPhrase(field)
             | QueryParserError::FieldDoesNotHavePositionsIndexed(field)
             | QueryParserError::UnsupportedPrefix(field)
             | QueryParserError::UnsupportedBound(field)
-            | QueryParserError::UnsupportedPath(field)
-            | QueryParserError::UnsupportedType(field) => Some(field),
+            | QueryParserError::UnsupportedPath(field) => Some(field),
             QueryParserError::SyntaxError(..)
             | QueryParserError::Unsupported(..)
             | QueryParserError::FieldDoesNotExist

@@ -1,13 +1,15 @@
 -- The text of an IP address is read back.
-use Rattle.std.proofs.Common.{◌≡◌, ◌∙◌, ◌<◌, ◌^◌, ◌/◌, ◌%◌, ◌*◌, ◌+◌, ℕ, zero, suc, Bool, true, false, List, [], ◌∷◌, ◌++◌, Some, ap, arith, cond, drop, get_or, length, refl, subst, sym, take, take-append-drop}
+use Rattle.std.proofs.Common.{◌≡◌, ◌∙◌, ◌<◌, ◌^◌, ◌/◌, ◌%◌, ◌*◌, ◌+◌, ℕ, zero, suc, Bool, true, false, List, [], ◌∷◌, ◌++◌, Option, Some, ap, arith, cond, drop, get_or, length, option_map, refl, subst, sym, take, take-append-drop}
 use Rattle.std.specs.Str.{bytes_eq}
 use Rattle.std.proofs.lemmas.Slice.Eq.{bytes_eq-Decides}
+use Rattle.std.specs.Int.{bytes_high_first, from_be_bytes, w128}
 use Rattle.std.specs.Net.Addr.{IsIpv6Addr, octets_of, segments_of}
 use Rattle.std.specs.Net.Text.{ipv4_text, ipv6_text}
 use Rattle.std.proofs.NetLemmas.Arrays.{eight_items}
 use Rattle.std.proofs.NetLemmas.Texts.{IsColonHex-ipv6_text, IsDotted-ipv4_text}
-use Rattle.ii_term_text.specs.Addresses.{segments_in}
+use Rattle.ii_term_text.specs.Addresses.{address_in, segments_in}
 use Rattle.ii_term_text.specs.KeyTexts.{address_text}
+use Rattle.ii_term_text.proofs.AddressBytes.{octets_again}
 use Rattle.ii_term_text.proofs.AddressLemmas.{v4_segments, v6_segments}
 
 -- segments as octets, and back
@@ -28,7 +30,7 @@ two_octets s t low high (suc (suc (suc zero))) = omega arith
 two_octets s t low high (suc (suc (suc (suc k)))) = omega arith
 
 -- the text of an address spells its segments
-pub address_read : (xs : List ℕ) → IsIpv6Addr (record { segments = xs }) → segments_in (address_text xs) ≡ Some xs
+address_read : (xs : List ℕ) → IsIpv6Addr (record { segments = xs }) → segments_in (address_text xs) ≡ Some xs
 address_read xs is = by (bytes_eq (take 6 xs) (0 ∷ 0 ∷ 0 ∷ 0 ∷ 0 ∷ 0xffff ∷ [])) refl
   where
     by : (t : Bool) → bytes_eq (take 6 xs) (0 ∷ 0 ∷ 0 ∷ 0 ∷ 0 ∷ 0xffff ∷ []) ≡ t → segments_in (address_text xs) ≡ Some xs
@@ -42,6 +44,7 @@ address_read xs is = by (bytes_eq (take 6 xs) (0 ∷ 0 ∷ 0 ∷ 0 ∷ 0 ∷ 0xf
         ∙ ap Some (ap (λ (l : List ℕ). 0 ∷ 0 ∷ 0 ∷ 0 ∷ 0 ∷ 0xffff ∷ l) (segments_again (drop 6 xs)) ∙ ap (λ (l : List ℕ). l ++ drop 6 xs) (sym same) ∙ take-append-drop 6 xs)
     by false e = ap segments_in (text_case xs false e) ∙ v6_segments (ipv6_text xs) xs (IsColonHex-ipv6_text xs is.0 is.1)
 
--- the length of the octets of eight segments
-pub sixteen_octets : (xs : List ℕ) → length xs ≡ 8 → length (octets_of xs) ≡ 16
-sixteen_octets xs eight = ap (λ (l : List ℕ). length (octets_of l)) (eight_items xs eight)
+-- the text of an address spells its key
+pub address_key_read : (xs : List ℕ) → IsIpv6Addr (record { segments = xs }) → option_map (λ n. bytes_high_first 16 n) (address_in (address_text xs)) ≡ Some (octets_of xs)
+unfolding address_in
+address_key_read xs is = ap (λ (o : Option (List ℕ)). option_map (λ n. bytes_high_first 16 n) (option_map (λ s. from_be_bytes w128 (octets_of s)) o)) (address_read xs is) ∙ ap Some (octets_again xs is)

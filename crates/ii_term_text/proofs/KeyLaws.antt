@@ -1,7 +1,6 @@
 -- A key that is printed is read back as that key.
 use Rattle.std.proofs.Common.{◌≡◌, ◌∙◌, ◌<◌, ◌+◌, ◌-◌, ◌^◌, ℕ, suc, Bool, true, false, ℤ, pos, negsuc, FitsSigned, w64, List, [], ◌∷◌, ◌++◌, Option, Some, ap, arith, decimal, length, option_map, refl}
 use Rattle.std.specs.Fmt.{signed_decimal}
-use Rattle.std.specs.Net.Addr.{octets_of}
 use Rattle.std.specs.Result.{result_ok}
 use Rattle.std.proofs.lemmas.Bool.{le-ltb, lt-ltb}
 use Rattle.std.proofs.lemmas.Nat.{from_be_bytes-to_be_bytes_8}
@@ -17,7 +16,8 @@ use Rattle.ii_dates.proofs.DateLaws.{date_read_back}
 use Rattle.ii_json.proofs.ParseLemmas.{i64_of_decimal, u64_of_decimal}
 use Rattle.ii_term_text.specs.KeyTexts.{IsOfField, IsScalar, KeyValue, Scalar, address, at_path, boolean, boolean_in, boolean_of, boolean_text, date, key_in, text_of_key, number_of_key, parts_of_key, raw, scalar, scalar_in, scalar_key, text_of_scalar_key, scalar_text, scalar_type, signed, text_or_bytes, text_parts, type_of_letter, unflipped, unsigned, value_key, word}
 use Rattle.ii_term_text.specs.PathTexts.{path_text}
-use Rattle.ii_term_text.proofs.AddressTexts.{address_read, segments_again, sixteen_octets}
+use Rattle.ii_term_text.proofs.AddressBytes.{sixteen_octets}
+use Rattle.ii_term_text.proofs.AddressTexts.{address_key_read, segments_again}
 use Rattle.ii_term_text.proofs.KeyLemmas.{back_of, flipped_small, front_of, no_zero_text, path_again, spelled_by, utf8_is, zero_after}
 use Rattle.ii_term_text.proofs.PathLaws.{path_cut}
 
@@ -100,7 +100,7 @@ cut_again path value types.IpAddr = rw (path_cut path (112 ∷ 32 ∷ value), lt
 pub key_read_back : (value_type : ValueType) (expands_dots : Bool) (v : KeyValue) → IsOfField value_type expands_dots v → key_in value_type expands_dots (text_of_key value_type (value_key v)) ≡ Some (value_key v)
 key_read_back value_type expands_dots (scalar s) is = rw (is.0, plain_text s, scalar_again s is.1) (field_read expands_dots s is.1)
 key_read_back value_type expands_dots (raw bytes) is = rw is.0 (ap result_ok (decode_of-encode_lower bytes is.1))
-key_read_back value_type expands_dots (address segments) is = rw (is.0, sixteen_octets segments is.1.0, segments_again segments) (ap (option_map octets_of) (address_read segments is.1))
+key_read_back value_type expands_dots (address segments) is = rw (is.0, sixteen_octets segments is.1.0, segments_again segments) (address_key_read segments is.1)
 key_read_back value_type expands_dots (at_path path s) is =
     let t = scalar_type s in
     let text : text_of_key types.Json (json_key path (code_of t ∷ scalar_key s)) ≡ path_text path ++ 32 ∷ code_of t ∷ 32 ∷ scalar_text s =

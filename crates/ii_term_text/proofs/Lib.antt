@@ -1,3 +1,4 @@
+pub mod AddressBytes
 pub mod AddressLemmas
 pub mod AddressTexts
 pub mod CharTexts

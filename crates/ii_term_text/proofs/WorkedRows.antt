@@ -1,9 +1,11 @@
 -- Keys as text, and texts as keys, computed.
 use Rattle.std.proofs.Common.{◌≡◌, false, [], ◌∷◌, ◌++◌, None, Some, codes, decimal, refl}
+use Rattle.std.specs.Net.Reader.{read_ipv4, read_ipv6, read_number, read_octet, read_segment, read_segments}
 use Rattle.std.specs.Net.Text.{ipv4_text}
 use Rattle.hex.specs.Hex.{encode_lower}
 use Rattle.ii_dates.proofs.OnLiterals.{dates_on_literals}
 use Rattle.ii_base.specs.declared.schema.value_type.ValueType.TheVariants as types
+use Rattle.ii_term_text.specs.Addresses.{address_in, segments_in}
 use Rattle.ii_term_text.specs.KeyTexts.{key_in, text_of_key}
 
 number_text : text_of_key types.U64 (0 ∷ 0 ∷ 0 ∷ 0 ∷ 0 ∷ 0 ∷ 4 ∷ 210 ∷ []) ≡ decimal 1234
@@ -29,6 +31,15 @@ short_key = refl
 
 mapped_key : text_of_key types.IpAddr (0 ∷ 0 ∷ 0 ∷ 0 ∷ 0 ∷ 0 ∷ 0 ∷ 0 ∷ 0 ∷ 0 ∷ 255 ∷ 255 ∷ 192 ∷ 0 ∷ 2 ∷ 33 ∷ []) ≡ ipv4_text (192 ∷ 0 ∷ 2 ∷ 33 ∷ [])
 mapped_key = refl
+
+-- an IPv4 address is mapped; the key's first byte is the highest
+mapped_read : key_in types.IpAddr false (codes "192.0.2.33") ≡ Some (0 ∷ 0 ∷ 0 ∷ 0 ∷ 0 ∷ 0 ∷ 0 ∷ 0 ∷ 0 ∷ 0 ∷ 255 ∷ 255 ∷ 192 ∷ 0 ∷ 2 ∷ 33 ∷ [])
+unfolding address_in segments_in read_ipv4 read_octet read_number
+mapped_read = refl
+
+address_read : key_in types.IpAddr false (codes "2001:db8::1") ≡ Some (0x20 ∷ 1 ∷ 0x0D ∷ 0xB8 ∷ 0 ∷ 0 ∷ 0 ∷ 0 ∷ 0 ∷ 0 ∷ 0 ∷ 0 ∷ 0 ∷ 0 ∷ 0 ∷ 1 ∷ [])
+unfolding address_in segments_in read_ipv4 read_octet read_number read_ipv6 read_segments read_segment
+address_read = refl
 
 -- the value 5 at the key "x y" under the key "a.b"
 path_read : key_in types.Json false (codes "a\\.b.x\\ y u 5") ≡ Some (97 ∷ 46 ∷ 98 ∷ 1 ∷ 120 ∷ 32 ∷ 121 ∷ 0 ∷ 117 ∷ 0 ∷ 0 ∷ 0 ∷ 0 ∷ 0 ∷ 0 ∷ 0 ∷ 5 ∷ [])

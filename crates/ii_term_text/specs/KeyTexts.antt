@@ -1,7 +1,7 @@
 -- The text of a term's key, as `terms` prints it and `postings` reads it.
 use Rattle.std.specs.Prelude.{◌≡◌, ℕ, ◌+◌, ◌-◌, ◌<◌, ◌^◌, ◌==◌, Bool, true, false, ℤ, pos, negsuc, FitsSigned, List, [], ◌∷◌, ◌++◌, Option, None, Some, bytes_eq, codes, decimal, drop, length, nat_lt, option_map, position, take, ⊤, if◌then◌else◌}
 use Rattle.std.specs.Fmt.{signed_decimal}
-use Rattle.std.specs.Int.{from_be_bytes, w64}
+use Rattle.std.specs.Int.{bytes_high_first, from_be_bytes, w64}
 use Rattle.std.specs.List.{find}
 use Rattle.std.specs.Net.Addr.{IsIpv6Addr, octets_of, segments_of}
 use Rattle.std.specs.Net.Text.{ipv4_text, ipv6_text}
@@ -18,7 +18,7 @@ use Rattle.ii_base.specs.declared.schema.value_type.ValueType.{ValueType}
 use Rattle.ii_base.specs.declared.schema.value_type.ValueType.TheVariants as types
 use Rattle.ii_dates.specs.Dates.{date_in, date_text}
 use Rattle.ii_json.specs.FastValues.{bool_in, i64_in, u64_in}
-use Rattle.ii_term_text.specs.Addresses.{segments_in}
+use Rattle.ii_term_text.specs.Addresses.{address_in}
 use Rattle.ii_term_text.specs.PathTexts.{cut_at_space, has_dot, path_text}
 
 -- a word, a number, a boolean, or a date in nanoseconds since 1970-01-01T00:00:00Z
@@ -175,7 +175,7 @@ key_in types.I64 expands_dots text = option_map (λ z. u64_bytes (flipped z)) (i
 key_in types.Bool expands_dots text = option_map (λ b. u64_bytes (number_of_bool b)) (bool_in text)
 key_in types.Date expands_dots text = option_map (λ z. u64_bytes (flipped z)) (date_in text)
 key_in types.Bytes expands_dots text = result_ok (decode_of text)
-key_in types.IpAddr expands_dots text = option_map octets_of (segments_in text)
+key_in types.IpAddr expands_dots text = option_map (λ n. bytes_high_first 16 n) (address_in text)
 key_in types.Json expands_dots text = json_key_in expands_dots text
 
 -- the term of a field with a key, if there is one

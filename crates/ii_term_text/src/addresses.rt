@@ -17,8 +17,8 @@ pub fn address_of(text: &str) -> Option<u128>
     }
 }
 
-/// Parses an IP address as 16 bytes, big-endian; an IPv4 address as its mapped IPv6 address `::ffff:a.b.c.d`.
-pub fn octets_in(text: &str) -> Option<[u8; 16]>
+// Parses an IP address as 16 bytes, big-endian; an IPv4 address as its mapped IPv6 address.
+fn octets_in(text: &str) -> Option<[u8; 16]>
     ensures { result ≡ option_map octets_of (segments_in text.now) }
 {
     match Ipv4Addr::parse_ascii(text.as_bytes()) {

@@ -10,4 +10,4 @@ pub mod terms;
 pub use addresses::address_of;
 pub use keys::{push_key, push_path_bytes};
 pub use paths::{cut_at_space, push_path};
-pub use terms::term_of;
+pub use terms::{address_term, bytes_term, term_of};

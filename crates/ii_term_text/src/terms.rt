@@ -1,7 +1,7 @@
 //! Terms of texts.
 ghost use Rattle.std.specs.Prelude.{◌≡◌, ◌↔◌, IfOk, IsTrue, MatchOption, None, Some};
 ghost use Rattle.std.specs.Option.{option_map};
-ghost use Rattle.std.specs.Net.Addr.{octets_of};
+ghost use Rattle.std.specs.Int.{bytes_high_first};
 ghost use Rattle.std.specs.Result.{result_ok};
 ghost use Rattle.hex.specs.Hex.{decode_of};
 ghost use Rattle.hex.specs.declared.error.FromHexError.TheVariants.{OutOfMemory};
@@ -9,10 +9,10 @@ ghost use Rattle.ii_io.specs.Faults.{OnlyMemory};
 ghost use Rattle.ii_base.specs.Paths.{has_zero};
 ghost use Rattle.ii_dates.specs.Dates.{date_in};
 ghost use Rattle.ii_json.specs.FastValues.{bool_in, i64_in, u64_in};
-ghost use Rattle.ii_term_text.specs.Addresses.{segments_in};
+ghost use Rattle.ii_term_text.specs.Addresses.{address_in};
 ghost use Rattle.ii_term_text.specs.KeyTexts.{AppendsScalar, boolean, date, json_key_in, key_in, scalar_in, signed, term_with, text_parts, unsigned};
 
-use crate::addresses::octets_in;
+use crate::addresses::address_of;
 use crate::paths::cut_at_space;
 use hex::FromHexError;
 use ii_base::{DateTime, Fault, Field, FieldEntry, Term, ValueType};
@@ -44,8 +44,9 @@ pub fn term_of(
     }
 }
 
-// The term of bytes in hexadecimal.
-fn bytes_term(alloc: Global, field: Field, text: &str) -> Result<Option<Term>, Fault>
+/// Returns the term of the bytes that a text spells in pairs of hexadecimal digits, if it spells any. Returns
+/// `OutOfMemory` if allocation fails.
+pub fn bytes_term(alloc: Global, field: Field, text: &str) -> Result<Option<Term>, Fault>
     ensures ok { IfOk result (λ term. term ≡ term_with field (result_ok (decode_of text.now))) }
     ensures only { OnlyMemory result }
 {
@@ -67,13 +68,17 @@ fn is_memory(error: &FromHexError) -> bool
     matches!(error, FromHexError::OutOfMemory)
 }
 
-// The term of an IP address.
-fn address_term(alloc: Global, field: Field, text: &str) -> Result<Option<Term>, Fault>
-    ensures ok { IfOk result (λ term. term ≡ term_with field (option_map octets_of (segments_in text.now))) }
+/// Returns the term of the IP address that a text spells, if it spells one: 16 bytes, big-endian; of an IPv4 address
+/// its mapped IPv6 address `::ffff:a.b.c.d`. Returns `OutOfMemory` if allocation fails.
+pub fn address_term(alloc: Global, field: Field, text: &str) -> Result<Option<Term>, Fault>
+    ensures ok { IfOk result (λ term. term ≡ option_map (λ n. record { field = field; value = bytes_high_first 16 n }) (address_in text.now)) }
     ensures only { OnlyMemory result }
 {
-    match octets_in(text) {
-        Some(octets) => Ok(Some(Term::from_field_bytes(alloc, field, &octets)?)),
+    match address_of(text) {
+        Some(address) => {
+            let octets = address.to_be_bytes();
+            Ok(Some(Term::from_field_bytes(alloc, field, &octets)?))
+        }
         None => Ok(None),
     }
 }

@@ -1,10 +1,14 @@
 use Rattle.std.proofs.Common.{[]}
+use Rattle.std.specs.Int.{bytes_high_first}
+use Rattle.std.specs.Result.{result_ok}
+use Rattle.hex.specs.Hex.{decode_of}
 use Rattle.ii_base.specs.Options.{has_positions}
 use Rattle.ii_base.specs.Values.{flipped, number_of_bool, u64_bytes}
 use Rattle.ii_dates.specs.Dates.{date_in}
 use Rattle.ii_json.specs.FastValues.{bool_in, i64_in, u64_in}
+use Rattle.ii_term_text.specs.Addresses.{address_in}
 use Rattle.ii_query_parser.specs.declared.query_parser_error.QueryParserError.TheVariants as errors
-use Rattle.ii_query_parser.proofs.TermLemmas.{str_adds, value_adds}
+use Rattle.ii_query_parser.proofs.TermLemmas.{bytes_add, str_adds, value_adds}
 use Rattle.ii_query_parser.proofs.literal.Place.push_terms.Goals as goal
 
 pub returns-in-Str : goal.returns-in-Str
@@ -28,6 +32,18 @@ returns-in-Date g c =
     let term = c.date_term.ensures in
     let put = c.push_read-in-Date.ensures in
     rw c.in-Date.is (value_adds c.args.self.field (has_positions c.args.self.option) (λ z. u64_bytes (flipped z)) (date_in c.args.phrase.now) (errors.ExpectedDate c.args.self.field) c.date_term.result c.args.terms.now.items c.push_read-in-Date.new.terms.items c.push_read-in-Date.result term.ok term.only put.read put.refused)
+
+pub returns-in-Bytes : goal.returns-in-Bytes
+returns-in-Bytes g c =
+    let term = c.bytes_term.ensures in
+    let put = c.push_read-in-Bytes.ensures in
+    rw c.in-Bytes.is (bytes_add c.args.self.field (has_positions c.args.self.option) (result_ok (decode_of c.args.phrase.now)) (errors.ExpectedBytes c.args.self.field) c.bytes_term.result c.args.terms.now.items c.push_read-in-Bytes.new.terms.items c.push_read-in-Bytes.result term.ok term.only put.read put.refused)
+
+pub returns-in-IpAddr : goal.returns-in-IpAddr
+returns-in-IpAddr g c =
+    let term = c.address_term.ensures in
+    let put = c.push_read-in-IpAddr.ensures in
+    rw c.in-IpAddr.is (value_adds c.args.self.field (has_positions c.args.self.option) (λ n. bytes_high_first 16 n) (address_in c.args.phrase.now) (errors.ExpectedIpAddr c.args.self.field) c.address_term.result c.args.terms.now.items c.push_read-in-IpAddr.new.terms.items c.push_read-in-IpAddr.result term.ok term.only put.read put.refused)
 
 pub returns-in-Bool : goal.returns-in-Bool
 returns-in-Bool g c =
