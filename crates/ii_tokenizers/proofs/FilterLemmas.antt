@@ -1,6 +1,6 @@
 -- Laws of filters.
-use Rattle.std.proofs.Common.{◌≡◌, ℕ, ◌+◌, ◌<◌, Bool, true, false, List, [], ◌∷◌, ◌++◌, Some, filter, map, take, refl, sym, ap, ap₂, ◌∙◌, arith, append-nil}
-use Rattle.std.specs.Prelude.{IsAscii, chars, encode_utf8_all, slice_get}
+use Rattle.std.proofs.Common.{◌≡◌, ℕ, ◌+◌, ◌<◌, not, List, [], ◌∷◌, ◌++◌, Some, map, take, refl, sym, ap, ap₂, ◌∙◌, arith, append_assoc, drop}
+use Rattle.std.specs.Prelude.{IsAscii, Option, chars, encode_utf8_all, slice_get}
 use Rattle.std.specs.Char.{to_ascii_lowercase}
 use Rattle.std.specs.List.{All}
 use Rattle.std.proofs.lemmas.Bool.Decides.{nat_tests}
@@ -12,7 +12,7 @@ use Rattle.std.proofs.lemmas.Str.Ascii.{IsAscii-map}
 use Rattle.caseless.specs.Caseless.{default_case_fold}
 use Rattle.caseless.proofs.CaselessLemmas.{All-chars, default_case_fold-ascii}
 use Rattle.ii_base.specs.Words.{Word, lowercase_word}
-use Rattle.ii_tokenizers.specs.Analyzers.{fold_case}
+use Rattle.ii_tokenizers.specs.Analyzers.{fold_case, is_stop_word, remove_stop, stem, stemmed}
 
 -- ---- one token more
 
@@ -25,20 +25,23 @@ module _ (ws : List Word) (k : ℕ) (w : Word) (here : slice_get ws k ≡ Some w
   changed_next change old new is added =
       added ∙ ap (λ (vs : List Word). vs ++ change w ∷ []) is ∙ sym (ap (map change) one_more ∙ map-append change (take k ws) (w ∷ []))
 
-  filtered : (test : Word → Bool) → filter test (take (k + 1) ws) ≡ filter test (take k ws) ++ filter test (w ∷ [])
-  filtered test = ap (filter test) one_more ∙ filter-append test (take k ws) (w ∷ [])
+-- ---- the words of English
 
-  -- it stays
-  pub kept_next : (test : Word → Bool) (old new : List Word) → old ≡ filter test (take k ws) → new ≡ old ++ w ∷ [] → test w ≡ true → new ≡ filter test (take (k + 1) ws)
-  kept_next test old new is added stays =
-      let last : filter test (w ∷ []) ≡ w ∷ [] = rw stays refl in
-      added ∙ ap (λ (vs : List Word). vs ++ w ∷ []) is ∙ sym (filtered test ∙ ap (λ (vs : List Word). filter test (take k ws) ++ vs) last)
+-- the first word to come, and the others
+pub first_to_come : (ws rest : List Word) (w : Word) (seen : Option Word) → seen ≡ slice_get ws 0 → seen ≡ Some w → rest ≡ drop 1 ws → ws ≡ w ∷ rest
+first_to_come [] rest w seen first is after = absurd (cc (first, is))
+first_to_come (v ∷ vs) rest w seen first is after =
+    let same : v ≡ w = some_is (sym first ∙ is) in
+    ap₂ (λ (x : Word) (xs : List Word). x ∷ xs) same (sym after)
+  where
+    some_is : Some v ≡ Some w → v ≡ w
+    some_is e = cc e
 
-  -- it is left out
-  pub left_out : (test : Word → Bool) (old : List Word) → old ≡ filter test (take k ws) → test w ≡ false → old ≡ filter test (take (k + 1) ws)
-  left_out test old is goes =
-      let last : filter test (w ∷ []) ≡ [] = rw goes refl in
-      is ∙ sym (filtered test ∙ ap (λ (vs : List Word). filter test (take k ws) ++ vs) last ∙ append-nil (filter test (take k ws)))
+-- a word less to come: its stem was added, unless it is a stop word
+pub english_next : (stops : List (List ℕ)) (stems : List Word) (w : Word) (ws : List Word) → (stems ++ stem (remove_stop stops (w ∷ []))) ++ stem (remove_stop stops ws) ≡ stems ++ stem (remove_stop stops (w ∷ ws))
+english_next stops stems w ws =
+    append_assoc stems (stem (remove_stop stops (w ∷ []))) (stem (remove_stop stops ws))
+    ∙ ap (λ (vs : List Word). stems ++ vs) (sym (map-append stemmed (remove_stop stops (w ∷ [])) (remove_stop stops ws)) ∙ ap stem (sym (filter-append (λ (v : Word). not (is_stop_word stops v.text)) (w ∷ []) ws)))
 
 -- ---- the case of ASCII texts
 

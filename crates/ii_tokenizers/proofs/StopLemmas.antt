@@ -1,11 +1,10 @@
 -- Stop words: the keys of a set, as bytes.
-use Rattle.std.proofs.Common.{◌≡◌, ℕ, Bool, true, false, ◌||◌, List, [], ◌∷◌, ◌++◌, length, map, refl, sym, ap, ◌∙◌, arith}
+use Rattle.std.proofs.Common.{◌≡◌, ℕ, Bool, true, false, ◌||◌, List, [], ◌∷◌, ◌++◌, map, refl, ap, ◌∙◌}
 use Rattle.std.specs.Prelude.{bytes_eq, if◌then◌else◌}
 use Rattle.std.specs.List.{list_any}
 use Rattle.std.proofs.lemmas.List.{map-append}
 use Rattle.indexmap.specs.IndexSet.{insert_key}
-use Rattle.ii_base.specs.Words.{Word}
-use Rattle.ii_tokenizers.specs.Analyzers.{folded_text, is_stop_word, remove_stop, with_stop_word}
+use Rattle.ii_tokenizers.specs.Analyzers.{folded_text, is_stop_word, with_stop_word}
 
 any_mapped : {K L : Type 0} (f : K → L) (p : L → Bool) (ks : List K) → list_any (λ (k : K). p (f k)) ks ≡ list_any p (map f ks)
 any_mapped f p [] = refl
@@ -21,12 +20,3 @@ module _ {K : Type 0} (f : K → List ℕ) (stops : List (List ℕ)) (keys : Lis
       by_case : (b : Bool) → map f (if b then keys else keys ++ k ∷ []) ≡ (if b then stops else stops ++ folded_text word ∷ [])
       by_case true = seen
       by_case false = map-append f keys (k ∷ []) ∙ ap (λ (ws : List (List ℕ)). ws ++ f k ∷ []) seen ∙ ap (λ (w : List ℕ). stops ++ w ∷ []) is
-
-nothing_removed : (ws : List Word) → remove_stop [] ws ≡ ws
-nothing_removed [] = refl
-nothing_removed (w ∷ ws) = ap (λ (vs : List Word). w ∷ vs) (nothing_removed ws)
-
--- without stop words each token stays
-pub all_stay : {K : Type 0} (f : K → List ℕ) (stops : List (List ℕ)) (keys : List K) → map f keys ≡ stops → length keys ≡ 0 → (ws : List Word) → ws ≡ remove_stop stops ws
-all_stay f stops [] seen none ws = rw (← seen) (sym (nothing_removed ws))
-all_stay f stops (k ∷ keys) seen none ws = absurd (omega (arith, none))

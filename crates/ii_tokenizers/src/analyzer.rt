@@ -1,13 +1,14 @@
-ghost use Rattle.std.specs.Prelude.{◌≡◌, IfOk};
+ghost use Rattle.std.specs.Prelude.{◌≡◌, ◌++◌, ◌∷◌, [], IfOk, OnOk};
 ghost use Rattle.ii_io.specs.Faults.{OnlyMemory};
-ghost use Rattle.ii_tokenizers.specs.Analyzers.{analyzed, analyzed_without, default_words, english_words, prefix_analyzer};
+ghost use Rattle.ii_base.specs.Words.{seen_word};
+ghost use Rattle.ii_tokenizers.specs.Analyzers.{analyzed, analyzed_without, default_words, english_words, prefix_analyzer, remove_stop, stem};
 
-use super::filters::{fold_case, stem};
+use super::filters::{fold_case, push_stem};
 use super::parts::{raw_words, space_words, split_words};
 use super::stop_words::StopWordFilter;
 use ii_base::{
     AsciiTokenizer, BufferedTokens, RunTokens, TextAnalyzer, TextTokens, TokenBuffer, TokenList,
-    TokenStream,
+    TokenStream, TokenView,
 };
 use ii_io::Fault;
 use std::alloc::Global;
@@ -111,7 +112,26 @@ fn english_words(
     ensures ok { IfOk result (λ tokens. tokens ≡ english_words stop_words.now text.now) }
     ensures only { OnlyMemory result }
 {
-    let tokens = default_words(alloc, text)?;
-    let tokens = stop_words.remove_stop(alloc, tokens)?;
-    stem(alloc, &tokens)
+    let mut words = default_tokens(alloc, text)?;
+    let mut stems = TokenBuffer::new(alloc);
+    while words.advance() {
+        push_unless_stop(alloc, stop_words, words.token(), &mut stems)?;
+    }
+    Ok(stems)
+}
+
+// Adds the stem of a token, unless it is a stop word.
+fn push_unless_stop(
+    alloc: Global,
+    stop_words: &StopWordFilter,
+    token: TokenView<'_>,
+    stems: &mut TokenBuffer,
+) -> Result<(), Fault>
+    ensures ok { OnOk result (stems.new ≡ stems.old ++ stem (remove_stop stop_words.now (seen_word token.entry ∷ []))) }
+    ensures only { OnlyMemory result }
+{
+    if stop_words.contains(token.text) {
+        return Ok(());
+    }
+    push_stem(alloc, token, stems)
 }

@@ -2,7 +2,7 @@
 ghost use Rattle.std.specs.Prelude.{◌≡◌, ◌++◌, ◌∷◌, [], IfOk, OnErr, OnOk};
 ghost use Rattle.ii_io.specs.Faults.{OnlyMemory};
 ghost use Rattle.ii_base.specs.Words.{seen_word};
-ghost use Rattle.ii_tokenizers.specs.Analyzers.{fold_case, folded, stem, stemmed};
+ghost use Rattle.ii_tokenizers.specs.Analyzers.{fold_case, folded, stemmed};
 
 use caseless::default_case_fold_str;
 use ii_base::{TokenBuffer, TokenView};
@@ -43,23 +43,11 @@ fn push_folded(alloc: Global, token: TokenView<'_>, tokens: &mut TokenBuffer) ->
     })
 }
 
-/// Replaces the text of each token by its stem, so that the forms of an English word become the same (`sail` and
-/// `sailing` become `sail`). Texts with other characters than `a` to `z` are kept.
+/// Adds the stem of a token, so that the forms of an English word become the same (`sail` and `sailing` become `sail`).
+/// A text with other characters than `a` to `z` is kept.
 ///
 /// Returns `OutOfMemory` if an allocation fails.
-pub fn stem(alloc: Global, tokens: &TokenBuffer) -> Result<TokenBuffer, Fault>
-    ensures ok { IfOk result (λ stems. stems ≡ stem tokens.now) }
-    ensures only { OnlyMemory result }
-{
-    let mut stems = TokenBuffer::new(alloc);
-    for index in 0..tokens.len() {
-        push_stem(alloc, tokens.get(index), &mut stems)?;
-    }
-    Ok(stems)
-}
-
-// Adds the stem of a token.
-fn push_stem(alloc: Global, token: TokenView<'_>, stems: &mut TokenBuffer) -> Result<(), Fault>
+pub fn push_stem(alloc: Global, token: TokenView<'_>, stems: &mut TokenBuffer) -> Result<(), Fault>
     ensures ok { OnOk result (stems.new ≡ stems.old ++ stemmed (seen_word token.entry) ∷ []) }
     ensures only { OnlyMemory result }
 {

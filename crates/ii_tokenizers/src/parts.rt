@@ -29,10 +29,6 @@ pub fn split_words(alloc: Global, text: &str) -> Result<TokenBuffer, Fault>
     ensures only { OnlyMemory result }
 {
     let mut tokens = TokenBuffer::with_capacity(alloc, text.len())?;
-    if text.is_ascii() {
-        add_ascii_words(0, text, &mut tokens)?;
-        return Ok(tokens);
-    }
     let mut start = 0;
     while start < text.len() {
         let end = stretch_end(text.as_bytes(), start);

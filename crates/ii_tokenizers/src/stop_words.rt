@@ -1,11 +1,10 @@
 //! The filter of stop words.
-ghost use Rattle.std.specs.Prelude.{◌≡◌, [], IfOk, OnErr, OnOk, length, slice_get};
+ghost use Rattle.std.specs.Prelude.{◌≡◌, [], OnErr, OnOk, length, slice_get};
 ghost use Rattle.std.specs.Option.{option_copied};
 ghost use Rattle.ii_io.specs.Faults.{OnlyMemory};
-ghost use Rattle.ii_tokenizers.specs.Analyzers.{is_stop_word, remove_stop, with_stop_word};
+ghost use Rattle.ii_tokenizers.specs.Analyzers.{is_stop_word, with_stop_word};
 
 use caseless::default_case_fold_str;
-use ii_base::TokenBuffer;
 use ii_io::Fault;
 use indexmap::IndexSet;
 use std::alloc::Global;
@@ -71,25 +70,5 @@ impl StopWordFilter {
             Some(word) => Some(word.as_str()),
             None => None,
         }
-    }
-
-    /// Returns the tokens that are no stop words. They keep their positions and offsets.
-    ///
-    /// Returns `OutOfMemory` if an allocation fails.
-    pub fn remove_stop(&self, alloc: Global, tokens: TokenBuffer) -> Result<TokenBuffer, Fault>
-        ensures ok { IfOk result (λ kept. kept ≡ remove_stop self.now tokens) }
-        ensures only { OnlyMemory result }
-    {
-        if self.words.is_empty() {
-            return Ok(tokens);
-        }
-        let mut kept = TokenBuffer::new(alloc);
-        for index in 0..tokens.len() {
-            let token = tokens.get(index);
-            if !self.contains(token.text) {
-                kept.push(token)?;
-            }
-        }
-        Ok(kept)
     }
 }

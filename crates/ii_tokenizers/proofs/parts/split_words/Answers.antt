@@ -3,7 +3,6 @@ use Rattle.ii_base.specs.Parts.{part_words}
 use Rattle.ii_tokenizers.specs.Analyzers.{rule_parts}
 use Rattle.ii_tokenizers.specs.Stretches.{IsBehindSpace}
 use Rattle.std.proofs.lemmas.Str.{IsCharBoundary-start}
-use Rattle.ii_tokenizers.proofs.AsciiWordLemmas.{ascii_rule_parts}
 use Rattle.ii_tokenizers.proofs.StretchLemmas.{stretch_boundary, stretch_step, stretches_end}
 use Rattle.ii_tokenizers.proofs.parts.split_words.Goals as goal
 
@@ -21,8 +20,3 @@ loop-start-preserved c =
 
 pub returns-clause-ok : goal.returns-clause-ok
 returns-clause-ok c = sym (stretches_end c.loop-start.tokens c.args.text.now c.loop-start.start (omega (arith, c.loop-start-test.false))) ∙ c.loop-start.invariant.0
-
-pub returns-then-is_ascii-clause-ok : goal.returns-then-is_ascii-clause-ok
-returns-then-is_ascii-clause-ok c =
-    (rw c.in_ok-tokens.ensures.ok at c.in_ok-add_ascii_words.ensures.ok)
-    ∙ ap (part_words 0) (sym (ascii_rule_parts 0 c.args.text.now c.if-is_ascii.ensures.cases))
