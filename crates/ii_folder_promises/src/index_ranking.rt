@@ -7,11 +7,10 @@ ghost use Rattle.ii_definitions.specs.Tokens.{IndexToken};
 ghost use Rattle.ii_index.specs.Ranking.{SearcherHolds};
 ghost use Rattle.ii_index.specs.Segments.{HoldsIndexOf, with_documents};
 ghost use Rattle.ii_index.specs.Statistics.{token_statistics};
-ghost use Rattle.ii_query_parser.specs.Queries.{has_fields, keeps_positions, matches};
+ghost use Rattle.ii_query_parser.specs.Queries.{covers_docs, has_fields, keeps_positions, matches};
 ghost use Rattle.ii_ranking.specs.TokenScores.{token_score};
 ghost use Rattle.ii_ranking.specs.TopDocs.{AreBest, scored_docs};
 ghost use Rattle.ii_segment_search.specs.Searcher.{MayAsk};
-ghost use Rattle.ii_segment_search.specs.SegmentSearch.{covers_docs};
 ghost use Rattle.ii_tokenizers.specs.Tokenizers.{analyzed_in};
 
 use ii_index::{Directory, DocId, IndexReader, IndexWriter, Query, Score, TopDocs};

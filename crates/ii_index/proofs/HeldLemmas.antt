@@ -18,14 +18,13 @@ use Rattle.ii_io.specs.declared.faults.Fault.{Fault}
 use Rattle.ii_io.specs.declared.faults.Part.{Part}
 use Rattle.ii_query_parser.specs.declared.query.Query.{Query}
 use Rattle.ii_query_parser.specs.declared.query.Query.TheVariants.{Term}
-use Rattle.ii_query_parser.specs.Queries.{QueryTree, has_fields, matches, tree_matches}
+use Rattle.ii_query_parser.specs.Queries.{QueryTree, covers_docs, has_fields, matches, tree_covers, tree_matches}
 use Rattle.ii_query_parser.proofs.QueryLemmas.{term_fields, term_positions, term_tree}
 use Rattle.ii_ranking.specs.TokenScores.{GivesBest, token_score, tokens_scored}
 use Rattle.ii_ranking.specs.TopDocs.{scored_docs}
 use Rattle.ii_ranking.specs.declared.top_docs.TopDocs.{TopDocs}
 use Rattle.ii_ranking.proofs.OneIndexLaws.{segments_score_as_one}
 use Rattle.ii_segment_search.specs.Searcher.{AreFew, GivesNumber, MayAsk, OpenSegmentState, Reaches, SegmentHolds, SegmentsHold, total_living}
-use Rattle.ii_segment_search.specs.SegmentSearch.{covers_docs, tree_covers}
 use Rattle.ii_segments.specs.Segments.{AreSegmentTokens, Segment, index_tokens, living_counts, num_docs_of}
 use Rattle.ii_segments.proofs.CountLaws.{counts_of_segments}
 use Rattle.ii_segment_store.specs.Contents.{SegmentContents}

@@ -8,7 +8,7 @@ ghost use Rattle.ii_index.specs.Ranking.{CountsDocs, SearcherHolds, best_damage}
 ghost use Rattle.ii_index.specs.Searching.{HaveReaders, totals_view};
 ghost use Rattle.ii_index.specs.Statistics.{counts_damage, doc_freq_in, index_statistics, num_tokens_of, token_statistics};
 ghost use Rattle.ii_living_docs.specs.Chain.{chained};
-ghost use Rattle.ii_query_parser.specs.Queries.{has_fields};
+ghost use Rattle.ii_query_parser.specs.Queries.{covers_docs, has_fields};
 ghost use Rattle.ii_query_parser.specs.declared.query.Query.TheVariants as queries;
 ghost use Rattle.ii_ranking.specs.Scores.{IsScoreFault, damage_of};
 ghost use Rattle.ii_ranking.specs.Segments.{segments_scored};
@@ -16,7 +16,6 @@ ghost use Rattle.ii_ranking.specs.TokenScores.{GivesBest, token_score};
 ghost use Rattle.ii_ranking.specs.TopDocs.{AreBest, scored_docs};
 ghost use Rattle.ii_reader.specs.InvertedIndexReader.{IsRefusal};
 ghost use Rattle.ii_segment_search.specs.Searcher.{GivesFound, GivesNumber, MayAsk, Reaches, SegmentsHold, found_from, living_rest, total_living};
-ghost use Rattle.ii_segment_search.specs.SegmentSearch.{covers_docs};
 ghost use Rattle.ii_segments.specs.Segments.{Segment};
 
 use crate::ranking::best_by;

@@ -11,13 +11,13 @@ use Rattle.ii_query_grammar.specs.declared.user_input_ast.Delimiter.TheVariants 
 use Rattle.ii_query_parser.specs.declared.query.Query.{Query}
 use Rattle.ii_query_parser.specs.declared.query.Query.TheVariants.{All, And, Or}
 use Rattle.ii_query_parser.specs.declared.query_parser_error.QueryParserError.{QueryParserError}
-use Rattle.ii_query_parser.specs.Queries.{QueryTree, has_fields, has_tree, keeps_positions, matches, tree_matches, trees_of}
+use Rattle.ii_query_parser.specs.Queries.{QueryTree, covers_docs, has_fields, has_tree, keeps_positions, matches, tree_matches, trees_of}
 use Rattle.ii_query_parser.specs.QuerySteps.{Adds, AreQueriesOf, HasTermsUnless, IsLeftBy, MeanEach}
 use Rattle.ii_query_parser.specs.QueryTexts.{AnalyzedFields, Means, PhraseState, Terms, are_some, ast_refusal, each_trimmed, has_values, is_wordless, left_without, refused, set_terms, terms_of, trimmed, unless}
 use Rattle.ii_query_parser.proofs.TermLemmas.{leaf_means}
 use Rattle.ii_query_parser.proofs.SetLemmas.{set_means}
 use Rattle.ii_query_parser.proofs.WordsQueryLemmas.{and_means, or_means, some_mean, trees_in}
-use Rattle.ii_query_parser.proofs.QueryLemmas.{all_fields, all_positions, all_tree}
+use Rattle.ii_query_parser.proofs.QueryLemmas.{all_covers, all_fields, all_positions, all_tree}
 
 -- terms that were added to none are those that were found
 found_is : (q : AnalyzedFields) (found : Terms) (terms : List PhraseState) → Adds found q.texts.entries [] terms (Ok tt) → found ≡ Ok terms
@@ -30,7 +30,7 @@ leaf_left q l terms None adds gone =
     (ap refused is, ap (λ (t : Terms). unless (is_wordless t) (leaf l)) is ∙ ap (λ (b : Bool). unless b (leaf l)) gone)
 leaf_left q l terms (Some query) adds (stays, has) =
     let is = found_is q (terms_of q l) terms adds in
-    (ap refused is, leaf l, ap (λ (t : Terms). unless (is_wordless t) (leaf l)) is ∙ ap (λ (b : Bool). unless b (leaf l)) stays, leaf_means q l query terms adds has.matches has.fields has.positions)
+    (ap refused is, leaf l, ap (λ (t : Terms). unless (is_wordless t) (leaf l)) is ∙ ap (λ (b : Bool). unless b (leaf l)) stays, leaf_means q l query terms adds has.matches has.fields has.positions has.covers)
 
 -- a set
 pub set_left : (q : AnalyzedFields) (s : ValueSet) (terms : List PhraseState) (left : Option Query) → Adds (set_terms q.texts s) q.texts.entries [] terms (Ok tt) → HasTermsUnless (has_values s && is_wordless (Ok terms)) delimiters.None terms left → IsLeftBy q (in_set s) (Ok left)
@@ -39,7 +39,7 @@ set_left q s terms None adds gone =
     (ap refused is, ap (λ (t : Terms). unless (has_values s && is_wordless t) (in_set s)) is ∙ ap (λ (b : Bool). unless b (in_set s)) gone)
 set_left q s terms (Some query) adds (stays, has) =
     let is = found_is q (set_terms q.texts s) terms adds in
-    (ap refused is, in_set s, ap (λ (t : Terms). unless (has_values s && is_wordless t) (in_set s)) is ∙ ap (λ (b : Bool). unless b (in_set s)) stays, set_means q s query terms adds has.matches has.fields has.positions)
+    (ap refused is, in_set s, ap (λ (t : Terms). unless (has_values s && is_wordless t) (in_set s)) is ∙ ap (λ (b : Bool). unless b (in_set s)) stays, set_means q s query terms adds has.matches has.fields has.positions has.covers)
 
 -- whether parts are left, by their queries
 gone_by : (q : AnalyzedFields) (us : Asts) (queries : List Query) (gone : Bool) → MeanEach q (each_trimmed q us) queries → gone ≡ (are_some us && not (has_tree (trees_of queries))) → (are_some us && not (are_some (each_trimmed q us))) ≡ gone
@@ -68,13 +68,14 @@ both_left q s t first other query means (taken, u, is, of_first) (also, v, too, 
     (both_taken q s t taken also, without u v, ap (λ (x : Option Ast). left_without x (trimmed q t)) is ∙ ap (left_without (Some u)) too, means u v of_first of_other)
 
 pub and_not_means : (q : AnalyzedFields) (s t : Ast) (first other query : Query) → ((ts : List IndexToken) (doc : ℕ) → matches query ts doc ≡ (matches first ts doc && not (matches other ts doc)))
-    → ((n : ℕ) → has_fields n query ≡ (has_fields n first && has_fields n other)) → ((entries : List SchemaEntry) → keeps_positions entries query ≡ (keeps_positions entries first && keeps_positions entries other))
+    → ((n : ℕ) → has_fields n query ≡ (has_fields n first && has_fields n other)) → ((entries : List SchemaEntry) → keeps_positions entries query ≡ (keeps_positions entries first && keeps_positions entries other)) → ((n : ℕ) → covers_docs n query ≡ (covers_docs n first && covers_docs n other))
     → Means q s first → Means q t other → Means q (without s t) query
-and_not_means q s t first other query exact fields positions of_first of_other = record {
+and_not_means q s t first other query exact fields positions covers of_first of_other = record {
   taken = both_taken q s t of_first.taken of_other.taken;
   exact = λ ts doc. exact ts doc ∙ rw (of_first.exact ts doc, of_other.exact ts doc) refl;
   fields = fields (length q.texts.entries) ∙ rw (of_first.fields, of_other.fields) refl;
   positions = positions q.texts.entries ∙ rw (of_first.positions, of_other.positions) refl;
+  covers = covers TERMINATED ∙ rw (of_first.covers, of_other.covers) refl;
 }
 
 -- all documents
@@ -88,6 +89,7 @@ all_left q = (
     exact = λ ts doc. ap (λ (t : QueryTree). tree_matches t ts doc) (all_tree TERMINATED);
     fields = all_fields (length q.texts.entries) TERMINATED;
     positions = all_positions q.texts.entries TERMINATED;
+    covers = all_covers TERMINATED TERMINATED;
   },
 )
 

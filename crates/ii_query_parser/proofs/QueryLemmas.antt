@@ -1,9 +1,10 @@
 -- The trees of queries, one equation for each variant, and what these mean.
-use Rattle.std.proofs.Common.{◌≡◌, ◌∙◌, ℕ, Bool, true, ◌&&◌, ◌||◌, ◌==◌, List, [], ◌∷◌, nat_eq, Vec, Box, Global, sym, ap, refl}
+use Rattle.std.proofs.Common.{◌≡◌, ◌∙◌, ℕ, Bool, true, ◌&&◌, ◌||◌, ◌==◌, List, [], ◌∷◌, min, nat_eq, nat_le, Vec, Box, Global, sym, ap, refl}
 use Rattle.std.specs.List.{list_all, list_any, starts_with}
 use Rattle.std.proofs.Math.Bool.{and-true}
 use Rattle.ii_base.specs.Schema.{SchemaEntry}
 use Rattle.ii_base.specs.Terms.{TermState}
+use Rattle.ii_base.specs.declared.doc_id.TheConstants.{TERMINATED}
 use Rattle.ii_definitions.specs.Tokens.{IndexToken}
 use Rattle.ii_query_parser.specs.declared.query.PhraseTerm.{PhraseTerm}
 use Rattle.ii_query_parser.specs.declared.query.Query.{Query}
@@ -12,7 +13,7 @@ use Rattle.ii_query_parser.specs.declared.term_range.TermRange.{TermRange}
 use Rattle.ii_query_parser.specs.declared.query.Query.TheOpen.{Query-F}
 use Rattle.ii_query_parser.specs.declared.query.Query.TheFolds.{fold-roll-Query}
 use Rattle.ii_query_parser.specs.declared.query.Query.TheVariants.{Empty, All, Term, Phrase, Range, And, Or, AndNot, rolls-Empty, rolls-All, rolls-Term, rolls-Phrase, rolls-Range, rolls-And, rolls-Or, rolls-AndNot}
-use Rattle.ii_query_parser.specs.Queries.{QueryTree, all_below, all_match, any_matches, any_of, each_of, has_fields, has_tree, hold_for_all, holds_for_all, is_token_in, is_within, keeps_positions, matches, nothing, one_phrase, one_range, one_term, phrase_has_positions, phrase_is_within, tree_matches, tree_of, tree_step, trees_of, without}
+use Rattle.ii_query_parser.specs.Queries.{covers_docs, tree_covers, trees_cover, QueryTree, all_below, all_match, any_matches, any_of, each_of, has_fields, has_tree, hold_for_all, holds_for_all, is_token_in, is_within, keeps_positions, matches, nothing, one_phrase, one_range, one_term, phrase_has_positions, phrase_is_within, tree_matches, tree_of, tree_step, trees_of, without}
 
 pub nothing_tree : tree_of Empty ≡ nothing
 nothing_tree = ap tree_of (sym rolls-Empty) ∙ fold-roll-Query QueryTree tree_step Query-F.Empty
@@ -103,6 +104,35 @@ or_positions entries qs = ap (holds_for_all (λ (t : TermState). true) (phrase_h
 pub and_not_positions : (entries : List SchemaEntry) (first other : Box Query Global)
     → keeps_positions entries (AndNot first other) ≡ (keeps_positions entries first.value && keeps_positions entries other.value)
 and_not_positions entries first other = ap (holds_for_all (λ (t : TermState). true) (phrase_has_positions entries)) (and_not_tree first other)
+
+-- whether the parts of a query for all documents reach so many, for each variant
+pub nothing_covers : (n : ℕ) → covers_docs n Empty ≡ true
+nothing_covers n = ap (tree_covers n) nothing_tree
+
+pub all_covers : (n m : ℕ) → covers_docs n (All m) ≡ nat_le n (min m TERMINATED)
+all_covers n m = ap (tree_covers n) (all_tree m)
+
+pub term_covers : (n : ℕ) (term : TermState) → covers_docs n (Term term) ≡ true
+term_covers n term = ap (tree_covers n) (term_tree term)
+
+pub phrase_covers : (n : ℕ) (first : TermState) (others : Vec PhraseTerm Global) → covers_docs n (Phrase first others) ≡ true
+phrase_covers n first others = ap (tree_covers n) (phrase_tree first others)
+
+pub range_covers : (n : ℕ) (range : TermRange) → covers_docs n (Range range) ≡ true
+range_covers n range = ap (tree_covers n) (range_tree range)
+
+pub each_covers : (n : ℕ) (qs : List Query) → trees_cover n (trees_of qs) ≡ list_all (covers_docs n) qs
+each_covers n [] = refl
+each_covers n (q ∷ qs) = ap (λ (b : Bool). covers_docs n q && b) (each_covers n qs)
+
+pub and_covers : (n : ℕ) (qs : Vec Query Global) → covers_docs n (And qs) ≡ list_all (covers_docs n) qs.items
+and_covers n qs = ap (tree_covers n) (and_tree qs) ∙ each_covers n qs.items
+
+pub or_covers : (n : ℕ) (qs : Vec Query Global) → covers_docs n (Or qs) ≡ list_all (covers_docs n) qs.items
+or_covers n qs = ap (tree_covers n) (or_tree qs) ∙ each_covers n qs.items
+
+pub and_not_covers : (n : ℕ) (first other : Box Query Global) → covers_docs n (AndNot first other) ≡ (covers_docs n first.value && covers_docs n other.value)
+and_not_covers n first other = ap (tree_covers n) (and_not_tree first other)
 
 pub or_matches : (qs : Vec Query Global) (ts : List IndexToken) (doc : ℕ) → matches (Or qs) ts doc ≡ list_any (λ (q : Query). matches q ts doc) qs.items
 or_matches qs ts doc = ap (λ (t : QueryTree). tree_matches t ts doc) (or_tree qs) ∙ any_matched qs.items ts doc

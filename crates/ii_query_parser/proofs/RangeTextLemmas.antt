@@ -1,5 +1,6 @@
 -- The keys and the queries of ranges.
 use Rattle.std.proofs.Common.{◌≡◌, ◌∙◌, ◌++◌, ◌∷◌, [], ℕ, List, Option, Some, Ok, true, length, ap, sym}
+use Rattle.ii_base.specs.declared.doc_id.TheConstants.{TERMINATED}
 use Rattle.ii_base.specs.Schema.{SchemaEntry}
 use Rattle.ii_base.specs.Terms.{TermState}
 use Rattle.ii_base.specs.ValueTypes.{code_of}
@@ -9,7 +10,7 @@ use Rattle.ii_query_parser.specs.declared.query.Query.{Query}
 use Rattle.ii_query_parser.specs.declared.range_text.Integers.{Integers}
 use Rattle.ii_query_parser.specs.declared.range_text.TermRanges.{TermRanges}
 use Rattle.ii_query_parser.specs.declared.term_range.KeyBound.{KeyBound}
-use Rattle.ii_query_parser.specs.Queries.{has_fields, keeps_positions, matches}
+use Rattle.ii_query_parser.specs.Queries.{covers_docs, has_fields, keeps_positions, matches}
 use Rattle.ii_query_parser.specs.QueryTexts.{AnalyzedFields, Means, has_keys, integer_bound, integer_keys, integer_type, keys_if, lower_beyond, prefix_texts, range_keys, range_refusal, upper_beyond}
 use Rattle.ii_query_parser.specs.Ranges.{key_bound, ranges_of}
 
@@ -26,10 +27,11 @@ integers_between start r t prefix lower upper is first other =
 
 -- what a range means
 pub range_means : (q : AnalyzedFields) (r : Range) (query : Query) (ranges : TermRanges) → range_keys (prefix_texts q) r ≡ Ok (ranges_of ranges) → ((ts : List IndexToken) (doc : ℕ) → matches query ts doc ≡ has_keys ts doc (Ok (ranges_of ranges)))
-    → has_fields (length q.texts.entries) query ≡ true → ((entries : List SchemaEntry) → keeps_positions entries query ≡ true) → Means q (ranged r) query
-range_means q r query ranges is means fields positions = record {
+    → has_fields (length q.texts.entries) query ≡ true → ((entries : List SchemaEntry) → keeps_positions entries query ≡ true) → ((n : ℕ) → covers_docs n query ≡ true) → Means q (ranged r) query
+range_means q r query ranges is means fields positions covers = record {
   taken = ap range_refusal is;
   exact = λ ts doc. means ts doc ∙ sym (ap (has_keys ts doc) is);
   fields = fields;
   positions = positions q.texts.entries;
+  covers = covers TERMINATED;
 }

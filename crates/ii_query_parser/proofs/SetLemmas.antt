@@ -9,7 +9,7 @@ use Rattle.ii_query_grammar.specs.declared.user_input_ast.Delimiter.TheVariants 
 use Rattle.ii_query_parser.specs.declared.query.Query.{Query}
 use Rattle.ii_query_parser.specs.declared.query_parser_error.QueryParserError.{QueryParserError}
 use Rattle.ii_query_parser.specs.declared.query_parser_error.QueryParserError.TheVariants as errors
-use Rattle.ii_query_parser.specs.Queries.{has_fields, keeps_positions, matches}
+use Rattle.ii_query_parser.specs.Queries.{covers_docs, has_fields, keeps_positions, matches}
 use Rattle.ii_query_parser.specs.QuerySteps.{Adds, IsRefusedAs, are_in, phrase_kept, phrase_within}
 use Rattle.ii_query_parser.specs.QueryTexts.{AnalyzedFields, FieldTexts, IsWhyRefused, Means, PhraseState, field_named, has_term, joined_terms, named_terms, names_field, no_terms, refused, set_terms, values_terms}
 use Rattle.ii_query_parser.proofs.TermLemmas.{IsJoining, joins_more, terms_mean, why_joined, why_of}
@@ -46,5 +46,5 @@ module _ {X : Type 0} (f : X → List ℕ) (q : FieldTexts) (name : List ℕ) (x
 
 -- what a set means
 pub set_means : (q : AnalyzedFields) (s : ValueSet) (query : Query) (terms : List PhraseState) → Adds (set_terms q.texts s) q.texts.entries [] terms (Ok tt) → ((ts : List IndexToken) (doc : ℕ) → matches query ts doc ≡ has_term delimiters.None ts doc terms)
-    → ((n : ℕ) → has_fields n query ≡ list_all (phrase_within n) terms) → ((entries : List SchemaEntry) → keeps_positions entries query ≡ list_all (phrase_kept entries) terms) → Means q (in_set s) query
-set_means q s query terms adds means fields positions = terms_mean q (in_set s) delimiters.None (set_terms q.texts s) query terms refl (λ ts doc. refl) adds means fields positions
+    → ((n : ℕ) → has_fields n query ≡ list_all (phrase_within n) terms) → ((entries : List SchemaEntry) → keeps_positions entries query ≡ list_all (phrase_kept entries) terms) → ((n : ℕ) → covers_docs n query ≡ true) → Means q (in_set s) query
+set_means q s query terms adds means fields positions covers = terms_mean q (in_set s) delimiters.None (set_terms q.texts s) query terms refl (λ ts doc. refl) adds means fields positions covers

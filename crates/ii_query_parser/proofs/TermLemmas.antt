@@ -16,6 +16,7 @@ use Rattle.ii_io.specs.declared.faults.Fault.{Fault}
 use Rattle.ii_base.specs.declared.schema.index_record_option.IndexRecordOption.{IndexRecordOption}
 use Rattle.ii_base.specs.Options.{has_positions}
 use Rattle.ii_base.specs.Paths.{has_zero}
+use Rattle.ii_base.specs.declared.doc_id.TheConstants.{TERMINATED}
 use Rattle.ii_base.specs.Schema.{SchemaEntry}
 use Rattle.ii_base.specs.Terms.{TermState}
 use Rattle.ii_base.specs.Values.{text_key}
@@ -31,7 +32,7 @@ use Rattle.ii_definitions.specs.Tokens.{IndexToken}
 use Rattle.ii_query_grammar.specs.Trees.{Ast, Literal, leaf}
 use Rattle.ii_query_grammar.specs.declared.user_input_ast.Delimiter.{Delimiter}
 use Rattle.ii_query_parser.specs.declared.query.Query.{Query}
-use Rattle.ii_query_parser.specs.Queries.{has_fields, has_positions_in, keeps_positions, matches}
+use Rattle.ii_query_parser.specs.Queries.{covers_docs, has_fields, has_positions_in, keeps_positions, matches}
 use Rattle.ii_query_parser.specs.QuerySteps.{Adds, AddsIn, AddsMaybe, AddsOrKeeps, AddsText, AddsUnlessLeft, IsPhraseIn, IsRefusedAs, are_in, phrase_kept, phrase_within}
 use Rattle.ii_query_parser.specs.QueryTexts.{IsWhyRefused, Means, AnalyzedFields, FieldTexts, PhraseState, Terms, TextFields, ast_matches, ast_refusal, default_terms, first_left_out, has_one, has_term, if_left_out, in_field, is_alone, joined_terms, left_out, no_prefix, none_unless, one_term, path_key, path_value, refused, some_default, some_left, stand_after, terms_after, terms_in_field, terms_of, text_terms, typed_terms, value_term, words_phrase}
 
@@ -341,20 +342,21 @@ all_split f g (p ∷ ps) all =
 -- what terms mean that a tree is looked up by
 pub terms_mean : (q : AnalyzedFields) (ast : Ast) (delimiter : Delimiter) (found : Terms) (query : Query) (terms : List PhraseState) → ast_refusal q ast ≡ refused found → ((ts : List IndexToken) (doc : ℕ) → ast_matches q ast ts doc ≡ has_one delimiter ts doc found)
     → Adds found q.texts.entries [] terms (Ok tt) → ((ts : List IndexToken) (doc : ℕ) → matches query ts doc ≡ has_term delimiter ts doc terms)
-    → ((n : ℕ) → has_fields n query ≡ list_all (phrase_within n) terms) → ((entries : List SchemaEntry) → keeps_positions entries query ≡ list_all (phrase_kept entries) terms) → Means q ast query
-terms_mean q ast delimiter found query terms taken exact (ts, is, new_is, within) means fields positions =
+    → ((n : ℕ) → has_fields n query ≡ list_all (phrase_within n) terms) → ((entries : List SchemaEntry) → keeps_positions entries query ≡ list_all (phrase_kept entries) terms) → ((n : ℕ) → covers_docs n query ≡ true) → Means q ast query
+terms_mean q ast delimiter found query terms taken exact (ts, is, new_is, within) means fields positions covers =
     let all = all_split (phrase_within (length q.texts.entries)) (phrase_kept q.texts.entries) ts within in
     record {
       taken = taken ∙ ap refused is;
       exact = λ tokens doc. means tokens doc ∙ ap (has_term delimiter tokens doc) new_is ∙ sym (exact tokens doc ∙ ap (has_one delimiter tokens doc) is);
       fields = fields (length q.texts.entries) ∙ ap (list_all (phrase_within (length q.texts.entries))) new_is ∙ all.0;
       positions = positions q.texts.entries ∙ ap (list_all (phrase_kept q.texts.entries)) new_is ∙ all.1;
+      covers = covers TERMINATED;
     }
 
 -- what a word or a phrase means
 pub leaf_means : (q : AnalyzedFields) (l : Literal) (query : Query) (terms : List PhraseState) → Adds (terms_of q l) q.texts.entries [] terms (Ok tt) → ((ts : List IndexToken) (doc : ℕ) → matches query ts doc ≡ has_term l.delimiter ts doc terms)
-    → ((n : ℕ) → has_fields n query ≡ list_all (phrase_within n) terms) → ((entries : List SchemaEntry) → keeps_positions entries query ≡ list_all (phrase_kept entries) terms) → Means q (leaf l) query
-leaf_means q l query terms adds means fields positions = terms_mean q (leaf l) l.delimiter (terms_of q l) query terms refl (λ ts doc. refl) adds means fields positions
+    → ((n : ℕ) → has_fields n query ≡ list_all (phrase_within n) terms) → ((entries : List SchemaEntry) → keeps_positions entries query ≡ list_all (phrase_kept entries) terms) → ((n : ℕ) → covers_docs n query ≡ true) → Means q (leaf l) query
+leaf_means q l query terms adds means fields positions covers = terms_mean q (leaf l) l.delimiter (terms_of q l) query terms refl (λ ts doc. refl) adds means fields positions covers
 
 -- Each of the terms before a place may be a prefix.
 pub record ArePrefixes (entries : List SchemaEntry) (terms : List PhraseState) (i : ℕ) : Type 0 where

@@ -7,6 +7,7 @@ use Rattle.std.proofs.lemmas.List.Folds.{list_all-append, list_any-append}
 use Rattle.std.specs.List.{list_all, list_any}
 use Rattle.std.specs.Option.{option_or}
 use Rattle.ii_base.specs.Schema.{SchemaEntry}
+use Rattle.ii_base.specs.declared.doc_id.TheConstants.{TERMINATED}
 use Rattle.ii_definitions.specs.Tokens.{IndexToken}
 use Rattle.ii_query_grammar.specs.Trees.{Ast, Asts, all_of, and_asts, any_of, ast_of, asts_from, no_asts}
 use Rattle.ii_query_grammar.specs.declared.user_input_ast.Delimiter.{Delimiter}
@@ -15,10 +16,10 @@ use Rattle.ii_query_parser.specs.declared.query.PhraseTerm.{PhraseTerm}
 use Rattle.ii_query_parser.specs.declared.query.Query.{Query}
 use Rattle.ii_query_parser.specs.declared.query.Query.TheVariants.{And, Or}
 use Rattle.ii_query_parser.specs.declared.query_parser_error.QueryParserError.{QueryParserError}
-use Rattle.ii_query_parser.specs.Queries.{has_fields, has_tree, keeps_positions, matches, trees_of}
+use Rattle.ii_query_parser.specs.Queries.{covers_docs, has_fields, has_tree, keeps_positions, matches, trees_of}
 use Rattle.ii_query_parser.specs.QuerySteps.{AreAlone, AreQueriesOf, HasPushed, IsLeftBy, MeanEach, phrase_kept, phrase_within}
 use Rattle.ii_query_parser.specs.QueryTexts.{Means, PhraseState, AnalyzedFields, all_match, any_matches, are_some, ast_refusal, asts_refusal, each_trimmed, has_delimited, has_term, is_alone, put_before}
-use Rattle.ii_query_parser.proofs.QueryLemmas.{and_fields, and_matches, and_positions, or_fields, or_matches, or_positions}
+use Rattle.ii_query_parser.proofs.QueryLemmas.{and_covers, and_fields, and_matches, and_positions, or_covers, or_fields, or_matches, or_positions}
 
 -- a query at the end of a list
 pub pushed_any : (old new : List Query) (query : Query) (test : Query → Bool) (has : Bool) → new ≡ old ++ query ∷ [] → test query ≡ has → list_any test new ≡ (list_any test old || has)
@@ -28,11 +29,12 @@ pub pushed_all : (old new : List Query) (query : Query) (test : Query → Bool) 
 pushed_all old new query test has is same = ap (list_all test) is ∙ list_all-append test old (query ∷ []) ∙ ap (λ (b : Bool). list_all test old && b) (and-true (test query) ∙ same)
 
 pub pushes : (delimiter : Delimiter) (old new : List Query) (query : Query) (words : PhraseState) → new ≡ old ++ query ∷ [] → ((ts : List IndexToken) (doc : ℕ) → matches query ts doc ≡ has_delimited delimiter ts doc words)
-    → ((n : ℕ) → has_fields n query ≡ phrase_within n words) → ((entries : List SchemaEntry) → keeps_positions entries query ≡ phrase_kept entries words) → HasPushed delimiter old new words
-pushes delimiter old new query words is means fields positions = record {
+    → ((n : ℕ) → has_fields n query ≡ phrase_within n words) → ((entries : List SchemaEntry) → keeps_positions entries query ≡ phrase_kept entries words) → ((n : ℕ) → covers_docs n query ≡ true) → HasPushed delimiter old new words
+pushes delimiter old new query words is means fields positions covers = record {
   found = λ ts doc. pushed_any old new query (λ (q : Query). matches q ts doc) (has_delimited delimiter ts doc words) is (means ts doc);
   within = λ n. pushed_all old new query (has_fields n) (phrase_within n words) is (fields n);
   kept = λ entries. pushed_all old new query (keeps_positions entries) (phrase_kept entries words) is (positions entries);
+  covered = λ n. pushed_all old new query (covers_docs n) true is (covers n) ∙ and-true (list_all (covers_docs n) old);
 }
 
 -- The queries of some terms and phrases, and the others, are those of all.
@@ -41,9 +43,10 @@ pub record IsCollecting (delimiter : Delimiter) (queries : List Query) (left all
   pub found : (ts : List IndexToken) (doc : ℕ) → (list_any (λ (q : Query). matches q ts doc) queries || has_term delimiter ts doc left) ≡ has_term delimiter ts doc all
   pub within : (n : ℕ) → (list_all (has_fields n) queries && list_all (phrase_within n) left) ≡ list_all (phrase_within n) all
   pub kept : (entries : List SchemaEntry) → (list_all (keeps_positions entries) queries && list_all (phrase_kept entries) left) ≡ list_all (phrase_kept entries) all
+  pub covered : (n : ℕ) → list_all (covers_docs n) queries ≡ true
 
 pub collects_none : (delimiter : Delimiter) (all : List PhraseState) → AreAlone delimiter all → IsCollecting delimiter [] all all
-collects_none delimiter all alone = record { alone = alone; found = λ ts doc. refl; within = λ n. refl; kept = λ entries. refl }
+collects_none delimiter all alone = record { alone = alone; found = λ ts doc. refl; within = λ n. refl; kept = λ entries. refl; covered = λ n. refl }
 
 or_on : (a q r all whole : Bool) → whole ≡ (a || q) → (a || (q || r)) ≡ all → (whole || r) ≡ all
 or_on a q r all whole is left = ap (λ (b : Bool). b || r) is ∙ or_assoc a q r ∙ left
@@ -57,6 +60,7 @@ collects_more delimiter old new words left here all is pushed i = record {
   found = λ ts doc. or_on (list_any (λ (q : Query). matches q ts doc) old) (has_delimited delimiter ts doc words) (has_term delimiter ts doc left) (has_term delimiter ts doc all) _ (pushed.found ts doc) (ap (λ (ps : List PhraseState). list_any (λ (q : Query). matches q ts doc) old || has_term delimiter ts doc ps) (sym is) ∙ i.found ts doc);
   within = λ n. and_on (list_all (has_fields n) old) (phrase_within n words) (list_all (phrase_within n) left) (list_all (phrase_within n) all) _ (pushed.within n) (ap (λ (ps : List PhraseState). list_all (has_fields n) old && list_all (phrase_within n) ps) (sym is) ∙ i.within n);
   kept = λ entries. and_on (list_all (keeps_positions entries) old) (phrase_kept entries words) (list_all (phrase_kept entries) left) (list_all (phrase_kept entries) all) _ (pushed.kept entries) (ap (λ (ps : List PhraseState). list_all (keeps_positions entries) old && list_all (phrase_kept entries) ps) (sym is) ∙ i.kept entries);
+  covered = λ n. pushed.covered n ∙ i.covered n;
 }
 
 none_others : (words : PhraseState) → is_alone words ≡ true → words.others ≡ []
@@ -81,9 +85,10 @@ record EachMeans (q : AnalyzedFields) (us : Asts) (queries : List Query) : Type 
   any : (ts : List IndexToken) (doc : ℕ) → list_any (λ (x : Query). matches x ts doc) queries ≡ any_matches q us ts doc
   fields : list_all (has_fields (length q.texts.entries)) queries ≡ true
   positions : list_all (keeps_positions q.texts.entries) queries ≡ true
+  covers : list_all (covers_docs TERMINATED) queries ≡ true
 
 each_means : (q : AnalyzedFields) (us : Asts) (queries : List Query) → MeanEach q us queries → EachMeans q us queries
-each_means q no_asts [] mean = record { taken = refl; some = refl; each = λ ts doc. refl; any = λ ts doc. refl; fields = refl; positions = refl }
+each_means q no_asts [] mean = record { taken = refl; some = refl; each = λ ts doc. refl; any = λ ts doc. refl; fields = refl; positions = refl; covers = refl }
 each_means q no_asts (x ∷ xs) mean = absurd mean
 each_means q (and_asts a us) [] mean = absurd mean
 each_means q (and_asts a us) (x ∷ xs) (here, mean) =
@@ -95,6 +100,7 @@ each_means q (and_asts a us) (x ∷ xs) (here, mean) =
       any = λ ts doc. rw (here.exact ts doc, later.any ts doc) refl;
       fields = rw (here.fields, later.fields) refl;
       positions = rw (here.positions, later.positions) refl;
+      covers = rw (here.covers, later.covers) refl;
     }
 
 -- whether there are queries
@@ -110,6 +116,7 @@ and_means q us queries mean =
       exact = λ ts doc. and_matches queries ts doc ∙ ap (λ (b : Bool). b && list_all (λ (x : Query). matches x ts doc) queries.items) all.some ∙ ap (λ (b : Bool). are_some us && b) (all.each ts doc);
       fields = and_fields (length q.texts.entries) queries ∙ all.fields;
       positions = and_positions q.texts.entries queries ∙ all.positions;
+      covers = and_covers TERMINATED queries ∙ all.covers;
     }
 
 -- the query that matches what one of them matches
@@ -121,6 +128,7 @@ or_means q us queries mean =
       exact = λ ts doc. or_matches queries ts doc ∙ all.any ts doc;
       fields = or_fields (length q.texts.entries) queries ∙ all.fields;
       positions = or_positions q.texts.entries queries ∙ all.positions;
+      covers = or_covers TERMINATED queries ∙ all.covers;
     }
 
 -- the trees of parts

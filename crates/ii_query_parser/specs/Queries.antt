@@ -1,5 +1,5 @@
 -- What a query means, by the tokens of an index.
-use Rattle.std.specs.Prelude.{ℕ, ◌+◌, Bool, true, false, ◌&&◌, ◌||◌, ◌==◌, not, List, [], ◌∷◌, map, min, nat_lt}
+use Rattle.std.specs.Prelude.{ℕ, ◌+◌, Bool, true, false, ◌&&◌, ◌||◌, ◌==◌, not, List, [], ◌∷◌, map, min, nat_le, nat_lt}
 use Rattle.std.specs.List.{list_all, list_any}
 use Rattle.ii_base.specs.Options.{has_positions}
 use Rattle.ii_base.specs.Schema.{SchemaEntry}
@@ -155,3 +155,23 @@ phrase_has_positions entries first others = has_positions_in entries first && li
 -- whether the fields of all phrases keep positions
 abbrev pub keeps_positions : List SchemaEntry → Query → Bool
 keeps_positions entries query = holds_for_all (λ (t : TermState). true) (phrase_has_positions entries) (tree_of query)
+
+-- Whether each part of a query that matches all documents below a number matches the first n.
+abbrev mutual
+  pub tree_covers : ℕ → QueryTree → Bool
+  tree_covers n nothing = true
+  tree_covers n (all_below m) = nat_le n (min m TERMINATED)
+  tree_covers n (one_term term) = true
+  tree_covers n (one_phrase first others) = true
+  tree_covers n (one_range range) = true
+  tree_covers n (each_of qs) = trees_cover n qs
+  tree_covers n (any_of qs) = trees_cover n qs
+  tree_covers n (without first other) = tree_covers n first && tree_covers n other
+
+  pub trees_cover : ℕ → QueryTrees → Bool
+  trees_cover n no_tree = true
+  trees_cover n (tree q qs) = tree_covers n q && trees_cover n qs
+
+-- whether each part of a query that matches all documents below a number matches the first n
+abbrev pub covers_docs : ℕ → Query → Bool
+covers_docs n query = tree_covers n (tree_of query)

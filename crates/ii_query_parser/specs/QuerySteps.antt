@@ -10,7 +10,7 @@ use Rattle.ii_definitions.specs.Tokens.{IndexToken}
 use Rattle.ii_query_grammar.specs.Trees.{Ast, Asts, Bound, and_asts, no_asts}
 use Rattle.ii_query_grammar.specs.declared.user_input_ast.Delimiter.{Delimiter}
 use Rattle.ii_query_grammar.specs.declared.user_input_ast.Delimiter.TheVariants as delimiters
-use Rattle.ii_query_parser.specs.Queries.{has_fields, has_positions_in, keeps_positions, matches}
+use Rattle.ii_query_parser.specs.Queries.{covers_docs, has_fields, has_positions_in, keeps_positions, matches}
 use Rattle.ii_query_parser.specs.Ranges.{KeyRanges, key_bound, ranges_of}
 use Rattle.ii_query_parser.specs.declared.query.PhraseTerm.{PhraseTerm}
 use Rattle.ii_query_parser.specs.declared.query.Query.{Query}
@@ -135,12 +135,14 @@ pub record HasPushed (delimiter : Delimiter) (old new : List Query) (words : Phr
   pub found : (ts : List IndexToken) (doc : ℕ) → list_any (λ (q : Query). matches q ts doc) new ≡ (list_any (λ (q : Query). matches q ts doc) old || has_delimited delimiter ts doc words)
   pub within : (n : ℕ) → list_all (has_fields n) new ≡ (list_all (has_fields n) old && phrase_within n words)
   pub kept : (entries : List SchemaEntry) → list_all (keeps_positions entries) new ≡ (list_all (keeps_positions entries) old && phrase_kept entries words)
+  pub covered : (n : ℕ) → list_all (covers_docs n) new ≡ list_all (covers_docs n) old
 
 -- A query matches what has one of some terms, phrases or prefixes.
 pub record HasTerms (delimiter : Delimiter) (terms : List PhraseState) (query : Query) : Type 0 where
   pub matches : (ts : List IndexToken) (doc : ℕ) → matches query ts doc ≡ has_term delimiter ts doc terms
   pub fields : (n : ℕ) → has_fields n query ≡ list_all (phrase_within n) terms
   pub positions : (entries : List SchemaEntry) → keeps_positions entries query ≡ list_all (phrase_kept entries) terms
+  pub covers : (n : ℕ) → covers_docs n query ≡ true
 
 -- A query matches what has one of some terms, phrases or prefixes, unless it is left out.
 abbrev pub HasTermsUnless : Bool → Delimiter → List PhraseState → Option Query → Type 0

@@ -27,7 +27,7 @@ use Rattle.ii_query_grammar.specs.declared.parse_error.ParseError.{ParseError}
 use Rattle.ii_query_grammar.specs.declared.user_input_ast.Delimiter.{Delimiter}
 use Rattle.ii_query_grammar.specs.declared.user_input_ast.Delimiter.TheVariants as delimiters
 use Rattle.ii_query_grammar.specs.declared.query_grammar.TheConstants.{MAX_NESTING}
-use Rattle.ii_query_parser.specs.Queries.{has_fields, has_phrase, is_token_between, is_token_of, keeps_positions, matches}
+use Rattle.ii_query_parser.specs.Queries.{covers_docs, has_fields, has_phrase, is_token_between, is_token_of, keeps_positions, matches}
 use Rattle.ii_query_parser.specs.ParserErrors.{as_parser_error}
 use Rattle.ii_query_parser.specs.Ranges.{KeyRange, KeyRanges}
 use Rattle.ii_query_parser.specs.declared.query.PhraseTerm.{PhraseTerm}
@@ -613,6 +613,7 @@ pub record Means (q : AnalyzedFields) (ast : Ast) (query : Query) : Type 0 where
   pub exact : (ts : List IndexToken) (doc : ℕ) → matches query ts doc ≡ ast_matches q ast ts doc
   pub fields : has_fields (length q.texts.entries) query ≡ true
   pub positions : keeps_positions q.texts.entries query ≡ true
+  pub covers : covers_docs TERMINATED query ≡ true
 
 -- An allocation failed, or this is the error.
 abbrev pub IsWhyRefused : Option QueryParserError → QueryParserError → Type 0
@@ -642,6 +643,7 @@ pub record MeansTree (q : AnalyzedFields) (ast : Ast) (query : Query) : Type 0 w
   pub exact : (ts : List IndexToken) (doc : ℕ) → matches query ts doc ≡ query_matches q ast ts doc
   pub fields : has_fields (length q.texts.entries) query ≡ true
   pub positions : keeps_positions q.texts.entries query ≡ true
+  pub covers : covers_docs TERMINATED query ≡ true
 
 -- A query means what a tree does, or the tree has this error.
 abbrev pub IsQueryBy : AnalyzedFields → Ast → Result Query QueryParserError → Type 0
@@ -672,6 +674,7 @@ pub record MeansTextBy (q : AnalyzedFields) (text : List ℕ) (query : Query) : 
   pub exact : (ts : List IndexToken) (doc : ℕ) → matches query ts doc ≡ text_matches_by q text ts doc
   pub fields : has_fields (length q.texts.entries) query ≡ true
   pub positions : keeps_positions q.texts.entries query ≡ true
+  pub covers : covers_docs TERMINATED query ≡ true
 
 -- A query means what a text does, or the text has this error.
 abbrev pub IsQueryOfTextBy : AnalyzedFields → List ℕ → Result Query QueryParserError → Type 0

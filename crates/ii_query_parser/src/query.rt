@@ -4,7 +4,7 @@ ghost use Rattle.ii_io.specs.Faults.{OnlyMemory};
 ghost use Rattle.ii_base.specs.Schema.{SchemaEntry};
 ghost use Rattle.ii_definitions.specs.Tokens.{IndexToken};
 ghost use Rattle.ii_query_parser.specs.Bounded.{bounded, each_bounded};
-ghost use Rattle.ii_query_parser.specs.Queries.{any_of, each_of, has_fields, has_positions_in, is_token_in, keeps_positions, matches, no_tree, one_range, tree, tree_of, trees_of, without};
+ghost use Rattle.ii_query_parser.specs.Queries.{any_of, covers_docs, each_of, has_fields, has_positions_in, is_token_in, keeps_positions, matches, no_tree, one_range, tree, tree_of, trees_of, without};
 
 use crate::term_range::TermRange;
 use ii_base::{DocId, Fault, Schema, Term};
@@ -48,12 +48,13 @@ pub enum Query {
 impl Query {
     /// Returns the query that matches the documents with a token whose field is that of the range, and whose
     /// key the range has.
-    #[tactic(auto, using(crate::proofs::QueryLemmas::range_tree, crate::proofs::QueryLemmas::range_matches, crate::proofs::QueryLemmas::range_fields, crate::proofs::QueryLemmas::range_positions))]
+    #[tactic(auto, using(crate::proofs::QueryLemmas::range_tree, crate::proofs::QueryLemmas::range_matches, crate::proofs::QueryLemmas::range_fields, crate::proofs::QueryLemmas::range_positions, crate::proofs::QueryLemmas::range_covers))]
     pub fn range(range: TermRange) -> Query
         ensures tree { tree_of result ≡ one_range range }
         ensures matches { (ts : List IndexToken) (doc : ℕ) → matches result ts doc ≡ list_any (is_token_in range doc) ts }
         ensures fields { (n : ℕ) → has_fields n result ≡ nat_lt range.prefix.field n }
         ensures positions { (entries : List SchemaEntry) → keeps_positions entries result ≡ true }
+        ensures covers { (n : ℕ) → covers_docs n result ≡ true }
     {
         Query::Range(range)
     }
@@ -65,6 +66,7 @@ impl Query {
         ensures matches { (ts : List IndexToken) (doc : ℕ) → matches result ts doc ≡ list_any (λ t. (t.doc == doc) && (t.field == prefix.field) && starts_with nat_eq t.key prefix.value) ts }
         ensures fields { (n : ℕ) → has_fields n result ≡ nat_lt prefix.field n }
         ensures positions { (entries : List SchemaEntry) → keeps_positions entries result ≡ true }
+        ensures covers { (n : ℕ) → covers_docs n result ≡ true }
     {
         Query::range(TermRange::with_prefix(prefix))
     }
@@ -76,6 +78,7 @@ impl Query {
         ensures matches { IfOk result (λ query. (ts : List IndexToken) (doc : ℕ) → matches query ts doc ≡ (matches first ts doc && matches other ts doc)) }
         ensures fields { IfOk result (λ query. (n : ℕ) → has_fields n query ≡ (has_fields n first && has_fields n other)) }
         ensures positions { IfOk result (λ query. (entries : List SchemaEntry) → keeps_positions entries query ≡ (keeps_positions entries first && keeps_positions entries other)) }
+        ensures covers { IfOk result (λ query. (n : ℕ) → covers_docs n query ≡ (covers_docs n first && covers_docs n other)) }
         ensures only { OnlyMemory result }
     {
         match pair(alloc, first, other) {
@@ -91,6 +94,7 @@ impl Query {
         ensures matches { IfOk result (λ query. (ts : List IndexToken) (doc : ℕ) → matches query ts doc ≡ (matches first ts doc || matches other ts doc)) }
         ensures fields { IfOk result (λ query. (n : ℕ) → has_fields n query ≡ (has_fields n first && has_fields n other)) }
         ensures positions { IfOk result (λ query. (entries : List SchemaEntry) → keeps_positions entries query ≡ (keeps_positions entries first && keeps_positions entries other)) }
+        ensures covers { IfOk result (λ query. (n : ℕ) → covers_docs n query ≡ (covers_docs n first && covers_docs n other)) }
         ensures only { OnlyMemory result }
     {
         match pair(alloc, first, other) {
@@ -107,6 +111,7 @@ impl Query {
         ensures matches { IfOk result (λ query. (ts : List IndexToken) (doc : ℕ) → matches query ts doc ≡ (matches first ts doc && not (matches other ts doc))) }
         ensures fields { IfOk result (λ query. (n : ℕ) → has_fields n query ≡ (has_fields n first && has_fields n other)) }
         ensures positions { IfOk result (λ query. (entries : List SchemaEntry) → keeps_positions entries query ≡ (keeps_positions entries first && keeps_positions entries other)) }
+        ensures covers { IfOk result (λ query. (n : ℕ) → covers_docs n query ≡ (covers_docs n first && covers_docs n other)) }
         ensures only { OnlyMemory result }
     {
         match boxed(alloc, first, other) {
@@ -116,12 +121,13 @@ impl Query {
     }
 
     /// Returns the query that matches what the first and all others match. Fails only with `OutOfMemory`.
-    #[tactic(auto, using(crate::proofs::QueryLemmas::and_tree, crate::proofs::QueryLemmas::all_matched, crate::proofs::QueryLemmas::held_for_all))]
+    #[tactic(auto, using(crate::proofs::QueryLemmas::and_tree, crate::proofs::QueryLemmas::all_matched, crate::proofs::QueryLemmas::held_for_all, crate::proofs::QueryLemmas::each_covers))]
     pub fn and_all(first: Query, others: Vec<Query>) -> Result<Query, Fault>
         ensures tree { IfOk result (λ query. tree_of query ≡ each_of (tree (tree_of first) (trees_of others.items))) }
         ensures matches { IfOk result (λ query. (ts : List IndexToken) (doc : ℕ) → matches query ts doc ≡ (matches first ts doc && list_all (λ q. matches q ts doc) others.items)) }
         ensures fields { IfOk result (λ query. (n : ℕ) → has_fields n query ≡ (has_fields n first && list_all (has_fields n) others.items)) }
         ensures positions { IfOk result (λ query. (entries : List SchemaEntry) → keeps_positions entries query ≡ (keeps_positions entries first && list_all (keeps_positions entries) others.items)) }
+        ensures covers { IfOk result (λ query. (n : ℕ) → covers_docs n query ≡ (covers_docs n first && list_all (covers_docs n) others.items)) }
         ensures only { OnlyMemory result }
     {
         let mut queries = others;
@@ -133,12 +139,13 @@ impl Query {
 
     /// Returns the query that matches what at least one of some queries matches; no document if there are
     /// none.
-    #[tactic(auto, using(crate::proofs::QueryLemmas::or_tree, crate::proofs::QueryLemmas::or_matches, crate::proofs::QueryLemmas::or_fields, crate::proofs::QueryLemmas::or_positions))]
+    #[tactic(auto, using(crate::proofs::QueryLemmas::or_tree, crate::proofs::QueryLemmas::or_matches, crate::proofs::QueryLemmas::or_fields, crate::proofs::QueryLemmas::or_positions, crate::proofs::QueryLemmas::or_covers))]
     pub fn or_any(queries: Vec<Query>) -> Query
         ensures tree { tree_of result ≡ any_of (trees_of queries.items) }
         ensures matches { (ts : List IndexToken) (doc : ℕ) → matches result ts doc ≡ list_any (λ q. matches q ts doc) queries.items }
         ensures fields { (n : ℕ) → has_fields n result ≡ list_all (has_fields n) queries.items }
         ensures positions { (entries : List SchemaEntry) → keeps_positions entries result ≡ list_all (keeps_positions entries) queries.items }
+        ensures covers { (n : ℕ) → covers_docs n result ≡ list_all (covers_docs n) queries.items }
     {
         Query::Or(queries)
     }

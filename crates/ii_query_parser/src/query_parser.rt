@@ -5,7 +5,7 @@ ghost use Rattle.ii_io.specs.Faults.{OnlyMemory};
 ghost use Rattle.ii_base.specs.Schema.{SchemaEntry};
 ghost use Rattle.ii_definitions.specs.Tokens.{IndexToken};
 ghost use Rattle.ii_query_grammar.specs.Trees.{Ast, all_of, any_of, ast_of, asts_from, in_set, leaf, literal_of, range_of, ranged, set_of, without};
-ghost use Rattle.ii_query_parser.specs.Queries.{has_fields, has_tree, keeps_positions, matches, trees_of};
+ghost use Rattle.ii_query_parser.specs.Queries.{covers_docs, has_fields, has_tree, keeps_positions, matches, trees_of};
 ghost use Rattle.ii_query_parser.specs.Ranges.{keys_of, ranges_of};
 ghost use Rattle.ii_query_parser.specs.QuerySteps.{AreAlone, AreQueriesOf, HasPushed, HasTermsUnless, AreInside, IsInside, IsLeftBy, phrase_kept, phrase_within};
 ghost use Rattle.ii_query_parser.specs.QueryTexts.{AnalyzedFields, IsQueryBy, IsQueryOf, IsQueryOfText, IsQueryOfTextBy, has_between, has_delimited, has_keys, has_term, has_values, has_words, are_some, is_alone, is_token_under, is_wordless};
@@ -331,6 +331,7 @@ fn ranges_query(alloc: Global, ranges: TermRanges) -> Result<Query, Fault>
     ensures matches { IfOk result (λ query. (ts : List IndexToken) (doc : ℕ) → matches query ts doc ≡ has_keys ts doc (Ok (ranges_of ranges))) }
     ensures fields { (n : ℕ) → AreInside n ranges → IfOk result (λ query. has_fields n query ≡ true) }
     ensures positions { IfOk result (λ query. (entries : List SchemaEntry) → keeps_positions entries query ≡ true) }
+    ensures covers { IfOk result (λ query. (n : ℕ) → covers_docs n query ≡ true) }
     ensures only { OnlyMemory result }
 {
     let TermRanges { first, other } = ranges;
@@ -346,6 +347,7 @@ fn range_or_none(range: Option<TermRange>) -> Query
     ensures matches { (ts : List IndexToken) (doc : ℕ) → matches result ts doc ≡ has_between ts doc (option_map keys_of range) }
     ensures fields { (n : ℕ) → IsInside n range → has_fields n result ≡ true }
     ensures positions { (entries : List SchemaEntry) → keeps_positions entries result ≡ true }
+    ensures covers { (n : ℕ) → covers_docs n result ≡ true }
 {
     match range {
         Some(range) => Query::range(range),
@@ -403,6 +405,7 @@ fn any_of(alloc: Global, terms: Vec<PhraseWords>, delimiter: Delimiter) -> Resul
     ensures matches { IfOk result (λ query. (ts : List IndexToken) (doc : ℕ) → matches query ts doc ≡ has_term delimiter ts doc terms.items) }
     ensures fields { IfOk result (λ query. (n : ℕ) → has_fields n query ≡ list_all (phrase_within n) terms.items) }
     ensures positions { IfOk result (λ query. (entries : List SchemaEntry) → keeps_positions entries query ≡ list_all (phrase_kept entries) terms.items) }
+    ensures covers { IfOk result (λ query. (n : ℕ) → covers_docs n query ≡ true) }
     ensures only { OnlyMemory result }
 {
     let mut queries = Vec::new(alloc);
@@ -433,6 +436,7 @@ fn single_or_any(mut queries: Vec<Query>) -> Query
     ensures matches { (ts : List IndexToken) (doc : ℕ) → matches result ts doc ≡ list_any (λ q. matches q ts doc) queries.items }
     ensures fields { (n : ℕ) → has_fields n result ≡ list_all (has_fields n) queries.items }
     ensures positions { (entries : List SchemaEntry) → keeps_positions entries result ≡ list_all (keeps_positions entries) queries.items }
+    ensures covers { (n : ℕ) → covers_docs n result ≡ list_all (covers_docs n) queries.items }
 {
     if queries.len() != 1 {
         return Query::or_any(queries);
@@ -449,6 +453,7 @@ fn delimited_query(words: PhraseWords, delimiter: Delimiter) -> Query
     ensures matches { (ts : List IndexToken) (doc : ℕ) → matches result ts doc ≡ has_delimited delimiter ts doc words }
     ensures fields { (n : ℕ) → has_fields n result ≡ phrase_within n words }
     ensures positions { (entries : List SchemaEntry) → keeps_positions entries result ≡ phrase_kept entries words }
+    ensures covers { (n : ℕ) → covers_docs n result ≡ true }
 {
     match delimiter {
         Delimiter::Star => prefix_query(words),
@@ -464,6 +469,7 @@ fn prefix_query(words: PhraseWords) -> Query
     ensures matches { (ts : List IndexToken) (doc : ℕ) → matches result ts doc ≡ list_any (is_token_under words.first doc) ts }
     ensures fields { (n : ℕ) → has_fields n result ≡ phrase_within n words }
     ensures positions { (entries : List SchemaEntry) → keeps_positions entries result ≡ phrase_kept entries words }
+    ensures covers { (n : ℕ) → covers_docs n result ≡ true }
 {
     let (first, others) = words.into_terms();
     drop(others);
@@ -475,6 +481,7 @@ fn words_query(words: PhraseWords) -> Query
     ensures matches { (ts : List IndexToken) (doc : ℕ) → matches result ts doc ≡ has_words ts doc words.first words.others }
     ensures fields { (n : ℕ) → has_fields n result ≡ phrase_within n words }
     ensures positions { (entries : List SchemaEntry) → keeps_positions entries result ≡ phrase_kept entries words }
+    ensures covers { (n : ℕ) → covers_docs n result ≡ true }
 {
     let (first, others) = words.into_terms();
     if others.is_empty() {

@@ -19,12 +19,11 @@ use Rattle.ii_definitions.specs.Postings.{is_at}
 use Rattle.ii_definitions.specs.Tokens.{IndexToken}
 use Rattle.ii_query_parser.specs.declared.query.PhraseTerm.{PhraseTerm}
 use Rattle.ii_query_parser.specs.Queries as queries
-use Rattle.ii_query_parser.specs.Queries.{QueryTree, QueryTrees, are_of_texts, follow, has_positions_in, hold_for_all, holds_for_all, is_text_key, is_token_of, phrase_has_positions, tree_of}
+use Rattle.ii_query_parser.specs.Queries.{QueryTree, QueryTrees, are_of_texts, follow, has_positions_in, hold_for_all, holds_for_all, is_text_key, is_token_of, phrase_has_positions, tree_covers, tree_of, trees_cover}
 use Rattle.ii_segments.specs.Segments.{AreSegmentTokens, Segment, at_rank, index_tokens, is_key_of_text_in, is_living, living_tokens, num_docs_of, tokens_from}
 use Rattle.ii_segments.proofs.CountLaws.{all_weaker, test_by_rank, tokens_after}
 use Rattle.ii_segments.proofs.MergedLaws.{IsTyped, index_typed, merged_is_segment}
 use Rattle.ii_segments.proofs.MergeLaws.{below, from_append, of_living}
-use Rattle.ii_segment_search.specs.SegmentSearch.{tree_covers, trees_cover}
 use Rattle.ii_segment_search.proofs.LocalLaws.{bound_local, follow_local, range_local, text_of_some, typed_own}
 use Rattle.ii_ranking.specs.Combinations.{any_of, each_of, unless}
 use Rattle.ii_ranking.specs.OneIndex.{ScoresAreLocal}

@@ -5,10 +5,9 @@ use Rattle.ii_base.specs.Schema.{SchemaEntry}
 use Rattle.ii_alive.specs.Alive.{rank}
 use Rattle.ii_bm25.specs.Statistics.{Statistics}
 use Rattle.ii_query_parser.specs.declared.query.Query.{Query}
-use Rattle.ii_query_parser.specs.Queries.{keeps_positions}
+use Rattle.ii_query_parser.specs.Queries.{covers_docs, keeps_positions}
 use Rattle.ii_segments.specs.Segments.{AreSegmentTokens, Segment, index_tokens, is_living, num_docs_of}
 use Rattle.ii_segment_search.specs.Searcher.{Reaches}
-use Rattle.ii_segment_search.specs.SegmentSearch.{covers_docs}
 use Rattle.ii_ranking.specs.TokenScores.{token_score, tokens_scored}
 use Rattle.ii_ranking.specs.TopDocs.{scored_docs}
 

@@ -6,10 +6,10 @@ use Rattle.std.proofs.lemmas.List.Elements.{filter-append}
 use Rattle.ii_base.specs.Schema.{SchemaEntry}
 use Rattle.ii_alive.specs.Alive.{num_living, rank}
 use Rattle.ii_query_parser.specs.declared.query.Query.{Query}
-use Rattle.ii_query_parser.specs.Queries.{matches}
+use Rattle.ii_query_parser.specs.Queries.{covers_docs, matches}
 use Rattle.ii_segments.specs.Segments.{AreSegmentTokens, Segment, index_tokens, is_living, living_docs, num_docs_of}
 use Rattle.ii_segments.proofs.CountLaws.{ranks_of_living}
-use Rattle.ii_segment_search.specs.SegmentSearch.{FindsInSegments, covers_docs, found_in_segments}
+use Rattle.ii_segment_search.specs.SegmentSearch.{FindsInSegments, found_in_segments}
 use Rattle.ii_segment_search.proofs.LocalLaws.{docs_of_both, search_is_local}
 use Rattle.ii_definitions.proofs.ListLaws.{range_append}
 

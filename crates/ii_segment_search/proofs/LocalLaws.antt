@@ -16,12 +16,12 @@ use Rattle.ii_definitions.specs.Tokens.{IndexToken}
 use Rattle.ii_query_parser.specs.declared.query.PhraseTerm.{PhraseTerm}
 use Rattle.ii_query_parser.specs.declared.term_range.TermRange.{TermRange}
 use Rattle.ii_query_parser.specs.Ranges.{in_range}
-use Rattle.ii_query_parser.specs.Queries.{QueryTree, QueryTrees, all_below, all_match, any_matches, any_of, are_of_texts, each_of, follow, has_phrase, has_tree, is_text_key, is_token_in, is_token_of, no_tree, nothing, one_phrase, one_range, one_term, stands_at, tree, tree_matches, tree_of, without}
+use Rattle.ii_query_parser.specs.Queries.{QueryTree, QueryTrees, all_below, all_match, any_matches, any_of, are_of_texts, each_of, follow, has_phrase, has_tree, is_text_key, is_token_in, is_token_of, no_tree, nothing, one_phrase, one_range, one_term, stands_at, tree, tree_covers, tree_matches, tree_of, trees_cover, without}
 use Rattle.ii_segments.specs.Segments.{AreSegmentTokens, Segment, at_rank, index_tokens, is_key_of_text_in, is_living, living_tokens, num_docs_of, tokens_from}
 use Rattle.ii_segments.proofs.CountLaws.{all_weaker, living_within, test_by_rank, tokens_after}
 use Rattle.ii_segments.proofs.MergedLaws.{IsTyped, index_typed}
 use Rattle.ii_segments.proofs.MergeLaws.{below, from_append, of_living}
-use Rattle.ii_segment_search.specs.SegmentSearch.{SearchIsLocal, tree_covers, trees_cover}
+use Rattle.ii_segment_search.specs.SegmentSearch.{SearchIsLocal}
 use Rattle.ii_search.proofs.FoundLemmas.{any_alike}
 
 all_same : {A : Type 0} (f g : A → Bool) (xs : List A) → ((x : A) → f x ≡ g x) → list_all f xs ≡ list_all g xs

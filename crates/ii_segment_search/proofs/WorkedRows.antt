@@ -3,9 +3,8 @@ use Rattle.std.proofs.Common.{◌≡◌, ℕ, true, false, List, [], ◌∷◌, 
 use Rattle.std.specs.List.{range_with_len}
 use Rattle.ii_base.specs.Terms.{TermState}
 use Rattle.ii_definitions.specs.Tokens.{IndexToken}
-use Rattle.ii_query_parser.specs.Queries.{QueryTree, all_below, one_phrase, one_term, tree_matches, without}
+use Rattle.ii_query_parser.specs.Queries.{QueryTree, all_below, one_phrase, one_term, tree_covers, tree_matches, without}
 use Rattle.ii_segments.specs.Segments.{Segment, index_tokens, merged, num_docs_of}
-use Rattle.ii_segment_search.specs.SegmentSearch.{tree_covers}
 
 -- a word of a text in field 0
 abbrev word : ℕ → ℕ → List ℕ → IndexToken

@@ -12,12 +12,11 @@ use Rattle.ii_docset.specs.Cursor.{IsSound}
 use Rattle.ii_query.specs.Combined.{QueryCursorState}
 use Rattle.ii_reader.specs.OpenIndex.{IndexHolds, OpenIndexState}
 use Rattle.ii_query_parser.specs.declared.query.Query.{Query}
-use Rattle.ii_query_parser.specs.Queries.{has_fields, keeps_positions, matches}
+use Rattle.ii_query_parser.specs.Queries.{covers_docs, has_fields, keeps_positions, matches}
 use Rattle.ii_search.specs.Found.{combined, found_in}
 use Rattle.ii_segments.specs.Segments.{AreSegmentTokens, Segment, index_tokens, living_docs, living_entries, num_docs_of}
 use Rattle.ii_living_docs.specs.Chain.{ChainState, chained}
 use Rattle.ii_living_docs.specs.LivingDocs.{LivingParts}
-use Rattle.ii_segment_search.specs.SegmentSearch.{covers_docs}
 
 -- an open segment: its index, and which of its documents are alive
 pub record OpenSegmentState : Type 0 where

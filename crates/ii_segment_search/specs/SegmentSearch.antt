@@ -1,32 +1,11 @@
 -- What a query matches in an index of segments.
-use Rattle.std.specs.Prelude.{◌≡◌, ℕ, ◌+◌, ◌≤◌, Bool, true, ◌&&◌, List, [], ◌∷◌, ◌++◌, filter, length, map, min, nat_le}
+use Rattle.std.specs.Prelude.{◌≡◌, ℕ, ◌+◌, ◌≤◌, true, List, [], ◌∷◌, ◌++◌, filter, length, map}
 use Rattle.std.specs.List.{AllByRecursion, range_with_len}
-use Rattle.ii_base.specs.declared.doc_id.TheConstants.{TERMINATED}
 use Rattle.ii_base.specs.Schema.{SchemaEntry}
 use Rattle.ii_alive.specs.Alive.{num_living, rank}
 use Rattle.ii_query_parser.specs.declared.query.Query.{Query}
-use Rattle.ii_query_parser.specs.Queries.{QueryTree, QueryTrees, all_below, any_of, each_of, matches, no_tree, nothing, one_phrase, one_range, one_term, tree, tree_of, without}
+use Rattle.ii_query_parser.specs.Queries.{covers_docs, matches}
 use Rattle.ii_segments.specs.Segments.{AreSegmentTokens, Segment, index_tokens, is_living, living_docs, num_docs_of}
-
--- Whether each part of a query that matches all documents below a number matches the first n.
-abbrev mutual
-  pub tree_covers : ℕ → QueryTree → Bool
-  tree_covers n nothing = true
-  tree_covers n (all_below m) = nat_le n (min m TERMINATED)
-  tree_covers n (one_term term) = true
-  tree_covers n (one_phrase first others) = true
-  tree_covers n (one_range range) = true
-  tree_covers n (each_of qs) = trees_cover n qs
-  tree_covers n (any_of qs) = trees_cover n qs
-  tree_covers n (without first other) = tree_covers n first && tree_covers n other
-
-  pub trees_cover : ℕ → QueryTrees → Bool
-  trees_cover n no_tree = true
-  trees_cover n (tree q qs) = tree_covers n q && trees_cover n qs
-
--- whether each part of a query that matches all documents below a number matches the first n
-abbrev pub covers_docs : ℕ → Query → Bool
-covers_docs n query = tree_covers n (tree_of query)
 
 -- A query matches a living document in an index of segments exactly if it matches it in its segment, by the segment's number.
 abbrev pub SearchIsLocal : Type 0

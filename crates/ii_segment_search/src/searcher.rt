@@ -4,13 +4,12 @@ ghost use Rattle.ii_base.specs.Entries.{Entry};
 ghost use Rattle.ii_base.specs.Schema.{SchemaEntry};
 ghost use Rattle.ii_base.specs.declared.doc_id.TheConstants.{TERMINATED};
 ghost use Rattle.ii_docset.specs.Cursor.{IsSound};
-ghost use Rattle.ii_query_parser.specs.Queries.{has_fields, keeps_positions};
+ghost use Rattle.ii_query_parser.specs.Queries.{covers_docs, has_fields, keeps_positions};
 ghost use Rattle.ii_reader.specs.InvertedIndexReader.{IsRefusal};
 ghost use Rattle.ii_search.specs.Found.{found_in};
 ghost use Rattle.ii_segments.specs.Segments.{Segment, living_entries};
 ghost use Rattle.ii_living_docs.specs.Chain.{chained};
 ghost use Rattle.ii_living_docs.specs.LivingDocs.{AreNumbered};
-ghost use Rattle.ii_segment_search.specs.SegmentSearch.{covers_docs};
 ghost use Rattle.ii_segment_search.specs.Searcher.{AddsFound, AreFew, FailsForMemory, GivesFound, GivesNumber, HaveFields, MayAsk, Reaches, SegmentsHold, found_from, living_rest, total_living};
 
 use ii_alive::AliveBits;
