@@ -3,8 +3,7 @@
 Every command commits at once. So a player keeps the operations since the last commit, plays them at the commit in their order,
 and forgets them at a rollback. What has no command is left out: to flush documents without a commit, to merge some segments
 (`merge` merges all of them, and in half of the sessions `add` merges the last ones), to ask for norms (`check` compares them with
-the lists), and to keep a reader open (a process reads the index once). Bytes have no text in a query: `postings` and `delete` take
-them."""
+the lists), and to keep a reader open (a process reads the index once)."""
 import json
 import multiprocessing
 import os

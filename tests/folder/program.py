@@ -203,6 +203,12 @@ def values(user, docs):
     for query, has in (
             (f'number:{docs[3]["number"]}', lambda doc: doc['number'] == docs[3]['number']),
             ('change:"-9"', lambda doc: doc['change'] == -9),
+            (f"mark:{docs[0]['mark'].upper()}", lambda doc: doc['mark'] == docs[0]['mark']),
+            ('address:10.0.1.2', lambda doc: doc['address'] == '10.0.1.2'),
+            ('address:"2001:DB8:0:0::2"', lambda doc: doc['address'] == '2001:db8::2'),
+            ('address:["::ffff:10.0.1.0" TO 10.0.2.0}', lambda doc: doc['address'].startswith('10.0.1.')),
+            ('address:>10.255.255.255', lambda doc: ':' in doc['address']),
+            ('address:IN [10.0.1.2 "2001:db8::2" 10.0.1.20]', lambda doc: doc['address'] in ('10.0.1.2', '2001:db8::2')),
             ('is_long:true', lambda doc: doc['is_long']),
             (f'about.file.name:{name}', lambda doc: name in texts.words_of(doc['title'])),
             ('about.file.place:3', lambda doc: doc['about']['file']['place'] == 3),
@@ -237,6 +243,7 @@ def values(user, docs):
             raise Failed(f'terms of address: no {wanted!r}')
 
 
+ADDRESSES = '[[field]]\nname = "addr"\ntype = "ip_addr"\n[[field]]\nname = "mark"\ntype = "bytes"\n'
 DATES = 'tokenizer = "ascii"\n[[field]]\nname = "when"\ntype = "date"\n'
 # the date of each document, as it is given and as it is printed: by RFC 3339, section 5.8, the first instants of 1990 and 2001, and the nanosecond before 1970
 GIVEN_DATES = (
@@ -246,7 +253,33 @@ GIVEN_DATES = (
     ('1990-01-01T00:00:00Z', '1990-01-01T00:00:00Z'),
     ('2001-01-01T00:00:00.000000000Z', '2001-01-01T00:00:00Z'),
     ('1969-12-31T23:59:59.999999999Z', '1969-12-31T23:59:59.999999999Z'))
+# the address and the bytes of each document, as they are given and as they are printed: in the order of their numbers 6, 0, 2, 4, 1, 3, 5; and of their bytes 5, 2, 0, 4, 1, 3, 6
+GIVEN_ADDRESSES = (('::1', '::1', '00FF', '00ff'), ('10.0.0.9', '10.0.0.9', 'ab', 'ab'), ('9.255.255.255', '9.255.255.255', '00', '00'), ('10.0.0.10', '10.0.0.10', 'aB00', 'ab00'),
+                   ('0:0:0:0:0:ffff:a00:1', '10.0.0.1', '0100', '0100'), ('2001:DB8::A', '2001:db8::a', '', ''), ('::', '::', 'fF', 'ff'))
 BAD_DATES = ('"1990-01-01"', '"1990-01-01T00:00:00"', '"1990-02-30T00:00:00Z"', '"1677-09-21T00:12:43Z"', '"2262-04-12T00:00:00Z"', '"0"')
+
+
+def addresses(user):
+    """Checks that addresses are searched for in each spelling and between bounds, by their numbers, and bytes in the order of bytes."""
+    schema = user.write('addresses.toml', ADDRESSES)
+    user.wants(['index', 'addresses', '--schema', schema], 0, f'{len(GIVEN_ADDRESSES)} documents indexed\n', given=lines([{'addr': address, 'mark': mark} for address, _, mark, _ in GIVEN_ADDRESSES]).encode())
+    for field, order, shown in (('addr', (6, 0, 2, 4, 1, 3, 5), 1), ('mark', (5, 2, 0, 4, 1, 3, 6), 3)):
+        user.wants(['terms', 'addresses', field], 0, ''.join(f'1 {GIVEN_ADDRESSES[number][shown]}\n' for number in order))
+        for place, number in enumerate(order):
+            for text in GIVEN_ADDRESSES[number][shown - 1:shown + 1]:
+                user.wants(['postings', 'addresses', field, text], 0, f'{number}\n')
+                user.wants(['search', 'addresses', f'{field}:"{text}"'], 0, f'{number}\n')
+                user.wants(['search', 'addresses', f'{field}:>="{text}"'], 0, numbers(sorted(order[place:])))
+                user.wants(['search', 'addresses', f'{field}:["{text}" TO *}}'], 0, numbers(sorted(order[place:])))
+    for query, found in (
+            ('addr:10.0.0.9', [1]), ('addr:"::ffff:10.0.0.9"', [1]), ('addr:10.0.0.2', []), (r'addr:\:\:1', [0]), ('addr:*', range(7)),
+            ('addr:[10.0.0.0 TO 10.0.0.255]', [1, 3, 4]), ('addr:{10.0.0.1 TO 10.0.0.10}', [1]), ('addr:["::ffff:0:0" TO "::ffff:ffff:ffff"]', [1, 2, 3, 4]), ('addr:{* TO "::1"}', [6]),
+            ('addr:<=9.255.255.255', [0, 2, 6]), ('addr:>"::ffff:255.255.255.255"', [5]), ('addr:[10.0.0.10 TO 10.0.0.9]', []), ('addr:IN [10.0.0.1 "::" 10.0.0.2]', [4, 6]), ('* NOT addr:IN ["::1" "::"]', [1, 2, 3, 4, 5]),
+            ('mark:00ff', [0]), ('mark:[00 TO ab]', [0, 1, 2, 4]), ('mark:{00 TO AB}', [0, 4]), ('mark:>ab', [3, 6]), ('mark:IN [FF "" 01]', [5, 6])):
+        user.wants(['search', 'addresses', query], 0 if found else 1, numbers(found))
+    for query, reason in (('addr:10.0.0', 'addr: expected an address like 10.0.0.1 or ::1'), ('addr:[10.0.0.1 TO x]', 'addr: expected an address like 10.0.0.1 or ::1'), ('addr:IN [1]', 'addr: expected an address like 10.0.0.1 or ::1'),
+                          ('mark:abc', 'mark: expected pairs of hexadecimal digits'), ('mark:<=xy', 'mark: expected pairs of hexadecimal digits')):
+        user.wants(['search', 'addresses', query], 2, '', f'field {reason}')
 
 
 def dates(user):
@@ -975,6 +1008,7 @@ def main():
             searches(user, docs, chosen)
             values(user, docs)
             dates(user)
+            addresses(user)
             refusals(user, docs)
             unknown_keys(user)
             floats(user)

@@ -1,7 +1,7 @@
 #!/usr/bin/env python3
 """Runs `nequllpa` over random folders: random schemas and lines of every type, with every tokenizer, some with lists of
 several blocks. Segments are added, documents deleted and replaced, and all segments merged. `check` must find no damage, and
-`terms`, `postings`, `fields` and `search`, also for phrases, prefixes and ranges, must answer what a plain reading of the lines gives.
+`terms`, `postings`, `fields` and `search`, also for phrases, prefixes, sets and ranges, must answer what a plain reading of the lines gives.
 
     random_folders.py              60 folders, as the gate runs it
     random_folders.py N SEED       N others"""
@@ -30,6 +30,7 @@ KEYS = ['a', 'b', 'a.b', 'x y', 'back\\slash', 'quo"te', 'sizes', '', 'a:b', 'Ü
 NAMES = ['body', 'title', 'n', 'change', 'flag', 'mark', 'addr', 'j', 'about', 'some field', 'a.b', 'x:y', 'AND', '-minus', 'id']
 MARKS = [' ', '. ', ', ', ' - ', '! ', '\n', '  ', '_', '"']
 NUMBERS = [0, 1, 2, 7, 255, 256, 2 ** 31, 2 ** 63 - 1]
+ADDRESSES = ['10.0.0.1', '::ffff:10.0.0.1', '10.0.0.2', '10.0.0.10', '9.255.0.0', '255.255.255.255', '::ffff:1.2.3.4', '::', '::1', '2001:db8::2', '2001:DB8:0::10', 'ffff::']
 # Stop words of a schema, and in a line and a query.
 STOPS = ['The', 'of', 'york']
 # The words of which each tokenizer makes one token, without stop words.
@@ -103,9 +104,9 @@ def random_value(chosen, field):
     if kind == 'date':
         return chosen.choice(dates.WRITTEN)
     if kind == 'bytes':
-        return chosen.choice(['', '00', 'ff00', 'ABcd', '6162'])
+        return chosen.choice(['', '00', '00ff', 'ff00', 'ABcd', '6162'])
     if kind == 'ip_addr':
-        return chosen.choice(['10.0.0.1', '::1', '2001:db8::2', '255.255.255.255', '::ffff:1.2.3.4'])
+        return chosen.choice(ADDRESSES)
     return random_json(chosen, 3)
 
 
@@ -215,6 +216,17 @@ class Field:
             address = address.ipv4_mapped
         key = address.packed if address.version == 6 else b'\0' * 10 + b'\xff\xff' + address.packed
         return key, str(address)
+
+    def spellings(self, key):
+        """Returns texts of a query that spell a value."""
+        text = self.texts[key]
+        found = [quoted(text)] + [text] * (re.fullmatch('[0-9a-z.]+', text) is not None)
+        if self.kind == 'bytes':
+            found.append(quoted(text.upper()))
+        if self.kind == 'ip_addr':
+            address = ipaddress.IPv6Address(key)
+            found += [quoted(address.exploded), quoted(str(address).upper())]
+        return found
 
     def add_json(self, doc, value):
         begins = {}
@@ -430,8 +442,8 @@ class Reader:
                 continue
             key = chosen.choice(sorted(field.lists))
             self.ranges(chosen, field, name)
-            if field.kind in ('u64', 'i64', 'bool', 'date'):
-                self.finds(f'{name}:"{field.texts[key]}"', set(field.lists[key]))
+            if field.kind not in ('text', 'json'):
+                self.values(chosen, field, name, key)
             elif field.kind == 'text' and field.records() == 'position':
                 self.phrase(chosen, field, name)
         self.batch()
@@ -464,7 +476,7 @@ class Reader:
         between = lambda takes: set().union(*(docs for key, docs in field.lists.items() if takes(key)))
         for query in (f'{name}:*', f'{name}:[* TO *]'):
             self.finds(query, between(lambda key: True))
-        if field.kind not in ('u64', 'i64', 'bool', 'date', 'text'):
+        if field.kind == 'json':
             return
         one, two = (chosen.choice(sorted(field.lists)) for _ in range(2))
         low, high = (quoted(field.texts[key]) for key in (one, two))
@@ -472,6 +484,16 @@ class Reader:
                              (f'{name}:[{low} TO {high}}}', lambda key: one <= key < two), (f'{name}:{{* TO {high}]', lambda key: key <= two),
                              (f'{name}:>={low}', lambda key: key >= one), (f'{name}:>{low}', lambda key: key > one), (f'{name}:<{high}', lambda key: key < two)):
             self.finds(query, between(takes))
+
+    def values(self, chosen, field, name, key):
+        """Compares searches for a value, in one of its spellings, and for those of a set, some of which no document may have."""
+        self.finds(f'{name}:{chosen.choice(field.spellings(key))}', set(field.lists[key]))
+        values = [(key, field.texts[key]), *(field.key_of(random_value(chosen, field.setting)) for _ in range(chosen.randint(0, 3)))]
+        found = set().union(*(field.lists.get(other, {}) for other, _ in values))
+        query = f'{name}:IN [{" ".join(quoted(text) for _, text in values)}]'
+        if chosen.random() < 0.5:
+            query, found = f'* NOT {query}', set(range(len(self.lines))) - found
+        self.finds(query, found)
 
     def phrase(self, chosen, field, name):
         """Compares the search for a phrase of two words, or of words of a document, in a field."""

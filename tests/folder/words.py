@@ -137,6 +137,9 @@ type = "bool"
 name = "mark"
 type = "bytes"
 [[field]]
+name = "addr"
+type = "ip_addr"
+[[field]]
 name = "note"
 type = "text"
 indexed = false
@@ -160,7 +163,10 @@ REFUSED = (
     ('year:[a TO 2]', 'field year: expected a number'), ('year:x', 'field year: expected a number'),
     ('body:["a b" TO c]', 'field body: a bound of a range must be one word'),
     ('flag:x', 'field flag: expected true or false'), ('bare:"a b"', 'field bare: the field keeps no positions, which a phrase needs'),
-    ('mark:00', 'field mark: queries of bytes and addresses are not supported'), ('note:a', 'field note: the field is not indexed'),
+    ('mark:0', 'field mark: expected pairs of hexadecimal digits'), ('mark:[00 TO "0 "]', 'field mark: expected pairs of hexadecimal digits'),
+    ('addr:10.0.0.256', 'field addr: expected an address like 10.0.0.1 or ::1'), ('addr:["10.0.0.1" TO ""]', 'field addr: expected an address like 10.0.0.1 or ::1'),
+    ('addr:>"::1/64"', 'field addr: expected an address like 10.0.0.1 or ::1'), ('addr:IN ["::1" 01.2.3.4]', 'field addr: expected an address like 10.0.0.1 or ::1'),
+    ('addr:10.0.0.1*', 'field addr: a prefix must be the start of one word, in a field of texts'), ('note:a', 'field note: the field is not indexed'),
     ('NOT a', 'at byte 5: something must be searched for that is not excluded: add a word without a minus'),
     ('a AND NOT', 'at byte 9: expected a word, a phrase or an opening parenthesis to exclude; put NOT or the minus in quotes to search for it'),
     ('a AND', 'at byte 5: expected a word, a phrase or an opening parenthesis'),
