@@ -15,6 +15,7 @@ import sys
 sys.dont_write_bytecode = True
 sys.path.insert(0, os.path.dirname(os.path.abspath(__file__)))
 import random_folders
+import ranking_meaning
 import users
 import versions
 from users import Failed
@@ -88,6 +89,26 @@ ROWS = (
     (['postings', JSON, 'k s sea', '--positions'], 0, [{'doc': 0, 'freq': 2, 'positions': [0, 1]}, {'doc': 2, 'freq': 1, 'positions': [1]}]),
     (['postings', JSON, 'a\\.b o false', '--positions'], 0, [{'doc': 2, 'freq': 1, 'positions': []}]),
 )
+# what `search --top 9 --explain` says of each document: the parts of the query that it matches, each with the numbers of the documents
+# of its terms, the count, the norm, and the number of tokens of the field; of a part that always scores 1.0 its text alone
+NAMED = 'j\\ \\"k\\"'
+EXPLAINED = (
+    ('body:sea', {0: [('body:sea', [3], 1, 2, 6)], 1: [('body:sea', [3], 2, 3, 6)], 2: [('body:sea', [3], 1, 1, 6)]}),
+    ('body:"old sea"', {0: [('body:"old sea"', [2, 3], 1, 2, 6)], 1: [('body:"old sea"', [2, 3], 1, 3, 6)]}),
+    ('tag:"\u8001\u4eba"', {1: [('tag:\u8001\u4eba', [1], 2, 1, 4)]}),
+    ('tag:l* OR tag:a*', {0: [('tag:a*',)], 2: [('tag:l*',)]}),
+    ('word:x', {0: [('word:x', [2], 1, 2, 3)], 2: [('word:x', [2], 1, 1, 3)]}),
+    ('n:18446744073709551615', {0: [('n:18446744073709551615', [1], 1, 1, 1)]}),
+    ('change:[-5 TO 0}', {0: [('change:[-5 TO 0}',)]}),
+    ('change:<0 OR n:>7 OR n:*', {0: [('change:[* TO 0}',), ('n:{7 TO *]',), ('n:*',)]}),
+    ('flag:IN [true false]', {0: [('flag:true', [2], 1, 1, 3)], 2: [('flag:true', [2], 1, 1, 3), ('flag:false', [1], 1, 1, 3)]}),
+    ('mark:* addr:*', {0: [('mark:*',), ('addr:*',)], 2: [('mark:*',), ('addr:*',)]}),
+    (f'{NAMED}.k:sea', {0: [('j "k":k s sea', [2], 2, 1, 7)], 2: [('j "k":k s sea', [2], 1, 1, 7)]}),
+    (f'{NAMED}.k:"the sea" OR {NAMED}.a\\.b:false', {2: [('j "k":"k s the k s sea"', [1, 2], 1, 1, 7), ('j "k":a\\.b o false', [1], 1, 1, 7)]}),
+    (f'{NAMED}.k:t* OR {NAMED}.k:* OR {NAMED}:*', {0: [('j "k":k *',), ('j "k":*',)], 2: [('j "k":k s t*',), ('j "k":k *',), ('j "k":*',)]}),
+    (f'{NAMED}.x\\ y:[0 TO 5] OR {NAMED}.x\\ y:>-1', {0: [('j "k":[x\\ y i 0 TO x\\ y i 5]',), ('j "k":{x\\ y i -1 TO *]',), ('j "k":x\\ y u *',)]}),
+    ('* AND (body:old OR none) NOT tag:a*', {1: [('*',), ('body:old', [2], 1, 3, 6)]}),
+)
 FIELD_KEYS = ('number', 'field', 'type', 'indexed', 'record', 'fieldnorms', 'expand_dots', 'tokenizer', 'stop_words', 'terms', 'tokens')
 FIELDS = (
     (0, 'body', 'text', True, 'position', True, False, 'ascii', None, 2, 6), (1, 'tag', 'text', True, 'freq', False, False, 'raw', None, 3, 4), (2, 'word', 'text', True, 'basic', True, False, 'ascii', None, 1, 3),
@@ -120,6 +141,39 @@ def rows_of(text):
     return [json.loads(line) for line in text.decode().splitlines()]
 
 
+def share_row(part, doc_freqs=None, count=1, norm=1, num_tokens=0, num_docs=3):
+    """Returns what a part adds to the score of a document, and the object that is printed."""
+    if doc_freqs is None:
+        of_all, share = 0, 2 ** ranking_meaning.SCORE_BITS
+    else:
+        of_all = ranking_meaning.weight(doc_freqs, num_docs)
+        share = ranking_meaning.score(of_all, count, ranking_meaning.length_part(norm, num_tokens, num_docs))
+    text, show = json.dumps(part, ensure_ascii=False), ranking_meaning.show
+    return share, f'{{"query":{text},"weight":{show(of_all, ranking_meaning.WEIGHT_BITS)},"weight_units":{of_all},"count":{count},"norm":{norm},"share":{show(share)},"units":{share}}}'
+
+
+def explanations(user):
+    """Compares what `search --explain` prints of the three documents that are left: the best first."""
+    for query, docs in EXPLAINED:
+        found = []
+        for doc, parts in docs.items():
+            shares = [share_row(*part) for part in parts]
+            score = sum(share for share, _ in shares)
+            found.append((-score, doc, f'{{"doc":{doc},"score":{ranking_meaning.show(score)},"units":{score},"explain":[{",".join(row for _, row in shares)}]}}'))
+        rows = [row for _, _, row in sorted(found)]
+        user.wants(['search', 'small', query, '--top', 9, '--json', '--explain'], 0, ''.join(row + '\n' for row in rows))
+        lines = given([DOCS[0][0], DOCS[0][1], DOCS[1][1]]).decode().splitlines()
+        user.wants(['search', 'small', '--batch', '--explain', '--source', '--top', 1], 0, f'{{"query":{json.dumps(query, ensure_ascii=False)},"docs":[{rows[0][:-1]},"source":{lines[sorted(found)[0][1]]}}}]}}\n', given=query.encode())
+
+
+def gaps(user):
+    """Compares what is printed of a phrase between whose words some are left out."""
+    user.write('gaps.toml', '[[field]]\nname = "body"\ntype = "text"\ntokenizer = "en"\nstop_words = ["of", "the"]\n')
+    user.wants(['index', 'gaps', '--schema', 'gaps.toml'], 0, given=given([{'body': 'Theory of the deep sea'}]))
+    share, row = share_row('body:"theori ? ? deep sea"', [1, 1, 1], 1, 3, 3, 1)
+    user.wants(['search', 'gaps', '"theory of the deep sea"', '--top', 1, '--json', '--explain'], 0, f'{{"doc":0,"score":{ranking_meaning.show(share)},"units":{share},"explain":[{row}]}}\n')
+
+
 def by_hand(user):
     """Compares what each command prints of a few documents."""
     user.write('schema.toml', SCHEMA)
@@ -141,6 +195,8 @@ def by_hand(user):
     lines = given(docs).decode().splitlines()
     user.wants(['get', 'small', 2, 0, '--json'], 0, ''.join(f'{{"doc":{doc},"source":{lines[doc]}}}\n' for doc in (2, 0)))
     user.wants(['get', 'small', 3, 1, '--json'], 1, f'{{"doc":1,"source":{lines[1]}}}\n', 'no document 3')
+    explanations(user)
+    gaps(user)
     stats_agree(user, 'small')
     checks_agree(user, 'small', 0)
     for command in ('terms', 'postings', 'fields', 'stats', 'check', 'get', 'delete', 'merge', 'upgrade', 'add'):

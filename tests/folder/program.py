@@ -815,10 +815,12 @@ def batches(user):
     schema = user.write('stored.toml', 'store_source = true\n' + IDS)
     docs = [{'id': 70, 'body': 'old "sea" <b>'}, {'body': 'the sea'}, {'id': 5, 'body': 'sea, old sea'}]
     user.wants(['index', 'stored', '--schema', schema], 0, given=lines(docs).encode())
-    for options in (['--ids'], ['--ids', '--positions'], ['--ids', '--top', 2], ['--source'], ['--source', '--top', 2], ['--fields', 'body,id'], ['--snippet'], ['--snippet', '--color', 'always', '--top', 2]):
+    for options in (['--ids'], ['--ids', '--positions'], ['--ids', '--top', 2], ['--top', 2, '--explain'], ['--ids', '--explain', '--top', 2], ['--source'], ['--source', '--top', 2], ['--source', '--top', 2, '--explain'], ['--fields', 'body,id'], ['--snippet'], ['--snippet', '--color', 'always', '--top', 2], ['--snippet', '--top', 2, '--explain']):
         wanted = ''.join(answer_of(user, 'stored', query, options) for query in ('sea', 'old', 'the OR old', 'x'))
         user.wants(['search', 'stored', '--batch', *options], 0, wanted, given=b'sea\nold\nthe OR old\nx\n')
     for words, reason in ((['sea', '--batch'], 'search needs a query, or --batch'), ([], 'search needs a query, or --batch'), (['--batch', '--top', 1, '--count'], '--top stands without'),
+                          (['sea', '--explain'], '--explain stands only with --top'), (['--batch', '--explain'], '--explain stands only with --top'), (['sea', '--explain', '--count'], '--explain stands only with --top'),
+                          (['sea', '--explain', '--top', 1, '--count'], '--top stands without'), (['sea', '--explain', '--limit', 1], '--explain stands only with --top'),
                           (['--batch', '--field', 'x'], 'no field x'), (['--batch', '--limit', 'x'], '--limit x: expected'), (['--batch', '--source', '--ids'], '--source stands without')):
         user.wants(['search', 'stored', *words], 2, '', reason, given=b'sea\n')
     user.wants(['search', 'nowhere', '--batch'], 1, 'nowhere: no index here\n', given=b'sea\n')

@@ -1,10 +1,12 @@
 #!/usr/bin/env python3
 """Compares the best documents that `nequllpa search --top` prints, and their scores, with a definition of the score that knows of
 no segments (`ranking_meaning.py`): over one segment and several, with deleted documents and after a merge. The queries have words,
-phrases, prefixes and ranges in fields of all kinds, of one field and of none, joined by AND, OR, NOT and a minus.
+phrases, prefixes and ranges in fields of all kinds, of one field and of none, joined by AND, OR, NOT and a minus. What `--explain` prints is
+compared with the shares of this definition, which have to add up to the score.
 
     ranking.py            50 folders with 200 queries each, as the gate runs it
     ranking.py N FIRST    N folders from the seed FIRST"""
+import json
 import random
 import sys
 import tempfile
@@ -13,8 +15,8 @@ import time
 sys.dont_write_bytecode = True
 import player
 import users
-from ranking_meaning import Ranking, show
-from segments_meaning import FIELD, WORDS, i64_key, some_doc, some_key, u64_key
+from ranking_meaning import SCORE_MAX, WEIGHT_BITS, Ranking, show
+from segments_meaning import FIELD, SCHEMA, WORDS, i64_key, some_doc, some_key, u64_key
 
 FOLDERS = 50
 QUERIES = 200
@@ -31,16 +33,17 @@ def key_range(field, name, low, high, key_of, chosen):
 
     first, last = '*' if below == 'none' else low, '*' if above == 'none' else high
     text = f'{name}:{"{" if below == "exclusive" else "["}{first} TO {last}{"}" if above == "exclusive" else "]"}'
+    printed = f'{name}:*' if below == above == 'none' else text
     if above == 'none' and below != 'none' and chosen.random() < 0.5:
         text = f'{name}:>{"=" if below == "inclusive" else ""}{low}'
-    return ('range', field, takes), text
+    return ('range', field, takes, printed), text
 
 
 def some_range(chosen):
     """Returns a query for a range of words or numbers, and its text."""
     if chosen.random() < 0.2:
         name = chosen.choice(list(FIELD))
-        return ('range', FIELD[name], lambda key: True), f'{name}:*'
+        return ('range', FIELD[name], lambda key: True, f'{name}:*'), f'{name}:*'
     if chosen.random() < 0.5:
         low, high = chosen.randint(0, 3), chosen.randint(0, 4)
         return key_range(FIELD['n'], 'n', low, high, u64_key, chosen)
@@ -55,11 +58,11 @@ def some_prefix(chosen):
     begins = lambda start: lambda key: key.startswith(start)
     how = chosen.random()
     if how < 0.2:
-        return ('or', *(('range', field, begins(prefix.encode())) for field in TEXTS)), f'{prefix}*'
+        return ('or', *(('range', field, begins(prefix.encode()), f'{SCHEMA[field][0]}:{prefix}*') for field in TEXTS)), f'{prefix}*'
     if how < 0.4:
-        return ('range', FIELD['j'], begins(b'p\0s' + prefix.encode())), f'j.p:{prefix}*'
+        return ('range', FIELD['j'], begins(b'p\0s' + prefix.encode()), f'j:p s {prefix}*'), f'j.p:{prefix}*'
     name = chosen.choice(['body', 'body', 'tag', 'flag'])
-    return ('range', FIELD[name], begins(prefix.encode())), f'{name}:{prefix}*'
+    return ('range', FIELD[name], begins(prefix.encode()), f'{name}:{prefix}*'), f'{name}:{prefix}*'
 
 
 def some_phrase(chosen):
@@ -113,19 +116,41 @@ def some_docs(chosen, number, most):
     return docs
 
 
+def text_of_part(query):
+    """Returns the text of a part of a query: each key as `terms` prints it."""
+    kind, field, *others = query
+    if kind == 'range':
+        return others[1]
+    if kind == 'term':
+        return f'{SCHEMA[field][0]}:{player.term_of(field, *others)}'
+    return f'{SCHEMA[field][0]}:"{" ".join(player.term_of(field, key) for key in others[0])}"'
+
+
+def explained(shares, units, is_json):
+    """Returns what `--explain` prints of shares, which add up to a score."""
+    if min(SCORE_MAX, sum(share[-1] for share in shares)) != units or not shares:
+        raise player.Failed(f'shares {shares} of the score {units}')
+    if not is_json:
+        return ''.join(f'    {show(share)}\tweight {show(weight, WEIGHT_BITS)}\tcount {count}\tnorm {norm}\t{text_of_part(part)}\n' for part, weight, count, norm, share in shares)
+    rows = (f'{{"query":{json.dumps(text_of_part(part))},"weight":{show(weight, WEIGHT_BITS)},"weight_units":{weight},"count":{count},"norm":{norm},"share":{show(share)},"units":{share}}}'
+            for part, weight, count, norm, share in shares)
+    return f',"explain":[{",".join(rows)}]'
+
+
 def compares(user, chosen, ranking):
     """Compares the best documents of a random query, in one of the ways to print them."""
     query, text = some_query(chosen, chosen.randrange(4))
     found = ranking.best(query)
     limit = chosen.choice([0, 1, 1, 2, 3, 10, len(found), len(found) + 1, 1000])
-    options = ['--top', str(limit), *chosen.choice([[], ['--ids'], ['--json'], ['--json'], ['--json', '--ids']])]
+    options = ['--top', str(limit), *chosen.choice([[], ['--ids'], ['--json'], ['--json'], ['--json', '--ids']]), *chosen.choice([[], ['--explain']])]
     out = ''
     for doc, units in found[:limit]:
         name = ranking.meaning.docs[doc]['id'].encode().hex()
+        why = explained(ranking.shares(query, doc), units, '--json' in options) if '--explain' in options else ''
         if '--json' in options:
-            out += f'{{"doc":{doc}' + (f',"id":"{name}"' if '--ids' in options else '') + f',"score":{show(units)},"units":{units}}}\n'
+            out += f'{{"doc":{doc}' + (f',"id":"{name}"' if '--ids' in options else '') + f',"score":{show(units)},"units":{units}{why}}}\n'
         else:
-            out += f'{name if "--ids" in options else doc}\t{show(units)}\n'
+            out += f'{name if "--ids" in options else doc}\t{show(units)}\n{why}'
     user.wants(['search', user.folder, text, *options], 0 if found else 1, out)
     return len(found) > 1 and len({units for _, units in found}) < len(found)
 

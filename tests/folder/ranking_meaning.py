@@ -1,8 +1,8 @@
 """What a document scores by a query: BM25 in integers, with k1 = 1.2 and b = 0.75. Every function is a definition in natural numbers
 and floors of quotients. What is asked is a list of documents, as `segments_meaning.py` reads them; segments are unknown here.
 
-A query is a list: `["term", FIELD, KEY]`, `["phrase", FIELD, KEYS]`, `["range", FIELD, TAKES]` of the keys that a function takes (a
-prefix too), and `and`, `or`, `not` of two queries or more."""
+A query is a list: `["term", FIELD, KEY]`, `["phrase", FIELD, KEYS]`, `["range", FIELD, TAKES, TEXT]` of the keys that a function
+takes (a prefix too), with its text, and `and`, `or`, `not` of two queries or more."""
 import bisect
 
 from segments_meaning import SCHEMA, Meaning
@@ -76,9 +76,9 @@ def add(first, second):
     return min(SCORE_MAX, first + second)
 
 
-def show(units):
-    """Returns a score with four decimals, the nearest."""
-    rounded = units * 10000 + 2 ** (SCORE_BITS - 1) >> SCORE_BITS
+def show(units, bits=SCORE_BITS):
+    """Returns a score, or a number with other fraction bits, with four decimals, the nearest."""
+    rounded = units * 10000 + 2 ** (bits - 1) >> bits
     return f'{rounded // 10000}.{rounded % 10000:04d}'
 
 
@@ -98,14 +98,17 @@ class Ranking:
     def postings(self, field, key):
         return self.once(('postings', field, key), lambda: self.meaning.postings(field, key))
 
+    def norm_of(self, field, doc):
+        """Returns the norm of a document, which is 1 if the field keeps none."""
+        if SCHEMA[field][0] not in WITH_NORMS:
+            return 1
+        counts = self.once(('counts', field), lambda: self.counts_of(field))
+        return NORMS[id_of_norm(counts[doc])]
+
     def length_of(self, field, doc):
         """Returns the length part of a document."""
         num_tokens = self.once(('tokens', field), lambda: self.meaning.num_tokens(field))
-        norm = 1
-        if SCHEMA[field][0] in WITH_NORMS:
-            counts = self.once(('counts', field), lambda: self.counts_of(field))
-            norm = NORMS[id_of_norm(counts[doc])]
-        return length_part(norm, num_tokens, self.num_docs)
+        return length_part(self.norm_of(field, doc), num_tokens, self.num_docs)
 
     def counts_of(self, field):
         counts = [0] * self.num_docs
@@ -138,7 +141,7 @@ class Ranking:
         if kind == 'phrase':
             return self.scores_by(*parts, self.phrase_counts(*parts))
         if kind == 'range':
-            field, takes = parts
+            field, takes = parts[:2]
             return {token[0]: 2 ** SCORE_BITS for token in self.meaning.tokens if token[1] == field and takes(token[2])}
         of_each = [self.scores(part) for part in parts]
         if kind == 'not':
@@ -149,6 +152,22 @@ class Ranking:
             for doc in docs & set(one):
                 total[doc] = add(total[doc], one[doc])
         return total
+
+    def shares(self, query, doc):
+        """Returns what the score of a document is made of: of each part of a query that it matches, in the order of the query, the
+        part, its weight, how often it occurs, the norm of the document, and what the part adds; none if the document doesn't match."""
+        kind, *parts = query
+        if kind == 'range':
+            return [(query, 0, 1, 1, 2 ** SCORE_BITS) for _ in range(doc in self.scores(query))]
+        if kind in ('term', 'phrase'):
+            field, keys = (parts[0], parts[1:]) if kind == 'term' else parts
+            counts = {other: count for other, count, _ in self.postings(*parts)} if kind == 'term' else self.phrase_counts(*parts)
+            of_all = weight([len(self.postings(field, key)) for key in keys], self.num_docs)
+            return [(query, of_all, counts[doc], self.norm_of(field, doc), score(of_all, counts[doc], self.length_of(field, doc))) for _ in range(doc in counts)]
+        of_each = [self.shares(part, doc) for part in parts]
+        if kind == 'not':
+            return [] if any(of_each[1:]) else of_each[0]
+        return [] if kind == 'and' and not all(of_each) else sum(of_each, [])
 
     def best(self, query):
         """Returns all documents that match, each with its score: the best first, of equal ones the first."""

@@ -43,6 +43,10 @@ pub fn answer_search(
         let status = refuse(rt, "search needs a query, or --batch")?;
         return Ok(ExitCode::from(status));
     }
+    if given.get_flag("explain") && given.get_str("top").is_none() {
+        let status = refuse(rt, "--explain stands only with --top")?;
+        return Ok(ExitCode::from(status));
+    }
     let timing = Timing::begin(rt, given)?;
     match opened_at(rt, path, wanted_by(given))? {
         Ok(opened) => {
@@ -180,6 +184,7 @@ fn wanted_given<'a, 'n>(
         Ok(Some(limit)) => Ok(Ok(Wanted::Best(BestListing {
             limit,
             format,
+            with_explanations: given.get_flag("explain"),
             ids,
             stored,
         }))),

@@ -215,6 +215,11 @@ static READING: [Usage; 7] = [
                 help: "Prints the N best documents, the best first, each with its score (BM25)",
             },
             Word {
+                name: "explain",
+                given: Given::Flag,
+                help: "With --top alone: prints under each document what its score is made of, an indented line for each part of the query that the document matches: its share of the score, its weight, how often it occurs, the norm (the length of the document's field), and the part; separated by tabs",
+            },
+            Word {
                 name: "count",
                 given: Given::Flag,
                 help: "Prints only the number of documents",
@@ -257,7 +262,7 @@ static READING: [Usage; 7] = [
             Word {
                 name: "json",
                 given: Given::Flag,
-                help: "Prints a JSON object for each document: doc, its number; with --ids id; with --source source, its line; with --fields fields, these members; with --snippet snippet, as HTML with the words of the query in <b> elements; with --positions terms, each with field, term and positions; with --count one object with count",
+                help: "Prints a JSON object for each document: doc, its number; with --ids id; with --top score, and units, the score in units of 2^-38; with --explain explain, an array of objects with query, weight, weight_units, count, norm, share and units; with --source source, its line; with --fields fields, these members; with --snippet snippet, as HTML with the words of the query in <b> elements; with --positions terms, each with field, term and positions; with --count one object with count",
             },
         ],
     },

@@ -1,8 +1,11 @@
 pub mod Documents
+pub mod Explained
 pub mod Faults
 pub mod Finding
 pub mod Ids
 pub mod LineFields
 pub mod OpenedSegments
 pub mod Positions
+pub mod RowFormats
+pub mod ShareTexts
 pub mod Stored

@@ -5,6 +5,7 @@
 pub mod checking;
 pub mod deleting;
 pub mod documents;
+mod explaining;
 pub mod faults;
 pub mod finding;
 pub mod ids;
@@ -18,6 +19,7 @@ pub mod opened;
 pub mod opened_index;
 pub mod ranking;
 pub mod row_format;
+mod share_rows;
 pub mod stats;
 pub mod stored_lines;
 pub mod stored_part;

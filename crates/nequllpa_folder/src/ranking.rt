@@ -1,10 +1,17 @@
 //! Writes the best documents that a search finds.
-ghost use Rattle.std.specs.Prelude.{◌≡◌, ◌+◌, ◌<◌, ◌^◌, IfOk, IfSome, length, map, true};
+ghost use Rattle.std.specs.Prelude.{◌≡◌, ◌+◌, ◌<◌, ◌^◌, IfErr, IfOk, IfSome, None, OnOk, length, map, string_bytes, true};
+ghost use Rattle.std.specs.List.{AllZip};
 ghost use Rattle.ii_segment_search.specs.Searcher.{HaveFields, total_living};
-ghost use Rattle.ii_ranking.specs.Segments.{segment_of};
+ghost use Rattle.ii_ranking.specs.Scores.{IsScoreFault};
+ghost use Rattle.ii_ranking.specs.Segments.{segment_of, segments_damage, segments_scored};
+ghost use Rattle.ii_ranking.specs.Statistics.{statistics_of};
+ghost use Rattle.ii_ranking.specs.TopDocs.{AreBest};
+ghost use Rattle.nequllpa_folder.specs.Explained.{IsExplained};
+ghost use Rattle.nequllpa_folder.specs.RowFormats.{is_json};
 
 use crate::deleting::docs_with_term;
 use crate::documents::{document, segment_stores};
+use crate::explaining::explanations;
 use crate::faults::AnswerFault;
 use crate::finding::wanted_terms;
 use crate::ids::ids_of;
@@ -14,8 +21,9 @@ use crate::opened::Opened;
 use crate::opened_index::OpenedIndex;
 use crate::row_format::RowFormat;
 use crate::stored_part::{StoredPart, StoredParts, words_for};
-use ii_base::{Fault, Field, Term};
+use ii_base::{Fault, Field, Schema, Term};
 use ii_docset::DocId;
+use ii_explanation::push_score;
 use ii_ranking::{GatheredStatistics, RankedSegment, Score, TopDocs, search_segments};
 use ii_search::Query;
 use std::alloc::Global;
@@ -28,6 +36,8 @@ pub struct BestListing<'a, 'n> {
     pub limit: u32,
     /// How each is written.
     pub format: RowFormat,
+    /// Whether what its score is made of is written after it.
+    pub with_explanations: bool,
     /// The field whose value is written instead of a document's number.
     pub ids: Option<Field>,
     /// What of the stored document is written instead of its number.
@@ -39,10 +49,11 @@ pub struct BestListing<'a, 'n> {
 ///
 /// A line of words has the document's number, or instead its id, `-` if it has none, and after a tab its score with
 /// four decimals. A JSON line is an object with `doc`; with `id` (a string or null) if ids are requested; with
-/// `score`, and `units`, which is the score in units of 2^-38. If stored documents are requested, a line of words has
-/// the document in place of its number, and a JSON line has it as `source`, at its end. If fields of them are, these are
-/// in its place, and the member is `fields`. If snippets are, a line of words has the snippet of the document
-/// (`snippet_of_line`) after its score and a tab, and the member is `snippet`.
+/// `score`, and `units`, which is the score in units of 2^-38. If explanations are requested, what the score is made of
+/// follows (`push_shares`): a line of words for each part of the query, or a member `explain`. If stored documents are
+/// requested, a line of words has the document in place of its number, and a JSON line has it as `source`, at its end. If
+/// fields of them are, these are in its place, and the member is `fields`. If snippets are, a line of words has the snippet
+/// of the document (`snippet_of_line`) after its score and a tab, and the member is `snippet`.
 pub fn write_best<W: Write>(
     alloc: Global,
     out: &mut W,
@@ -53,13 +64,13 @@ pub fn write_best<W: Write>(
     if how.limit == 0 {
         return Ok(count_all(alloc, opened.segments(), query)? > 0);
     }
-    let best = match best_docs(alloc, opened, query, how.limit) {
+    let best = match best_docs(alloc, opened, query, how) {
         Ok(best) => best,
         Err(fault) => return Err(AnswerFault::Index(fault)),
     };
-    let any = !best.is_empty();
+    let any = !best.docs.is_empty();
     let ids = match how.ids {
-        Some(field) => ids_of_best(alloc, opened, field, &best),
+        Some(field) => ids_of_best(alloc, opened, field, &best.docs),
         None => Ok(Vec::new(alloc)),
     };
     let ids = match ids {
@@ -81,26 +92,65 @@ pub fn write_best<W: Write>(
     }
 }
 
-// Returns the best documents that match a query, at most so many, each with its score.
+// The best documents, each with its score, and, if requested, what each score is made of, as text.
+#[derive(Drop)]
+struct Best {
+    docs: Vec<(Score, DocId)>,
+    explanations: Vec<String>,
+}
+
+// Returns the best documents that match a query.
 fn best_docs(
     alloc: Global,
     opened: &OpenedIndex,
     query: &Query,
-    limit: u32,
-) -> Result<Vec<(Score, DocId)>, Fault> {
+    how: &BestListing<'_, '_>,
+) -> Result<Best, Fault> {
     let statistics = statistics_of(alloc, opened, query)?;
     let best = match sources_of(alloc, opened, query) {
         Ok(Some(sources)) => {
-            let docs = TopDocs::with_limit(limit as usize);
-            let best = search_segments(alloc, &sources, &statistics, query, &docs);
+            let best = best_of(alloc, opened.schema(), &sources, &statistics, query, how);
             drop(sources);
             best
         }
-        Ok(None) => Ok(Vec::new(alloc)),
+        Ok(None) => Ok(Best {
+            docs: Vec::new(alloc),
+            explanations: Vec::new(alloc),
+        }),
         Err(fault) => Err(fault),
     };
     drop(statistics);
     best
+}
+
+// Returns the best documents of segments that match a query.
+fn best_of(
+    alloc: Global,
+    schema: &Schema,
+    segments: &[RankedSegment<'_>],
+    statistics: &GatheredStatistics,
+    query: &Query,
+    how: &BestListing<'_, '_>,
+) -> Result<Best, Fault>
+    requires fields { HaveFields query.now (map segment_of segments.now) }
+    requires few { total_living (map segment_of segments.now) < 2 ^ 32 }
+    ensures best { IfOk result (λ best. AreBest (record { limit = how.now.limit; offset = 0 }) (segments_scored (statistics_of statistics.now) query.now 0 (map segment_of segments.now)) best.docs.items) }
+    ensures explained { how.now.with_explanations ≡ true → IfOk result (λ best. AllZip (IsExplained (statistics_of statistics.now) query.now (map segment_of segments.now) (is_json how.now.format) schema.now) best.docs.items (map string_bytes best.explanations.items)) }
+    ensures sound { OnOk result (segments_damage query.now (map segment_of segments.now) ≡ None) }
+    ensures fault { IfErr result (IsScoreFault (segments_damage query.now (map segment_of segments.now))) }
+{
+    let limit = TopDocs::with_limit(how.limit as usize);
+    let docs = search_segments(alloc, segments, statistics, query, &limit)?;
+    let explained = match how.with_explanations {
+        true => explanations(
+            alloc, schema, how.format, segments, statistics, query, &docs,
+        )?,
+        false => Vec::new(alloc),
+    };
+    Ok(Best {
+        docs,
+        explanations: explained,
+    })
 }
 
 // Returns the segments, or `None` if one of them lacks a field of the query, or they have too many documents.
@@ -284,7 +334,7 @@ fn write_parts<W: Write>(
     opened: &OpenedIndex,
     query: &Query,
     how: &BestListing<'_, '_>,
-    best: &[(Score, DocId)],
+    best: &Best,
 ) -> Result<(), AnswerFault> {
     let words = words_for(alloc, how.stored, query)?;
     let parts = StoredParts::new(opened, how.stored, how.format, &words);
@@ -299,14 +349,15 @@ fn write_sources<W: Write>(
     out: &mut W,
     opened: &OpenedIndex,
     parts: &StoredParts<'_, '_>,
-    best: &[(Score, DocId)],
+    best: &Best,
 ) -> Result<(), AnswerFault> {
     let stores = segment_stores(alloc, opened)?;
     let mut written = Ok(());
-    for pair in best {
+    for (place, pair) in best.docs.iter().enumerate() {
         if written.is_ok() {
+            let explanation = text_at(&best.explanations, place);
             written = match document(&stores, u64::from(pair.1)) {
-                Ok(document) => write_source(alloc, out, parts, *pair, document),
+                Ok(document) => write_source(alloc, out, parts, *pair, document, explanation),
                 Err(fault) => Err(AnswerFault::Document(fault)),
             };
         }
@@ -315,34 +366,35 @@ fn write_sources<W: Write>(
     written
 }
 
-// Writes what is requested of a stored document, with its score.
+// Writes what is requested of a stored document, with its score, and what the score is made of.
 fn write_source<W: Write>(
     alloc: Global,
     out: &mut W,
     parts: &StoredParts<'_, '_>,
     best: (Score, DocId),
     document: &[u8],
+    explanation: &str,
 ) -> Result<(), AnswerFault> {
     let (score, doc) = best;
-    let rounded = (u128::from(score) * 10_000 + (1 << 37)) >> 38;
-    let (whole, part) = (rounded / 10_000, rounded % 10_000);
     if parts.format.is_json() {
-        write!(
-            out,
-            "{{\"doc\":{doc},\"score\":{whole}.{part:04},\"units\":{score}"
-        )?;
+        write!(out, "{{\"doc\":{doc}")?;
+        write_score_members(alloc, out, score, explanation)?;
         parts.write_member(alloc, out, document)?;
         write!(out, "}}{}", parts.format.end())?;
         return Ok(());
     }
     if parts.has_number() {
-        write!(out, "{doc}\t{whole}.{part:04}\t")?;
+        write!(out, "{doc}\t")?;
+        write_score(alloc, out, score)?;
+        write!(out, "\t")?;
         parts.write(alloc, out, document)?;
-        writeln!(out)?;
+        write!(out, "\n{explanation}")?;
         return Ok(());
     }
     parts.write(alloc, out, document)?;
-    writeln!(out, "\t{whole}.{part:04}")?;
+    write!(out, "\t")?;
+    write_score(alloc, out, score)?;
+    write!(out, "\n{explanation}")?;
     Ok(())
 }
 
@@ -351,53 +403,79 @@ fn write_rows<W: Write>(
     alloc: Global,
     out: &mut W,
     how: &BestListing<'_, '_>,
-    best: &[(Score, DocId)],
+    best: &Best,
     ids: &[String],
 ) -> Result<(), AnswerFault> {
-    for (place, pair) in best.iter().enumerate() {
-        write_row(alloc, out, how, pair.0, pair.1, id_at(ids, place))?;
+    for (place, pair) in best.docs.iter().enumerate() {
+        let explanation = text_at(&best.explanations, place);
+        write_row(alloc, out, how, *pair, text_at(ids, place), explanation)?;
     }
     Ok(())
 }
 
-// Returns the id of the document at an index, if it has one.
-fn id_at(ids: &[String], place: usize) -> Option<&str> {
-    match ids.get(place) {
-        Some(text) => {
-            if text.is_empty() {
-                return None;
-            }
-            Some(text.as_str())
-        }
-        None => None,
+// Returns the text at an index, an empty one if there is none.
+fn text_at(texts: &[String], place: usize) -> &str {
+    match texts.get(place) {
+        Some(text) => text.as_str(),
+        None => "",
     }
 }
 
-// Writes a document with its score.
+// Writes a document with its score, and what the score is made of; its id, if ids are requested, is empty if it has none.
 fn write_row<W: Write>(
     alloc: Global,
     out: &mut W,
     how: &BestListing<'_, '_>,
-    score: Score,
-    doc: DocId,
-    id: Option<&str>,
+    best: (Score, DocId),
+    id: &str,
+    explanation: &str,
 ) -> Result<(), AnswerFault> {
-    let parts = (u128::from(score) * 10_000 + (1 << 37)) >> 38;
-    let (whole, part) = (parts / 10_000, parts % 10_000);
+    let (score, doc) = best;
     if how.format.is_json() {
         write!(out, "{{\"doc\":{doc}")?;
         if how.ids.is_some() {
-            write_id(alloc, out, id)?;
+            write_id(alloc, out, some_id(id))?;
         }
-        let end = how.format.end();
-        write!(out, ",\"score\":{whole}.{part:04},\"units\":{score}}}{end}")?;
+        write_score_members(alloc, out, score, explanation)?;
+        write!(out, "}}{}", how.format.end())?;
         return Ok(());
     }
     if how.ids.is_some() {
-        write!(out, "{}", id.unwrap_or("-"))?;
+        write!(out, "{}\t", some_id(id).unwrap_or("-"))?;
     } else {
-        write!(out, "{doc}")?;
+        write!(out, "{doc}\t")?;
     }
-    writeln!(out, "\t{whole}.{part:04}")?;
+    write_score(alloc, out, score)?;
+    write!(out, "\n{explanation}")?;
     Ok(())
+}
+
+// Returns an id, unless it is empty.
+fn some_id(id: &str) -> Option<&str> {
+    if id.is_empty() {
+        return None;
+    }
+    Some(id)
+}
+
+// Writes a score as members of a JSON object, and the member that says what it is made of.
+fn write_score_members<W: Write>(
+    alloc: Global,
+    out: &mut W,
+    score: Score,
+    explanation: &str,
+) -> Result<(), AnswerFault> {
+    write!(out, ",\"score\":")?;
+    write_score(alloc, out, score)?;
+    write!(out, ",\"units\":{score}{explanation}")?;
+    Ok(())
+}
+
+// Writes a score with four decimals.
+fn write_score<W: Write>(alloc: Global, out: &mut W, score: Score) -> Result<(), AnswerFault> {
+    let mut text = String::new(alloc);
+    push_score(&mut text, score)?;
+    let written = out.write_all(text.as_bytes());
+    drop(text);
+    Ok(written?)
 }

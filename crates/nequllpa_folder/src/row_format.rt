@@ -1,4 +1,6 @@
 //! How rows are written: found documents, terms, fields or damages.
+ghost use Rattle.std.specs.Prelude.{◌≡◌};
+ghost use Rattle.nequllpa_folder.specs.RowFormats.{is_json};
 
 /// How a row is written.
 #[derive(Clone, Copy, Debug, PartialEq, Eq)]
@@ -13,8 +15,13 @@ pub enum RowFormat {
 
 impl RowFormat {
     /// Returns whether it is a JSON object.
-    pub fn is_json(self) -> bool {
-        self != RowFormat::Words
+    pub fn is_json(self) -> bool
+        ensures { result ≡ is_json self }
+    {
+        match self {
+            RowFormat::Words => false,
+            RowFormat::JsonLine | RowFormat::JsonItem => true,
+        }
     }
 
     // Returns what follows it.

@@ -1,0 +1,2 @@
+pub mod PartTextLemmas
+pub mod PlaceLemmas

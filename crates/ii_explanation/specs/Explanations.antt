@@ -1,0 +1,15 @@
+-- What the score of a document of segments is made of.
+use Rattle.std.specs.Prelude.{◌≡◌, ℕ, ◌+◌, true, List, ◌∷◌, ◌++◌}
+use Rattle.ii_alive.specs.Alive.{rank}
+use Rattle.ii_bm25.specs.Statistics.{Statistics}
+use Rattle.ii_query_parser.specs.Queries.{QueryTree}
+use Rattle.ii_segments.specs.Segments.{is_living}
+use Rattle.ii_segment_search.specs.Searcher.{OpenSegmentState, total_living}
+use Rattle.ii_ranking.specs.Scores.{scored_in}
+use Rattle.ii_ranking.specs.Shares.{ShareState, tree_shares}
+
+-- These are the shares of the living document with this number: the documents that are alive before it, in its segment and in those before, are so many.
+abbrev pub AreSharesAt : Statistics → QueryTree → List OpenSegmentState → ℕ → List ShareState → Type 0
+AreSharesAt statistics q segments number shares =
+    (before after : List OpenSegmentState) (s : OpenSegmentState) (doc : ℕ) → segments ≡ before ++ s ∷ after → is_living s.alive doc ≡ true → number ≡ total_living before + rank s.alive doc
+    → shares ≡ tree_shares (scored_in s.index statistics) q doc

@@ -1,0 +1,3 @@
+pub mod Explanations
+pub mod PartTexts
+pub mod ScoreTexts
