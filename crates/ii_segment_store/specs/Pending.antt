@@ -1,12 +1,14 @@
 -- Segments whose files are written, before a list has them.
-use Rattle.std.specs.Prelude.{◌+◌, ◌≤◌, ◌^◌, [], ◌∷◌, ◌++◌, Result, Ok, Err}
+use Rattle.std.specs.Prelude.{◌≡◌, ℕ, List, Some, ◌+◌, ◌≤◌, ◌^◌, [], ◌∷◌, ◌++◌, Result, Ok, Err}
 use Rattle.ii_store.specs.declared.faults.IndexFault.{IndexFault}
 use Rattle.ii_directory.specs.Directory.{Files}
+use Rattle.ii_directory.specs.declared.name.Name.TheVariants.{Meta}
 use Rattle.ii_store.specs.Index.{Fails}
 use Rattle.ii_store.specs.IndexMeta.{IsValidMeta, MetaState}
+use Rattle.ii_store.specs.Segments.{list_in}
 use Rattle.ii_segment_store.specs.declared.faults.CommitFault.{CommitFault}
 use Rattle.ii_segment_store.specs.declared.faults.CommitFault.TheVariants as faults
-use Rattle.ii_segment_store.specs.Changes.{OfDirectory}
+use Rattle.ii_segment_store.specs.Changes.{IsDeleteFault, OfDirectory, first_uncounted, latest_generation}
 use Rattle.ii_segment_store.specs.Commits.{HaveIdsBelow, IsFresh, listed_segment}
 use Rattle.ii_segment_store.specs.Contents.{SegmentContents}
 
@@ -40,3 +42,13 @@ abbrev pub IsPendingFault : CommitFault → MetaState → Type 0
 IsPendingFault (faults.Store fault) m = OfDirectory fault
 IsPendingFault (faults.NoCounts id) m = ⊥
 IsPendingFault faults.TooMany m = IsValidMeta m → ⊥
+
+-- The directory has a list of segments, and this list has flags of its greatest generation or of a greater one.
+abbrev pub FollowsFlags : MetaState → Files → Type 0
+FollowsFlags m files = (l : MetaState) × (list_in (files Meta) ≡ Ok l) × (latest_generation l.segments ≤ latest_generation m.segments)
+
+-- Why documents of a list aren't deleted: a segment of them has no counts, or its flags aren't changed.
+abbrev pub IsFlaggingFault : CommitFault → List (List ℕ) → MetaState → Files → Type 0
+IsFlaggingFault (faults.Store fault) deleted m files = IsDeleteFault (faults.Store fault) deleted m files
+IsFlaggingFault (faults.NoCounts id) deleted m files = first_uncounted deleted m.segments ≡ Some id
+IsFlaggingFault faults.TooMany deleted m files = IsDeleteFault faults.TooMany deleted m files

@@ -109,7 +109,7 @@ fn commit_list<D: Directory>(
 }
 
 // Writes the new flags of a list's segments, and returns the list with them.
-fn write_deletes<D: Directory>(
+pub(crate) fn write_deletes<D: Directory>(
     alloc: Global,
     directory: &mut D,
     list: IndexMeta,
@@ -313,7 +313,7 @@ fn docs_at(deleted: &[Vec<DocId>], place: usize) -> &[DocId]
 }
 
 // Returns the first segment without counts whose documents would be deleted.
-fn first_uncounted(deleted: &[Vec<DocId>], segments: &[SegmentMeta]) -> Option<SegmentId>
+pub(crate) fn first_uncounted(deleted: &[Vec<DocId>], segments: &[SegmentMeta]) -> Option<SegmentId>
     ensures { result ≡ first_uncounted (map (λ v. v.items) deleted.now) (map segment_view segments.now) }
 {
     for place in 0..segments.len() {

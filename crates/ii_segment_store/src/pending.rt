@@ -1,17 +1,20 @@
 //! Segments that are written one by one, and added to an index all at once.
-ghost use Rattle.std.specs.Prelude.{◌≡◌, ◌+◌, ◌≤◌, ◌^◌, IfErr, IfOk, Ok, OnOk};
+ghost use Rattle.std.specs.Prelude.{◌≡◌, ◌+◌, ◌≤◌, ◌^◌, IfErr, IfOk, Ok, OnOk, map};
 ghost use Rattle.ii_directory.specs.declared.name.Name.TheVariants.{Meta};
 ghost use Rattle.ii_directory.specs.Directory.{Obeys, is_obeyed};
 ghost use Rattle.ii_store.specs.IndexMeta.{IsValidMeta, MetaState, meta_view};
 ghost use Rattle.ii_store.specs.Segments.{KeepsOtherFiles, list_in};
+ghost use Rattle.ii_segment_store.specs.Changes.{IsFlaggedList, index_without};
 ghost use Rattle.ii_segment_store.specs.Commits.{HaveIdsBelow, IsRefusedCommit, KeepsButSegment, LeavesOneIndex, emptied};
 ghost use Rattle.ii_segment_store.specs.Contents.{files_contents, index_contents, list_contents, with_segment};
-ghost use Rattle.ii_segment_store.specs.Pending.{IsBeginFault, IsPending, IsPendingFault, begun, with_next};
+ghost use Rattle.ii_segment_store.specs.Pending.{FollowsFlags, IsBeginFault, IsFlaggingFault, IsPending, IsPendingFault, begun, with_next};
 
 use crate::committing::{listed_segment, write_segment};
+use crate::deleting::{first_uncounted, write_deletes};
 use crate::faults::CommitFault;
 use crate::replacing::empty_list;
 use crate::stored_segments::SegmentFiles;
+use ii_base::DocId;
 use ii_store::commit_check::is_valid;
 use ii_store::segments::{load_meta, replace_list};
 use ii_store::{Directory, IndexMeta};
@@ -47,6 +50,7 @@ impl PendingSegments {
         ensures list { D.is_known directory.now → IfOk result (λ p. (m : MetaState) × (list_in (D.seen directory.now Meta) ≡ Ok m) × (p ≡ begun m)) }
         ensures pending { D.is_known directory.now → IfOk result (λ p. IsPending p (D.seen directory.now)) }
         ensures holds { D.is_known directory.now → IfOk result (λ p. list_contents p (D.seen directory.now) ≡ index_contents (D.seen directory.now)) }
+        ensures follows { D.is_known directory.now → IfOk result (λ p. FollowsFlags p (D.seen directory.now)) }
         ensures fault { D.is_known directory.now → IfErr result (λ e. IsBeginFault e (list_in (D.seen directory.now Meta))) }
         ensures obeyed { is_obeyed IsRefusedCommit (D.may_refuse directory.now) result }
     {
@@ -91,6 +95,13 @@ impl PendingSegments {
         Ok(PendingSegments { list })
     }
 
+    /// Returns the list.
+    pub fn list(&self) -> &IndexMeta
+        ensures { meta_view result.now ≡ self.now }
+    {
+        &self.list
+    }
+
     /// Writes the files of a segment under an id that no segment had. The directory holds the same index, wherever
     /// this is stopped.
     ///
@@ -112,6 +123,7 @@ impl PendingSegments {
         ensures holds { D.is_known directory.old → HaveIdsBelow self.next_segment_id self.segments → IfOk result (λ p. list_contents p (D.seen directory.new) ≡ with_segment (files_contents segment.now) (list_contents self (D.seen directory.old))) }
         // what stays
         ensures pending { D.is_known directory.old → IsPending self (D.seen directory.old) → IfOk result (λ p. IsPending p (D.seen directory.new)) }
+        ensures follows { D.is_known directory.old → FollowsFlags self (D.seen directory.old) → IfOk result (λ p. FollowsFlags p (D.seen directory.new)) }
         ensures same { D.is_known directory.old → IsPending self (D.seen directory.old) → OnOk result (index_contents (D.seen directory.new) ≡ index_contents (D.seen directory.old)) }
         ensures keeps { D.is_known directory.old → OnOk result (KeepsButSegment self.next_segment_id (D.seen directory.old) (D.seen directory.new)) }
         ensures leaves_same { D.is_known directory.old → IsPending self (D.seen directory.old) → LeavesOneIndex D.moment D.left_since D.seen directory.old directory.new (index_contents (D.seen directory.old)) }
@@ -125,6 +137,42 @@ impl PendingSegments {
         match write_segment(directory, id, segment) {
             Ok(()) => Ok(PendingSegments { list }),
             Err(fault) => Err(CommitFault::from(fault)),
+        }
+    }
+
+    /// Deletes documents of the segments of the list. `deleted` has for each segment, in order, the numbers of its
+    /// documents that are deleted; a number that isn't one of its documents is ignored, and a deleted document stays
+    /// deleted. The new flags are written to files that no list of segments had. The directory holds the same index,
+    /// wherever this is stopped.
+    ///
+    /// After an error the segments that were added before are dropped as well.
+    ///
+    /// # Errors
+    ///
+    /// `NoCounts` for the first segment without counts whose documents would be deleted. The fault of the flags of a
+    /// segment whose documents are deleted. `TooMany` if flags can have no later generation.
+    pub fn delete<D: Directory>(
+        self,
+        alloc: Global,
+        directory: &mut D,
+        deleted: &[Vec<DocId>],
+    ) -> Result<PendingSegments, CommitFault>
+        ensures known { D.is_known directory.old → OnOk result (D.is_known directory.new) }
+        ensures obeys { Obeys IsRefusedCommit (D.may_refuse directory.old) (D.may_refuse directory.new) result }
+        ensures holds { D.is_known directory.old → IfOk result (λ p. list_contents p (D.seen directory.new) ≡ index_without (map (λ v. v.items) deleted.now) (list_contents self (D.seen directory.old))) }
+        ensures flagged { D.is_known directory.old → IfOk result (λ p. IsFlaggedList (map (λ v. v.items) deleted.now) self p (D.seen directory.old)) }
+        // what stays
+        ensures same { D.is_known directory.old → FollowsFlags self (D.seen directory.old) → OnOk result (index_contents (D.seen directory.new) ≡ index_contents (D.seen directory.old)) }
+        ensures leaves_same { D.is_known directory.old → FollowsFlags self (D.seen directory.old) → LeavesOneIndex D.moment D.left_since D.seen directory.old directory.new (index_contents (D.seen directory.old)) }
+        ensures fault { D.is_known directory.old → IfErr result (λ e. IsFlaggingFault e (map (λ v. v.items) deleted.now) self (D.seen directory.old)) }
+    {
+        let list = self.list;
+        if let Some(id) = first_uncounted(deleted, list.segments.as_slice()) {
+            return Err(CommitFault::NoCounts(id));
+        }
+        match write_deletes(alloc, directory, list, deleted) {
+            Ok(list) => Ok(PendingSegments { list }),
+            Err(fault) => Err(fault),
         }
     }
 

@@ -2,9 +2,9 @@ use Rattle.std.proofs.Common.{◌≡◌, refl, subst, sym}
 use Rattle.ii_store.specs.IndexMeta.{MetaState, meta_view}
 use Rattle.ii_segment_store.specs.Commits.{HaveIdsBelow, KeepsButSegment, LeavesOneIndex}
 use Rattle.ii_segment_store.specs.Contents.{files_contents, index_contents, list_contents, with_segment}
-use Rattle.ii_segment_store.specs.Pending.{IsPending}
+use Rattle.ii_segment_store.specs.Pending.{FollowsFlags, IsPending}
 use Rattle.ii_segment_store.proofs.CommitLaws.{holds_none, leaves_index}
-use Rattle.ii_segment_store.proofs.PendingLaws.{stays_pending, written_contents, written_same, written_time}
+use Rattle.ii_segment_store.proofs.PendingLaws.{stays_following, stays_pending, written_contents, written_same, written_time}
 use Rattle.ii_segment_store.proofs.pending.PendingSegments.add.Goals as goal
 
 pub returns-in-Err-clause-leaves_same : goal.returns-in-Err-clause-leaves_same
@@ -70,3 +70,13 @@ returns-in-Err-write_segment-clause-leaves_same g c = λ known.
     subst (λ (l : MetaState). IsPending l (d.seen old) → LeavesOneIndex d.moment d.left_since d.seen old new wanted) c.self.view_is
     (λ pending. leaves_index d.moment d.left_since d.seen old (λ f left. g.met.D.Directory.only_now old f known left) new wanted
     (written_time d.moment d.left_since d.seen old new new m (files_contents c.args.segment.now) pending (c.write_segment.ensures.time known)))
+
+pub returns-in-Ok-write_segment-clause-follows : goal.returns-in-Ok-write_segment-clause-follows
+returns-in-Ok-write_segment-clause-follows g c = λ known.
+    let d = g.D.Directory in
+    let old = d.seen c.args.directory.now in
+    let new = d.seen c.write_segment.new.directory in
+    let m = meta_view c.self.inside.list in
+    let s = files_contents c.args.segment.now in
+    subst (λ (l : MetaState). FollowsFlags l old → FollowsFlags (meta_view c.in-Ok.list) new) c.self.view_is
+    (λ follows. subst (λ (n : MetaState). FollowsFlags n new) (sym c.in-Ok.ensures.next) (stays_following m s old new (c.in-Ok-write_segment.ensures.keeps known) follows))
