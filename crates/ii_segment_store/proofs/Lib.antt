@@ -2,7 +2,7 @@ mod LoadLaws
 mod KeptLaws
 mod WantedLaws
 pub mod CommitLaws
-mod PendingLaws
+pub mod PendingLaws
 mod FlagLaws
 mod OrderLaws
 mod ClearLaws
