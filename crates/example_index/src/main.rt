@@ -7,7 +7,7 @@ const SCHEMA: &str = "[[field]]\nname = \"body\"\ntype = \"text\"\n";
 
 fn main(rt: HostRuntime) -> anyhow::Result<()> {
     let index = Index::create(rt.alloc(), MemoryDirectory::create(rt.alloc()), SCHEMA)?;
-    let mut writer = index.writer(rt.alloc())?;
+    let mut writer = index.writer(rt.alloc(), 50_000_000)?;
     writer.add_document(rt.alloc(), "{\"body\": \"the old man and the sea\"}")?;
     writer.add_document(rt.alloc(), "{\"body\": \"a bird in the hand\"}")?;
     writer.add_document(rt.alloc(), "{\"body\": \"the sea, the old sea\"}")?;

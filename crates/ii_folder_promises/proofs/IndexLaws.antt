@@ -1,17 +1,21 @@
 -- How many documents the segments of an index have.
-use Rattle.std.proofs.Common.{◌≡◌, ◌+◌, ◌≤◌, ℕ, Bool, true, false, List, [], ◌∷◌, arith, ap, map, not, refl, subst, sym}
-use Rattle.std.specs.List.{range_with_len}
+use Rattle.std.proofs.Common.{◌≡◌, ◌+◌, ◌≤◌, ℕ, Bool, true, false, List, [], ◌∷◌, ◌++◌, Option, None, arith, ap, not, refl, subst, sym}
 use Rattle.ii_alive.specs.Alive.{num_living}
+use Rattle.ii_alive.proofs.RankLemmas.{all_living}
+use Rattle.ii_directory.specs.Directory.{Files}
 use Rattle.ii_base.specs.Schema.{SchemaEntry}
 use Rattle.ii_base.specs.Terms.{TermState}
-use Rattle.ii_base.specs.Words.{Word}
 use Rattle.ii_definitions.specs.Tokens.{IndexToken}
 use Rattle.ii_index.specs.Deletes.{DeleteState, committed, is_deleted}
 use Rattle.ii_index.specs.Ranking.{SearcherHolds}
 use Rattle.ii_index.specs.Searching.{SearcherState}
-use Rattle.ii_index.specs.Segments.{with_documents}
+use Rattle.ii_index.specs.Index.{FlushedState, IndexWriterState, with_documents_of}
+use Rattle.ii_index.specs.Pending.{HasPending, HoldsFlushedIf}
+use Rattle.ii_index.specs.Segments.{HaveTokens, no_documents, segment_of, with_tokens}
+use Rattle.ii_segment_search.proofs.LocalLaws.{docs_of_both}
+use Rattle.ii_tokenizers.specs.Tokenizers.{analyzed_in}
 use Rattle.ii_segment_search.specs.Searcher.{OpenSegmentState, SegmentsHold, total_living}
-use Rattle.ii_segments.specs.Segments.{Segment, num_docs_of}
+use Rattle.ii_segments.specs.Segments.{Segment, index_tokens, num_docs_of}
 use Rattle.nequllpa_indexing.specs.Documents.{DocumentsState}
 
 same_living : (entries : List SchemaEntry) (opened : List OpenSegmentState) (ss : List Segment) → SegmentsHold entries opened ss → total_living opened ≡ num_docs_of ss
@@ -34,10 +38,22 @@ one_or_two true = record { least = omega arith; most = omega arith }
 one_or_two false = record { least = omega arith; most = omega arith }
 
 -- of two documents, between which a term is deleted, the second is left
-pub second_left : (words : ℕ → List ℕ → List Word) (d : DocumentsState) (deletes : List DeleteState) (term : TermState) → d.num_docs ≡ 2 → deletes ≡ (record { term = term; num_pending = 1 }) ∷ [] → IsOneOrTwo (num_docs_of (committed words d deletes 0 [] ∷ []))
-second_left words d deletes term two is =
+pub second_left : (deletes : List DeleteState) (term : TermState) (us : List IndexToken) → deletes ≡ (record { term = term; num_pending = 1 }) ∷ [] → IsOneOrTwo (num_docs_of (committed deletes 0 [] 2 us ∷ []))
+second_left deletes term us is =
     let delete : DeleteState = record { term = term; num_pending = 1 } in
-    let keep : ℕ → Bool = λ doc. not (is_deleted (delete ∷ []) 0 (with_documents words d 0 []) doc) in
-    let count : 2 ≡ 0 + d.num_docs = omega (arith, two) in
-    subst (λ (ds : List DeleteState). IsOneOrTwo (num_docs_of (committed words d ds 0 [] ∷ []))) (sym is)
-    (subst (λ (m : ℕ). IsOneOrTwo (num_living (map keep (range_with_len 0 m)) + 0)) count (one_or_two (keep 0)))
+    subst (λ (ds : List DeleteState). IsOneOrTwo (num_docs_of (committed ds 0 [] 2 us ∷ []))) (sym is) (one_or_two (not (is_deleted (delete ∷ []) 0 (with_tokens 0 [] us) 0)))
+
+-- a writer without documents that weren't committed
+pub nothing_pending : {D : Type 0} (files : Files) (w : IndexWriterState D) → w.flushed ≡ None → w.documents ≡ no_documents w.index.schema → HasPending files w 0 []
+nothing_pending files w none empty = record {
+  segments = [];
+  holds = subst (λ (x : Option FlushedState). HoldsFlushedIf w.index.schema.schema files x []) (sym none) refl;
+  have = subst (λ (d : DocumentsState). HaveTokens 0 [] (segment_of (analyzed_in w.index.schema.tokenizers) d ∷ [])) (sym empty) (record { num_docs = refl; tokens = refl });
+}
+
+-- a document in memory is one more that is pending
+pub one_pending : {D : Type 0} (files : Files) (w : IndexWriterState D) (d : DocumentsState) (k : ℕ) (us : List IndexToken) → d.num_docs ≡ w.documents.num_docs + 1 → HasPending files w k us → (vs : List IndexToken) × HasPending files (with_documents_of d w) (k + 1) vs
+one_pending files w d k us more h =
+    let words = analyzed_in w.index.schema.tokenizers in
+    let count : num_docs_of (h.segments ++ segment_of words d ∷ []) ≡ k + 1 = omega (arith, h.have.num_docs, docs_of_both h.segments (segment_of words d ∷ []), docs_of_both h.segments (segment_of words w.documents ∷ []), all_living d.num_docs, all_living w.documents.num_docs, more) in
+    (index_tokens (h.segments ++ segment_of words d ∷ []), record { segments = h.segments; holds = h.holds; have = record { num_docs = count; tokens = refl } })

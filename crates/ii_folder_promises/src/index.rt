@@ -1,21 +1,25 @@
 // An index in a directory, to which documents are added.
-ghost use Rattle.std.specs.Prelude.{◌≡◌, ◌⊎◌, ◌<◌, ◌≤◌, [], ◌∷◌, IfErr, IfSome, IsTrue, None, Ok, length, true};
+ghost use Rattle.std.specs.Prelude.{◌≡◌, ◌⊎◌, ◌+◌, ◌<◌, ◌≤◌, ℕ, [], ◌∷◌, IfErr, IfSome, IsTrue, List, None, Ok, length, true};
 ghost use Rattle.ii_base.specs.Terms.{TermState};
+ghost use Rattle.ii_definitions.specs.Tokens.{IndexToken};
 ghost use Rattle.ii_directory.specs.Directory.{Files};
 ghost use Rattle.ii_directory.specs.declared.name.Name.TheVariants.{Meta, Segment};
 ghost use Rattle.ii_directory.specs.declared.name.SegmentComponent.TheVariants.{Terms};
 ghost use Rattle.ii_store.specs.Segments.{list_in};
 ghost use Rattle.ii_index.specs.Faults.{IsRefusedError};
-ghost use Rattle.ii_index.specs.Index.{HasNothing};
-ghost use Rattle.ii_index.specs.Segments.{HoldsIndexOf, no_documents};
+ghost use Rattle.ii_index.specs.Index.{HasNothing, num_pending};
+ghost use Rattle.ii_index.specs.Pending.{HasPending};
+ghost use Rattle.ii_index.specs.Segments.{HoldsIndexOf};
 
 use ii_index::{Directory, Index, IndexError, IndexWriter, Term};
 use std::alloc::Global;
 
-/// Two documents that are added to a new index and committed are all documents of the index, in whatever directory.
+/// Two documents that are added to a new index and committed are all documents of the index, in whatever directory,
+/// and however much memory they may take before.
 pub fn committed_documents_are_counted<D: Directory + Drop>(
     alloc: Global,
     directory: D,
+    memory_budget: usize,
     schema: &str,
     first: &str,
     second: &str,
@@ -23,10 +27,25 @@ pub fn committed_documents_are_counted<D: Directory + Drop>(
     requires { D.is_known directory }
     ensures { IfSome result (λ n. n ≡ 2) }
 {
-    let Some(writer) = with_two(alloc, directory, schema, first, second) else {
+    let Some(writer) = with_two(alloc, directory, memory_budget, schema, first, second) else {
         return None;
     };
     number_committed(alloc, writer)
+}
+
+/// The texts of the documents in memory have fewer bytes than they may, after each document that is added.
+pub fn memory_is_kept<D: Directory + Drop>(
+    alloc: Global,
+    writer: &mut IndexWriter<D>,
+    document: &str,
+) -> bool
+    requires { 0 < writer.old.max_bytes }
+    ensures { IsTrue result → writer.new.num_bytes < writer.new.max_bytes }
+{
+    let Ok(()) = writer.add_document(alloc, document) else {
+        return false;
+    };
+    true
 }
 
 /// An index in a directory that refuses no call is never refused one: neither when it is changed nor when it is read.
@@ -45,11 +64,11 @@ pub fn obeyed_indexes_are_never_refused<D: Directory + Drop>(
     }
     match writer.merge(alloc, 0) {
         Ok(()) => {}
-        Err(fault) => return Err(IndexError::Merge(fault)),
+        Err(fault) => return Err(fault),
     }
     match writer.garbage_collect_files(alloc) {
         Ok(_) => {}
-        Err(fault) => return Err(IndexError::Store(fault)),
+        Err(fault) => return Err(fault),
     }
     match writer.index().reader(alloc) {
         Ok(reader) => Ok(reader.searcher().num_docs()),
@@ -78,7 +97,7 @@ pub fn left_files_are_removed<D: Directory + Drop>(
 fn number_committed<D: Directory + Drop>(alloc: Global, writer: IndexWriter<D>) -> Option<u32>
     requires known { D.is_known writer.index.directory }
     requires empty { HoldsIndexOf writer.index.schema.schema (D.seen writer.index.directory) 0 [] }
-    requires two { writer.pending.num_docs ≡ 2 }
+    requires two { (us : List IndexToken) × HasPending (D.seen writer.index.directory) writer 2 us }
     requires none { writer.deletes ≡ [] }
     ensures { IfSome result (λ n. n ≡ 2) }
 {
@@ -96,6 +115,7 @@ fn number_committed<D: Directory + Drop>(alloc: Global, writer: IndexWriter<D>) 
 fn with_two<D: Directory + Drop>(
     alloc: Global,
     directory: D,
+    memory_budget: usize,
     schema: &str,
     first: &str,
     second: &str,
@@ -103,20 +123,38 @@ fn with_two<D: Directory + Drop>(
     requires { D.is_known directory }
     ensures known { IfSome result (λ w. D.is_known w.index.directory) }
     ensures empty { IfSome result (λ w. HoldsIndexOf w.index.schema.schema (D.seen w.index.directory) 0 []) }
-    ensures two { IfSome result (λ w. w.pending.num_docs ≡ 2) }
+    ensures two { IfSome result (λ w. (us : List IndexToken) × HasPending (D.seen w.index.directory) w 2 us) }
     ensures none { IfSome result (λ w. w.deletes ≡ []) }
 {
     let Ok(index) = Index::create(alloc, directory, schema) else {
         return None;
     };
-    let Ok(writer) = index.writer(alloc) else {
+    let Ok(writer) = index.writer(alloc, memory_budget) else {
         return None;
     };
+    let Some(writer) = with_document(alloc, writer, first) else {
+        return None;
+    };
+    with_document(alloc, writer, second)
+}
+
+// Returns a writer to which one more document was added: one more is pending, and the index is the same.
+fn with_document<D: Directory + Drop>(
+    alloc: Global,
+    writer: IndexWriter<D>,
+    document: &str,
+) -> Option<IndexWriter<D>>
+    requires { D.is_known writer.index.directory }
+    ensures known { IfSome result (λ w. D.is_known w.index.directory) }
+    ensures schema { IfSome result (λ w. w.index.schema ≡ writer.index.schema) }
+    ensures index { (k : ℕ) (us : List IndexToken) → HasPending (D.seen writer.index.directory) writer k us → (n : ℕ) (ts : List IndexToken) → HoldsIndexOf writer.index.schema.schema (D.seen writer.index.directory) n ts
+        → IfSome result (λ w. HoldsIndexOf w.index.schema.schema (D.seen w.index.directory) n ts) }
+    ensures pending { (k : ℕ) (us : List IndexToken) → HasPending (D.seen writer.index.directory) writer k us → IfSome result (λ w. (vs : List IndexToken) × HasPending (D.seen w.index.directory) w (k + 1) vs) }
+    ensures many { IfSome result (λ w. num_pending w ≡ num_pending writer + 1) }
+    ensures deletes { IfSome result (λ w. w.deletes ≡ writer.deletes) }
+{
     let mut writer = writer;
-    let Ok(()) = writer.add_document(alloc, first) else {
-        return None;
-    };
-    let Ok(()) = writer.add_document(alloc, second) else {
+    let Ok(()) = writer.add_document(alloc, document) else {
         return None;
     };
     Some(writer)
@@ -129,7 +167,7 @@ pub fn documents_with_a_term_are_deleted<D: Directory + Drop>(
     writer: &mut IndexWriter<D>,
 ) -> bool
     requires known { D.is_known writer.old.index.directory }
-    requires pending { writer.old.pending ≡ no_documents writer.old.index.schema }
+    requires pending { HasPending (D.seen writer.old.index.directory) writer.old 0 [] }
     requires delete { writer.old.deletes ≡ (record { term = record { field = 0; value = 98 ∷ [] }; num_pending = 0 }) ∷ [] }
     requires two { HoldsIndexOf writer.old.index.schema.schema (D.seen writer.old.index.directory) 2
         ((record { doc = 0; field = 0; key = 97 ∷ []; position = 0; of_text = true }) ∷ (record { doc = 1; field = 0; key = 98 ∷ []; position = 0; of_text = true }) ∷ []) }
@@ -175,30 +213,30 @@ fn with_delete_between<D: Directory + Drop>(
     first: &str,
     second: &str,
 ) -> Option<IndexWriter<D>>
+    requires known { D.is_known writer.index.directory }
     requires nothing { HasNothing writer }
+    requires empty { HoldsIndexOf writer.index.schema.schema (D.seen writer.index.directory) 0 [] }
     requires field { term.field < length writer.index.schema.schema }
-    ensures index { IfSome result (λ w. w.index ≡ writer.index) }
-    ensures two { IfSome result (λ w. w.pending.num_docs ≡ 2) }
+    ensures known { IfSome result (λ w. D.is_known w.index.directory) }
+    ensures empty { IfSome result (λ w. HoldsIndexOf w.index.schema.schema (D.seen w.index.directory) 0 []) }
+    ensures two { IfSome result (λ w. (us : List IndexToken) × HasPending (D.seen w.index.directory) w 2 us) }
     ensures delete { IfSome result (λ w. w.deletes ≡ (record { term = term; num_pending = 1 }) ∷ []) }
 {
-    let mut writer = writer;
-    let Ok(()) = writer.add_document(alloc, first) else {
+    let Some(writer) = with_document(alloc, writer, first) else {
         return None;
     };
+    let mut writer = writer;
     let Ok(()) = writer.delete_term(term) else {
         return None;
     };
-    let Ok(()) = writer.add_document(alloc, second) else {
-        return None;
-    };
-    Some(writer)
+    with_document(alloc, writer, second)
 }
 
 // Returns the number of documents of an index after a commit.
 fn number_left<D: Directory + Drop>(alloc: Global, writer: IndexWriter<D>) -> Option<u32>
     requires known { D.is_known writer.index.directory }
     requires empty { HoldsIndexOf writer.index.schema.schema (D.seen writer.index.directory) 0 [] }
-    requires two { writer.pending.num_docs ≡ 2 }
+    requires two { (us : List IndexToken) × HasPending (D.seen writer.index.directory) writer 2 us }
     requires delete { (term : TermState) × (writer.deletes ≡ (record { term = term; num_pending = 1 }) ∷ []) }
     ensures least { IfSome result (λ n. 1 ≤ n) }
     ensures most { IfSome result (λ n. n ≤ 2) }

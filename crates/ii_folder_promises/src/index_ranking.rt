@@ -5,13 +5,13 @@ ghost use Rattle.ii_base.specs.Schema.{SchemaEntry};
 ghost use Rattle.ii_base.specs.declared.doc_id.TheConstants.{TERMINATED};
 ghost use Rattle.ii_definitions.specs.Tokens.{IndexToken};
 ghost use Rattle.ii_index.specs.Ranking.{SearcherHolds};
-ghost use Rattle.ii_index.specs.Segments.{HoldsIndexOf, with_documents};
+ghost use Rattle.ii_index.specs.Pending.{HasPending};
+ghost use Rattle.ii_index.specs.Segments.{HoldsIndexOf, with_tokens};
 ghost use Rattle.ii_index.specs.Statistics.{token_statistics};
 ghost use Rattle.ii_query_parser.specs.Queries.{covers_docs, has_fields, keeps_positions, matches};
 ghost use Rattle.ii_ranking.specs.TokenScores.{token_score};
 ghost use Rattle.ii_ranking.specs.TopDocs.{AreBest, scored_docs};
 ghost use Rattle.ii_segment_search.specs.Searcher.{MayAsk};
-ghost use Rattle.ii_tokenizers.specs.Tokenizers.{analyzed_in};
 
 use ii_index::{Directory, DocId, IndexReader, IndexWriter, Query, Score, TopDocs};
 use std::alloc::Global;
@@ -31,16 +31,16 @@ pub fn the_best_of_an_index_come_first<D: Directory + Drop>(
     requires fields { has_fields (length writer.old.index.schema.schema) query.now ≡ true }
     requires positions { keeps_positions writer.old.index.schema.schema query.now ≡ true }
     requires covers { covers_docs TERMINATED query.now ≡ true }
-    ensures scores { (n : ℕ) (ts : List IndexToken) → HoldsIndexOf writer.old.index.schema.schema (D.seen writer.old.index.directory) n ts → IfSome result (λ best. All (λ (b : ℕ × ℕ). (b.1 < n + writer.old.pending.num_docs)
-        × (token_score writer.old.index.schema.schema (with_documents (analyzed_in writer.old.index.schema.tokenizers) writer.old.pending n ts)
-        (token_statistics (n + writer.old.pending.num_docs) (with_documents (analyzed_in writer.old.index.schema.tokenizers) writer.old.pending n ts)) query.now b.1 ≡ Some b.0)) best.items) }
-    ensures many { (n : ℕ) (ts : List IndexToken) → HoldsIndexOf writer.old.index.schema.schema (D.seen writer.old.index.directory) n ts → IfSome result (λ best. length best.items
-        ≡ min limit (length (filter (matches query.now (with_documents (analyzed_in writer.old.index.schema.tokenizers) writer.old.pending n ts)) (range_with_len 0 (n + writer.old.pending.num_docs))))) }
-    ensures order { (n : ℕ) (ts : List IndexToken) → HoldsIndexOf writer.old.index.schema.schema (D.seen writer.old.index.directory) n ts
+    ensures scores { (k : ℕ) (vs : List IndexToken) → HasPending (D.seen writer.old.index.directory) writer.old k vs → (n : ℕ) (ts : List IndexToken) → HoldsIndexOf writer.old.index.schema.schema (D.seen writer.old.index.directory) n ts → IfSome result (λ best. All (λ (b : ℕ × ℕ). (b.1 < n + k)
+        × (token_score writer.old.index.schema.schema (with_tokens n ts vs)
+        (token_statistics (n + k) (with_tokens n ts vs)) query.now b.1 ≡ Some b.0)) best.items) }
+    ensures many { (k : ℕ) (vs : List IndexToken) → HasPending (D.seen writer.old.index.directory) writer.old k vs → (n : ℕ) (ts : List IndexToken) → HoldsIndexOf writer.old.index.schema.schema (D.seen writer.old.index.directory) n ts → IfSome result (λ best. length best.items
+        ≡ min limit (length (filter (matches query.now (with_tokens n ts vs)) (range_with_len 0 (n + k))))) }
+    ensures order { (k : ℕ) (vs : List IndexToken) → HasPending (D.seen writer.old.index.directory) writer.old k vs → (n : ℕ) (ts : List IndexToken) → HoldsIndexOf writer.old.index.schema.schema (D.seen writer.old.index.directory) n ts
         → IfSome result (λ best. (i j : ℕ) → i ≤ j → j < length best.items → (get_or best.items j (0, 0)).0 ≤ (get_or best.items i (0, 0)).0) }
-    ensures greatest { (n : ℕ) (ts : List IndexToken) → HoldsIndexOf writer.old.index.schema.schema (D.seen writer.old.index.directory) n ts → IfSome result (λ best. (doc score : ℕ) → doc < n + writer.old.pending.num_docs
-        → token_score writer.old.index.schema.schema (with_documents (analyzed_in writer.old.index.schema.tokenizers) writer.old.pending n ts)
-        (token_statistics (n + writer.old.pending.num_docs) (with_documents (analyzed_in writer.old.index.schema.tokenizers) writer.old.pending n ts)) query.now doc ≡ Some score
+    ensures greatest { (k : ℕ) (vs : List IndexToken) → HasPending (D.seen writer.old.index.directory) writer.old k vs → (n : ℕ) (ts : List IndexToken) → HoldsIndexOf writer.old.index.schema.schema (D.seen writer.old.index.directory) n ts → IfSome result (λ best. (doc score : ℕ) → doc < n + k
+        → token_score writer.old.index.schema.schema (with_tokens n ts vs)
+        (token_statistics (n + k) (with_tokens n ts vs)) query.now doc ≡ Some score
         → Contains best.items (score, doc) ⊎ All (λ (b : ℕ × ℕ). score ≤ b.0) best.items) }
 {
     let Ok(()) = writer.commit(alloc) else {

@@ -1,101 +1,146 @@
--- The segment of the documents that were pending, without those that are deleted.
-use Rattle.std.proofs.Common.{◌≡◌, ◌∙◌, ℕ, Bool, Bor, true, List, [], ◌∷◌, ◌++◌, Option, None, Some, Ok, ap, inl, inr, map, refl, subst, sym, true≢false}
-use Rattle.std.specs.Prelude.{◌⊎◌, IsSome, Vec, option_copied, replicate}
+-- What a commit with deletes leaves, and why it fails.
+use Rattle.std.proofs.Common.{◌≡◌, ◌∙◌, ◌==◌, ℕ, false, length, true≢false, List, [], ◌∷◌, ◌++◌, Option, Result, Ok, ap, drop, inl, inr, subst, sym}
+use Rattle.std.specs.Prelude.{◌⊎◌}
 use Rattle.std.specs.List.{AllZip}
-use Rattle.std.specs.Option.{option_map}
-use Rattle.std.specs.declared.alloc.Global.{Global}
 use Rattle.ii_base.specs.Schema.{SchemaEntry}
+use Rattle.ii_definitions.specs.Tokens.{IndexToken}
 use Rattle.ii_directory.specs.Directory.{Files}
-use Rattle.ii_index.specs.Deletes.{AreDeletedOf, DeleteState, HoldsLeft, HoldsWithout, is_among, is_reached, left_of, segment_left}
-use Rattle.ii_index.specs.Faults.{IsChangeError, IsDeleteError}
-use Rattle.ii_index.specs.Segments.{segment_of}
+use Rattle.ii_schema_text.specs.SchemaText.{TextSchemaState}
+use Rattle.ii_segment_store.specs.Changes.{index_without}
+use Rattle.ii_segment_store.specs.Commits.{HoldsOldOr}
+use Rattle.ii_segment_store.specs.Contents.{IndexContents, SegmentContents, all_contents, index_contents, list_contents}
+use Rattle.ii_store.specs.declared.faults.IndexFault.{IndexFault}
+use Rattle.ii_store.specs.IndexMeta.{MetaState}
+use Rattle.ii_store.specs.declared.faults.StoreFault.{StoreFault}
+use Rattle.ii_store.specs.declared.faults.StoreFault.TheVariants as stores
+use Rattle.ii_store.specs.Index.{Fails}
+use Rattle.nequllpa_indexing.specs.Documents.{AddsLine, DocumentsState}
+use Rattle.ii_index.specs.Deletes.{AreDeletedOf, ArePendingDeleted, DeleteState, HoldsIndexOfSegment, committed}
+use Rattle.ii_index.specs.Faults.{IsAddError, IsChangeError, IsCommitError, IsDeleteError, IsDocumentError, IsListError}
+use Rattle.ii_index.specs.Index.{FlushedState, IndexWriterState, IsUnchangedAfter}
+use Rattle.ii_index.specs.Pending.{AreWritten, AreWrittenSegments, IsNextList, with_segments}
+use Rattle.ii_index.specs.Segments.{HoldsIndexOf}
 use Rattle.ii_index.specs.declared.faults.IndexError.{IndexError}
 use Rattle.ii_index.specs.declared.faults.IndexError.TheVariants as faults
-use Rattle.ii_index.specs.declared.deletes.Scope.TheVariants.{Pending}
-use Rattle.ii_index.proofs.ChangeLemmas.{left_is}
-use Rattle.ii_io.specs.declared.faults.Fault.TheVariants.{OutOfMemory}
-use Rattle.ii_schema_text.specs.SchemaText.{TextSchemaState}
-use Rattle.ii_tokenizers.specs.Tokenizers.{analyzed_in}
-use Rattle.nequllpa_indexing.specs.Documents.{DocumentsState}
-use Rattle.nequllpa_indexing.specs.FieldTokens.{tokens_by}
-use Rattle.nequllpa_merging.specs.declared.faults.MergeFault.TheVariants as merges
-use Rattle.ii_index.proofs.DeleteLemmas.{holds_left}
-use Rattle.ii_segment_store.specs.Changes.{IsChangeFault, segment_without, without}
-use Rattle.ii_segment_store.specs.Contents.{IndexContents, SegmentContents, contents_with, files_contents, index_contents, segment_contents}
-use Rattle.ii_segment_store.specs.declared.faults.CommitFault.{CommitFault}
-use Rattle.ii_segment_store.specs.declared.stored_segments.SegmentFiles.{SegmentFiles}
-use Rattle.ii_segment_store.specs.declared.stored_segments.StoredSegment.{StoredSegment}
-use Rattle.ii_segments.specs.Segments.{Segment, merged}
-use Rattle.nequllpa_merging.specs.HeldSegments.{HoldSegments, HoldsSegment}
-use Rattle.nequllpa_merging.specs.MergedSegments.{IsMergingFault}
-use Rattle.nequllpa_merging.specs.declared.faults.MergeFault.{MergeFault}
-
--- ---- the files that are merged of one segment
-some_file : (counts : Option (Vec ℕ Global)) → IsSome counts → IsSome (option_map (λ (v : Vec ℕ Global). v.items) counts)
-some_file None some = absurd (true≢false (sym some))
-some_file (Some v) some = refl
-
--- what is left of a segment is merged
-pub merged_left : (entries : List SchemaEntry) (docs : List ℕ) (files : SegmentFiles) (alive : List Bool) (flags : List Bool) (x : StoredSegment) (segments before : List StoredSegment) (s : Segment) (f : SegmentContents) → flags ≡ replicate files.num_docs true → alive ≡ without docs flags
-    → segment_contents x ≡ contents_with files alive → segments ≡ before ++ x ∷ [] → before ≡ [] → IsSome files.counts → ((ss : List Segment) → HoldSegments entries (map segment_contents segments) ss → HoldsSegment entries f (merged ss))
-    → HoldsSegment entries (files_contents files) s → HoldsWithout entries docs s f
-merged_left entries docs files alive flags x segments before s f flags_are alive_is x_is pushed none counted merges h =
-    let left = holds_left entries docs (files_contents files) s (inr (some_file files.counts counted)) h in
-    let there : map segment_contents segments ≡ segment_without docs (files_contents files) ∷ [] =
-    ap (map segment_contents) (pushed ∙ ap (λ (l : List StoredSegment). l ++ x ∷ []) none)
-    ∙ ap (λ (c : SegmentContents). c ∷ []) (x_is ∙ ap (contents_with files) (alive_is ∙ ap (without docs) flags_are)) in
-    inr (merges (left_of docs s ∷ []) (subst (λ (cs : List SegmentContents). HoldSegments entries cs (left_of docs s ∷ [])) (sym there) (left, tt)))
-
--- why what is left of a segment isn't merged
-pub left_fault : (s : TextSchemaState) (d : DocumentsState) (deletes : List DeleteState) (docs slice : List ℕ) (es : List SchemaEntry) (files : SegmentFiles) (fault : MergeFault) → slice ≡ docs → es ≡ s.schema → IsSome files.counts
-    → HoldsSegment s.schema (files_contents files) (segment_of (analyzed_in s.tokenizers) d) → ((doc : ℕ) → is_among docs doc ≡ is_reached Pending deletes (tokens_by (analyzed_in s.tokenizers) d.calls) doc)
-    → (fault ≡ merges.Merge OutOfMemory) ⊎ IsMergingFault es (segment_without slice (files_contents files) ∷ []) fault
-    → (fault ≡ merges.Merge OutOfMemory) ⊎ ((c : SegmentContents) × HoldsSegment s.schema c (segment_left (analyzed_in s.tokenizers) d deletes) × IsMergingFault s.schema (c ∷ []) fault)
-left_fault s d deletes docs slice es files fault slice_is es_is counted held exact (inl memory) = inl memory
-left_fault s d deletes docs slice es files fault slice_is es_is counted held exact (inr why) =
-    let words = analyzed_in s.tokenizers in
-    let contents = files_contents files in
-    let left = holds_left s.schema docs contents (segment_of words d) (inr (some_file files.counts counted)) held in
-    inr (
-      segment_without docs contents,
-      subst (HoldsSegment s.schema (segment_without docs contents)) (left_is words d deletes [] docs exact) left,
-      subst (λ (ds : List ℕ). IsMergingFault s.schema (segment_without ds contents ∷ []) fault) slice_is (subst (λ (xs : List SchemaEntry). IsMergingFault xs (segment_without slice contents ∷ []) fault) es_is why),
-    )
-
-copied : (added : Option (Bor SegmentFiles)) → option_map (λ (f : Bor SegmentFiles). files_contents f.now) added ≡ option_map files_contents (option_copied added)
-copied None = refl
-copied (Some f) = refl
-
--- a borrowed segment that is added
-pub added_same : (lent : Option (Bor SegmentFiles)) (added : Option SegmentFiles) → option_copied lent ≡ added → option_map (λ (f : Bor SegmentFiles). files_contents f.now) lent ≡ option_map files_contents added
-added_same lent added is = copied lent ∙ ap (option_map files_contents) is
+use Rattle.ii_index.proofs.ChangeLemmas.{changed, changed_or_not}
+use Rattle.ii_index.proofs.PendingLemmas.{flushed_contents}
 
 -- why documents aren't deleted
-pub delete_fault : (e : IndexError) (s : TextSchemaState) (d : DocumentsState) (deletes : List DeleteState) (files : Files) (c : IndexContents) (es : List SchemaEntry) → es ≡ s.schema → index_contents files ≡ Ok c → IsDeleteError e es deletes c.segments → IsChangeError e s d deletes files
-delete_fault faults.IndexAlreadyExists s d deletes files c es is read why = inl (c, read, subst (λ (xs : List SchemaEntry). IsDeleteError faults.IndexAlreadyExists xs deletes c.segments) is why)
-delete_fault faults.SchemaBytes s d deletes files c es is read why = inl (c, read, subst (λ (xs : List SchemaEntry). IsDeleteError faults.SchemaBytes xs deletes c.segments) is why)
-delete_fault (faults.Schema fault) s d deletes files c es is read why = inl (c, read, subst (λ (xs : List SchemaEntry). IsDeleteError (faults.Schema fault) xs deletes c.segments) is why)
-delete_fault (faults.Store fault) s d deletes files c es is read (inl memory) = absurd (cc)
-delete_fault (faults.Store fault) s d deletes files c es is read (inr (place, segment, found, why)) = absurd why
-delete_fault (faults.Commit fault) s d deletes files c es is read (inl memory) = absurd (cc)
-delete_fault (faults.Commit fault) s d deletes files c es is read (inr (place, segment, found, why)) = absurd why
-delete_fault (faults.Merge fault) s d deletes files c es is read why = inl (c, read, subst (λ (xs : List SchemaEntry). IsDeleteError (faults.Merge fault) xs deletes c.segments) is why)
-delete_fault (faults.Segment place fault) s d deletes files c es is read why = inl (c, read, subst (λ (xs : List SchemaEntry). IsDeleteError (faults.Segment place fault) xs deletes c.segments) is why)
-delete_fault (faults.NoCounts place) s d deletes files c es is read why = inl (c, read, subst (λ (xs : List SchemaEntry). IsDeleteError (faults.NoCounts place) xs deletes c.segments) is why)
-delete_fault faults.TooManyDocuments s d deletes files c es is read why = inl (c, read, subst (λ (xs : List SchemaEntry). IsDeleteError faults.TooManyDocuments xs deletes c.segments) is why)
-delete_fault (faults.Documents fault) s d deletes files c es is read why = inl (c, read, subst (λ (xs : List SchemaEntry). IsDeleteError (faults.Documents fault) xs deletes c.segments) is why)
+pub delete_fault : (e : IndexError) (s : TextSchemaState) (x : Option FlushedState) (d : DocumentsState) (deletes : List DeleteState) (files : Files) (c : IndexContents) (es : List SchemaEntry) → es ≡ s.schema → index_contents files ≡ Ok c → IsDeleteError e es deletes c.segments → IsChangeError e s x d deletes files
+delete_fault faults.IndexAlreadyExists s x d deletes files c es is read why = (c, read, subst (λ (xs : List SchemaEntry). IsDeleteError faults.IndexAlreadyExists xs deletes c.segments) is why)
+delete_fault faults.SchemaBytes s x d deletes files c es is read why = (c, read, subst (λ (xs : List SchemaEntry). IsDeleteError faults.SchemaBytes xs deletes c.segments) is why)
+delete_fault (faults.Schema fault) s x d deletes files c es is read why = (c, read, subst (λ (xs : List SchemaEntry). IsDeleteError (faults.Schema fault) xs deletes c.segments) is why)
+delete_fault (faults.Store fault) s x d deletes files c es is read (inl memory) = absurd (cc)
+delete_fault (faults.Store fault) s x d deletes files c es is read (inr (place, segment, found, why)) = absurd why
+delete_fault (faults.Commit fault) s x d deletes files c es is read (inl memory) = absurd (cc)
+delete_fault (faults.Commit fault) s x d deletes files c es is read (inr (place, segment, found, why)) = absurd why
+delete_fault (faults.Merge fault) s x d deletes files c es is read why = (c, read, subst (λ (xs : List SchemaEntry). IsDeleteError (faults.Merge fault) xs deletes c.segments) is why)
+delete_fault (faults.Segment place fault) s x d deletes files c es is read why = (c, read, subst (λ (xs : List SchemaEntry). IsDeleteError (faults.Segment place fault) xs deletes c.segments) is why)
+delete_fault (faults.NoCounts place) s x d deletes files c es is read why = (c, read, subst (λ (xs : List SchemaEntry). IsDeleteError (faults.NoCounts place) xs deletes c.segments) is why)
+delete_fault faults.TooManyDocuments s x d deletes files c es is read why = (c, read, subst (λ (xs : List SchemaEntry). IsDeleteError faults.TooManyDocuments xs deletes c.segments) is why)
+delete_fault (faults.Documents fault) s x d deletes files c es is read (inl memory) = inl (inl (cc))
+delete_fault (faults.Documents fault) s x d deletes files c es is read (inr (place, segment, found, why)) = absurd why
+delete_fault (faults.Document fault) s x d deletes files c es is read why = (c, read, subst (λ (xs : List SchemaEntry). IsDeleteError (faults.Document fault) xs deletes c.segments) is why)
+delete_fault faults.Uncommitted s x d deletes files c es is read why = (c, read, subst (λ (xs : List SchemaEntry). IsDeleteError faults.Uncommitted xs deletes c.segments) is why)
 
--- why what is deleted and added isn't committed
-pub commit_fault : (fault : CommitFault) (s : TextSchemaState) (d : DocumentsState) (deletes : List DeleteState) (files : Files) (c : IndexContents) (deleted slice : List (Vec ℕ Global)) (lent : Option (Bor SegmentFiles)) (added : Option SegmentFiles) → index_contents files ≡ Ok c
-    → AllZip (AreDeletedOf s.schema deletes) c.segments (map (λ (v : Vec ℕ Global). v.items) deleted) → HoldsLeft s d deletes (option_map files_contents added) → slice ≡ deleted → option_copied lent ≡ added
-    → IsChangeFault fault (map (λ (v : Vec ℕ Global). v.items) slice) (option_map (λ (f : Bor SegmentFiles). files_contents f.now) lent) files → IsChangeError (faults.Commit fault) s d deletes files
-commit_fault fault s d deletes files c deleted slice lent added read each holds slice_is lent_is why = (
-  c,
-  read,
-  map (λ (v : Vec ℕ Global). v.items) deleted,
-  each,
-  option_map files_contents added,
-  holds,
-  subst (λ (a : Option SegmentContents). IsChangeFault fault (map (λ (v : Vec ℕ Global). v.items) deleted) a files) (added_same lent added lent_is)
-      (subst (λ (ds : List (Vec ℕ Global)). IsChangeFault fault (map (λ (v : Vec ℕ Global). v.items) ds) (option_map (λ (f : Bor SegmentFiles). files_contents f.now) lent) files) slice_is why),
-)
+-- why documents aren't written
+pub add_fault : (e : IndexError) (s : TextSchemaState) (x : Option FlushedState) (d : DocumentsState) (deletes : List DeleteState) (files : Files) → IsAddError e s x d files → IsChangeError e s x d deletes files
+add_fault faults.IndexAlreadyExists s x d deletes files why = absurd why
+add_fault faults.SchemaBytes s x d deletes files why = absurd why
+add_fault (faults.Schema fault) s x d deletes files why = absurd why
+add_fault (faults.Store fault) s x d deletes files why = absurd why
+add_fault (faults.Commit fault) s x d deletes files why = inl why
+add_fault (faults.Merge fault) s x d deletes files why = absurd why
+add_fault (faults.Segment place fault) s x d deletes files why = absurd why
+add_fault (faults.NoCounts place) s x d deletes files why = absurd why
+add_fault faults.TooManyDocuments s x d deletes files why = absurd why
+add_fault (faults.Documents fault) s x d deletes files why = inl why
+add_fault (faults.Document fault) s x d deletes files why = absurd why
+add_fault faults.Uncommitted s x d deletes files why = absurd why
+
+-- why the list isn't put in the place of the current one
+pub list_fault : (e : IndexError) (s : TextSchemaState) (x : Option FlushedState) (d : DocumentsState) (deletes : List DeleteState) (files now : Files) (c : IndexContents) (p : MetaState) (added : List SegmentContents) (gone pending : List (List ℕ)) → index_contents files ≡ Ok c
+    → IsNextList s x d files p → index_contents now ≡ Ok c → list_contents p now ≡ with_segments added (Ok c) → AllZip (AreDeletedOf s.schema deletes) c.segments gone → ArePendingDeleted s.schema deletes 0 added pending → IsListError e (gone ++ pending) p now
+    → IsChangeError e s x d deletes files
+list_fault faults.IndexAlreadyExists s x d deletes files now c p added gone pending read next read_now listed each reached why = absurd why
+list_fault faults.SchemaBytes s x d deletes files now c p added gone pending read next read_now listed each reached why = absurd why
+list_fault (faults.Schema fault) s x d deletes files now c p added gone pending read next read_now listed each reached why = absurd why
+list_fault (faults.Store fault) s x d deletes files now c p added gone pending read next read_now listed each reached why = absurd why
+list_fault (faults.Commit fault) s x d deletes files now c p added gone pending read next read_now listed each reached why =
+    inr (c, read, p, next, record { files = now; read = read_now; added = added; listed = listed; committed = gone; are_committed = each; pending = pending; are_pending = reached; fails = why })
+list_fault (faults.Merge fault) s x d deletes files now c p added gone pending read next read_now listed each reached why = absurd why
+list_fault (faults.Segment place fault) s x d deletes files now c p added gone pending read next read_now listed each reached why = absurd why
+list_fault (faults.NoCounts place) s x d deletes files now c p added gone pending read next read_now listed each reached why = absurd why
+list_fault faults.TooManyDocuments s x d deletes files now c p added gone pending read next read_now listed each reached why = absurd why
+list_fault (faults.Documents fault) s x d deletes files now c p added gone pending read next read_now listed each reached why = inl (inl why)
+list_fault (faults.Document fault) s x d deletes files now c p added gone pending read next read_now listed each reached why = absurd why
+list_fault faults.Uncommitted s x d deletes files now c p added gone pending read next read_now listed each reached why = absurd why
+
+-- why the segments that were written aren't loaded: not for what they hold
+pub load_fault : {A B : Type 0} (e : StoreFault) (found : Result A IndexFault) (a : A) (old : Result B IndexFault) → found ≡ Ok a → Fails e found → Fails e old
+load_fault (stores.Directory fault) found a old is why = tt
+load_fault (stores.Index fault) found a old is why = absurd (cc)
+
+-- why documents and deletes aren't committed, where there are deletes
+pub commit_fault : (e : IndexError) (s : TextSchemaState) (x : Option FlushedState) (d : DocumentsState) (deletes : List DeleteState) (files : Files) → (length deletes == 0) ≡ false → IsChangeError e s x d deletes files → IsCommitError e s x d deletes files
+commit_fault e s x d [] files some why = absurd (true≢false some)
+commit_fault e s x d (y ∷ ys) files some why = why
+
+-- why a document isn't added, where it was to be written
+pub document_fault : {D : Type 0} (e : IndexError) (w : IndexWriterState D) (d : DocumentsState) (line : List ℕ) (files : Files) → AddsLine w.documents d line → IsAddError e w.index.schema w.flushed d files → IsDocumentError e w line files
+document_fault faults.IndexAlreadyExists w d line files adds why = absurd why
+document_fault faults.SchemaBytes w d line files adds why = absurd why
+document_fault (faults.Schema fault) w d line files adds why = absurd why
+document_fault (faults.Store fault) w d line files adds why = absurd why
+document_fault (faults.Commit fault) w d line files adds why = (d, adds, why)
+document_fault (faults.Merge fault) w d line files adds why = absurd why
+document_fault (faults.Segment place fault) w d line files adds why = absurd why
+document_fault (faults.NoCounts place) w d line files adds why = absurd why
+document_fault faults.TooManyDocuments w d line files adds why = absurd why
+document_fault (faults.Documents fault) w d line files adds why = inr (d, adds, why)
+document_fault (faults.Document fault) w d line files adds why = absurd why
+document_fault faults.Uncommitted w d line files adds why = absurd why
+
+-- a text that is a document was to be written
+pub other_fault : {D : Type 0} (e : IndexError) (s : TextSchemaState) (x : Option FlushedState) (d : DocumentsState) (files : Files) (old new : IndexWriterState D) → IsAddError e s x d files → IsUnchangedAfter e old new
+other_fault faults.IndexAlreadyExists s x d files old new why = tt
+other_fault faults.SchemaBytes s x d files old new why = tt
+other_fault (faults.Schema fault) s x d files old new why = tt
+other_fault (faults.Store fault) s x d files old new why = tt
+other_fault (faults.Commit fault) s x d files old new why = tt
+other_fault (faults.Merge fault) s x d files old new why = tt
+other_fault (faults.Segment place fault) s x d files old new why = tt
+other_fault (faults.NoCounts place) s x d files old new why = tt
+other_fault faults.TooManyDocuments s x d files old new why = tt
+other_fault (faults.Documents fault) s x d files old new why = tt
+other_fault (faults.Document fault) s x d files old new why = absurd why
+other_fault faults.Uncommitted s x d files old new why = tt
+
+-- ---- what is deleted of an index, and of segments that were written
+module _ (entries : List SchemaEntry) (deletes : List DeleteState) (old mid : Files) (c : IndexContents) (x : FlushedState) (k : ℕ) (us : List IndexToken) (w : AreWritten entries mid x k us) (is : index_contents old ≡ Ok c) (same : index_contents mid ≡ index_contents old) where
+  -- what the segments that were loaded hold
+  pub loaded : (found : List SegmentContents) → all_contents (drop x.first x.list.segments) mid ≡ Ok found → found ≡ w.flushed.contents
+  loaded found answers = one found w.flushed.contents (sym answers ∙ flushed_contents entries mid x w.segments c w.flushed (same ∙ is))
+    where
+      one : (a b : List SegmentContents) → ◌≡◌ {A = Result (List SegmentContents) IndexFault} (Ok a) (Ok b) → a ≡ b
+      one a b both = cc
+
+  pub loaded_written : (found : List SegmentContents) → all_contents (drop x.first x.list.segments) mid ≡ Ok found → AreWrittenSegments entries found w.segments
+  loaded_written found answers = subst (λ (cs : List SegmentContents). AreWrittenSegments entries cs w.segments) (sym (loaded found answers)) w.flushed.written
+
+  pub loaded_listed : (found : List SegmentContents) → all_contents (drop x.first x.list.segments) mid ≡ Ok found → list_contents x.list mid ≡ with_segments found (Ok c)
+  loaded_listed found answers = w.flushed.read ∙ ap (with_segments w.flushed.contents) (same ∙ is) ∙ ap (λ (cs : List SegmentContents). with_segments cs (Ok c)) (sym (loaded found answers))
+
+  module _ (found : List SegmentContents) (answers : all_contents (drop x.first x.list.segments) mid ≡ Ok found) (gone pending : List (List ℕ)) (each : AllZip (AreDeletedOf entries deletes) c.segments gone) (reached : ArePendingDeleted entries deletes 0 found pending) (n : ℕ) (ts : List IndexToken)
+      (h : HoldsIndexOf entries old n ts) where
+    abbrev wanted : Result IndexContents IndexFault
+    wanted = index_without (gone ++ pending) (list_contents x.list mid)
+
+    wanted_is : wanted ≡ index_without (gone ++ pending) (with_segments found (Ok c))
+    wanted_is = ap (index_without (gone ++ pending)) (loaded_listed found answers)
+
+    pub all_changed : (new : Files) → index_contents new ≡ wanted → HoldsIndexOfSegment entries new (committed deletes n ts k us)
+    all_changed new result = changed entries deletes n ts k us old c found w.segments gone pending new is each (loaded_written found answers) w.have reached (result ∙ wanted_is) h
+
+    pub all_or_not : (new : Files) → HoldsOldOr wanted old new → HoldsIndexOf entries new n ts ⊎ HoldsIndexOfSegment entries new (committed deletes n ts k us)
+    all_or_not new result = changed_or_not entries deletes n ts k us old c found w.segments gone pending new is each (loaded_written found answers) w.have reached (subst (λ (r : Result IndexContents IndexFault). HoldsOldOr r old new) wanted_is result) h

@@ -1,5 +1,5 @@
 -- The documents that deletes reach, and what is left of a segment.
-use Rattle.std.proofs.Common.{◌≡◌, ◌∙◌, ℕ, ◌<◌, ◌&&◌, ◌||◌, Bool, true, false, List, [], ◌∷◌, ◌++◌, Option, None, Some, Result, Ok, Err, ap, inl, inr, length, nat_eq, nat_lt, refl, subst, sym, true≢false}
+use Rattle.std.proofs.Common.{◌≡◌, ◌∙◌, ℕ, ◌-◌, ◌<◌, ◌&&◌, ◌||◌, Bool, true, false, List, [], ◌∷◌, ◌++◌, Option, None, Some, Result, Ok, Err, ap, inl, inr, length, nat_eq, nat_lt, refl, subst, sym, true≢false}
 use Rattle.std.specs.Prelude.{◌⊎◌, IsSome, filter}
 use Rattle.std.specs.List.{AllByRecursion}
 use Rattle.std.proofs.lemmas.Bool.{eqb-true, lt-ltb}
@@ -95,7 +95,7 @@ term_found entries n index ts term es holds known found doc =
 -- ---- the documents that deletes reach
 reached_among : (scope : Scope) (d : DeleteState) (docs : List ℕ) (doc : ℕ) → is_among (reached_of scope d docs) doc ≡ (in_scope scope d doc && is_among docs doc)
 reached_among Committed d docs doc = refl
-reached_among Pending d docs doc = among_below d.num_pending docs doc
+reached_among (Pending base) d docs doc = among_below (d.num_pending - base) docs doc
 
 -- Documents are those of one delete, and then others.
 record IsFirst (scope : Scope) (index : OpenIndexState) (d : DeleteState) (others : Result (List ℕ) Part) (docs : List ℕ) : Type 0 where

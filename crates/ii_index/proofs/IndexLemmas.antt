@@ -1,24 +1,21 @@
 -- What an index holds after it was created, and after documents were added.
 use Rattle.std.proofs.Common.{◌≡◌, ◌∙◌, ◌+◌, ◌<◌, ℕ, Bool, true, List, [], ◌∷◌, ◌++◌, Ok, ap, append-nil, arith, inl, inr, map, refl, subst, sym}
-use Rattle.std.specs.Prelude.{◌⊎◌, replicate}
+use Rattle.std.specs.Prelude.{replicate}
 use Rattle.std.specs.List.{AllByRecursion, AllZip}
-use Rattle.std.proofs.lemmas.List.{length-replicate}
 use Rattle.ii_alive.proofs.RankLemmas.{all_living}
 use Rattle.ii_base.specs.Schema.{SchemaEntry}
 use Rattle.ii_base.specs.Words.{Word}
-use Rattle.ii_definitions.specs.IndexCalls.{call_of}
 use Rattle.ii_definitions.specs.Tokens.{IndexToken}
 use Rattle.ii_directory.specs.Directory.{Files, Same}
 use Rattle.ii_segment_store.specs.Commits.{HoldsOldOr, index_of_segment}
-use Rattle.ii_segment_store.specs.Contents.{SegmentContents, index_contents, with_segment}
+use Rattle.ii_segment_store.specs.Contents.{SegmentContents, index_contents}
 use Rattle.ii_segments.specs.Segments.{Segment, index_tokens, num_docs_of}
 use Rattle.ii_segments.proofs.MergeLaws.{all_alive, from_append}
 use Rattle.ii_index.specs.Searching.{OpensIndex, SearcherState}
 use Rattle.ii_index.specs.Ranking.{SearcherHolds}
-use Rattle.ii_index.specs.Segments.{HaveTokens, HoldsIndexOf, after, segment_of, with_documents}
+use Rattle.ii_index.specs.Segments.{HaveTokens, HoldsIndexOf, after, segment_of, with_tokens}
 use Rattle.ii_index.proofs.OpenLemmas.{index_counted, index_open}
-use Rattle.ii_index.proofs.TokenLaws.{are_segment_tokens}
-use Rattle.nequllpa_indexing.specs.Documents.{DocumentsState, WereCalls}
+use Rattle.nequllpa_indexing.specs.Documents.{DocumentsState}
 use Rattle.nequllpa_indexing.specs.FieldTokens.{tokens_by}
 use Rattle.nequllpa_merging.specs.HeldSegments.{HoldsSegment}
 use Rattle.nequllpa_merging.specs.Joins.{HoldsSameIndex}
@@ -37,7 +34,7 @@ module _ (words : ℕ → List ℕ → List Word) (d : DocumentsState) where
   flags = replicate d.num_docs true
 
   -- documents come after those of other segments
-  pub have_more : (n : ℕ) (ts : List IndexToken) (ss : List Segment) → AllByRecursion (λ (t : IndexToken). t.doc < d.num_docs) tokens → HaveTokens n ts ss → HaveTokens (n + d.num_docs) (with_documents words d n ts) (ss ++ segment_of words d ∷ [])
+  pub have_more : (n : ℕ) (ts : List IndexToken) (ss : List Segment) → AllByRecursion (λ (t : IndexToken). t.doc < d.num_docs) tokens → HaveTokens n ts ss → HaveTokens (n + d.num_docs) (with_tokens n ts (tokens_by words d.calls)) (ss ++ segment_of words d ∷ [])
   have_more n ts ss below have = record {
     num_docs = omega (arith, docs_more ss, all_living d.num_docs, have.num_docs);
     tokens =
@@ -94,49 +91,6 @@ created entries words d files text c none no_calls read holds =
 
     holds_below : AllByRecursion (λ (t : IndexToken). t.doc < d.num_docs) (tokens_by words d.calls)
     holds_below = subst (AllByRecursion (λ (t : IndexToken). t.doc < d.num_docs)) (sym no_tokens) tt
-
--- no documents have no tokens
-pub none_below : (ts : List IndexToken) (n : ℕ) → n ≡ 0 → AllByRecursion (λ (t : IndexToken). t.doc < n) ts → ts ≡ []
-none_below [] n none below = refl
-none_below (t ∷ ts) n none below = absurd (omega (arith, none, below.0))
-
-module _ (entries : List SchemaEntry) (words : ℕ → List ℕ → List Word) (d : DocumentsState) (n : ℕ) (ts : List IndexToken) where
-  -- no documents were added
-  pub none_added : (files : Files) → d.num_docs ≡ 0 → WereCalls d.schema d.num_docs d.calls → HoldsIndexOf entries files n ts → HoldsIndexOf entries files (n + d.num_docs) (with_documents words d n ts)
-  none_added files none were h =
-      let made = tokens_by words (map (call_of d.schema) were.made) in
-      let own = are_segment_tokens d.schema d.num_docs words (replicate d.num_docs true) were.made (length-replicate d.num_docs true) were.may in
-      let below = subst (λ (m : ℕ). AllByRecursion (λ (t : IndexToken). t.doc < m) made) (length-replicate d.num_docs true) own.below in
-      let none_left : tokens_by words d.calls ≡ [] = ap (tokens_by words) were.are ∙ none_below made d.num_docs none below in
-      record {
-        segments = h.segments;
-        holds = h.holds;
-        have = record {
-          num_docs = omega (arith, h.have.num_docs, none);
-          tokens = h.have.tokens ∙ sym (ap (λ (us : List IndexToken). ts ++ map (after n) us) none_left ∙ append-nil ts);
-        };
-      }
-
-  -- a segment was added
-  pub segment_added : (old new : Files) (c : SegmentContents) → index_contents new ≡ with_segment c (index_contents old) → HoldsSegment entries c (segment_of words d) → HoldsIndexOf entries old n ts
-      → HoldsIndexOf entries new (n + d.num_docs) (with_documents words d n ts)
-  segment_added old new c written holds h =
-      let below = subst (λ (m : ℕ). AllByRecursion (λ (t : IndexToken). t.doc < m) (tokens_by words d.calls)) (length-replicate d.num_docs true) holds.are.below in
-      record {
-        segments = h.segments ++ segment_of words d ∷ [];
-        holds = record {
-          contents = record { schema = h.holds.contents.schema; segments = h.holds.contents.segments ++ c ∷ [] };
-          read = written ∙ ap (with_segment c) h.holds.read;
-          hold = zip_more (HoldsSegment entries) h.holds.contents.segments h.segments c (segment_of words d) h.holds.hold holds;
-        };
-        have = have_more words d n ts h.segments below h.have;
-      }
-
-  -- a segment was added, or not
-  pub added_or_not : (old new : Files) (c : SegmentContents) → HoldsOldOr (with_segment c (index_contents old)) old new → HoldsSegment entries c (segment_of words d) → HoldsIndexOf entries old n ts
-      → HoldsIndexOf entries new n ts ⊎ HoldsIndexOf entries new (n + d.num_docs) (with_documents words d n ts)
-  added_or_not old new c (inl same) holds h = inl (same_holds entries old new n ts same h)
-  added_or_not old new c (inr written) holds h = inr (segment_added old new c written holds h)
 
 -- merged segments have the same documents
 pub merged_holds : (entries : List SchemaEntry) (files : Files) (n : ℕ) (ts : List IndexToken) (ss : List Segment) → HaveTokens n ts ss → HoldsSameIndex entries files ss → HoldsIndexOf entries files n ts

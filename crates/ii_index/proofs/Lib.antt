@@ -12,6 +12,7 @@ mod TotalsLemmas
 mod OpenLemmas
 mod IndexLemmas
 mod ReachLemmas
+mod PendingLemmas
 mod ChangeLemmas
 mod CommitLemmas
 mod WriterLemmas

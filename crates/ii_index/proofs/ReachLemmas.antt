@@ -1,6 +1,6 @@
 -- How the documents that deletes reach are found.
 use Rattle.std.proofs.Common.{◌≡◌, ◌≢◌, ◌∙◌, ◌==◌, ℕ, ◌+◌, ◌<◌, ◌≤◌, ◌-◌, Bool, true, false, List, [], ◌∷◌, ◌++◌, Option, None, Some, Result, Ok, Err, add-one, ap, append-nil, append_assoc, arith, drop, get_or, inl, inr, length, map, min, nat_lt, refl, subst, sym, true≢false}
-use Rattle.std.specs.Prelude.{IsSome, Vec, filter, is_some, slice_get}
+use Rattle.std.specs.Prelude.{⊤, IsSome, Vec, filter, is_some, slice_get}
 use Rattle.std.specs.List.{AllZip}
 use Rattle.std.specs.Option.{option_map}
 use Rattle.std.specs.declared.alloc.Global.{Global}
@@ -14,12 +14,16 @@ use Rattle.ii_base.specs.declared.schema.index_record_option.IndexRecordOption.T
 use Rattle.ii_docset.specs.Cursor.{IsAscending, IsSound, doc_at}
 use Rattle.ii_io.specs.Parts.{◌>>=◌}
 use Rattle.ii_io.specs.declared.faults.Fault.{Fault}
-use Rattle.ii_io.specs.declared.faults.Fault.TheVariants.{OutOfMemory}
 use Rattle.ii_io.specs.declared.faults.Part.{Part}
-use Rattle.ii_index.specs.Deletes.{AreDeletedOf, DeleteState, HaveFieldsBelow, docs_in_files, docs_of_delete, docs_reached, limit_in, reached_of}
+use Rattle.ii_index.specs.Deletes.{AreDeletedOf, ArePendingDeleted, AreReached, DeleteState, HaveFieldsBelow, docs_in_files, docs_of_delete, docs_reached, limit_in, reached_of}
 use Rattle.ii_index.specs.declared.deletes.Scope.{Scope}
 use Rattle.ii_index.specs.declared.deletes.Scope.TheVariants.{Committed, Pending}
+use Rattle.ii_index.specs.Pending.{AreWrittenSegments}
 use Rattle.ii_index.proofs.IndexLemmas.{zip_more}
+use Rattle.nequllpa_merging.specs.HeldSegments.{HoldsSegment}
+use Rattle.ii_alive.specs.Alive.{num_living}
+use Rattle.ii_alive.proofs.RankLemmas.{all_living}
+use Rattle.ii_segments.specs.Segments.{Segment, num_docs_of}
 use Rattle.ii_reader.specs.InvertedIndexReader.{IsRefusal}
 use Rattle.ii_reader.specs.OpenIndex.{OpenIndexState, index_of_files}
 use Rattle.ii_search.specs.Found.{docs_of_term}
@@ -86,7 +90,7 @@ all_below (e ∷ es) ascending =
 
 reached_below : (scope : Scope) (d : DeleteState) (es : List Entry) → IsAscending es → below (limit_in scope d) es ≡ reached_of scope d (docs_of es)
 reached_below Committed d es ascending = all_below es ascending
-reached_below Pending d es ascending = refl
+reached_below (Pending base) d es ascending = refl
 
 -- the documents of a delete
 pub pushed : (scope : Scope) (index : OpenIndexState) (d : DeleteState) (limit : ℕ) (es : List Entry) (before docs : List ℕ) → limit ≡ limit_in scope d → docs_of_term Basic index d.term ≡ Ok es → IsSound es → docs ≡ before ++ below limit es
@@ -214,3 +218,74 @@ module _ (entries : List SchemaEntry) (deletes : List DeleteState) where
       at [] (l ∷ ls) zip = absurd zip
       at (t ∷ ts) [] zip = absurd zip
       at (t ∷ ts) (l ∷ ls) zip = at ts ls zip.1
+
+-- ---- one segment that was written after the other
+-- how many documents segments have, at most 2^32 - 1
+abbrev counted_docs : ℕ → List StoredSegment → ℕ
+counted_docs base [] = base
+counted_docs base (x ∷ xs) = counted_docs (min 4294967295 (base + length x.alive)) xs
+
+module _ (entries : List SchemaEntry) (deletes : List DeleteState) where
+  -- These documents of segments are deleted, where numbers of documents are at most 2^32 - 1.
+  abbrev AreGone : ℕ → List StoredSegment → List (Vec ℕ Global) → Type 0
+  AreGone base [] [] = ⊤
+  AreGone base [] (docs ∷ lists) = ⊥
+  AreGone base (x ∷ xs) [] = ⊥
+  AreGone base (x ∷ xs) (docs ∷ lists) = AreReached (Pending base) entries deletes (segment_contents x) docs.items × AreGone (min 4294967295 (base + length x.alive)) xs lists
+
+  -- The documents of the segments that were taken from a list.
+  pub record ArePendingDeleting (all taken rest : List StoredSegment) (base : ℕ) (lists : List (Vec ℕ Global)) : Type 0 where
+    pub whole : taken ++ rest ≡ all
+    pub gone : AreGone 0 taken lists
+    pub many : base ≡ counted_docs 0 taken
+
+  pub pending_first : (all rest : List StoredSegment) (lists : List (Vec ℕ Global)) → rest ≡ all → lists ≡ [] → ArePendingDeleting all [] rest 0 lists
+  pending_first all rest lists same none = record { whole = same; gone = subst (AreGone 0 []) (sym none) tt; many = refl }
+
+  one_gone : (base : ℕ) (xs : List StoredSegment) (lists : List (Vec ℕ Global)) (x : StoredSegment) (docs : Vec ℕ Global) → AreGone base xs lists → AreReached (Pending (counted_docs base xs)) entries deletes (segment_contents x) docs.items → AreGone base (xs ++ x ∷ []) (lists ++ docs ∷ [])
+  one_gone base [] [] x docs gone reached = (reached, tt)
+  one_gone base [] (l ∷ ls) x docs gone reached = absurd gone
+  one_gone base (y ∷ ys) [] x docs gone reached = absurd gone
+  one_gone base (y ∷ ys) (l ∷ ls) x docs gone reached = (gone.0, one_gone (min 4294967295 (base + length y.alive)) ys ls x docs gone.1 reached)
+
+  one_counted : (base : ℕ) (xs : List StoredSegment) (x : StoredSegment) → counted_docs base (xs ++ x ∷ []) ≡ min 4294967295 (counted_docs base xs + length x.alive)
+  one_counted base [] x = refl
+  one_counted base (y ∷ ys) x = one_counted (min 4294967295 (base + length y.alive)) ys x
+
+  pub pending_next : (all taken before rest : List StoredSegment) (base next : ℕ) (lists new : List (Vec ℕ Global)) (x : StoredSegment) (docs : Vec ℕ Global) → before ≡ x ∷ rest → new ≡ lists ++ docs ∷ [] → next ≡ min 4294967295 (base + length x.alive)
+      → AreReached (Pending base) entries deletes (segment_contents x) docs.items → ArePendingDeleting all taken before base lists → ArePendingDeleting all (taken ++ x ∷ []) rest next new
+  pending_next all taken before rest base next lists new x docs step pushed next_is reached h = record {
+    whole = append_assoc taken (x ∷ []) rest ∙ ap (λ (r : List StoredSegment). taken ++ r) (sym step) ∙ h.whole;
+    gone = subst (AreGone 0 (taken ++ x ∷ [])) (sym pushed) (one_gone 0 taken lists x docs h.gone (subst (λ (n : ℕ). AreReached (Pending n) entries deletes (segment_contents x) docs.items) h.many reached));
+    many = next_is ∙ ap (λ (n : ℕ). min 4294967295 (n + length x.alive)) h.many ∙ sym (one_counted 0 taken x);
+  }
+
+  of_gone : (base : ℕ) (xs : List StoredSegment) (lists : List (Vec ℕ Global)) (ss : List Segment) → AreWrittenSegments entries (map segment_contents xs) ss → base + num_docs_of ss ≤ TERMINATED → AreGone base xs lists
+      → ArePendingDeleted entries deletes base (map segment_contents xs) (map (λ (v : Vec ℕ Global). v.items) lists)
+  of_gone base [] [] ss written few gone = tt
+  of_gone base [] (l ∷ ls) ss written few gone = absurd gone
+  of_gone base (x ∷ xs) [] ss written few gone = absurd gone
+  of_gone base (x ∷ xs) (l ∷ ls) [] written few gone = absurd written
+  of_gone base (x ∷ xs) (l ∷ ls) (s ∷ ss) written few gone =
+      let living : num_living s.alive ≡ length s.alive = ap num_living written.0.alive ∙ all_living (length s.alive) in
+      let many : length x.alive ≡ length s.alive = ap length written.0.holds.alive in
+      let next : min 4294967295 (base + length x.alive) ≡ base + length x.alive = omega (arith, few, living, many) in
+      (gone.0, of_gone (base + length x.alive) xs ls ss written.1 (omega (arith, few, living, many)) (subst (λ (n : ℕ). AreGone n xs ls) next gone.1))
+
+  pub pending_ended : (all taken rest : List StoredSegment) (base : ℕ) (lists : List (Vec ℕ Global)) (ss : List Segment) → rest ≡ [] → AreWrittenSegments entries (map segment_contents all) ss → num_docs_of ss ≤ TERMINATED → ArePendingDeleting all taken rest base lists
+      → ArePendingDeleted entries deletes 0 (map segment_contents all) (map (λ (v : Vec ℕ Global). v.items) lists)
+  pending_ended all taken rest base lists ss none written few h =
+      let done : taken ≡ all = sym (append-nil taken) ∙ ap (λ (r : List StoredSegment). taken ++ r) (sym none) ∙ h.whole in
+      of_gone 0 all lists ss written (omega (arith, few)) (subst (λ (xs : List StoredSegment). AreGone 0 xs lists) done h.gone)
+
+  -- The segment that is taken next holds one of those that all hold.
+  pub next_holds : (all taken before rest : List StoredSegment) (base : ℕ) (lists : List (Vec ℕ Global)) (x : StoredSegment) (ss : List Segment) → before ≡ x ∷ rest → AreWrittenSegments entries (map segment_contents all) ss → ArePendingDeleting all taken before base lists
+      → (s : Segment) × HoldsSegment entries (segment_contents x) s
+  next_holds all taken before rest base lists x ss step written h =
+      at taken ss (subst (λ (xs : List StoredSegment). AreWrittenSegments entries (map segment_contents xs) ss) (sym (sym (ap (λ (r : List StoredSegment). taken ++ r) step) ∙ h.whole)) written)
+    where
+      at : (ts : List StoredSegment) (vs : List Segment) → AreWrittenSegments entries (map segment_contents (ts ++ x ∷ rest)) vs → (s : Segment) × HoldsSegment entries (segment_contents x) s
+      at [] [] held = absurd held
+      at [] (v ∷ vs) held = (v, held.0.holds)
+      at (t ∷ ts) [] held = absurd held
+      at (t ∷ ts) (v ∷ vs) held = at ts vs held.1

@@ -18,3 +18,5 @@ open_fault list m (faults.Segment place fault) is why = why
 open_fault list m (faults.NoCounts place) is why = why
 open_fault list m faults.TooManyDocuments is why = why
 open_fault list m (faults.Documents fault) is why = why
+open_fault list m (faults.Document fault) is why = why
+open_fault list m faults.Uncommitted is why = why

@@ -1,17 +1,16 @@
 -- Deletes of documents that have a term, and which documents they leave.
-use Rattle.std.specs.Prelude.{◌≡◌, ◌⊎◌, ℕ, ◌+◌, ◌<◌, ◌&&◌, Bool, true, nat_eq, nat_lt, not, List, [], ◌∷◌, ◌++◌, filter, map, Option, None, Some, IsSome, Result, Ok}
+use Rattle.std.specs.Prelude.{◌≡◌, ◌⊎◌, ⊤, ℕ, ◌+◌, ◌-◌, ◌<◌, ◌&&◌, Bool, true, nat_eq, nat_lt, not, List, [], ◌∷◌, ◌++◌, filter, map, IsSome, length, Result, Ok}
 use Rattle.std.specs.List.{AllByRecursion, list_any, range_with_len}
 use Rattle.ii_base.specs.Entries.{docs_of}
 use Rattle.ii_base.specs.Schema.{SchemaEntry}
 use Rattle.ii_base.specs.Terms.{TermState}
-use Rattle.ii_base.specs.Words.{Word}
 use Rattle.ii_base.specs.declared.doc_id.TheConstants.{TERMINATED}
 use Rattle.ii_base.specs.declared.schema.index_record_option.IndexRecordOption.TheVariants.{Basic}
 use Rattle.ii_definitions.specs.Tokens.{IndexToken}
 use Rattle.ii_directory.specs.Directory.{Files}
 use Rattle.ii_io.specs.Parts.{◌>>=◌}
 use Rattle.ii_io.specs.declared.faults.Part.{Part}
-use Rattle.ii_index.specs.Segments.{HoldsIndexOf, with_documents}
+use Rattle.ii_index.specs.Segments.{HoldsIndexOf, with_tokens}
 use Rattle.ii_index.specs.declared.deletes.Scope.{Scope}
 use Rattle.ii_index.specs.declared.deletes.Scope.TheVariants.{Committed, Pending}
 use Rattle.ii_query_parser.specs.Queries.{is_token_of}
@@ -19,11 +18,7 @@ use Rattle.ii_reader.specs.OpenIndex.{OpenIndexState, index_of_files}
 use Rattle.ii_search.specs.Found.{docs_of_term}
 use Rattle.ii_segment_store.specs.Changes.{without}
 use Rattle.ii_segment_store.specs.Contents.{SegmentContents}
-use Rattle.ii_schema_text.specs.SchemaText.{TextSchemaState}
-use Rattle.ii_segments.specs.Segments.{Segment, index_tokens, merged, num_docs_of}
-use Rattle.ii_tokenizers.specs.Tokenizers.{analyzed_in}
-use Rattle.nequllpa_indexing.specs.Documents.{DocumentsState}
-use Rattle.nequllpa_indexing.specs.FieldTokens.{tokens_by}
+use Rattle.ii_segments.specs.Segments.{Segment, index_tokens, num_docs_of}
 use Rattle.nequllpa_merging.specs.HeldSegments.{HoldsSegment}
 
 -- a delete: the term, and how many documents were pending when it was asked for
@@ -43,26 +38,26 @@ has_term term ts doc = list_any (is_token_of term doc) ts
 abbrev pub is_deleted : List DeleteState → ℕ → List IndexToken → ℕ → Bool
 is_deleted deletes n ts doc = list_any (λ (d : DeleteState). nat_lt doc (n + d.num_pending) && has_term d.term ts doc) deletes
 
--- all documents at a commit as one segment, n committed ones and those pending, of which those that aren't deleted are alive
-abbrev pub committed : (ℕ → List ℕ → List Word) → DocumentsState → List DeleteState → ℕ → List IndexToken → Segment
-committed words d deletes n ts = record {
-  alive = map (λ (doc : ℕ). not (is_deleted deletes n (with_documents words d n ts) doc)) (range_with_len 0 (n + d.num_docs));
-  tokens = with_documents words d n ts;
+-- all documents at a commit as one segment, n committed ones and k pending ones, of which those that aren't deleted are alive
+abbrev pub committed : List DeleteState → ℕ → List IndexToken → ℕ → List IndexToken → Segment
+committed deletes n ts k us = record {
+  alive = map (λ (doc : ℕ). not (is_deleted deletes n (with_tokens n ts us) doc)) (range_with_len 0 (n + k));
+  tokens = with_tokens n ts us;
 }
 
 -- The files of a directory hold an index of the living documents of a segment.
 abbrev pub HoldsIndexOfSegment : List SchemaEntry → Files → Segment → Type 0
 HoldsIndexOfSegment entries files s = HoldsIndexOf entries files (num_docs_of (s ∷ [])) (index_tokens (s ∷ []))
 
--- the number below which a delete reaches documents of a segment: of committed documents all
+-- the number below which a delete reaches documents of a segment: all that are committed, and of the pending ones, of which some are in earlier segments, those that were added before it
 abbrev pub limit_in : Scope → DeleteState → ℕ
 limit_in Committed d = TERMINATED
-limit_in Pending d = d.num_pending
+limit_in (Pending base) d = d.num_pending - base
 
 -- whether a delete reaches a document of a segment that has its term
 abbrev pub in_scope : Scope → DeleteState → ℕ → Bool
 in_scope Committed d doc = true
-in_scope Pending d doc = nat_lt doc d.num_pending
+in_scope (Pending base) d doc = nat_lt doc (d.num_pending - base)
 
 -- whether deletes reach a document of a segment with these tokens
 abbrev pub is_reached : Scope → List DeleteState → List IndexToken → ℕ → Bool
@@ -79,7 +74,7 @@ AreReached scope entries deletes c docs = (s : Segment) → HoldsSegment entries
 -- the documents that a delete reaches, of those that have its term
 abbrev pub reached_of : Scope → DeleteState → List ℕ → List ℕ
 reached_of Committed d docs = docs
-reached_of Pending d docs = filter (λ (doc : ℕ). nat_lt doc d.num_pending) docs
+reached_of (Pending base) d docs = filter (λ (doc : ℕ). nat_lt doc (d.num_pending - base)) docs
 
 -- the documents of an open segment that a delete reaches, or the first corrupt part
 abbrev pub docs_of_delete : Scope → OpenIndexState → DeleteState → Result (List ℕ) Part
@@ -107,23 +102,13 @@ pub record AreDeletedOf (entries : List SchemaEntry) (deletes : List DeleteState
   pub counted : (docs ≡ []) ⊎ IsSome c.counts
   pub reached : AreReached Committed entries deletes c docs
 
--- the segment of documents that were pending, of which those that aren't deleted are alive
-abbrev pub segment_left : (ℕ → List ℕ → List Word) → DocumentsState → List DeleteState → Segment
-segment_left words d deletes = record {
-  alive = map (λ (doc : ℕ). not (is_reached Pending deletes (tokens_by words d.calls) doc)) (range_with_len 0 d.num_docs);
-  tokens = tokens_by words d.calls;
-}
-
--- The files of a segment hold those documents that were pending and aren't deleted; there are none if no document was pending.
-abbrev pub HoldsLeft : TextSchemaState → DocumentsState → List DeleteState → Option SegmentContents → Type 0
-HoldsLeft s d deletes None = d.num_docs ≡ 0
-HoldsLeft s d deletes (Some c) =
-    HoldsSegment s.schema c (segment_left (analyzed_in s.tokenizers) d deletes) ⊎ HoldsSegment s.schema c (merged (segment_left (analyzed_in s.tokenizers) d deletes ∷ []))
+-- These documents of segments that were written one after the other are deleted, given how many documents are in earlier ones.
+abbrev pub ArePendingDeleted : List SchemaEntry → List DeleteState → ℕ → List SegmentContents → List (List ℕ) → Type 0
+ArePendingDeleted entries deletes base [] [] = ⊤
+ArePendingDeleted entries deletes base [] (docs ∷ deleted) = ⊥
+ArePendingDeleted entries deletes base (c ∷ cs) [] = ⊥
+ArePendingDeleted entries deletes base (c ∷ cs) (docs ∷ deleted) = AreReached (Pending base) entries deletes c docs × ArePendingDeleted entries deletes (base + length c.alive) cs deleted
 
 -- a segment, after some of its documents were deleted
 abbrev pub left_of : List ℕ → Segment → Segment
 left_of docs s = record { alive = without docs s.alive; tokens = s.tokens }
-
--- The files of a segment hold what is left of one, once documents were deleted.
-abbrev pub HoldsWithout : List SchemaEntry → List ℕ → Segment → SegmentContents → Type 0
-HoldsWithout entries docs s c = HoldsSegment entries c (left_of docs s) ⊎ HoldsSegment entries c (merged (left_of docs s ∷ []))

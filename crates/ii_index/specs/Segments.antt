@@ -39,6 +39,6 @@ pub record HoldsIndexOf (entries : List SchemaEntry) (files : Files) (n : ℕ) (
 abbrev pub after : ℕ → IndexToken → IndexToken
 after n t = record t { doc = n + t.doc }
 
--- tokens of n documents, and those of documents that are added
-abbrev pub with_documents : (ℕ → List ℕ → List Word) → DocumentsState → ℕ → List IndexToken → List IndexToken
-with_documents words d n ts = ts ++ map (after n) (tokens_by words d.calls)
+-- tokens of n documents, and those of documents that come after them
+abbrev pub with_tokens : ℕ → List IndexToken → List IndexToken → List IndexToken
+with_tokens n ts us = ts ++ map (after n) us

@@ -30,11 +30,11 @@ impl Model for Delete {
     ghost view = { λ d. record { term = d.term; num_pending = d.num_pending } };
 }
 
-// Which documents a segment has: committed ones, or those that were pending.
+// Which documents a segment has: committed ones, or those that were pending, of which so many are in earlier segments.
 #[derive(Clone, Copy, Debug, PartialEq, Eq)]
 pub(crate) enum Scope {
     Committed,
-    Pending,
+    Pending(DocId),
 }
 
 impl Delete {
@@ -58,7 +58,7 @@ impl Delete {
     {
         match scope {
             Scope::Committed => TERMINATED,
-            Scope::Pending => self.num_pending,
+            Scope::Pending(base) => self.num_pending.saturating_sub(base),
         }
     }
 }

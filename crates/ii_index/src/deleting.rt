@@ -1,16 +1,20 @@
 //! Finds the documents of segments that deletes reach.
-ghost use Rattle.std.specs.Prelude.{◌≡◌, ◌<◌, ◌++◌, ℕ, Ok, IfErr, IfOk, List, OnOk, filter, length, map, nat_lt};
+ghost use Rattle.std.specs.Prelude.{◌≡◌, ◌<◌, ◌≤◌, ◌++◌, ℕ, Bool, Ok, IfErr, IfOk, List, OnOk, filter, length, map, nat_lt};
 ghost use Rattle.std.specs.List.{AllZip};
 ghost use Rattle.ii_base.specs.declared.schema.index_record_option.IndexRecordOption.TheVariants.{Basic};
 ghost use Rattle.ii_base.specs.Entries.{docs_of};
 ghost use Rattle.ii_directory.specs.Directory.{is_obeyed};
 ghost use Rattle.ii_docset.specs.Cursor.{IsSound};
-ghost use Rattle.ii_index.specs.Deletes.{AreDeletedOf, HaveFieldsBelow, docs_of_delete, docs_reached};
-ghost use Rattle.ii_index.specs.Faults.{IsDeleteError, IsDeleteErrorAt, IsRefusedError};
+ghost use Rattle.ii_index.specs.Deletes.{AreDeletedOf, ArePendingDeleted, AreReached, HaveFieldsBelow, docs_in_files, docs_of_delete, docs_reached};
+ghost use Rattle.ii_index.specs.Faults.{IsDeleteError, IsDeleteErrorAt, IsPendingReachFault, IsRefusedError};
+ghost use Rattle.ii_index.specs.Pending.{AreWrittenSegments};
+ghost use Rattle.ii_index.specs.declared.deletes.Scope.TheVariants.{Pending};
 ghost use Rattle.ii_io.specs.Faults.{OnlyMemory};
 ghost use Rattle.ii_reader.specs.InvertedIndexReader.{IsRefusal};
 ghost use Rattle.ii_search.specs.Found.{docs_of_term};
-ghost use Rattle.ii_segment_store.specs.Contents.{segment_contents};
+ghost use Rattle.ii_base.specs.declared.doc_id.TheConstants.{TERMINATED};
+ghost use Rattle.ii_segment_store.specs.Contents.{contents_with, segment_contents};
+ghost use Rattle.ii_segments.specs.Segments.{Segment, num_docs_of};
 
 use crate::deletes::{Delete, Scope};
 use crate::faults::IndexError;
@@ -18,7 +22,7 @@ use crate::opening::open_files;
 use ii_base::{Fault, IndexRecordOption, Schema, Term};
 use ii_docset::{DocId, DocSet, TERMINATED};
 use ii_reader::{OpenIndex, SegmentPostings};
-use ii_segment_store::StoredSegment;
+use ii_segment_store::{SegmentFiles, StoredSegment};
 use std::alloc::Global;
 
 // Returns the documents of each segment that deletes reach.
@@ -75,6 +79,53 @@ fn docs_of_segment(
         return Err(IndexError::NoCounts(place));
     }
     Ok(docs)
+}
+
+// Returns the documents of each segment that deletes reach, of segments that were written one after the other.
+pub(crate) fn pending_docs_to_delete(
+    alloc: Global,
+    schema: &Schema,
+    segments: Vec<StoredSegment>,
+    deletes: &[Delete],
+) -> Result<Vec<Vec<DocId>>, Fault>
+    requires { HaveFieldsBelow (length schema.now) deletes.now }
+    ensures docs { (ss : List Segment) → AreWrittenSegments schema.now (map segment_contents segments.items) ss → num_docs_of ss ≤ TERMINATED → IfOk result (λ all. ArePendingDeleted schema.now deletes.now 0 (map segment_contents segments.items) (map (λ v. v.items) all.items)) }
+    ensures fault { (ss : List Segment) → AreWrittenSegments schema.now (map segment_contents segments.items) ss → IfErr result (IsPendingReachFault schema.now deletes.now) }
+{
+    let mut all = Vec::new(alloc);
+    let mut base: DocId = 0;
+    for segment in segments {
+        let StoredSegment { files, alive } = segment;
+        let docs = match pending_docs_of(alloc, schema, files, deletes, base) {
+            Ok(docs) => docs,
+            Err(fault) => return Err(fault),
+        };
+        all.push(docs)?;
+        base = base.saturating_add(alive.num_docs());
+    }
+    Ok(all)
+}
+
+// Returns the documents of a segment that deletes reach, of which so many are in earlier segments.
+fn pending_docs_of(
+    alloc: Global,
+    schema: &Schema,
+    files: SegmentFiles,
+    deletes: &[Delete],
+    base: DocId,
+) -> Result<Vec<DocId>, Fault>
+    requires { HaveFieldsBelow (length schema.now) deletes.now }
+    ensures reached { (alive : List Bool) → IfOk result (λ docs. AreReached (Pending base) schema.now deletes.now (contents_with files alive) docs.items) }
+    ensures err { (alive : List Bool) → IfErr result (IsRefusal (docs_in_files (Pending base) schema.now deletes.now (contents_with files alive))) }
+{
+    let index = match open_files(alloc, schema, files) {
+        Ok(index) => index,
+        Err(fault) => return Err(fault),
+    };
+    match docs_reached(alloc, &index, deletes, Scope::Pending(base)) {
+        Ok(docs) => Ok(docs),
+        Err(fault) => Err(fault),
+    }
 }
 
 // Returns the documents of an open segment that deletes reach.

@@ -4,6 +4,7 @@ ghost use Rattle.ii_io.specs.declared.faults.Fault.TheVariants.{OutOfMemory};
 ghost use Rattle.ii_index.specs.declared.faults.IndexError.TheVariants as faults;
 
 use ii_base::Fault;
+use ii_documents::LineFault;
 use ii_schema_text::SchemaFault;
 use ii_segment_store::CommitFault;
 use ii_store::StoreFault;
@@ -45,6 +46,12 @@ pub enum IndexError {
     /// The documents can't be indexed, or an allocation failed.
     #[error("{0}")]
     Documents(Fault),
+    /// The text is no document.
+    #[error("{0}")]
+    Document(LineFault),
+    /// Segments were written that aren't committed: commit them, or roll back.
+    #[error("segments that are written aren't committed")]
+    Uncommitted,
 }
 
 impl<T: Drop> From<AllocFailed<T>> for IndexError {

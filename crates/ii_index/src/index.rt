@@ -1,16 +1,18 @@
 //! An open index.
-ghost use Rattle.std.specs.Prelude.{◌≡◌, ◌⊎◌, ◌+◌, ◌<◌, ◌↔◌, [], ℕ, IfErr, IfOk, IfSome, IsSome, IsTrue, List, None, Ok, OnOk, length, map};
+ghost use Rattle.std.specs.Prelude.{◌≡◌, ◌⊎◌, ◌+◌, ◌<◌, ◌≤◌, ◌/◌, ◌↔◌, [], ℕ, IfErr, IfOk, IfSome, IsSome, IsTrue, List, None, Ok, OnOk, Some, length, map};
 ghost use Rattle.ii_base.specs.Schema.{SchemaEntry};
 ghost use Rattle.ii_definitions.specs.Tokens.{IndexToken};
 ghost use Rattle.ii_directory.specs.Directory.{Files, Obeys, is_obeyed};
 ghost use Rattle.ii_store.specs.Faults.{IsRefused};
 ghost use Rattle.ii_directory.specs.declared.name.Name.TheVariants.{Meta};
 ghost use Rattle.ii_index.specs.Deletes.{HaveFieldsBelow, HoldsIndexOfSegment, committed};
-ghost use Rattle.ii_index.specs.Faults.{IsCommitError, IsCreateError, IsDirectoryFault, IsDocumentsFault, IsReadError, IsRefusedError};
-ghost use Rattle.ii_index.specs.Index.{IsIndexSchema, IsNewSchema, IsOpenFault, IsSchemaFault, new_schema};
+ghost use Rattle.ii_index.specs.Faults.{IsAddError, IsCommitError, IsCreateError, IsDirectoryFault, IsDocumentsFault, IsReadError, IsRefusedError};
+ghost use Rattle.ii_index.specs.Index.{IsIndexSchema, IsNewSchema, IsOpenFault, IsSchemaFault, flushed_docs, new_schema};
+ghost use Rattle.ii_index.specs.Pending.{ArePending};
+ghost use Rattle.ii_base.specs.declared.doc_id.TheConstants.{TERMINATED};
 ghost use Rattle.ii_index.specs.Ranking.{SearcherHolds};
 ghost use Rattle.ii_index.specs.Searching.{OpensIndex};
-ghost use Rattle.ii_index.specs.Segments.{HaveLines, HoldsIndexOf, no_documents, segment_of, with_documents};
+ghost use Rattle.ii_index.specs.Segments.{HaveLines, HoldsIndexOf, no_documents, segment_of, with_tokens};
 ghost use Rattle.ii_io.specs.Faults.{OnlyMemory};
 ghost use Rattle.ii_query_parser.specs.QueryTexts.{IsQueryOfTextBy, field_named};
 ghost use Rattle.ii_schema_text.specs.SchemaText.{AnswersFromText, tokenized_schema};
@@ -26,6 +28,7 @@ ghost use Rattle.nequllpa_merging.specs.Joins.{IsJoinFault, IsRefusedJoin};
 use crate::committing::commit_documents;
 use crate::deletes::Delete;
 use crate::faults::IndexError;
+use crate::flushing::{Flushed, flush_documents};
 use crate::index_reader::{IndexReader, Searcher};
 use crate::index_writer::IndexWriter;
 use crate::opening::open_searcher;
@@ -42,6 +45,9 @@ use nequllpa_indexing::Documents;
 use nequllpa_merging::{JoinFault, merge_last};
 use std::alloc::Global;
 use std::marker::Model;
+
+// About how many bytes of memory a document takes, and then its segment, for each byte of its text.
+const MEMORY_PER_BYTE: usize = 5;
 
 /// An index in a directory: a `Folder`, or a `MemoryDirectory`. A program that writes to a folder must hold its
 /// lock (`FolderLock`).
@@ -190,17 +196,23 @@ impl<D: Directory + Drop> Index<D> {
         }
     }
 
-    /// Returns a writer of this index, to which no documents were added. Returns `OutOfMemory` if an allocation
-    /// fails.
-    pub fn writer(self, alloc: Global) -> Result<IndexWriter<D>, Fault>
-        ensures ok { IfOk result (λ w. w ≡ record { index = self; pending = no_documents self.schema; deletes = [] }) }
+    /// Returns a writer of this index, to which no documents were added.
+    ///
+    /// `memory_budget` is the number of bytes of memory that documents may take before they are committed: once they
+    /// do, `IndexWriter::add_document` writes them as a segment. A document takes about 5 bytes for each byte of its
+    /// text. With 0 each document becomes a segment.
+    ///
+    /// Returns `OutOfMemory` if an allocation fails.
+    pub fn writer(self, alloc: Global, memory_budget: usize) -> Result<IndexWriter<D>, Fault>
+        ensures ok { IfOk result (λ w. w ≡ record { index = self; flushed = None; documents = no_documents self.schema; num_bytes = 0; max_bytes = memory_budget / 5; deletes = [] }) }
         ensures only { OnlyMemory result }
     {
         let documents = match documents_for(alloc, &self.schema) {
             Ok(documents) => documents,
             Err(fault) => return Err(fault),
         };
-        Ok(IndexWriter::new(self, documents, Vec::new(alloc)))
+        let max_bytes = memory_budget / MEMORY_PER_BYTE;
+        Ok(IndexWriter::new(self, documents, max_bytes, Vec::new(alloc)))
     }
 
     // Returns an empty list of documents.
@@ -211,28 +223,60 @@ impl<D: Directory + Drop> Index<D> {
         documents_for(alloc, &self.schema)
     }
 
-    // Adds documents as a segment, unless there are none, and deletes those that deletes reach.
+    // Writes documents as a segment.
+    pub(crate) fn flush(
+        &mut self,
+        alloc: Global,
+        flushed: Option<Flushed>,
+        documents: Documents,
+    ) -> Result<Flushed, IndexError>
+        requires schema { documents.schema ≡ self.old.schema.schema }
+        requires lines { HaveLines documents.num_docs documents.lines }
+        requires room { flushed_docs flushed + documents.num_docs ≤ TERMINATED }
+        ensures known { D.is_known self.old.directory → OnOk result (D.is_known self.new.directory) }
+        ensures obeys { Obeys IsRefusedError (D.may_refuse self.old.directory) (D.may_refuse self.new.directory) result }
+        ensures schema { self.new.schema ≡ self.old.schema }
+        ensures written { D.is_known self.old.directory → (k : ℕ) (us : List IndexToken) → ArePending self.old.schema (D.seen self.old.directory) flushed documents k us → IfOk result (λ x. ArePending self.old.schema (D.seen self.new.directory) (Some x) (no_documents self.old.schema) k us) }
+        ensures many { IfOk result (λ x. x.num_docs ≡ flushed_docs flushed + documents.num_docs) }
+        ensures same { D.is_known self.old.directory → (k : ℕ) (us : List IndexToken) → ArePending self.old.schema (D.seen self.old.directory) flushed documents k us → OnOk result (index_contents (D.seen self.new.directory) ≡ index_contents (D.seen self.old.directory)) }
+        ensures leaves_same { D.is_known self.old.directory → (k : ℕ) (us : List IndexToken) → ArePending self.old.schema (D.seen self.old.directory) flushed documents k us → (n : ℕ) (ts : List IndexToken) → HoldsIndexOf self.old.schema.schema (D.seen self.old.directory) n ts
+            → (files : Files) → D.left_since self.new.directory (D.moment self.old.directory) files → HoldsIndexOf self.old.schema.schema files n ts }
+        ensures fault { D.is_known self.old.directory → IfErr result (λ e. IsAddError e self.old.schema flushed documents (D.seen self.old.directory)) }
+    {
+        write_documents(alloc, &mut self.directory, &self.schema, flushed, documents)
+    }
+
+    // Adds segments that were written, and documents as a segment after them, and deletes those that deletes reach.
     pub(crate) fn commit(
         &mut self,
         alloc: Global,
+        flushed: Option<Flushed>,
         documents: Documents,
         deletes: &[Delete],
     ) -> Result<(), IndexError>
         requires schema { documents.schema ≡ self.old.schema.schema }
         requires lines { HaveLines documents.num_docs documents.lines }
         requires fields { HaveFieldsBelow (length self.old.schema.schema) deletes.now }
+        requires room { flushed_docs flushed + documents.num_docs ≤ TERMINATED }
         ensures known { D.is_known self.old.directory → OnOk result (D.is_known self.new.directory) }
         ensures obeys { D.is_known self.old.directory → Obeys IsRefusedError (D.may_refuse self.old.directory) (D.may_refuse self.new.directory) result }
         ensures schema { self.new.schema ≡ self.old.schema }
-        ensures added { D.is_known self.old.directory → deletes.now ≡ [] → (n : ℕ) (ts : List IndexToken) → HoldsIndexOf self.old.schema.schema (D.seen self.old.directory) n ts
-            → OnOk result (HoldsIndexOf self.old.schema.schema (D.seen self.new.directory) (n + documents.num_docs) (with_documents (analyzed_in self.old.schema.tokenizers) documents n ts)) }
-        ensures changed { D.is_known self.old.directory → (n : ℕ) (ts : List IndexToken) → HoldsIndexOf self.old.schema.schema (D.seen self.old.directory) n ts
-            → OnOk result (HoldsIndexOfSegment self.old.schema.schema (D.seen self.new.directory) (committed (analyzed_in self.old.schema.tokenizers) documents deletes.now n ts)) }
-        ensures leaves_one { D.is_known self.old.directory → (n : ℕ) (ts : List IndexToken) → HoldsIndexOf self.old.schema.schema (D.seen self.old.directory) n ts → (files : Files) → D.left_since self.new.directory (D.moment self.old.directory) files
-            → HoldsIndexOf self.old.schema.schema files n ts ⊎ HoldsIndexOfSegment self.old.schema.schema files (committed (analyzed_in self.old.schema.tokenizers) documents deletes.now n ts) }
-        ensures fault { D.is_known self.old.directory → IfErr result (λ e. IsCommitError e self.old.schema documents deletes.now (D.seen self.old.directory)) }
+        ensures added { D.is_known self.old.directory → deletes.now ≡ [] → (k : ℕ) (us : List IndexToken) → ArePending self.old.schema (D.seen self.old.directory) flushed documents k us → (n : ℕ) (ts : List IndexToken) → HoldsIndexOf self.old.schema.schema (D.seen self.old.directory) n ts
+            → OnOk result (HoldsIndexOf self.old.schema.schema (D.seen self.new.directory) (n + k) (with_tokens n ts us)) }
+        ensures changed { D.is_known self.old.directory → (k : ℕ) (us : List IndexToken) → ArePending self.old.schema (D.seen self.old.directory) flushed documents k us → (n : ℕ) (ts : List IndexToken) → HoldsIndexOf self.old.schema.schema (D.seen self.old.directory) n ts
+            → OnOk result (HoldsIndexOfSegment self.old.schema.schema (D.seen self.new.directory) (committed deletes.now n ts k us)) }
+        ensures leaves_one { D.is_known self.old.directory → (k : ℕ) (us : List IndexToken) → ArePending self.old.schema (D.seen self.old.directory) flushed documents k us → (n : ℕ) (ts : List IndexToken) → HoldsIndexOf self.old.schema.schema (D.seen self.old.directory) n ts
+            → (files : Files) → D.left_since self.new.directory (D.moment self.old.directory) files → HoldsIndexOf self.old.schema.schema files n ts ⊎ HoldsIndexOfSegment self.old.schema.schema files (committed deletes.now n ts k us) }
+        ensures fault { D.is_known self.old.directory → (k : ℕ) (us : List IndexToken) → ArePending self.old.schema (D.seen self.old.directory) flushed documents k us → IfErr result (λ e. IsCommitError e self.old.schema flushed documents deletes.now (D.seen self.old.directory)) }
     {
-        commit_documents(alloc, &mut self.directory, &self.schema, documents, deletes)
+        commit_documents(
+            alloc,
+            &mut self.directory,
+            &self.schema,
+            flushed,
+            documents,
+            deletes,
+        )
     }
 
     // Removes the files that the index doesn't have any more.
@@ -260,6 +304,32 @@ impl<D: Directory + Drop> Index<D> {
         ensures fault { D.is_known self.old.directory → IfErr result (λ e. IsJoinFault e self.old.schema.schema first (D.seen self.old.directory)) }
     {
         merge_documents(alloc, &mut self.directory, self.schema.schema(), first)
+    }
+}
+
+// Writes documents as a segment, which the index doesn't have yet.
+fn write_documents<D: Directory>(
+    alloc: Global,
+    directory: &mut D,
+    schema: &TextSchema,
+    flushed: Option<Flushed>,
+    documents: Documents,
+) -> Result<Flushed, IndexError>
+    requires schema { documents.schema ≡ schema.now.schema }
+    requires lines { HaveLines documents.num_docs documents.lines }
+    requires room { flushed_docs flushed + documents.num_docs ≤ TERMINATED }
+    ensures known { D.is_known directory.old → OnOk result (D.is_known directory.new) }
+    ensures obeys { Obeys IsRefusedError (D.may_refuse directory.old) (D.may_refuse directory.new) result }
+    ensures written { D.is_known directory.old → (k : ℕ) (us : List IndexToken) → ArePending schema.now (D.seen directory.old) flushed documents k us → IfOk result (λ x. ArePending schema.now (D.seen directory.new) (Some x) (no_documents schema.now) k us) }
+    ensures many { IfOk result (λ x. x.num_docs ≡ flushed_docs flushed + documents.num_docs) }
+    ensures same { D.is_known directory.old → (k : ℕ) (us : List IndexToken) → ArePending schema.now (D.seen directory.old) flushed documents k us → OnOk result (index_contents (D.seen directory.new) ≡ index_contents (D.seen directory.old)) }
+    ensures leaves_same { D.is_known directory.old → (k : ℕ) (us : List IndexToken) → ArePending schema.now (D.seen directory.old) flushed documents k us → (n : ℕ) (ts : List IndexToken) → HoldsIndexOf schema.now.schema (D.seen directory.old) n ts
+        → (files : Files) → D.left_since directory.new (D.moment directory.old) files → HoldsIndexOf schema.now.schema files n ts }
+    ensures fault { D.is_known directory.old → IfErr result (λ e. IsAddError e schema.now flushed documents (D.seen directory.old)) }
+{
+    match flush_documents(alloc, directory, schema, flushed, documents) {
+        Ok(flushed) => Ok(flushed),
+        Err(fault) => Err(fault),
     }
 }
 

@@ -5,6 +5,7 @@ mod committing;
 mod deletes;
 mod deleting;
 pub mod faults;
+mod flushing;
 pub mod index;
 pub mod index_reader;
 pub mod index_writer;

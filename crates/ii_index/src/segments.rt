@@ -41,6 +41,7 @@ pub(crate) fn segment_of(
     requires { HaveLines documents.num_docs documents.lines }
     ensures holds { IfOk result (λ f. HoldsSegment documents.schema (files_contents f) (segment_of (analyzed_in tokenizers.now) documents)) }
     ensures counted { IfOk result (λ f. IsSome f.counts) }
+    ensures docs { IfOk result (λ f. f.num_docs ≡ documents.num_docs) }
     ensures calls { WereCalls documents.schema documents.num_docs documents.calls }
     ensures fault { IfErr result (IsDocumentsFault (analyzed_in tokenizers.now) documents) }
 {

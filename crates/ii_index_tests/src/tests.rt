@@ -1,5 +1,8 @@
 // Documents in two batches: what is found of them after commits, a rollback and a merge.
-use ii_index::{DocSet, Field, Index, IndexWriter, MemoryDirectory, TERMINATED, Term, TopDocs};
+use ii_index::{
+    Directory, DocSet, Field, Index, IndexError, IndexWriter, MemoryDirectory, TERMINATED, Term,
+    TopDocs,
+};
 use std::alloc::Global;
 use std::test::Fail;
 
@@ -11,6 +14,11 @@ static DOCUMENTS: [&str; 4] = [
     "{\"body\": \"The Sea, the old sea\"}",
     "{}",
 ];
+
+// Budgets of memory: each document becomes a segment, some do, or all of a commit become one.
+static BUDGETS: [usize; 5] = [0, 175, 200, 350, 1_000_000];
+
+const AMPLE: usize = 1_000_000;
 
 // A query, and the documents that match it.
 type Row = (&'static str, &'static str);
@@ -37,8 +45,17 @@ fn add(
 
 // Returns a writer of a new index, in which the documents up to a place are committed, and then the others.
 fn committed(alloc: Global, place: usize) -> Result<IndexWriter<MemoryDirectory>, Fail> {
+    committed_within(alloc, place, AMPLE)
+}
+
+// The same, where documents in memory may take a budget.
+fn committed_within(
+    alloc: Global,
+    place: usize,
+    budget: usize,
+) -> Result<IndexWriter<MemoryDirectory>, Fail> {
     let index = Index::create(alloc, MemoryDirectory::create(alloc), SCHEMA)?;
-    let mut writer = index.writer(alloc)?;
+    let mut writer = index.writer(alloc, budget)?;
     let (first, others) = DOCUMENTS.split_at(place.min(DOCUMENTS.len()));
     add(alloc, &mut writer, first)?;
     writer.commit(alloc)?;
@@ -75,10 +92,12 @@ fn found(alloc: Global, index: &Index<MemoryDirectory>, text: &str) -> Result<St
 #[test]
 fn committed_documents_are_found(rt: HostRuntime) -> Result<(), Fail> {
     for place in 0..5 {
-        let writer = committed(rt.alloc(), place)?;
-        for (text, wanted) in &ROWS {
-            let found = found(rt.alloc(), writer.index(), text)?;
-            assert!(rt; found.as_str() == *wanted);
+        for budget in &BUDGETS {
+            let writer = committed_within(rt.alloc(), place, *budget)?;
+            for (text, wanted) in &ROWS {
+                let found = found(rt.alloc(), writer.index(), text)?;
+                assert!(rt; found.as_str() == *wanted);
+            }
         }
     }
     Ok(())
@@ -249,14 +268,135 @@ fn make(alloc: Global, writer: &mut IndexWriter<MemoryDirectory>, step: &Step) -
 
 #[test]
 fn deleted_documents_are_not_found(rt: HostRuntime) -> Result<(), Fail> {
-    for (steps, text, wanted) in &SESSIONS {
-        let index = Index::create(rt.alloc(), MemoryDirectory::create(rt.alloc()), SCHEMA)?;
-        let mut writer = index.writer(rt.alloc())?;
-        for step in *steps {
-            make(rt.alloc(), &mut writer, step)?;
+    for budget in &BUDGETS {
+        for session in &SESSIONS {
+            has_its_answer(&rt, *budget, session)?;
         }
+    }
+    Ok(())
+}
+
+// Makes the steps of a session, and compares what is found then.
+fn has_its_answer(rt: &HostRuntime, budget: usize, session: &Session) -> Result<(), Fail> {
+    let (steps, text, wanted) = *session;
+    let index = Index::create(rt.alloc(), MemoryDirectory::create(rt.alloc()), SCHEMA)?;
+    let mut writer = index.writer(rt.alloc(), budget)?;
+    for step in steps {
+        make(rt.alloc(), &mut writer, step)?;
+    }
+    let found = found(rt.alloc(), writer.index(), text)?;
+    assert!(rt; found.as_str() == wanted);
+    Ok(())
+}
+
+// A budget, and how many segments the four documents become, which have 35, 30, 32 and 2 bytes.
+static SEGMENTS: [(usize, usize); 8] = [
+    (0, 4),
+    (150, 4),
+    (175, 3),
+    (200, 2),
+    (350, 2),
+    (485, 2),
+    (490, 1),
+    (1_000_000, 1),
+];
+
+// Returns how many files a directory has.
+fn num_files(alloc: Global, index: &Index<MemoryDirectory>) -> Result<usize, Fail> {
+    Ok(index.directory().list(alloc)?.len())
+}
+
+#[test]
+fn documents_become_segments_by_the_budget(rt: HostRuntime) -> Result<(), Fail> {
+    for (budget, segments) in &SEGMENTS {
+        let index = Index::create(rt.alloc(), MemoryDirectory::create(rt.alloc()), SCHEMA)?;
+        let before = num_files(rt.alloc(), &index)?;
+        let mut writer = index.writer(rt.alloc(), *budget)?;
+        add(rt.alloc(), &mut writer, &DOCUMENTS)?;
+        writer.commit(rt.alloc())?;
+        // terms, postings, positions, norms and counts
+        assert!(rt; num_files(rt.alloc(), writer.index())? == before + 5 * segments);
+    }
+    Ok(())
+}
+
+#[test]
+fn written_documents_are_not_found_before_a_commit(rt: HostRuntime) -> Result<(), Fail> {
+    let mut writer = committed_within(rt.alloc(), 2, 0)?;
+    let before = num_files(rt.alloc(), writer.index())?;
+    add(rt.alloc(), &mut writer, &DOCUMENTS)?;
+    make(rt.alloc(), &mut writer, &Step::Delete("sea"))?;
+    assert!(rt; num_files(rt.alloc(), writer.index())? == before + 20);
+    for (text, wanted) in &ROWS {
         let found = found(rt.alloc(), writer.index(), text)?;
         assert!(rt; found.as_str() == *wanted);
+    }
+    writer.commit(rt.alloc())?;
+    let found = found(rt.alloc(), writer.index(), "the")?;
+    assert!(rt; found.as_str() == "0,2,of 4");
+    Ok(())
+}
+
+#[test]
+fn written_documents_are_dropped(rt: HostRuntime) -> Result<(), Fail> {
+    let mut writer = committed_within(rt.alloc(), 4, 0)?;
+    add(rt.alloc(), &mut writer, &DOCUMENTS)?;
+    writer.rollback(rt.alloc())?;
+    writer.commit(rt.alloc())?;
+    for (text, wanted) in &ROWS {
+        let found = found(rt.alloc(), writer.index(), text)?;
+        assert!(rt; found.as_str() == *wanted);
+    }
+    assert!(rt; writer.garbage_collect_files(rt.alloc())? == 20);
+    add(rt.alloc(), &mut writer, &[DOCUMENTS[0]])?;
+    writer.commit(rt.alloc())?;
+    let found = found(rt.alloc(), writer.index(), "sea")?;
+    assert!(rt; found.as_str() == "0,2,4,of 5");
+    Ok(())
+}
+
+#[test]
+fn written_segments_are_committed_before_a_merge(rt: HostRuntime) -> Result<(), Fail> {
+    let mut writer = committed_within(rt.alloc(), 4, 0)?;
+    add(rt.alloc(), &mut writer, &[DOCUMENTS[1]])?;
+    assert!(rt; matches!(writer.merge(rt.alloc(), 0), Err(IndexError::Uncommitted)));
+    assert!(rt;
+        matches!(
+            writer.garbage_collect_files(rt.alloc()),
+            Err(IndexError::Uncommitted)
+        )
+    );
+    writer.commit(rt.alloc())?;
+    writer.merge(rt.alloc(), 0)?;
+    writer.garbage_collect_files(rt.alloc())?;
+    let found = found(rt.alloc(), writer.index(), "bird")?;
+    assert!(rt; found.as_str() == "1,4,of 5");
+    Ok(())
+}
+
+#[test]
+fn a_text_that_is_no_document_changes_nothing(rt: HostRuntime) -> Result<(), Fail> {
+    for budget in &BUDGETS {
+        let index = Index::create(rt.alloc(), MemoryDirectory::create(rt.alloc()), SCHEMA)?;
+        let mut writer = index.writer(rt.alloc(), *budget)?;
+        for document in &DOCUMENTS {
+            add(rt.alloc(), &mut writer, &[*document])?;
+            assert!(rt;
+                matches!(
+                    writer.add_document(rt.alloc(), "{\"title\": 1}"),
+                    Err(IndexError::Document(_))
+                )
+            );
+            assert!(rt;
+                matches!(
+                    writer.add_document(rt.alloc(), "[]"),
+                    Err(IndexError::Document(_))
+                )
+            );
+        }
+        writer.commit(rt.alloc())?;
+        let found = found(rt.alloc(), writer.index(), "sea")?;
+        assert!(rt; found.as_str() == "0,2,of 4");
     }
     Ok(())
 }

@@ -8,7 +8,6 @@ use Rattle.ii_index.specs.Segments.{HoldsIndexOf}
 use Rattle.ii_schema_text.specs.SchemaText.{TextSchemaState}
 use Rattle.ii_segment_search.specs.Searcher.{total_living}
 use Rattle.ii_segments.specs.Segments.{Segment, index_tokens, num_docs_of}
-use Rattle.ii_tokenizers.specs.Tokenizers.{analyzed_in}
 use Rattle.ii_folder_promises.proofs.IndexLaws.{IsOneOrTwo, all_counted, second_left}
 use Rattle.ii_folder_promises.proofs.index.number_left.Goals as goal
 
@@ -17,15 +16,14 @@ returns-clause-least g c =
     let seen = g.D.Directory.seen in
     let new = c.commit.new.self.index in
     let writer = c.args.writer in
-    let words = analyzed_in writer.index.schema.tokenizers in
-    let left : Segment = committed words writer.pending writer.deletes 0 [] in
+    let left : Segment = committed writer.deletes 0 [] 2 c.requires.two.0 in
     let n = num_docs_of (left ∷ []) in
     let ts : List IndexToken = index_tokens (left ∷ []) in
-    let held = subst (λ (s : TextSchemaState). HoldsIndexOf s.schema (seen new.directory) n ts) (sym c.in-Ok.ensures.schema) (c.in-Ok.ensures.changed c.requires.known 0 [] c.requires.empty) in
+    let held = subst (λ (s : TextSchemaState). HoldsIndexOf s.schema (seen new.directory) n ts) (sym c.in-Ok.ensures.schema) (c.in-Ok.ensures.changed c.requires.known 2 c.requires.two.0 c.requires.two.1 0 [] c.requires.empty) in
     let read = subst (λ (i : IndexState _). g.D.Directory.is_known i.directory → (n : ℕ) (ts : List IndexToken) → HoldsIndexOf i.schema.schema (seen i.directory) n ts → SearcherHolds i.schema.schema c.in-Ok-reader.reader n ts) c.index.ensures c.in-Ok-reader.ensures.holds in
     let all : total_living c.in-Ok-reader.reader.segments ≡ n = all_counted new.schema.schema c.in-Ok-reader.reader n ts (read (c.in-Ok.ensures.known c.requires.known) n ts held) in
     let same : total_living c.searcher.result.now.segments ≡ total_living c.in-Ok-reader.reader.segments = ap (λ (r : SearcherState). total_living r.segments) c.searcher.ensures in
-    let few = second_left words writer.pending writer.deletes c.requires.delete.0 c.requires.two c.requires.delete.1 in
+    let few = second_left writer.deletes c.requires.delete.0 c.requires.two.0 c.requires.delete.1 in
     omega (arith, c.num_docs.ensures, same, all, few.least)
 
 pub returns-clause-most : goal.returns-clause-most
@@ -33,13 +31,12 @@ returns-clause-most g c =
     let seen = g.D.Directory.seen in
     let new = c.commit.new.self.index in
     let writer = c.args.writer in
-    let words = analyzed_in writer.index.schema.tokenizers in
-    let left : Segment = committed words writer.pending writer.deletes 0 [] in
+    let left : Segment = committed writer.deletes 0 [] 2 c.requires.two.0 in
     let n = num_docs_of (left ∷ []) in
     let ts : List IndexToken = index_tokens (left ∷ []) in
-    let held = subst (λ (s : TextSchemaState). HoldsIndexOf s.schema (seen new.directory) n ts) (sym c.in-Ok.ensures.schema) (c.in-Ok.ensures.changed c.requires.known 0 [] c.requires.empty) in
+    let held = subst (λ (s : TextSchemaState). HoldsIndexOf s.schema (seen new.directory) n ts) (sym c.in-Ok.ensures.schema) (c.in-Ok.ensures.changed c.requires.known 2 c.requires.two.0 c.requires.two.1 0 [] c.requires.empty) in
     let read = subst (λ (i : IndexState _). g.D.Directory.is_known i.directory → (n : ℕ) (ts : List IndexToken) → HoldsIndexOf i.schema.schema (seen i.directory) n ts → SearcherHolds i.schema.schema c.in-Ok-reader.reader n ts) c.index.ensures c.in-Ok-reader.ensures.holds in
     let all : total_living c.in-Ok-reader.reader.segments ≡ n = all_counted new.schema.schema c.in-Ok-reader.reader n ts (read (c.in-Ok.ensures.known c.requires.known) n ts held) in
     let same : total_living c.searcher.result.now.segments ≡ total_living c.in-Ok-reader.reader.segments = ap (λ (r : SearcherState). total_living r.segments) c.searcher.ensures in
-    let few = second_left words writer.pending writer.deletes c.requires.delete.0 c.requires.two c.requires.delete.1 in
+    let few = second_left writer.deletes c.requires.delete.0 c.requires.two.0 c.requires.delete.1 in
     omega (arith, c.num_docs.ensures, same, all, few.most)

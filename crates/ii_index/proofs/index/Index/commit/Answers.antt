@@ -8,3 +8,6 @@ returns-clause-changed g c = rw (← c.self.view_is) c.commit_documents.ensures.
 
 pub returns-clause-leaves_one : goal.returns-clause-leaves_one
 returns-clause-leaves_one g c = rw (← c.self.view_is) c.commit_documents.ensures.leaves_one
+
+pub returns-clause-fault : goal.returns-clause-fault
+returns-clause-fault g c = rw (← c.self.view_is) c.commit_documents.ensures.fault
