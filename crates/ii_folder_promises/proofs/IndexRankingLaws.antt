@@ -1,5 +1,5 @@
 -- The best documents of an index that was committed.
-use Rattle.std.proofs.Common.{◌≡◌, ◌∙◌, ℕ, ◌<◌, ◌≤◌, true, List, [], ◌∷◌, Option, None, Some, Vec, Global, IfSome, Result, Ok, ap, filter, get_or, is_some, length, min, subst}
+use Rattle.std.proofs.Common.{◌≡◌, ◌∙◌, ℕ, ◌<◌, ◌≤◌, true, List, [], ◌∷◌, Option, None, Some, Vec, Global, IfSome, Result, Ok, ap, filter, get_or, is_some, length, min, subst, sym}
 use Rattle.std.specs.Prelude.{◌⊎◌}
 use Rattle.std.specs.List.{All, Contains, range_with_len}
 use Rattle.std.proofs.lemmas.List.Elements.{filter_agree}
@@ -11,6 +11,7 @@ use Rattle.ii_index.specs.Searching.{SearcherState}
 use Rattle.ii_index.specs.Statistics.{token_statistics}
 use Rattle.ii_query_parser.specs.declared.query.Query.{Query}
 use Rattle.ii_query_parser.specs.Queries.{keeps_positions, matches}
+use Rattle.ii_query_parser.specs.QueryTexts.{AnalyzedFields, MeansTextBy, text_matches_by}
 use Rattle.ii_ranking.specs.TokenCounts.{AreOrdered}
 use Rattle.ii_ranking.specs.TokenScores.{token_score}
 use Rattle.ii_ranking.specs.TopDocs.{AreBest, scored_docs}
@@ -39,6 +40,27 @@ module _ (entries : List SchemaEntry) (n : ℕ) (ts : List IndexToken) (query : 
       best_many limit n (token_score entries ts (token_statistics n ts) query) best.items are
       ∙ ap (λ (docs : List ℕ). min limit (length docs))
       (filter_agree (λ (doc : ℕ). is_some (token_score entries ts (token_statistics n ts) query doc)) (matches query ts) (λ doc. matches_score entries ts (token_statistics n ts) query doc ordered keeps) (range_with_len 0 n))
+
+  -- they match
+  pub some_matching : AreOrdered ts → keeps_positions entries query ≡ true → (r : Option (Vec (ℕ × ℕ) Global)) → IfSome r (λ best. AreBestOf entries n ts query limit best.items)
+      → IfSome r (λ best. All (λ (b : ℕ × ℕ). matches query ts b.1 ≡ true) best.items)
+  some_matching ordered keeps None are = tt
+  some_matching ordered keeps (Some best) are =
+      let scored = best_scored limit n (token_score entries ts (token_statistics n ts) query) best.items are in
+      λ k d within. sym (matches_score entries ts (token_statistics n ts) query (get_or best.items k d).1 ordered keeps) ∙ ap is_some (scored k d within).1
+
+  -- those of a text
+  pub text_many : (q : AnalyzedFields) (text : List ℕ) → MeansTextBy q text query → AreOrdered ts → keeps_positions entries query ≡ true → (r : Option (Vec (ℕ × ℕ) Global)) → IfSome r (λ best. AreBestOf entries n ts query limit best.items)
+      → IfSome r (λ best. length best.items ≡ min limit (length (filter (text_matches_by q text ts) (range_with_len 0 n))))
+  text_many q text means ordered keeps None are = tt
+  text_many q text means ordered keeps (Some best) are =
+      some_many ordered keeps (Some best) are
+      ∙ ap (λ (docs : List ℕ). min limit (length docs)) (filter_agree (matches query ts) (text_matches_by q text ts) (λ doc. means.exact ts doc) (range_with_len 0 n))
+
+  pub text_matching : (q : AnalyzedFields) (text : List ℕ) → MeansTextBy q text query → AreOrdered ts → keeps_positions entries query ≡ true → (r : Option (Vec (ℕ × ℕ) Global)) → IfSome r (λ best. AreBestOf entries n ts query limit best.items)
+      → IfSome r (λ best. All (λ (b : ℕ × ℕ). text_matches_by q text ts b.1 ≡ true) best.items)
+  text_matching q text means ordered keeps None are = tt
+  text_matching q text means ordered keeps (Some best) are = λ k d within. sym (means.exact ts (get_or best.items k d).1) ∙ some_matching ordered keeps (Some best) are k d within
 
   pub some_in_order : (r : Option (Vec (ℕ × ℕ) Global)) → IfSome r (λ best. AreBestOf entries n ts query limit best.items)
       → IfSome r (λ best. (i j : ℕ) → i ≤ j → j < length best.items → (get_or best.items j (0, 0)).0 ≤ (get_or best.items i (0, 0)).0)

@@ -53,7 +53,7 @@ pub fn the_best_of_an_index_come_first<D: Directory + Drop>(
 }
 
 // Returns the best documents of a reader.
-fn best_of(
+pub(crate) fn best_of(
     alloc: Global,
     reader: &IndexReader,
     query: &Query,

@@ -6,6 +6,7 @@ pub mod damage;
 pub mod folder;
 pub mod index;
 pub mod index_ranking;
+pub mod index_texts;
 pub mod keys;
 pub mod merging;
 pub mod ranking;
