@@ -1,5 +1,5 @@
 -- How many documents the segments of an index have.
-use Rattle.std.proofs.Common.{◌≡◌, ◌+◌, ◌≤◌, ℕ, Bool, true, false, List, [], ◌∷◌, ◌++◌, Option, None, arith, ap, not, refl, subst, sym}
+use Rattle.std.proofs.Common.{◌≡◌, ◌∙◌, ◌+◌, ◌≤◌, ℕ, Bool, true, false, List, [], ◌∷◌, ◌++◌, Option, None, arith, ap, not, refl, subst, sym}
 use Rattle.ii_alive.specs.Alive.{num_living}
 use Rattle.ii_alive.proofs.RankLemmas.{all_living}
 use Rattle.ii_directory.specs.Directory.{Files}
@@ -11,8 +11,10 @@ use Rattle.ii_index.specs.Ranking.{SearcherHolds}
 use Rattle.ii_index.specs.Searching.{SearcherState}
 use Rattle.ii_index.specs.Index.{FlushedState, IndexWriterState, with_documents_of}
 use Rattle.ii_index.specs.Pending.{HasPending, HoldsFlushedIf}
-use Rattle.ii_index.specs.Segments.{HaveTokens, no_documents, segment_of, with_tokens}
+use Rattle.ii_index.specs.Segments.{HaveTokens, HoldsIndexOf, no_documents, segment_of, with_tokens}
 use Rattle.ii_segment_search.proofs.LocalLaws.{docs_of_both}
+use Rattle.ii_schema_text.specs.SchemaText.{TextSchemaState}
+use Rattle.ii_segment_store.specs.Contents.{index_contents}
 use Rattle.ii_tokenizers.specs.Tokenizers.{analyzed_in}
 use Rattle.ii_segment_search.specs.Searcher.{OpenSegmentState, SegmentsHold, total_living}
 use Rattle.ii_segments.specs.Segments.{Segment, index_tokens, num_docs_of}
@@ -57,3 +59,13 @@ one_pending files w d k us more h =
     let words = analyzed_in w.index.schema.tokenizers in
     let count : num_docs_of (h.segments ++ segment_of words d ∷ []) ≡ k + 1 = omega (arith, h.have.num_docs, docs_of_both h.segments (segment_of words d ∷ []), docs_of_both h.segments (segment_of words w.documents ∷ []), all_living d.num_docs, all_living w.documents.num_docs, more) in
     (index_tokens (h.segments ++ segment_of words d ∷ []), record { segments = h.segments; holds = h.holds; have = record { num_docs = count; tokens = refl } })
+
+-- the same contents hold the same index
+pub index_kept : (s t : TextSchemaState) (old new : Files) (n : ℕ) (ts : List IndexToken) → t ≡ s → index_contents new ≡ index_contents old → HoldsIndexOf s.schema old n ts → HoldsIndexOf t.schema new n ts
+index_kept s t old new n ts schema same h =
+    subst (λ (x : TextSchemaState). HoldsIndexOf x.schema new n ts) (sym schema)
+    (record {
+      segments = h.segments;
+      holds = record { contents = h.holds.contents; read = same ∙ h.holds.read; hold = h.holds.hold };
+      have = h.have;
+    })
