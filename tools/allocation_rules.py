@@ -38,7 +38,6 @@ PLACES = {
     'ii_directory/src/memory_files.rt': {'stop_in_put'},  # a copy of the bytes was refused
     'ii_term_text/src/terms.rt': {'bytes_term', 'is_memory'},  # the kit's `hex` couldn't grow
     'ii_folder_promises/src/stored_lines.rt': {'stored_lines_come_back', 'merged_lines_come_back', 'line_of', 'copied'},  # a store, or a copy of a line
-    'ii_index/src/committing.rt': {'commit_list'},  # the list of deleted documents couldn't grow
     'ii_index/src/faults.rt': {'from'},
     'nequllpa_folder/src/faults.rt': {'is_memory', 'from'},
     'nequllpa_folder/src/line_fields.rt': {

@@ -180,7 +180,7 @@ def by_hand(user):
     bad = b'{"body": 5}\n[1]\n'
     user.wants(['index', 'small', '--schema', 'schema.toml', '--skip-bad', '--json'], 0, '{"indexed":2,"left_out":2}\n', '-:3: body: ', given(DOCS[0]) + bad)
     user.wants(['add', 'small', '--no-merge', '--json'], 0, '{"added":2,"left_out":0}\n', given=given(DOCS[1]))
-    user.wants(['upgrade', 'small', '--json'], 0, '{"version":2,"upgraded":false}\n')
+    user.wants(['upgrade', 'small', '--json'], 0, '{"version":3,"upgraded":false}\n')
     user.wants(['delete', 'small', 'body', 'gone', '--json'], 0, '{"deleted":1}\n')
     user.wants(['delete', 'small', 'body', 'none', '--json'], 0, '{"deleted":0}\n')
     for words, status, rows in ROWS:
@@ -214,7 +214,7 @@ def changes(user):
     versions.to_first(user.path('first'))
     user.wants(['merge', 'first', '--json'], 0, '{"merged":0,"documents":2}\n')
     checks_agree(user, 'first', 0)
-    user.wants(['upgrade', 'first', '--json'], 0, '{"version":2,"upgraded":true}\n')
+    user.wants(['upgrade', 'first', '--json'], 0, '{"version":3,"upgraded":true}\n')
 
 
 def text_of_stats(text):
@@ -289,7 +289,7 @@ def checks_agree(user, folder, status):
 def damages(user, chosen):
     """Changes, cuts and removes each file of an index: `check --json` must tell what `check` tells."""
     kinds = set()
-    for version in (2, 1):
+    for version in (3, 1):
         if version == 1:
             shutil.rmtree(user.path('small'))
             user.write('first.toml', SCHEMA.replace('store_source = true\n', ''))

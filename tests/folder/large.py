@@ -3,7 +3,7 @@
 first has no words, queries of 128 clauses, a phrase of 20 words, a word of 10 kB, a line of 8 MB. The answers must be
 those of a plain reading. Then bytes of each file change: `check` must name the file and count a damage. Last, each part
 of a list of 1,000 documents changes, then the number of tokens and the norms: `check` must say which part of which
-term is damaged, and nothing else. The damaged indexes are of version 1 and of version 2."""
+term is damaged, and nothing else. The damaged indexes are of version 1 and of version 3."""
 import json
 import os
 import random
@@ -27,7 +27,7 @@ BLOCKS = LISTED // 128
 ENTRY = 12
 LAST_DOC, WIDTH, COUNT_WIDTH, SUM, GREATEST = 0, 4, 5, 6, 11
 FILES = {'term.0': 'terms', 'idx.0': 'postings', 'pos.0': 'positions', 'fieldnorm.0': 'field norms'}
-# The same files in the only segment of an index of version 2.
+# The same files in the only segment of an index of version 3.
 SEGMENT_FILES = {'term.0': '0000000000000000.term', 'idx.0': '0000000000000000.idx', 'pos.0': '0000000000000000.pos', 'fieldnorm.0': '0000000000000000.norm'}
 
 
@@ -82,13 +82,13 @@ def searches(user, lists, chosen):
 
 
 def path_of(user, folder, name, version):
-    """Returns the path of a file of version 1, or of the file of the only segment of version 2 that has the same bytes."""
-    return os.path.join(user.room, folder, SEGMENT_FILES[name] if version == 2 else name)
+    """Returns the path of a file of version 1, or of the file of the only segment of version 3 that has the same bytes."""
+    return os.path.join(user.room, folder, SEGMENT_FILES[name] if version == 3 else name)
 
 
 def damages(user, chosen, version):
     """Changes a byte of each file at several places. `check` must name the file, and no other."""
-    of_segment = ' of segment 0' if version == 2 else ''
+    of_segment = ' of segment 0' if version == 3 else ''
     for name, kind in FILES.items():
         path = path_of(user, 'folder', name, version)
         with open(path, 'rb') as file:
@@ -190,7 +190,7 @@ def list_parts(user, chosen, version):
         with open(path_of(user, 'listed', name, version), 'rb') as file:
             files[name] = file.read()
     where = List(files['idx.0'], files['pos.0'], counts)
-    segment = 'segment 0: ' if version == 2 else ''
+    segment = 'segment 0: ' if version == 3 else ''
     tried = 0
     for name, place, byte, line in [*changes(where, files), *miscounts(files, sum(counts.values()) + len(lines)), *changed_norms(counts, chosen)]:
         changed = bytearray(files[name])
@@ -218,13 +218,13 @@ def many_blocks(user):
     given = ''.join(json.dumps(doc) + '\n' for doc in docs).encode()
     user.wants(['index', 'folder', '--schema', 'schema.toml'], 0, f'{DOCS} documents indexed\n', given=given)
     searches(user, texts.lists_of(docs, 'body'), chosen)
-    for version in (2, 1):
+    for version in (3, 1):
         if version == 1:
             versions.to_first(user.path('folder'))
         damages(user, chosen, version)
         if not user.run('check', 'folder').stdout.decode().endswith('\n0 damages\n'):
             raise Failed('check: damages in a folder that was restored')
-    tried = sum(list_parts(user, chosen, version) for version in (1, 2))
+    tried = sum(list_parts(user, chosen, version) for version in (1, 3))
     return f'{DOCS} documents, {CLAUSES} clauses, a line of {max(len(doc["body"]) for doc in docs) >> 20} MB, {tried} damaged parts of a list'
 
 

@@ -341,7 +341,7 @@ def grows(user, docs, chosen):
     user.wants(['add', 'grown', 'bad.jsonl'], 1, '', 'bad.jsonl:1: body: not of the type of the field')
     user.wants(['add', 'grown', 'none.jsonl'], 2, '', 'no such file: none.jsonl')
     user.wants(['add', 'nowhere', 'more.jsonl'], 1, 'nowhere: no index here\n')
-    user.wants(['upgrade', 'grown'], 0, 'the index was of version 2 already\n')
+    user.wants(['upgrade', 'grown'], 0, 'the index was of version 3 already\n')
     shutil.copytree(user.path('grown'), user.path('merged'))
     damages_segments(user)
     shutil.rmtree(user.path('grown'))
@@ -495,7 +495,7 @@ def deletes(user):
 
 
 def first_versions(user, docs):
-    """Reads an index of version 1 as the same index of version 2, upgrades it, adds to it, and replaces it."""
+    """Reads an index of version 1 as the same index of version 3, upgrades it, adds to it, and replaces it."""
     shutil.copytree(user.path('folder'), user.path('first'))
     versions.to_first(user.path('first'))
     asked = [['fields'], ['terms', 'body'], ['search', 'the', '--positions'], ['postings', 'body', 'a', '--positions'], ['search', 'a', '--count']]
@@ -506,7 +506,7 @@ def first_versions(user, docs):
     if f'{1:>12} segments\n' not in user.wants(['stats', 'first'], 0):
         raise Failed('stats of an index of version 1')
     shutil.copytree(user.path('first'), user.path('again'))
-    user.wants(['upgrade', 'first'], 0, 'the index is of version 2 now\n')
+    user.wants(['upgrade', 'first'], 0, 'the index is of version 3 now\n')
     if answers('first') != wanted or os.path.exists(os.path.join(user.path('first'), 'term.0')):
         raise Failed('an upgraded index answers otherwise, or its old files are there')
     user.wants(['add', 'again'], 0, '1 documents added\n', given=b'{"body": "nosuchword"}\n')
@@ -516,6 +516,70 @@ def first_versions(user, docs):
     for name in ('first', 'again'):
         user.wants(['check', name], 0)
         shutil.rmtree(user.path(name))
+
+
+def second_versions(user, docs):
+    """Reads an index of version 2 as the same index of version 3, adds to it and deletes from it: its list is then of
+    version 3, with a SHA-256 of each old file and a digest of the blocks of each new one."""
+    version, kinds = versions.kinds(user.path('folder'))
+    if version != 3 or set(sum(kinds, [])) != {versions.BLOCKS}:
+        raise Failed(f'a new index of version {version} with digests {kinds}')
+    shutil.copytree(user.path('folder'), user.path('second'))
+    versions.to_second(user.path('second'))
+    if versions.kinds(user.path('second'))[0] != 2:
+        raise Failed('no index of version 2')
+    for words in (['fields'], ['search', 'the', '--positions'], ['postings', 'body', 'a', '--positions']):
+        if user.run(words[0], 'second', *words[1:]).stdout != user.run(words[0], 'folder', *words[1:]).stdout:
+            raise Failed('an index of version 2 answers otherwise')
+    user.wants(['check', 'second'], 0)
+    user.wants(['upgrade', 'second'], 0, 'the index was of version 2 already\n')
+    user.wants(['add', 'second'], 0, '2 documents added\n', given=b'{"body": "nosuchword"}\n{"body": "nosuchword a"}\n')
+    user.wants(['delete', 'second', 'body', 'nosuchword'], 0, '2 documents deleted\n')
+    user.wants(['add', 'second'], 0, '1 documents added\n', given=b'{"body": "nosuchword"}\n')
+    user.wants(['search', 'second', 'nosuchword'], 0, f'{len(docs)}\n')
+    user.wants(['upgrade', 'second'], 0, 'the index was of version 3 already\n')
+    version, (first, *others) = versions.kinds(user.path('second'))
+    if version != 3 or set(first) != {versions.SHA256} or not others or set(sum(others, [])) != {versions.BLOCKS}:
+        raise Failed(f'version {version} with digests {first} and {others}')
+    user.wants(['check', 'second'], 0)
+    path = os.path.join(user.path('second'), f'{0:016x}.idx')
+    with open(path, 'r+b') as file:
+        file.seek(os.path.getsize(path) // 2)
+        byte = file.read(1)[0]
+        file.seek(-1, os.SEEK_CUR)
+        file.write(bytes([byte ^ 1]))
+    user.wants(['search', 'second', 'a'], 1, 'second: the file of postings of segment 0 has another checksum than meta says\n')
+    shutil.rmtree(user.path('second'))
+
+
+def changed_bits(user, chosen, places):
+    """Changes a bit of each file of an index of version 3 at many places, also in the first and the last byte and on both
+    sides of the end of a block of its digest: `check` must name this file alone each time."""
+    docs = [{'body': f'{chosen.randrange(50)} sea', 'note': f'{chosen.getrandbits(2000):x}'} for _ in range(300)]
+    schema = user.write('bits.toml', 'store_source = true\n[[field]]\nname = "body"\ntype = "text"\n[[field]]\nname = "note"\ntype = "text"\nindexed = false\n')
+    user.wants(['index', 'bits', '--schema', schema], 0, f'{len(docs)} documents indexed\n', given=lines(docs).encode())
+    (_, _, _, files), = versions.read_meta(user.path('bits'))[3]
+    if not any(length > 2 * versions.BLOCK for _, _, length, _, _ in files):
+        raise Failed('no file of three blocks')
+    for component, generation, length, _, _ in files:
+        name = versions.name_of(0, component, generation)
+        what = {**SEGMENT_FILES, 'store': 'stored documents'}[versions.COMPONENTS[component]]
+        path = os.path.join(user.path('bits'), name)
+        near = [place for place in (0, versions.BLOCK - 1, versions.BLOCK, length - 1) if place < length]
+        for place in sorted({*near, *(chosen.randrange(length) for _ in range(places))}):
+            with open(path, 'r+b') as file:
+                file.seek(place)
+                byte = file.read(1)[0]
+                file.seek(place)
+                file.write(bytes([byte ^ 1 << chosen.randrange(8)]))
+                file.flush()
+                told = [line for line in user.wants(['check', 'bits'], 1).splitlines() if 'than meta says' in line]
+                if told != [f'bits: the file of {what} of segment 0 has another checksum than meta says, bytes 0..{length}']:
+                    raise Failed(f'{name} changed at {place}: {told!r}')
+                file.seek(place)
+                file.write(bytes([byte]))
+    user.wants(['check', 'bits'], 0)
+    shutil.rmtree(user.path('bits'))
 
 
 def damages_file(user, kind, what):
@@ -900,7 +964,7 @@ def places_of_damage(user):
     """Damages one list: `check` must report its file, field, term, part and bytes."""
     docs = [{'body': 'sea ' * 3 + 'bird'}] * 3
     user.wants(['index', 'small', '--schema', user.write('ids.toml', IDS)], 0, given=lines(docs).encode())
-    for version, name, segment in ((2, f'{0:016x}.idx', 'segment 0: '), (1, 'idx.0', '')):
+    for version, name, segment in ((3, f'{0:016x}.idx', 'segment 0: '), (1, 'idx.0', '')):
         if version == 1:
             versions.to_first(user.path('small'))
         damages_list(user, os.path.join(user.path('small'), name), segment)
@@ -1020,6 +1084,8 @@ def main():
             settles(user, docs)
             deletes(user)
             first_versions(user, docs)
+            second_versions(user, docs)
+            changed_bits(user, random.Random(65536), 60)
             ids(user)
             damages(user, chosen, 82)
             values_twice(user)

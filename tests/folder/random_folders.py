@@ -309,6 +309,8 @@ class Reader:
         self.wants(['index', 'folder', '--schema', 'schema.toml'], 0, f'{len(parts[0])} documents indexed\n', texts[0])
         if version == 1:
             versions.to_first(os.path.join(self.room, 'folder'))
+        if version == 2:
+            versions.to_second(os.path.join(self.room, 'folder'))
         for part, text in zip(parts[1:], texts[1:]):
             self.wants(['add', 'folder', *self.merging()], 0, f'{len(part)} documents added\n', text)
         self.is_sound()
@@ -524,11 +526,11 @@ def one_folder(program, room, chosen, is_large):
     if chosen.random() < 0.3:
         reader.strange = random.Random(chosen.random())
     cuts = sorted(chosen.randint(0, len(lines)) for _ in range(chosen.choice((0, 0, 1, 2, 4))))
-    version = chosen.choice((1, 2, 2))
+    version = chosen.choice((1, 2, 3))
     reader.indexes(fields, cuts, chosen.random() < 0.3, version)
     reader.looks(chosen)
     reader.searches(chosen)
-    if version == 2:
+    if version > 1:
         reader.deletes(chosen)
         reader.looks(chosen)
         reader.searches(chosen)

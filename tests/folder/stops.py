@@ -68,7 +68,7 @@ class Folder:
         raise Failed(f'check: status {done.returncode}, {done.stdout!r}; wanted one of {answers}')
 
 
-def stopped_everywhere(folder, old, version=2, options=()):
+def stopped_everywhere(folder, old, version=3, options=()):
     """Stops the program, with these options, before each of its calls, over a folder with the old index of a version, or
     without one. Returns its calls."""
     for stop in range(1, 1000):
@@ -98,7 +98,7 @@ def no_remains(folder, segments, after):
         raise Failed(f'after {after}: {sorted(os.listdir(folder.path("index")))}')
 
 
-def flushes_everywhere(folder, version=2):
+def flushes_everywhere(folder, version=3):
     """Stops `add` before each of its calls, where each line becomes a segment: all of its documents are added, or none."""
     for stop in range(1, 1000):
         shutil.rmtree(folder.path('index'), ignore_errors=True)
@@ -120,7 +120,7 @@ def flushes_everywhere(folder, version=2):
     raise Failed('the program makes no end of calls')
 
 
-def adds_everywhere(folder, before, version=2):
+def adds_everywhere(folder, before, version=3):
     """Stops `add` before each of its calls, over an index with these files of lines, whose first segment is of a
     version. Returns its calls."""
     many = len(before) + 1
@@ -175,8 +175,8 @@ def deletes_everywhere(folder):
     raise Failed('the program makes no end of calls')
 
 
-def merges_everywhere(folder, version=2):
-    """Stops `merge` before each of its calls, over two segments, the first of a version; of version 2 with a deleted
+def merges_everywhere(folder, version=3):
+    """Stops `merge` before each of its calls, over two segments, the first of a version; of version 3 with a deleted
     document. The answers are those that they were, before and after."""
     asked = (['search', 'index', 'sea', '--positions'], ['terms', 'index', 'body'], ['fields', 'index'])
     answers = lambda: [row.split(' terms')[0] for words in asked for row in folder.run(*words)[0].stdout.splitlines()]
@@ -186,9 +186,9 @@ def merges_everywhere(folder, version=2):
         if version == 1:
             versions.to_first(folder.path('index'))
         folder.wants(folder.run('add', 'index', '--no-merge', 'old.jsonl')[0], 0, '1 documents added')
-        if version == 2:
+        if version == 3:
             folder.wants(folder.run('delete', 'index', 'body', 'bird')[0], 0, '1 documents deleted')
-        left = 2 if version == 2 else 3
+        left = 2 if version == 3 else 3
         wanted = answers()
         done, calls = folder.run('merge', 'index', STOP_AT=stop)
         if done.returncode not in (0, -signal.SIGKILL):
@@ -336,7 +336,7 @@ def wait_paused(process):
 
 
 def orphans(folder):
-    """Files with names of an index of either version in a folder without meta: must be reported, and never removed
+    """Files with names of an index of any version in a folder without meta: must be reported, and never removed
     without --force."""
     index = folder.path('index')
     for name in ('term.0', '0000000000000007.idx'):
@@ -348,7 +348,7 @@ def orphans(folder):
         with open(os.path.join(index, name), encoding='ascii') as file:
             if file.read() != 'my own':
                 raise Failed('a file of the user was changed')
-    for version, name in ((2, '0000000000000000.term'), (1, 'schema.0')):
+    for version, name in ((3, '0000000000000000.term'), (1, 'schema.0')):
         shutil.rmtree(index)
         folder.wants(folder.index('new.jsonl')[0], 0, '2 documents indexed')
         if version == 1:
@@ -378,7 +378,7 @@ def main():
             in_order(stopped_everywhere(folder, 1, 1))
             refused = two_writers(folder, len(calls))
             orphans(folder)
-            for old, version in ((1, 2), (None, 2), (1, 1)):
+            for old, version in ((1, 3), (None, 3), (1, 1)):
                 in_order(stopped_everywhere(folder, old, version, ('--memory', '1B')))
             in_order(flushes_everywhere(folder))
             flushes_everywhere(folder, 1)

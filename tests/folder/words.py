@@ -395,7 +395,7 @@ def foreign(user):
             ('tokenizer = "default"\nunicode', 'tokenizer = "thai"\nunicode', 'unknown tokenizer thai: one of default, raw, whitespace, ascii, en'),
             ('type = "text"\ntokenizer = "default"', 'type = "text"\ntokenizer = "thai"', 'field 0: unknown tokenizer thai: one of default, raw, whitespace, ascii, en'),
             ('unicode = "18.0.0"', 'unicode = "19.0.0"', "its words are by Unicode 19.0.0, which this program doesn't have: index again")):
-        for version in (2, 1):
+        for version in (3, 1):
             shutil.rmtree(user.path('foreign'), ignore_errors=True)
             shutil.copytree(user.path('known'), user.path('foreign'))
             versions.change_schema(user.path('foreign'), old.encode(), new.encode())
@@ -471,7 +471,7 @@ def earlier(user):
         user.wants(['search', 'earlier', query], 0 if found else 1, ''.join(f'{doc}\n' for doc in found))
     user.wants(['check', 'earlier'], 0)
     shutil.copytree(user.path('earlier'), user.path('upgraded'))
-    user.wants(['upgrade', 'upgraded'], 0, 'the index is of version 2 now\n')
+    user.wants(['upgrade', 'upgraded'], 0, 'the index is of version 3 now\n')
     if '0 body text position fieldnorms tokenizer ascii: 5 terms, 5 tokens\n' not in user.wants(['fields', 'upgraded'], 0):
         raise Failed('fields of an upgraded index without tokenizers')
     user.wants(['search', 'upgraded', 'the'], 0, '1\n')

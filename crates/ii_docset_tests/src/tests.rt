@@ -5,6 +5,7 @@ ghost use Rattle.ii_docset.specs.Cursor.{IsSound, IsTarget};
 mod combined;
 mod list_postings;
 mod reads;
+mod sloppy;
 
 use ii_base::{AliveBitSet, Fault};
 use ii_docset::{

@@ -1,5 +1,5 @@
 -- How many documents the segments of an index have.
-use Rattle.std.proofs.Common.{◌≡◌, ◌∙◌, ◌+◌, ◌≤◌, ℕ, Bool, true, false, List, [], ◌∷◌, ◌++◌, Option, None, arith, ap, not, refl, subst, sym}
+use Rattle.std.proofs.Common.{◌≡◌, ◌∙◌, ◌+◌, ◌≤◌, ℕ, Bool, true, false, List, [], ◌∷◌, ◌++◌, Option, None, Some, IfSome, arith, ap, not, refl, subst, sym}
 use Rattle.ii_alive.specs.Alive.{num_living}
 use Rattle.ii_alive.proofs.RankLemmas.{all_living}
 use Rattle.ii_directory.specs.Directory.{Files}
@@ -9,7 +9,7 @@ use Rattle.ii_definitions.specs.Tokens.{IndexToken}
 use Rattle.ii_index.specs.Deletes.{DeleteState, committed, is_deleted}
 use Rattle.ii_index.specs.Ranking.{SearcherHolds}
 use Rattle.ii_index.specs.Searching.{SearcherState}
-use Rattle.ii_index.specs.Index.{FlushedState, IndexWriterState, with_documents_of}
+use Rattle.ii_index.specs.Index.{FlushedState, IndexWriterState}
 use Rattle.ii_index.specs.Pending.{HasPending, HoldsFlushedIf}
 use Rattle.ii_index.specs.Segments.{HaveTokens, HoldsIndexOf, no_documents, segment_of, with_tokens}
 use Rattle.ii_segment_search.proofs.LocalLaws.{docs_of_both}
@@ -53,12 +53,10 @@ nothing_pending files w none empty = record {
   have = subst (λ (d : DocumentsState). HaveTokens 0 [] (segment_of (analyzed_in w.index.schema.tokenizers) d ∷ [])) (sym empty) (record { num_docs = refl; tokens = refl });
 }
 
--- a document in memory is one more that is pending
-pub one_pending : {D : Type 0} (files : Files) (w : IndexWriterState D) (d : DocumentsState) (k : ℕ) (us : List IndexToken) → d.num_docs ≡ w.documents.num_docs + 1 → HasPending files w k us → (vs : List IndexToken) × HasPending files (with_documents_of d w) (k + 1) vs
-one_pending files w d k us more h =
-    let words = analyzed_in w.index.schema.tokenizers in
-    let count : num_docs_of (h.segments ++ segment_of words d ∷ []) ≡ k + 1 = omega (arith, h.have.num_docs, docs_of_both h.segments (segment_of words d ∷ []), docs_of_both h.segments (segment_of words w.documents ∷ []), all_living d.num_docs, all_living w.documents.num_docs, more) in
-    (index_tokens (h.segments ++ segment_of words d ∷ []), record { segments = h.segments; holds = h.holds; have = record { num_docs = count; tokens = refl } })
+-- if there is a value of which something holds with these tokens, it holds with some tokens
+pub some_tokens : {A : Type 0} (P : A → List IndexToken → Type 0) (r : Option A) (us : List IndexToken) → IfSome r (λ (a : A). P a us) → IfSome r (λ (a : A). (vs : List IndexToken) × P a vs)
+some_tokens P None us holds = tt
+some_tokens P (Some a) us holds = (us, holds)
 
 -- the same contents hold the same index
 pub index_kept : (s t : TextSchemaState) (old new : Files) (n : ℕ) (ts : List IndexToken) → t ≡ s → index_contents new ≡ index_contents old → HoldsIndexOf s.schema old n ts → HoldsIndexOf t.schema new n ts

@@ -1,5 +1,5 @@
 // An index in a directory, to which documents are added.
-ghost use Rattle.std.specs.Prelude.{◌≡◌, ◌⊎◌, ◌+◌, ◌<◌, ◌≤◌, ℕ, [], ◌∷◌, IfErr, IfSome, IsTrue, List, None, Ok, length, true};
+ghost use Rattle.std.specs.Prelude.{◌≡◌, ◌⊎◌, ◌+◌, ◌++◌, ◌<◌, ◌≤◌, ℕ, [], ◌∷◌, IfErr, IfSome, IsTrue, List, None, Ok, length, true};
 ghost use Rattle.ii_base.specs.Terms.{TermState};
 ghost use Rattle.ii_definitions.specs.Tokens.{IndexToken};
 ghost use Rattle.ii_directory.specs.Directory.{Files};
@@ -8,15 +8,15 @@ ghost use Rattle.ii_directory.specs.declared.name.SegmentComponent.TheVariants.{
 ghost use Rattle.ii_store.specs.Segments.{list_in};
 ghost use Rattle.ii_index.specs.Faults.{IsRefusedError};
 ghost use Rattle.ii_index.specs.Index.{HasNothing, num_pending};
-ghost use Rattle.ii_index.specs.Pending.{HasPending};
+ghost use Rattle.ii_index.specs.Pending.{HasPending, document_tokens};
 ghost use Rattle.ii_index.specs.Segments.{HoldsIndexOf};
 
-use ii_index::{Directory, Index, IndexError, IndexWriter, Term};
+use ii_index::{Directory, Index, IndexError, IndexWriter, Term, WritableDirectory};
 use std::alloc::Global;
 
 /// Two documents that are added to a new index and committed are all documents of the index, in whatever directory,
 /// and however much memory they may take before.
-pub fn committed_documents_are_counted<D: Directory + Drop>(
+pub fn committed_documents_are_counted<D: WritableDirectory + Drop>(
     alloc: Global,
     directory: D,
     memory_budget: usize,
@@ -31,6 +31,35 @@ pub fn committed_documents_are_counted<D: Directory + Drop>(
         return None;
     };
     number_committed(alloc, writer)
+}
+
+/// Two documents that are committed to an index without documents are in it under 0 and 1, each with the tokens of its
+/// own text: here the word `a` of the first, and the word `b` of the second.
+pub fn committed_texts_have_their_tokens<D: Directory + Drop>(
+    alloc: Global,
+    writer: IndexWriter<D>,
+    first: &str,
+    second: &str,
+) -> Option<Index<D>>
+    requires known { D.is_known writer.index.directory }
+    requires nothing { HasNothing writer }
+    requires empty { HoldsIndexOf writer.index.schema.schema (D.seen writer.index.directory) 0 [] }
+    requires first { document_tokens writer.index.schema 0 first.now ≡ (record { doc = 0; field = 0; key = 97 ∷ []; position = 0; of_text = true }) ∷ [] }
+    requires second { document_tokens writer.index.schema 1 second.now ≡ (record { doc = 1; field = 0; key = 98 ∷ []; position = 0; of_text = true }) ∷ [] }
+    ensures { IfSome result (λ index. HoldsIndexOf index.schema.schema (D.seen index.directory) 2
+        ((record { doc = 0; field = 0; key = 97 ∷ []; position = 0; of_text = true }) ∷ (record { doc = 1; field = 0; key = 98 ∷ []; position = 0; of_text = true }) ∷ [])) }
+{
+    let Some(one) = with_document(alloc, writer, first) else {
+        return None;
+    };
+    let Some(two) = with_document(alloc, one, second) else {
+        return None;
+    };
+    let mut two = two;
+    let Ok(()) = two.commit(alloc) else {
+        return None;
+    };
+    Some(two.into_index())
 }
 
 /// The texts of the documents in memory have fewer bytes than they may, after each document that is added.
@@ -112,7 +141,7 @@ fn number_committed<D: Directory + Drop>(alloc: Global, writer: IndexWriter<D>) 
 }
 
 // Returns a writer of a new index, to which two documents were added.
-fn with_two<D: Directory + Drop>(
+fn with_two<D: WritableDirectory + Drop>(
     alloc: Global,
     directory: D,
     memory_budget: usize,
@@ -138,7 +167,8 @@ fn with_two<D: Directory + Drop>(
     with_document(alloc, writer, second)
 }
 
-// Returns a writer to which one more document was added: one more is pending, and the index is the same.
+// Returns a writer to which one more document was added: one more is pending, with the tokens of its text, and the index
+// is the same.
 fn with_document<D: Directory + Drop>(
     alloc: Global,
     writer: IndexWriter<D>,
@@ -149,7 +179,7 @@ fn with_document<D: Directory + Drop>(
     ensures schema { IfSome result (λ w. w.index.schema ≡ writer.index.schema) }
     ensures index { (k : ℕ) (us : List IndexToken) → HasPending (D.seen writer.index.directory) writer k us → (n : ℕ) (ts : List IndexToken) → HoldsIndexOf writer.index.schema.schema (D.seen writer.index.directory) n ts
         → IfSome result (λ w. HoldsIndexOf w.index.schema.schema (D.seen w.index.directory) n ts) }
-    ensures pending { (k : ℕ) (us : List IndexToken) → HasPending (D.seen writer.index.directory) writer k us → IfSome result (λ w. (vs : List IndexToken) × HasPending (D.seen w.index.directory) w (k + 1) vs) }
+    ensures pending { (k : ℕ) (us : List IndexToken) → HasPending (D.seen writer.index.directory) writer k us → IfSome result (λ w. HasPending (D.seen w.index.directory) w (k + 1) (us ++ document_tokens writer.index.schema k document.now)) }
     ensures many { IfSome result (λ w. num_pending w ≡ num_pending writer + 1) }
     ensures deletes { IfSome result (λ w. w.deletes ≡ writer.deletes) }
 {

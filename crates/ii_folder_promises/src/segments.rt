@@ -126,7 +126,7 @@ pub fn merges_keep_the_documents<D: Directory>(
     merge_last(alloc, directory, schema, first)
 }
 
-/// An index of version 1 becomes one of version 2 that holds the same, wherever this is stopped.
+/// An index of version 1 becomes one of version 3 that holds the same, wherever this is stopped.
 pub fn upgrading_keeps_the_index<D: Directory>(
     alloc: Global,
     directory: &mut D,

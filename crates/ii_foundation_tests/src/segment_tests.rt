@@ -4,8 +4,8 @@ use ii_store::index_meta::encode;
 use ii_store::index_meta_reader::decode;
 use ii_store::segments::{commit, load_meta, load_segment_file};
 use ii_store::{
-    Directory, DirectoryFault, FileMeta, Folder, IndexFault, IndexMeta, Kind, MemoryDirectory,
-    Name, SegmentComponent, SegmentMeta, Slot, StoreFault,
+    Directory, DirectoryFault, FileDigest, FileMeta, Folder, IndexFault, IndexMeta, Kind,
+    MemoryDirectory, Name, SegmentComponent, SegmentMeta, Slot, StoreFault,
 };
 use std::alloc::{AllocError, Global};
 use std::fs;
@@ -75,8 +75,8 @@ fn names_are_read_back(rt: HostRuntime) {
     }
 }
 
-// A list of two segments, made by a script: segment 1 has 3 documents, of which 2 are alive, and a file of
-// terms of the byte 1; segment 2 has 1 document and no file. The schema is "s".
+// A list of version 2 of two segments, made by a script: segment 1 has 3 documents, of which 2 are alive, and a
+// file of terms of the byte 1; segment 2 has 1 document and no file. The schema is "s".
 static LIST: [u8; 153] = [
     110, 101, 113, 117, 108, 108, 112, 97, 2, 0, 0, 0, 1, 0, 0, 0, 0, 0, 0, 0, 3, 0, 0, 0, 0, 0, 0,
     0, 1, 0, 0, 0, 115, 2, 0, 1, 0, 0, 0, 0, 0, 0, 0, 3, 0, 0, 0, 2, 0, 0, 0, 1, 0, 0, 0, 0, 0, 0,
@@ -87,7 +87,7 @@ static LIST: [u8; 153] = [
     182, 68,
 ];
 
-// A list of a segment with flags of generation 1, the byte 1, and stored documents, the byte 9.
+// A list of version 2 of a segment with flags of generation 1, the byte 1, and stored documents, the byte 9.
 static STORED_LIST: [u8; 185] = [
     110, 101, 113, 117, 108, 108, 112, 97, 2, 0, 0, 0, 1, 0, 0, 0, 0, 0, 0, 0, 3, 0, 0, 0, 0, 0, 0,
     0, 1, 0, 0, 0, 115, 1, 0, 1, 0, 0, 0, 0, 0, 0, 0, 1, 0, 0, 0, 1, 0, 0, 0, 2, 0, 5, 0, 1, 0, 0,
@@ -99,10 +99,46 @@ static STORED_LIST: [u8; 185] = [
     215, 100, 10, 126, 195, 212, 163, 97, 176, 86, 166, 73, 226,
 ];
 
+// The list of two segments in version 3, which keeps the SHA-256 of the file.
+static NEW_LIST: [u8; 154] = [
+    110, 101, 113, 117, 108, 108, 112, 97, 3, 0, 0, 0, 1, 0, 0, 0, 0, 0, 0, 0, 3, 0, 0, 0, 0, 0, 0,
+    0, 1, 0, 0, 0, 115, 2, 0, 1, 0, 0, 0, 0, 0, 0, 0, 3, 0, 0, 0, 2, 0, 0, 0, 1, 0, 0, 0, 0, 0, 0,
+    0, 0, 0, 0, 0, 1, 0, 0, 0, 0, 0, 0, 0, 0, 75, 245, 18, 47, 52, 69, 84, 197, 59, 222, 46, 187,
+    140, 210, 183, 227, 209, 96, 10, 214, 49, 195, 133, 165, 215, 204, 226, 60, 119, 133, 69, 154,
+    2, 0, 0, 0, 0, 0, 0, 0, 1, 0, 0, 0, 1, 0, 0, 0, 0, 0, 42, 210, 135, 207, 76, 146, 249, 146,
+    225, 79, 0, 13, 35, 100, 81, 27, 246, 15, 163, 32, 74, 54, 28, 47, 204, 176, 8, 100, 138, 252,
+    145, 47,
+];
+
+// The list with stored documents in version 3.
+static NEW_STORED_LIST: [u8; 187] = [
+    110, 101, 113, 117, 108, 108, 112, 97, 3, 0, 0, 0, 1, 0, 0, 0, 0, 0, 0, 0, 3, 0, 0, 0, 0, 0, 0,
+    0, 1, 0, 0, 0, 115, 1, 0, 1, 0, 0, 0, 0, 0, 0, 0, 1, 0, 0, 0, 1, 0, 0, 0, 2, 0, 5, 0, 1, 0, 0,
+    0, 0, 0, 0, 0, 1, 0, 0, 0, 0, 0, 0, 0, 0, 75, 245, 18, 47, 52, 69, 84, 197, 59, 222, 46, 187,
+    140, 210, 183, 227, 209, 96, 10, 214, 49, 195, 133, 165, 215, 204, 226, 60, 119, 133, 69, 154,
+    6, 0, 0, 0, 0, 0, 0, 0, 0, 0, 1, 0, 0, 0, 0, 0, 0, 0, 0, 43, 76, 52, 47, 84, 51, 235, 229, 145,
+    161, 218, 119, 224, 19, 209, 183, 36, 117, 86, 45, 72, 87, 141, 202, 139, 132, 186, 198, 101,
+    28, 60, 185, 231, 41, 24, 49, 180, 68, 215, 211, 92, 234, 115, 25, 116, 226, 59, 62, 47, 161,
+    74, 169, 252, 77, 241, 147, 194, 112, 8, 221, 111, 229, 111, 35,
+];
+
+// A list of version 3 of a segment with terms, the byte 1, and flags, the byte 9: a SHA-256 of the one, a digest of
+// blocks of the other.
+static MIXED_LIST: [u8; 187] = [
+    110, 101, 113, 117, 108, 108, 112, 97, 3, 0, 0, 0, 1, 0, 0, 0, 0, 0, 0, 0, 3, 0, 0, 0, 0, 0, 0,
+    0, 1, 0, 0, 0, 115, 1, 0, 1, 0, 0, 0, 0, 0, 0, 0, 1, 0, 0, 0, 1, 0, 0, 0, 2, 0, 0, 0, 0, 0, 0,
+    0, 0, 0, 0, 0, 1, 0, 0, 0, 0, 0, 0, 0, 0, 75, 245, 18, 47, 52, 69, 84, 197, 59, 222, 46, 187,
+    140, 210, 183, 227, 209, 96, 10, 214, 49, 195, 133, 165, 215, 204, 226, 60, 119, 133, 69, 154,
+    5, 0, 1, 0, 0, 0, 0, 0, 0, 0, 1, 0, 0, 0, 0, 0, 0, 0, 1, 167, 203, 191, 100, 93, 46, 201, 245,
+    80, 55, 50, 101, 41, 255, 28, 198, 165, 0, 15, 144, 28, 93, 156, 240, 46, 178, 94, 188, 253, 1,
+    249, 208, 85, 119, 51, 118, 199, 218, 118, 179, 205, 174, 142, 67, 12, 19, 91, 185, 42, 219,
+    191, 70, 236, 249, 58, 17, 174, 178, 62, 113, 65, 61, 126, 182,
+];
+
 // Lists that are refused: an id twice, one that isn't below the next, more living documents than documents,
 // files out of order, an unknown component, terms with a generation, 2^31 documents, 2^31 living ones, stored
-// documents before flags, stored documents with a generation.
-static REFUSED: [&'static [u8]; 10] = [
+// documents before flags, stored documents with a generation, a digest of an unknown kind.
+static REFUSED: [&'static [u8]; 11] = [
     &[
         110, 101, 113, 117, 108, 108, 112, 97, 2, 0, 0, 0, 1, 0, 0, 0, 0, 0, 0, 0, 3, 0, 0, 0, 0,
         0, 0, 0, 1, 0, 0, 0, 115, 2, 0, 1, 0, 0, 0, 0, 0, 0, 0, 1, 0, 0, 0, 1, 0, 0, 0, 0, 0, 1, 0,
@@ -180,6 +216,14 @@ static REFUSED: [&'static [u8]; 10] = [
         28, 60, 185, 79, 82, 125, 249, 174, 126, 124, 228, 161, 242, 186, 253, 56, 76, 97, 201, 11,
         153, 212, 248, 17, 175, 33, 146, 211, 238, 253, 163, 151, 164, 248, 236,
     ],
+    &[
+        110, 101, 113, 117, 108, 108, 112, 97, 3, 0, 0, 0, 1, 0, 0, 0, 0, 0, 0, 0, 3, 0, 0, 0, 0,
+        0, 0, 0, 1, 0, 0, 0, 115, 1, 0, 1, 0, 0, 0, 0, 0, 0, 0, 1, 0, 0, 0, 1, 0, 0, 0, 1, 0, 0, 0,
+        0, 0, 0, 0, 0, 0, 0, 0, 1, 0, 0, 0, 0, 0, 0, 0, 2, 118, 172, 101, 56, 72, 28, 104, 203, 64,
+        60, 84, 127, 137, 150, 106, 190, 1, 117, 43, 152, 6, 73, 147, 58, 12, 237, 13, 7, 163, 0,
+        212, 191, 221, 224, 13, 152, 92, 177, 117, 248, 206, 193, 111, 238, 42, 20, 91, 98, 41,
+        222, 43, 142, 36, 187, 72, 184, 190, 76, 63, 186, 209, 180, 107, 144,
+    ],
 ];
 
 // Returns whether these bytes are refused as a damaged `meta`.
@@ -187,6 +231,14 @@ fn is_damaged(alloc: Global, bytes: &[u8]) -> bool {
     match decode(alloc, bytes) {
         Ok(_) => false,
         Err(fault) => fault == StoreFault::Index(IndexFault::DamagedMeta),
+    }
+}
+
+// Returns whether a file is of a component, and has the SHA-256 of these bytes.
+fn is_of_sha256(file: &FileMeta, component: SegmentComponent, bytes: &[u8]) -> bool {
+    match file.digest {
+        FileDigest::Sha256(_) => file.component == component && file.digest.is_of(bytes),
+        FileDigest::Blocks(_) => false,
     }
 }
 
@@ -201,8 +253,10 @@ fn encoded(alloc: Global, bytes: &[u8]) -> Result<Vec<u8>, StoreFault> {
 
 #[test]
 fn a_list_is_read_and_written(rt: HostRuntime) -> Result<(), Fail> {
-    let written = encoded(rt.alloc(), &LIST).ok().ok_or("refused")?;
-    assert!(rt; written.as_slice() == LIST.as_slice());
+    for list in [LIST.as_slice(), NEW_LIST.as_slice()] {
+        let written = encoded(rt.alloc(), list).ok().ok_or("refused")?;
+        assert!(rt; written.as_slice() == NEW_LIST.as_slice());
+    }
     let list = decode(rt.alloc(), &LIST).ok().ok_or("refused")?;
     assert!(rt; (list.generation, list.next_segment_id) == (1, 3));
     assert!(rt; list.schema.as_slice() == b"s".as_slice());
@@ -210,20 +264,86 @@ fn a_list_is_read_and_written(rt: HostRuntime) -> Result<(), Fail> {
     let first = &list.segments[0];
     assert!(rt; (first.id, first.num_docs, first.num_living) == (1, 3, 2));
     assert!(rt; first.files.len() == 1);
-    assert!(rt; first.files[0] == FileMeta::new(SegmentComponent::Terms, &[1]));
+    assert!(rt; is_of_sha256(&first.files[0], SegmentComponent::Terms, &[1]));
     Ok(())
 }
 
 #[test]
 fn a_list_with_stored_documents_is_read_and_written(rt: HostRuntime) -> Result<(), Fail> {
-    let written = encoded(rt.alloc(), &STORED_LIST).ok().ok_or("refused")?;
-    assert!(rt; written.as_slice() == STORED_LIST.as_slice());
+    for list in [STORED_LIST.as_slice(), NEW_STORED_LIST.as_slice()] {
+        let written = encoded(rt.alloc(), list).ok().ok_or("refused")?;
+        assert!(rt; written.as_slice() == NEW_STORED_LIST.as_slice());
+    }
     let list = decode(rt.alloc(), &STORED_LIST).ok().ok_or("refused")?;
     assert!(rt; list.segments.len() == 1);
     let files = list.segments[0].files.as_slice();
     assert!(rt; files.len() == 2);
-    assert!(rt; files[0] == FileMeta::new(SegmentComponent::Alive(1), &[1]));
-    assert!(rt; files[1] == FileMeta::new(SegmentComponent::Store, &[9]));
+    assert!(rt; is_of_sha256(&files[0], SegmentComponent::Alive(1), &[1]));
+    assert!(rt; is_of_sha256(&files[1], SegmentComponent::Store, &[9]));
+    Ok(())
+}
+
+#[test]
+fn a_list_with_both_kinds_of_digest_is_read_and_written(rt: HostRuntime) -> Result<(), Fail> {
+    let written = encoded(rt.alloc(), &MIXED_LIST).ok().ok_or("refused")?;
+    assert!(rt; written.as_slice() == MIXED_LIST.as_slice());
+    let list = decode(rt.alloc(), &MIXED_LIST).ok().ok_or("refused")?;
+    let files = list.segments[0].files.as_slice();
+    assert!(rt; is_of_sha256(&files[0], SegmentComponent::Terms, &[1]));
+    assert!(rt; files[1] == FileMeta::new(SegmentComponent::Alive(1), &[9]));
+    Ok(())
+}
+
+// The digests of the first bytes of those that `counted` gives, computed by a script.
+static DIGESTS: [(usize, [u8; 32]); 4] = [
+    (
+        0,
+        [
+            227, 176, 196, 66, 152, 252, 28, 20, 154, 251, 244, 200, 153, 111, 185, 36, 39, 174,
+            65, 228, 100, 155, 147, 76, 164, 149, 153, 27, 120, 82, 184, 85,
+        ],
+    ),
+    (
+        1,
+        [
+            221, 167, 189, 14, 201, 157, 72, 114, 29, 174, 234, 140, 170, 228, 180, 211, 124, 1,
+            19, 185, 138, 31, 41, 195, 60, 52, 246, 228, 225, 30, 221, 157,
+        ],
+    ),
+    (
+        65536,
+        [
+            9, 50, 199, 77, 157, 31, 38, 89, 101, 55, 213, 15, 7, 158, 177, 61, 61, 194, 62, 252,
+            254, 86, 93, 29, 32, 73, 215, 155, 175, 147, 84, 170,
+        ],
+    ),
+    (
+        131075,
+        [
+            235, 222, 63, 89, 220, 69, 91, 218, 159, 18, 71, 218, 215, 230, 107, 220, 58, 9, 175,
+            112, 75, 99, 117, 170, 209, 119, 145, 248, 99, 211, 231, 192,
+        ],
+    ),
+];
+
+// Returns this many bytes, each 7 more than the one before it, modulo 251.
+fn counted(alloc: Global, len: usize) -> Result<Vec<u8>, AllocError> {
+    let mut bytes = Vec::new(alloc);
+    let mut byte: u16 = 0;
+    for _ in 0..len {
+        bytes.push((byte & 0xff) as u8)?;
+        byte = (byte % 251 + 7) % 251;
+    }
+    Ok(bytes)
+}
+
+#[test]
+fn a_file_has_the_digest_of_its_blocks(rt: HostRuntime) -> Result<(), Fail> {
+    for (len, digest) in DIGESTS {
+        let bytes = counted(rt.alloc(), len)?;
+        let file = FileMeta::new(SegmentComponent::Terms, bytes.as_slice());
+        assert!(rt; file.digest == FileDigest::Blocks(digest), "{len} bytes");
+    }
     Ok(())
 }
 

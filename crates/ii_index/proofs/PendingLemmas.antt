@@ -1,21 +1,27 @@
 -- Documents that weren't committed, in segments that were written and in memory.
 use Rattle.std.proofs.Common.{◌≡◌, ◌∙◌, ℕ, zero, suc, ◌+◌, Bool, true, false, List, [], ◌∷◌, ◌++◌, Option, None, Some, Result, Ok, Err, ap, append-nil, append_assoc, arith, drop, filter, length, map, inl, inr, refl, subst, sym, true≢false}
-use Rattle.std.specs.Prelude.{◌⊎◌, IsSome, Vec, is_some, not, replicate}
+use Rattle.std.specs.Prelude.{◌<◌, ◌⊎◌, IsSome, Vec, if◌then◌else◌, is_some, nat_lt, not, replicate}
 use Rattle.std.specs.Option.{option_map}
 use Rattle.std.specs.declared.alloc.Global.{Global}
-use Rattle.std.proofs.lemmas.List.{length-replicate}
+use Rattle.std.proofs.lemmas.List.{length-replicate, map-append}
 use Rattle.ii_tokenizers.specs.declared.field_tokenizer.FieldTokenizer.{FieldTokenizer}
 use Rattle.ii_segment_store.specs.declared.stored_segments.SegmentFiles.{SegmentFiles}
 use Rattle.ii_segment_store.specs.Commits.{HoldsOldOr}
-use Rattle.std.specs.List.{AllZip}
+use Rattle.std.specs.List.{AllByRecursion, AllZip}
 use Rattle.ii_alive.specs.Alive.{num_living}
 use Rattle.ii_alive.proofs.RankLemmas.{all_living}
 use Rattle.ii_base.specs.Schema.{SchemaEntry}
 use Rattle.ii_base.specs.Words.{Word}
-use Rattle.ii_definitions.specs.Tokens.{IndexToken}
+use Rattle.ii_base.specs.declared.doc_id.TheConstants.{TERMINATED}
+use Rattle.ii_definitions.specs.IndexCalls.{MayBeIndexed, call_of}
+use Rattle.ii_definitions.specs.Tokens.{Call, IndexToken}
+use Rattle.ii_definitions.specs.declared.index_call.IndexCall.{IndexCall}
 use Rattle.ii_directory.specs.Directory.{Files}
-use Rattle.ii_index.specs.Index.{FlushedState, flushed_docs}
-use Rattle.ii_index.specs.Pending.{ArePending, AreWritten, HoldsFlushed, HoldsFlushedIf, IsWrittenSegment, with_segments}
+use Rattle.ii_documents.specs.JsonLines.{Refusal, line_calls_by, too_long, too_many_documents}
+use Rattle.ii_documents.specs.declared.floats.FloatNumbers.TheVariants as floats
+use Rattle.ii_documents.proofs.NumberLaws.{all_of_doc, of_doc, renumbered}
+use Rattle.ii_index.specs.Index.{AreReadBy, FlushedState}
+use Rattle.ii_index.specs.Pending.{ArePending, AreWritten, HoldsFlushed, HoldsFlushedIf, IsWrittenSegment, document_tokens, tokens_if, with_segments}
 use Rattle.ii_index.specs.Segments.{HaveTokens, HoldsIndexOf, after, segment_of, with_tokens}
 use Rattle.ii_index.proofs.IndexLemmas.{same_holds, zip_more}
 use Rattle.ii_segment_search.proofs.LocalLaws.{docs_of_both}
@@ -29,8 +35,11 @@ use Rattle.ii_store.specs.declared.faults.IndexFault.{IndexFault}
 use Rattle.ii_store.specs.Index.{◌>>=◌}
 use Rattle.ii_store.specs.IndexMeta.{MetaState, SegmentState}
 use Rattle.ii_tokenizers.specs.Tokenizers.{analyzed_in}
-use Rattle.nequllpa_indexing.specs.Documents.{DocumentsState}
+use Rattle.nequllpa_indexing.specs.Documents.{AddsLine, DocumentsState, WereCalls, may_be_stored, next_calls, with_document}
+use Rattle.nequllpa_indexing.specs.FieldTokens.{tokens_by}
+use Rattle.nequllpa_indexing.proofs.LineTokens.{doc_after, doc_with, docs_hold, docs_with}
 use Rattle.nequllpa_merging.specs.HeldSegments.{HoldSegments, HoldsSegment}
+use Rattle.nequllpa_merging.proofs.OpenLemmas.{all_tokens}
 
 -- ---- lists
 pub zip_both : {A B : Type 0} (R : A → B → Type 0) (xs : List A) (ys : List B) (us : List A) (vs : List B) → AllZip R xs ys → AllZip R us vs → AllZip R (xs ++ us) (ys ++ vs)
@@ -206,18 +215,96 @@ flushed_contents entries files x ss c h is =
 pub pending_written : (s : TextSchemaState) (files : Files) (x : FlushedState) (d : DocumentsState) (k : ℕ) (us : List IndexToken) → d.num_docs ≡ 0 → AreWritten s.schema files x k us → ArePending s files (Some x) d k us
 pending_written s files x d k us none h = record { segments = h.segments; holds = h.flushed; have = with_last (analyzed_in s.tokenizers) d h.segments none k us h.have }
 
--- other documents in memory
-pub pending_with : (s : TextSchemaState) (files : Files) (flushed : Option FlushedState) (d e : DocumentsState) (k : ℕ) (us : List IndexToken) (h : ArePending s files flushed d k us)
-    → ArePending s files flushed e (num_docs_of (h.segments ++ segment_of (analyzed_in s.tokenizers) e ∷ [])) (index_tokens (h.segments ++ segment_of (analyzed_in s.tokenizers) e ∷ []))
-pending_with s files flushed d e k us h = record { segments = h.segments; holds = h.holds; have = record { num_docs = refl; tokens = refl } }
+-- ---- a document more
+-- the segment of documents has their tokens
+own_tokens : (words : ℕ → List ℕ → List Word) (d : DocumentsState) → AllByRecursion (λ (c : Call). c.doc < d.num_docs) d.calls → HaveTokens d.num_docs (tokens_by words d.calls) (segment_of words d ∷ [])
+own_tokens words d below =
+    let many : length (replicate d.num_docs true) ≡ d.num_docs = length-replicate d.num_docs true in
+    let living : num_living (replicate d.num_docs true) ≡ d.num_docs = all_living d.num_docs in
+    record {
+      num_docs = omega (arith, living);
+      tokens = all_tokens (segment_of words d) (living ∙ sym many) (docs_hold words (λ (doc : ℕ). doc < length (replicate d.num_docs true)) d.calls (subst (λ (n : ℕ). AllByRecursion (λ (c : Call). c.doc < n) d.calls) (sym many) below));
+    }
 
--- as many documents are pending as were written and are in memory
-pub pending_many : (s : TextSchemaState) (files : Files) (flushed : Option FlushedState) (d : DocumentsState) (k : ℕ) (us : List IndexToken) → ArePending s files flushed d k us → k ≡ flushed_docs flushed + d.num_docs
-pending_many s files flushed d k us h = omega (arith, h.have.num_docs, docs_of_both h.segments (segment_of (analyzed_in s.tokenizers) d ∷ []), all_living d.num_docs, before flushed h.holds)
+fine : List Call → Result (List Call) Refusal
+fine cs = Ok cs
+
+abbrev calls_in : Result (List Call) Refusal → List Call
+calls_in (Ok cs) = cs
+calls_in (Err refusal) = []
+
+module _ (s : TextSchemaState) (d : DocumentsState) (cs : List Call) (line : List ℕ) (below : AllByRecursion (λ (c : Call). c.doc < d.num_docs) d.calls)
+    (are : line_calls_by s.unknown_keys floats.Refuse s.schema d.num_docs line ≡ Ok cs) where
+  abbrev words : ℕ → List ℕ → List Word
+  words = analyzed_in s.tokenizers
+
+  abbrev own : List Call
+  own = map (of_doc d.num_docs) cs
+
+  own_calls : own ≡ cs
+  own_calls = ap calls_in (ap (all_of_doc d.num_docs) (sym are) ∙ sym (renumbered floats.Refuse d.num_docs d.num_docs s.unknown_keys s.schema line) ∙ are)
+
+  -- the calls under another number
+  tokens_under : (k : ℕ) → document_tokens s k line ≡ tokens_by words (map (of_doc k) cs)
+  tokens_under k = ap (tokens_if words) (renumbered floats.Refuse k d.num_docs s.unknown_keys s.schema line ∙ ap (all_of_doc k) are)
+
+  abbrev grown : DocumentsState
+  grown = with_document d cs line
+
+  all_below : AllByRecursion (λ (c : Call). c.doc < grown.num_docs) grown.calls
+  all_below = subst (λ (xs : List Call). AllByRecursion (λ (c : Call). c.doc < d.num_docs + 1) (d.calls ++ xs)) own_calls (docs_with d.num_docs d.calls cs below)
+
+  tokens_of_both : tokens_by words grown.calls ≡ tokens_by words d.calls ++ tokens_by words own
+  tokens_of_both = ap (λ (xs : List Call). tokens_by words (d.calls ++ xs)) (sym own_calls) ∙ doc_with words d.num_docs d.calls cs below
+
+  -- after what was pending come the tokens of the document
+  pub pending_more : (files : Files) (flushed : Option FlushedState) (k : ℕ) (us : List IndexToken) → ArePending s files flushed d k us → ArePending s files flushed grown (k + 1) (us ++ document_tokens s k line)
+  pending_more files flushed k us h = record { segments = h.segments; holds = h.holds; have = record { num_docs = count; tokens = tokens } }
+    where
+      before : HaveTokens (num_docs_of h.segments + d.num_docs) (with_tokens (num_docs_of h.segments) (index_tokens h.segments) (tokens_by words d.calls)) (h.segments ++ segment_of words d ∷ [])
+      before = have_both (num_docs_of h.segments) d.num_docs (index_tokens h.segments) (tokens_by words d.calls) h.segments (segment_of words d ∷ []) (record { num_docs = refl; tokens = refl }) (own_tokens words d below)
+
+      later : HaveTokens (num_docs_of h.segments + grown.num_docs) (with_tokens (num_docs_of h.segments) (index_tokens h.segments) (tokens_by words grown.calls)) (h.segments ++ segment_of words grown ∷ [])
+      later = have_both (num_docs_of h.segments) grown.num_docs (index_tokens h.segments) (tokens_by words grown.calls) h.segments (segment_of words grown ∷ []) (record { num_docs = refl; tokens = refl }) (own_tokens words grown all_below)
+
+      many : num_docs_of h.segments + d.num_docs ≡ k
+      many = sym before.num_docs ∙ h.have.num_docs
+
+      count : num_docs_of (h.segments ++ segment_of words grown ∷ []) ≡ k + 1
+      count = omega (arith, later.num_docs, many)
+
+      tokens : index_tokens (h.segments ++ segment_of words grown ∷ []) ≡ us ++ document_tokens s k line
+      tokens =
+          later.tokens
+          ∙ ap (λ (xs : List IndexToken). index_tokens h.segments ++ map (after (num_docs_of h.segments)) xs) tokens_of_both
+          ∙ ap (λ (xs : List IndexToken). index_tokens h.segments ++ xs) (map-append (after (num_docs_of h.segments)) (tokens_by words d.calls) (tokens_by words own))
+          ∙ sym (append_assoc (index_tokens h.segments) (map (after (num_docs_of h.segments)) (tokens_by words d.calls)) (map (after (num_docs_of h.segments)) (tokens_by words own)))
+          ∙ ap (λ (xs : List IndexToken). xs ++ map (after (num_docs_of h.segments)) (tokens_by words own)) (sym before.tokens ∙ h.have.tokens)
+          ∙ ap (λ (xs : List IndexToken). us ++ xs) (doc_after words (num_docs_of h.segments) d.num_docs cs ∙ ap (λ (m : ℕ). tokens_by words (map (of_doc m) cs)) many ∙ sym (tokens_under k))
+
+-- the calls of documents are below their number
+pub calls_below : (entries : List SchemaEntry) (n : ℕ) (calls : List Call) → WereCalls entries n calls → AllByRecursion (λ (c : Call). c.doc < n) calls
+calls_below entries n calls were = subst (AllByRecursion (λ (c : Call). c.doc < n)) (sym were.are) (each were.made were.may.each)
   where
-    before : (x : Option FlushedState) → HoldsFlushedIf s.schema files x h.segments → num_docs_of h.segments ≡ flushed_docs x
-    before None none = ap num_docs_of none
-    before (Some x) held = sym held.num_docs
+    each : (made : List IndexCall) → AllByRecursion (MayBeIndexed entries n) made → AllByRecursion (λ (c : Call). c.doc < n) (map (call_of entries) made)
+    each [] may = tt
+    each (c ∷ made) may = (may.0.below, each made may.1)
+
+-- the calls of a line that was added, as the schema's text says
+line_calls : (s : TextSchemaState) (d : DocumentsState) (line : List ℕ) (cs : List Call) → AreReadBy s d → next_calls d line ≡ Ok cs → line_calls_by s.unknown_keys floats.Refuse s.schema d.num_docs line ≡ Ok cs
+line_calls s d line cs read is = rw (read.unknown_keys, read.floats, read.schema) at (taken (nat_lt d.num_docs TERMINATED) (may_be_stored d.lines line) (line_calls_by d.unknown_keys d.floats d.schema d.num_docs line) is)
+  where
+    taken : (fits stored : Bool) (r : Result (List Call) Refusal) → (if fits then (if stored then r else Err too_long) else Err too_many_documents) ≡ Ok cs → r ≡ Ok cs
+    taken true true r is = is
+    taken true false r is = absurd (cc)
+    taken false stored r is = absurd (cc)
+
+-- The text that a line adds is a document, and its tokens are pending.
+pub adds_line : (s : TextSchemaState) (d e : DocumentsState) (line : List ℕ) → AreReadBy s d → WereCalls d.schema d.num_docs d.calls → AddsLine d e line
+    → (files : Files) (flushed : Option FlushedState) (k : ℕ) (us : List IndexToken) → ArePending s files flushed d k us → ArePending s files flushed e (k + 1) (us ++ document_tokens s k line)
+adds_line s d e line read were adds files flushed k us h =
+    subst (λ (x : DocumentsState). ArePending s files flushed x (k + 1) (us ++ document_tokens s k line)) (sym adds.2)
+    (pending_more s d adds.0 line (calls_below d.schema d.num_docs d.calls were) (line_calls s d line adds.0 read adds.1) files flushed k us h)
 
 -- segments that were written hold what they hold
 pub written_hold : (entries : List SchemaEntry) (cs : List SegmentContents) (ss : List Segment) → AllZip (IsWrittenSegment entries) cs ss → HoldSegments entries cs ss

@@ -11,6 +11,7 @@ use Rattle.ii_index.specs.Deletes.{DeleteState}
 use Rattle.ii_index.specs.Segments.{no_documents}
 use Rattle.ii_index.specs.declared.faults.IndexError.{IndexError}
 use Rattle.ii_index.specs.declared.faults.IndexError.TheVariants as faults
+use Rattle.ii_documents.specs.declared.floats.FloatNumbers.TheVariants as float_numbers
 use Rattle.nequllpa_indexing.specs.Documents.{DocumentsState}
 
 -- an index: its directory, and its schema
@@ -38,13 +39,15 @@ pub record IndexWriterState (D : Type 0) : Type 0 where
   pub max_bytes : ℕ
   pub deletes : List DeleteState
 
+-- Documents have the fields of a schema, and lines are read as its text says.
+pub record AreReadBy (s : TextSchemaState) (d : DocumentsState) : Type 0 where
+  pub schema : d.schema ≡ s.schema
+  pub unknown_keys : d.unknown_keys ≡ s.unknown_keys
+  pub floats : d.floats ≡ float_numbers.Refuse
+
 -- how many documents weren't committed
 abbrev pub num_pending : {D : Type 0} → IndexWriterState D → ℕ
 num_pending w = flushed_docs w.flushed + w.documents.num_docs
-
--- a writer with these documents in memory
-abbrev pub with_documents_of : {D : Type 0} → DocumentsState → IndexWriterState D → IndexWriterState D
-with_documents_of d w = record w { documents = d }
 
 -- a writer with a delete more, of the documents that have a term
 abbrev pub with_delete : {D : Type 0} → TermState → IndexWriterState D → IndexWriterState D

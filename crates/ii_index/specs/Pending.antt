@@ -1,12 +1,14 @@
 -- Documents that weren't committed: in segments that were written, and in memory.
-use Rattle.std.specs.Prelude.{◌≡◌, ◌⊎◌, ℕ, true, List, [], ◌∷◌, ◌++◌, Option, None, Some, IsSome, Result, Ok, Err, length, nat_lt, replicate, if◌then◌else◌}
+use Rattle.std.specs.Prelude.{◌≡◌, ◌⊎◌, ◌+◌, ℕ, true, List, [], ◌∷◌, ◌++◌, Option, None, Some, IsSome, Result, Ok, Err, length, nat_lt, replicate, if◌then◌else◌}
 use Rattle.std.specs.List.{AllZip}
 use Rattle.ii_base.specs.Schema.{SchemaEntry}
+use Rattle.ii_base.specs.Words.{Word}
 use Rattle.ii_base.specs.declared.doc_id.TheConstants.{TERMINATED}
 use Rattle.ii_definitions.specs.Tokens.{Call, IndexToken}
 use Rattle.ii_directory.specs.Directory.{Files}
 use Rattle.ii_directory.specs.declared.name.Name.TheVariants.{Meta}
-use Rattle.ii_documents.specs.JsonLines.{Refusal, too_many_documents}
+use Rattle.ii_documents.specs.JsonLines.{Refusal, line_calls_by, too_many_documents}
+use Rattle.ii_documents.specs.declared.floats.FloatNumbers.TheVariants as floats
 use Rattle.ii_schema_text.specs.SchemaText.{TextSchemaState}
 use Rattle.ii_segment_store.specs.Contents.{IndexContents, SegmentContents, index_contents, list_contents}
 use Rattle.ii_segment_store.specs.Pending.{FollowsFlags, IsPending, begun, with_next}
@@ -15,9 +17,10 @@ use Rattle.ii_store.specs.declared.faults.IndexFault.{IndexFault}
 use Rattle.ii_store.specs.IndexMeta.{MetaState}
 use Rattle.ii_store.specs.Segments.{list_in}
 use Rattle.ii_tokenizers.specs.Tokenizers.{analyzed_in}
-use Rattle.nequllpa_indexing.specs.Documents.{AddsLine, DocumentsState, next_calls}
+use Rattle.nequllpa_indexing.specs.Documents.{DocumentsState, next_calls}
+use Rattle.nequllpa_indexing.specs.FieldTokens.{tokens_by}
 use Rattle.nequllpa_merging.specs.HeldSegments.{HoldsSegment}
-use Rattle.ii_index.specs.Index.{FlushedState, IndexWriterState, num_pending, with_documents_of}
+use Rattle.ii_index.specs.Index.{FlushedState, IndexWriterState, num_pending}
 use Rattle.ii_index.specs.Segments.{HaveTokens, segment_of}
 
 -- an index with more segments, at its end
@@ -66,11 +69,20 @@ pub record ArePending (s : TextSchemaState) (files : Files) (flushed : Option Fl
 abbrev pub HasPending : {D : Type 0} → Files → IndexWriterState D → ℕ → List IndexToken → Type 0
 HasPending files w k us = ArePending w.index.schema files w.flushed w.documents k us
 
--- The document of a line was added to those in memory, which may have been written since.
-pub record AddsDocument {D : Type 0} (before after : Files) (old new : IndexWriterState D) (line : List ℕ) : Type 0 where
-  pub documents : DocumentsState
-  pub adds : AddsLine old.documents documents line
-  pub pending : (k : ℕ) (us : List IndexToken) → HasPending before (with_documents_of documents old) k us → HasPending after new k us
+-- the tokens of calls, unless there is an error
+abbrev pub tokens_if : (ℕ → List ℕ → List Word) → Result (List Call) Refusal → List IndexToken
+tokens_if words (Ok calls) = tokens_by words calls
+tokens_if words (Err refusal) = []
+
+-- the tokens of a text as a document under a number
+abbrev pub document_tokens : TextSchemaState → ℕ → List ℕ → List IndexToken
+document_tokens s doc text = tokens_if (analyzed_in s.tokenizers) (line_calls_by s.unknown_keys floats.Refuse s.schema doc text)
+
+-- A text is a document, whose tokens come after those of the documents that weren't committed.
+pub record AddsPending {D : Type 0} (before after : Files) (old new : IndexWriterState D) (text : List ℕ) : Type 0 where
+  pub calls : List Call
+  pub is_document : next_calls old.documents text ≡ Ok calls
+  pub pending : (k : ℕ) (us : List IndexToken) → HasPending before old k us → HasPending after new (k + 1) (us ++ document_tokens old.index.schema k text)
 
 -- the calls of one more document in memory, if there is room for it
 abbrev pub calls_to_add : {D : Type 0} → IndexWriterState D → List ℕ → Result (List Call) Refusal

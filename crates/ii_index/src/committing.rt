@@ -154,7 +154,7 @@ fn commit_list<D: Directory>(
     let mut pending = pending;
     match deleted.append(&mut pending) {
         Ok(()) => {}
-        Err(_) => return Err(IndexError::Documents(Fault::OutOfMemory)),
+        Err(refused) => return Err(IndexError::Documents(Fault::from(refused))),
     }
     let list = match list.delete(alloc, directory, deleted.as_slice()) {
         Ok(list) => list,

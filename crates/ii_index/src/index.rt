@@ -31,6 +31,7 @@ use crate::faults::IndexError;
 use crate::flushing::{Flushed, flush_documents};
 use crate::index_reader::{IndexReader, Searcher};
 use crate::index_writer::IndexWriter;
+use crate::locked_folder::WritableDirectory;
 use crate::opening::open_searcher;
 use crate::segments::{documents_for, segment_of};
 use ii_base::{Fault, Field, Schema};
@@ -49,8 +50,8 @@ use std::marker::Model;
 // About how many bytes of memory a document takes, and then its segment, for each byte of its text.
 const MEMORY_PER_BYTE: usize = 5;
 
-/// An index in a directory: a `Folder`, or a `MemoryDirectory`. A program that writes to a folder must hold its
-/// lock (`FolderLock`).
+/// An index in a directory: a `Folder`, or a `MemoryDirectory`. It can be written in a `WritableDirectory`: a folder
+/// whose lock this program holds (`LockedFolder`), or a `MemoryDirectory`.
 ///
 /// Its model is its directory and its schema.
 pub struct Index<D: Directory + Drop> {
@@ -76,7 +77,7 @@ impl<D: Directory + Drop> Model for Index<D> {
     ghost view = { λ i. record { directory = i.directory; schema = i.schema } };
 }
 
-impl<D: Directory + Drop> Index<D> {
+impl<D: WritableDirectory + Drop> Index<D> {
     /// Creates an index without documents in a directory that has none. `schema` is a text in TOML with a table
     /// `[[field]]` for each field; fields of texts that name no tokenizer have the tokenizer `default`.
     ///
@@ -100,6 +101,27 @@ impl<D: Directory + Drop> Index<D> {
         }
     }
 
+    /// Returns a writer of this index, to which no documents were added.
+    ///
+    /// `memory_budget` is the number of bytes of memory that documents may take before they are committed: once they
+    /// do, `IndexWriter::add_document` writes them as a segment. A document takes about 5 bytes for each byte of its
+    /// text. With 0 each document becomes a segment.
+    ///
+    /// Returns `OutOfMemory` if an allocation fails.
+    pub fn writer(self, alloc: Global, memory_budget: usize) -> Result<IndexWriter<D>, Fault>
+        ensures ok { IfOk result (λ w. w ≡ record { index = self; flushed = None; documents = no_documents self.schema; num_bytes = 0; max_bytes = memory_budget / 5; deletes = [] }) }
+        ensures only { OnlyMemory result }
+    {
+        let documents = match documents_for(alloc, &self.schema) {
+            Ok(documents) => documents,
+            Err(fault) => return Err(fault),
+        };
+        let max_bytes = memory_budget / MEMORY_PER_BYTE;
+        Ok(IndexWriter::new(self, documents, max_bytes, Vec::new(alloc)))
+    }
+}
+
+impl<D: Directory + Drop> Index<D> {
     /// Opens the index of a directory. Its segments aren't read.
     ///
     /// # Errors
@@ -194,25 +216,6 @@ impl<D: Directory + Drop> Index<D> {
             Ok(searcher) => Ok(IndexReader::new(searcher)),
             Err(fault) => Err(fault),
         }
-    }
-
-    /// Returns a writer of this index, to which no documents were added.
-    ///
-    /// `memory_budget` is the number of bytes of memory that documents may take before they are committed: once they
-    /// do, `IndexWriter::add_document` writes them as a segment. A document takes about 5 bytes for each byte of its
-    /// text. With 0 each document becomes a segment.
-    ///
-    /// Returns `OutOfMemory` if an allocation fails.
-    pub fn writer(self, alloc: Global, memory_budget: usize) -> Result<IndexWriter<D>, Fault>
-        ensures ok { IfOk result (λ w. w ≡ record { index = self; flushed = None; documents = no_documents self.schema; num_bytes = 0; max_bytes = memory_budget / 5; deletes = [] }) }
-        ensures only { OnlyMemory result }
-    {
-        let documents = match documents_for(alloc, &self.schema) {
-            Ok(documents) => documents,
-            Err(fault) => return Err(fault),
-        };
-        let max_bytes = memory_budget / MEMORY_PER_BYTE;
-        Ok(IndexWriter::new(self, documents, max_bytes, Vec::new(alloc)))
     }
 
     // Returns an empty list of documents.

@@ -6,7 +6,8 @@ ghost use Rattle.ii_directory.specs.declared.name.Name.TheVariants.{Meta};
 ghost use Rattle.ii_index.specs.Deletes.{HoldsIndexOfSegment, committed};
 ghost use Rattle.ii_index.specs.Faults.{IsCollectError, IsCommitError, IsDocumentError, IsMergeError, IsRefusedError};
 ghost use Rattle.ii_index.specs.Index.{HasNothing, IsPendingAs, IsUnchangedAfter, KeepsBudget, flushed_docs, num_pending, with_delete};
-ghost use Rattle.ii_index.specs.Pending.{AddsDocument, HasPending};
+ghost use Rattle.ii_index.specs.Pending.{AddsPending, HasPending};
+ghost use Rattle.nequllpa_indexing.specs.Documents.{WereCalls};
 ghost use Rattle.ii_index.specs.Segments.{HoldsIndexOf, no_documents, with_tokens};
 ghost use Rattle.ii_io.specs.Faults.{OnlyMemory};
 ghost use Rattle.ii_segment_store.specs.Contents.{index_contents};
@@ -60,14 +61,14 @@ impl<D: Directory + Drop> Model for IndexWriter<D> {
     ghost use Rattle.std.specs.Prelude.{◌≡◌, ◌+◌, ◌≤◌, length};
     ghost use Rattle.ii_base.specs.declared.doc_id.TheConstants.{TERMINATED};
     ghost use Rattle.ii_index.specs.Deletes.{HaveFieldsBelow};
-    ghost use Rattle.ii_index.specs.Index.{IndexWriterState, flushed_docs};
+    ghost use Rattle.ii_index.specs.Index.{AreReadBy, IndexWriterState, flushed_docs};
     ghost use Rattle.ii_index.specs.Segments.{HaveLines};
 
     ghost Value = { IndexWriterState D };
 
     ghost view = { λ w. record { index = w.index; flushed = w.flushed; documents = w.documents; num_bytes = w.num_bytes; max_bytes = w.max_bytes; deletes = w.deletes.items } };
 
-    ghost invariant = { λ w. (w.documents.schema ≡ w.index.schema.schema) × HaveLines w.documents.num_docs w.documents.lines × HaveFieldsBelow (length w.index.schema.schema) w.deletes.items × (flushed_docs w.flushed + w.documents.num_docs ≤ TERMINATED) };
+    ghost invariant = { λ w. AreReadBy w.index.schema w.documents × HaveLines w.documents.num_docs w.documents.lines × HaveFieldsBelow (length w.index.schema.schema) w.deletes.items × (flushed_docs w.flushed + w.documents.num_docs ≤ TERMINATED) };
 }
 
 impl<D: Directory + Drop> IndexWriter<D> {
@@ -118,6 +119,7 @@ impl<D: Directory + Drop> IndexWriter<D> {
     fn num_pending(&self) -> DocId
         ensures number { result ≡ num_pending self.now }
         ensures within { result ≤ TERMINATED }
+        ensures calls { WereCalls self.now.documents.schema self.now.documents.num_docs self.now.documents.calls }
     {
         num_flushed(&self.flushed) + self.documents.num_docs()
     }
@@ -141,7 +143,7 @@ impl<D: Directory + Drop> IndexWriter<D> {
         ensures known { D.is_known self.old.index.directory → OnOk result (D.is_known self.new.index.directory) }
         ensures obeys { Obeys IsRefusedError (D.may_refuse self.old.index.directory) (D.may_refuse self.new.index.directory) result }
         ensures schema { self.new.index.schema ≡ self.old.index.schema }
-        ensures added { D.is_known self.old.index.directory → OnOk result (AddsDocument (D.seen self.old.index.directory) (D.seen self.new.index.directory) self.old self.new document.now) }
+        ensures added { D.is_known self.old.index.directory → OnOk result (AddsPending (D.seen self.old.index.directory) (D.seen self.new.index.directory) self.old self.new document.now) }
         ensures budget { OnOk result (KeepsBudget (length document.now) self.old self.new) }
         ensures deletes { OnOk result (self.new.deletes ≡ self.old.deletes) }
         ensures same { D.is_known self.old.index.directory → (k : ℕ) (us : List IndexToken) → HasPending (D.seen self.old.index.directory) self.old k us → OnOk result (index_contents (D.seen self.new.index.directory) ≡ index_contents (D.seen self.old.index.directory)) }
@@ -171,10 +173,11 @@ impl<D: Directory + Drop> IndexWriter<D> {
     // Adds a document, and then writes all documents in memory as a segment.
     fn add_last(&mut self, alloc: Global, document: &str) -> Result<(), IndexError>
         requires room { num_pending self.old < TERMINATED }
+        requires calls { WereCalls self.old.documents.schema self.old.documents.num_docs self.old.documents.calls }
         ensures known { D.is_known self.old.index.directory → OnOk result (D.is_known self.new.index.directory) }
         ensures obeys { Obeys IsRefusedError (D.may_refuse self.old.index.directory) (D.may_refuse self.new.index.directory) result }
         ensures schema { self.new.index.schema ≡ self.old.index.schema }
-        ensures added { D.is_known self.old.index.directory → OnOk result (AddsDocument (D.seen self.old.index.directory) (D.seen self.new.index.directory) self.old self.new document.now) }
+        ensures added { D.is_known self.old.index.directory → OnOk result (AddsPending (D.seen self.old.index.directory) (D.seen self.new.index.directory) self.old self.new document.now) }
         ensures budget { OnOk result (KeepsBudget (length document.now) self.old self.new) }
         ensures deletes { OnOk result (self.new.deletes ≡ self.old.deletes) }
         ensures same { D.is_known self.old.index.directory → (k : ℕ) (us : List IndexToken) → HasPending (D.seen self.old.index.directory) self.old k us → OnOk result (index_contents (D.seen self.new.index.directory) ≡ index_contents (D.seen self.old.index.directory)) }

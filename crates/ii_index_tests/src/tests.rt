@@ -1,9 +1,10 @@
 // Documents in two batches: what is found of them after commits, a rollback and a merge.
 use ii_index::{
-    Directory, DocSet, Field, Index, IndexError, IndexWriter, MemoryDirectory, TERMINATED, Term,
-    TopDocs,
+    Directory, DocSet, Field, Folder, Index, IndexError, IndexWriter, LockedFolder,
+    MemoryDirectory, TERMINATED, Term, TopDocs,
 };
 use std::alloc::Global;
+use std::fs;
 use std::test::Fail;
 
 static SCHEMA: &str = "[[field]]\nname = \"body\"\ntype = \"text\"\n";
@@ -501,5 +502,38 @@ fn garbage_is_collected(rt: HostRuntime) -> Result<(), Fail> {
         let found = found(rt.alloc(), writer.index(), text)?;
         assert!(rt; found.as_str() == *wanted);
     }
+    Ok(())
+}
+
+// Returns how many documents an index in a folder has, in which one is committed: through the folder that is locked,
+// and through another one that isn't. Meanwhile a second lock is refused.
+fn counted_in_folder(rt: &HostRuntime, path: &str) -> Result<(u32, u32, bool), Fail> {
+    let Some(folder) = LockedFolder::try_lock(rt, path)? else {
+        return Ok((0, 0, false));
+    };
+    let index = Index::create(rt.alloc(), folder, SCHEMA)?;
+    let mut writer = index.writer(rt.alloc(), AMPLE)?;
+    writer.add_document(rt.alloc(), DOCUMENTS[0])?;
+    writer.commit(rt.alloc())?;
+    let read = writer.index().reader(rt.alloc())?;
+    let other = Index::open(rt.alloc(), Folder::new(rt, path))?.reader(rt.alloc())?;
+    let is_refused = LockedFolder::try_lock(rt, path)?.is_none();
+    Ok((
+        read.searcher().num_docs(),
+        other.searcher().num_docs(),
+        is_refused,
+    ))
+}
+
+#[test]
+fn a_folder_has_one_writer(rt: HostRuntime) -> Result<(), Fail> {
+    let path = "/tmp/ii_index_tests_locked";
+    let _ = fs::remove_dir_all(&rt, path);
+    fs::create_dir(&rt, path)?;
+    let counted = counted_in_folder(&rt, path)?;
+    let is_free = LockedFolder::try_lock(&rt, path)?.is_some();
+    fs::remove_dir_all(&rt, path)?;
+    assert!(rt; counted == (1, 1, true));
+    assert!(rt; is_free);
     Ok(())
 }

@@ -4,6 +4,7 @@ pub mod BoundLaws
 mod DeepLaws
 mod HintLaws
 mod LoadedLaws
+mod NearLaws
 mod NormBoundLaws
 mod OpenedLaws
 mod OpeningLaws

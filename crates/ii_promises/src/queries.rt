@@ -1,5 +1,5 @@
 // Cursors that combine two cursors.
-ghost use Rattle.std.specs.Prelude.{◌≡◌, ◌<◌, ◌≤◌, ◌+◌, ◌∷◌, [], ◌&&◌, ◌||◌, ℕ, length, map, min, nat_eq, not, take, IfErr, IfOk};
+ghost use Rattle.std.specs.Prelude.{◌≡◌, ◌<◌, ◌≤◌, ◌+◌, ◌∷◌, [], ◌&&◌, ◌||◌, ℕ, length, map, min, nat_eq, nat_le, not, take, IfErr, IfOk};
 ghost use Rattle.std.specs.List.{AllZip, list_any};
 ghost use Rattle.ii_base.specs.Entries.{Entry};
 ghost use Rattle.ii_docset.specs.Cursor.{IsSound};
@@ -10,7 +10,7 @@ ghost use Rattle.ii_reader.specs.SegmentPostings.{SegmentPostingsState};
 
 use nequllpa::{
     DocId, DocSet, Exclude, Fault, Intersection, PhraseMatch, PhrasePart, QueryCursor,
-    SeekDangerResult, SegmentPostings, Union,
+    SeekDangerResult, SegmentPostings, SloppyPhraseMatch, Union,
 };
 use std::alloc::Global;
 
@@ -65,6 +65,24 @@ pub fn neighbours_are_found(
     let mut others = Vec::new(alloc);
     others.push(PhrasePart::new(1, second))?;
     Ok(has(&mut PhraseMatch::new(first, others), doc))
+}
+
+/// A phrase of two terms with a slop has the documents where the second term occurs at most `slop` positions
+/// before or after the one that follows the first term.
+pub fn neighbours_are_found_within(
+    alloc: Global,
+    first: SegmentPostings,
+    second: SegmentPostings,
+    slop: u32,
+    doc: DocId,
+) -> Result<bool, Fault>
+    requires { doc < 2147483647 }
+    ensures found { IfOk result (λ found. found ≡ list_any (λ (e : Entry). nat_eq e.doc doc && list_any (λ (p : ℕ). list_any (λ (f : Entry). nat_eq f.doc doc && list_any (λ (q : ℕ). nat_le (p + 1) (q + slop) && nat_le q (p + 1 + slop)) f.positions) second.rest) e.positions) first.rest) }
+    ensures memory { IfErr result (λ fault. fault ≡ Fault.OutOfMemory) }
+{
+    let mut others = Vec::new(alloc);
+    others.push(PhrasePart::new(1, second))?;
+    Ok(has(&mut SloppyPhraseMatch::new(first, others, slop), doc))
 }
 
 /// While the first document of a phrase of two terms is searched, each position of a term is read at most once.

@@ -8,7 +8,6 @@ use Rattle.ii_base.specs.Entries.{Entry, docs_of, document}
 use Rattle.ii_docset.specs.Cursor.{IsSound, from_doc}
 use Rattle.ii_docset.proofs.CursorLemmas.{documents_sound, length_below}
 use Rattle.ii_query.specs.Combined.{QueryCursorState, StandsAt, StandsWithin, all_from, either, intersection_of, picked, put_all, put_in, union_of}
-use Rattle.ii_query.specs.Phrase.{PhrasePartState, begins_phrase, phrase_docs}
 use Rattle.ii_query.specs.QueryCursor.{HasLeastHint, LeadsWith, rests, sum_of_hints}
 use Rattle.ii_query.proofs.MeetLemmas.{each_permuted}
 use Rattle.ii_query.proofs.UnionLemmas.{either_sound}
@@ -40,12 +39,12 @@ pub all_long : (first n : ℕ) → length (all_from first n) ≡ n
 all_long first zero = refl
 all_long first (suc n) = ap suc (all_long (first + 1) n)
 
--- no more documents have a phrase than its first term
-pub phrase_short : (es : List Entry) (others : List PhrasePartState) → length (phrase_docs es others) ≤ length es
-phrase_short es others =
-    let few = filter_short (begins_phrase others) es in
-    let made = documents_long (docs_of (filter (begins_phrase others) es)) in
-    let same = docs_long (filter (begins_phrase others) es) in
+-- no more documents are kept than there are
+pub kept_short : (holds : Entry → Bool) (es : List Entry) → length (map document (docs_of (filter holds es))) ≤ length es
+kept_short holds es =
+    let few = filter_short holds es in
+    let made = documents_long (docs_of (filter holds es)) in
+    let same = docs_long (filter holds es) in
     omega (arith, few, made, same)
 
 put_in_short : (doc : ℕ) (ds : List ℕ) → length (put_in doc ds) ≤ suc (length ds)

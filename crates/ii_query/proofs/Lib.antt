@@ -11,7 +11,9 @@ pub mod PickedLemmas
 pub mod PieceLemmas
 pub mod ReadsLemmas
 pub mod SetLemmas
+pub mod SloppyLemmas
 pub mod StartLemmas
 pub mod UnionLemmas
+pub mod WindowLemmas
 pub mod WorkLemmas
 mod WorkedRows

@@ -11,7 +11,8 @@ use Rattle.ii_docset.specs.Cursor.{IsAscending, IsCurrent, IsSound, IsTarget, do
 use Rattle.ii_docset.proofs.CursorLemmas.{doc_below, from_doc_here, ascending_sound}
 use Rattle.ii_docset.specs.Intersection.{has_doc}
 use Rattle.ii_query.specs.Combined.{IsAtFirst}
-use Rattle.ii_query.specs.Phrase.{IsAtDoc, MeetsAt, PhrasePartState, begins_phrase, has_position, is_among, phrase_docs, stand_from, stand_here}
+use Rattle.ii_query.specs.Phrase.{IsAtDoc, MeetsAt, PhrasePartState, begins_phrase, has_position, has_positions, is_among, parts_have, parts_pass, phrase_docs, stand_from}
+use Rattle.ii_query.specs.SloppyPhrase.{begins_near, is_near, sloppy_docs, stand_near, stand_near_here, ways_back}
 use Rattle.ii_docset.proofs.IntersectionLemmas.{doc_at-from_doc}
 
 -- the documents of the entries of a list for which something holds
@@ -27,11 +28,11 @@ kept_ascends holds (e ∷ es) h = by (kept_ascends holds es h.1) (holds e) refl
     by later true is = let low = h.0 in let up = later.1 in rw (is) ((omega (arith, low, up), later.0), omega arith)
     by later false is = let low = h.0 in let up = later.1 in rw (is) (later.0, omega (arith, low, up))
 
-kept_sound : (holds : Entry → Bool) (es : List Entry) → IsSound es → IsSound (kept holds es)
+pub kept_sound : (holds : Entry → Bool) (es : List Entry) → IsSound es → IsSound (kept holds es)
 kept_sound holds es sound = ascending_sound (docs_of (filter holds es)) (kept_ascends holds es sound.ascending).0
 
 -- without the first document, which is kept
-kept_drop : (holds : Entry → Bool) (es : List Entry) → IsAtFirst es (kept holds es) → kept holds (drop 1 es) ≡ drop 1 (kept holds es)
+pub kept_drop : (holds : Entry → Bool) (es : List Entry) → IsAtFirst es (kept holds es) → kept holds (drop 1 es) ≡ drop 1 (kept holds es)
 kept_drop holds [] at = refl
 kept_drop holds (e ∷ es) at = by (holds e) refl at.here
   where
@@ -44,7 +45,7 @@ kept_drop holds (e ∷ es) at = by (holds e) refl at.here
         absurd (omega (arith, low, up, same))
 
 -- from a document on
-kept_from : (holds : Entry → Bool) (target : ℕ) (es : List Entry) → kept holds (from_doc target es) ≡ from_doc target (kept holds es)
+pub kept_from : (holds : Entry → Bool) (target : ℕ) (es : List Entry) → kept holds (from_doc target es) ≡ from_doc target (kept holds es)
 kept_from holds target [] = refl
 kept_from holds target (e ∷ es) = by (kept_from holds target es) (holds e) refl
   where
@@ -88,7 +89,7 @@ phrase_drop es others at = kept_drop (begins_phrase others) es at
 pub phrase_from : (target : ℕ) (es : List Entry) (others : List PhrasePartState) → phrase_docs (from_doc target es) others ≡ from_doc target (phrase_docs es others)
 phrase_from target es others = kept_from (begins_phrase others) target es
 
-any_alike : (f g : ℕ → Bool) (ps : List ℕ) → ((p : ℕ) → f p ≡ g p) → list_any f ps ≡ list_any g ps
+pub any_alike : (f g : ℕ → Bool) (ps : List ℕ) → ((p : ℕ) → f p ≡ g p) → list_any f ps ≡ list_any g ps
 any_alike f g [] same = refl
 any_alike f g (p ∷ ps) same = rw (same p, any_alike f g ps same) refl
 
@@ -97,95 +98,114 @@ any_none f [] none = refl
 any_none f (p ∷ ps) none = rw (none p) (any_none f ps none)
 
 -- a list of which documents below a target are dropped has the same positions from it on
-pub has_from : (target doc position : ℕ) (es : List Entry) → target ≤ doc → has_position (from_doc target es) doc position ≡ has_position es doc position
-has_from target doc position [] up = refl
-has_from target doc position (e ∷ es) up =
-    let later = has_from target doc position es up in
+pub positions_from : (test : List ℕ → Bool) (target doc : ℕ) (es : List Entry) → target ≤ doc → has_positions test (from_doc target es) doc ≡ has_positions test es doc
+positions_from test target doc [] up = refl
+positions_from test target doc (e ∷ es) up =
+    let later = positions_from test target doc es up in
     elim (leb_tells target e.doc) [
       | inl h ↦ rw (h.0, later) refl
       | inr h ↦ rw (h.0, ne_eqb e.doc doc (λ same. omega (arith, h.1, same))) later
     ]
 
+pub has_from : (target doc position : ℕ) (es : List Entry) → target ≤ doc → has_position (from_doc target es) doc position ≡ has_position es doc position
+has_from target doc position es up = positions_from (λ (ps : List ℕ). is_among ps position) target doc es up
+
 -- below its first document it has none
-pub has_below : (doc position : ℕ) (es : List Entry) → IsAscending es → doc < doc_at es → has_position es doc position ≡ false
-has_below doc position [] ascend low = refl
-has_below doc position (e ∷ es) ascend low =
+pub positions_below : (test : List ℕ → Bool) (doc : ℕ) (es : List Entry) → IsAscending es → doc < doc_at es → has_positions test es doc ≡ false
+positions_below test doc [] ascend low = refl
+positions_below test doc (e ∷ es) ascend low =
     let first = ascend.0 in
-    rw (ne_eqb e.doc doc (λ same. omega (arith, low, same))) (has_below doc position es ascend.1 (omega (arith, low, first)))
+    rw (ne_eqb e.doc doc (λ same. omega (arith, low, same))) (positions_below test doc es ascend.1 (omega (arith, low, first)))
+
+pub has_below : (doc position : ℕ) (es : List Entry) → IsAscending es → doc < doc_at es → has_position es doc position ≡ false
+has_below doc position es ascend low = positions_below (λ (ps : List ℕ). is_among ps position) doc es ascend low
 
 -- at its first document it has those of its entry
-pub has_here : (doc position : ℕ) (es : List Entry) → IsAscending es → doc_at es ≡ doc → doc < TERMINATED → has_position es doc position ≡ is_among (positions_at es) position
-has_here doc position [] ascend here low = absurd (omega (arith, here, low))
-has_here doc position (e ∷ es) ascend here low =
+positions_here : (test : List ℕ → Bool) (doc : ℕ) (es : List Entry) → IsAscending es → doc_at es ≡ doc → doc < TERMINATED → has_positions test es doc ≡ test (positions_at es)
+positions_here test doc [] ascend here low = absurd (omega (arith, here, low))
+positions_here test doc (e ∷ es) ascend here low =
     let next = ascend.0 in
-    rw (eq-eqb e.doc doc here, has_below doc position es ascend.1 (omega (arith, here, next))) (or-false (is_among e.positions position))
+    rw (eq-eqb e.doc doc here, positions_below test doc es ascend.1 (omega (arith, here, next))) (or-false (test e.positions))
 
--- the other terms occur at their distances, given that all are at the document
-stand_at : (others : List PhrasePartState) (doc start : ℕ) → AllByRecursion (IsAtDoc doc) others → doc < TERMINATED → stand_here others start ≡ stand_from others doc start
-stand_at [] doc start at low = refl
-stand_at (p ∷ ps) doc start at low = rw (has_here doc (start + p.distance) p.rest at.0.sound.ascending at.0.here low, stand_at ps doc start at.1 low) refl
+pub has_here : (doc position : ℕ) (es : List Entry) → IsAscending es → doc_at es ≡ doc → doc < TERMINATED → has_position es doc position ≡ is_among (positions_at es) position
+has_here doc position es ascend here low = positions_here (λ (ps : List ℕ). is_among ps position) doc es ascend here low
+
+-- the other terms pass a test, given that all are at the document
+pass_at : (test : ℕ → List ℕ → Bool) (others : List PhrasePartState) (doc : ℕ) → AllByRecursion (IsAtDoc doc) others → doc < TERMINATED → parts_pass test others ≡ parts_have test others doc
+pass_at test [] doc at low = refl
+pass_at test (p ∷ ps) doc at low = rw (positions_here (test p.distance) doc p.rest at.0.sound.ascending at.0.here low, pass_at test ps doc at.1 low) refl
 
 pub are_current : (others : List PhrasePartState) (doc : ℕ) → AllByRecursion (IsAtDoc doc) others → doc < TERMINATED → AllByRecursion (λ (p : PhrasePartState). IsCurrent p.rest) others
 are_current [] doc at low = tt
 are_current (p ∷ ps) doc at low = (let here = at.0.here in omega (arith, here, low), are_current ps doc at.1 low)
 
 -- no document loses its phrase where the other terms are taken to the first one
-pub met_alike : (doc bound : ℕ) (es : List Entry) (old new : List PhrasePartState) → MeetsAt doc old new bound → IsAscending es → doc ≡ doc_at es → phrase_docs es new ≡ phrase_docs es old
-met_alike doc bound es old new m ascend here =
-    kept_alike (begins_phrase new) (begins_phrase old) doc es ascend (omega (arith, here)) (λ e up. any_alike (stand_from new e.doc) (stand_from old e.doc) e.positions (λ p. m.alike e.doc p up))
+pub met_alike : (slop doc bound : ℕ) (es : List Entry) (old new : List PhrasePartState) → MeetsAt doc old new bound → IsAscending es → doc ≡ doc_at es → sloppy_docs slop es new ≡ sloppy_docs slop es old
+met_alike slop doc bound es old new m ascend here =
+    kept_alike (begins_near slop new) (begins_near slop old) doc es ascend (omega (arith, here))
+    (λ e up. any_alike (stand_near slop new e.doc) (stand_near slop old e.doc) e.positions
+    (λ p. any_alike (λ (back : ℕ). parts_have (is_near slop back p) new e.doc) (λ (back : ℕ). parts_have (is_near slop back p) old e.doc) (ways_back slop) (λ back. m.alike (is_near slop back p) e.doc up)))
 
 -- a term is at a greater document
-pub met_above : (doc bound : ℕ) (es : List Entry) (old new : List PhrasePartState) → MeetsAt doc old new bound → bound ≢ doc → bound ≤ doc_at (phrase_docs es new)
-met_above doc bound es old new m other =
+pub met_above : (slop doc bound : ℕ) (es : List Entry) (old new : List PhrasePartState) → MeetsAt doc old new bound → bound ≢ doc → bound ≤ doc_at (sloppy_docs slop es new)
+met_above slop doc bound es old new m other =
     let low = m.low in
-    kept_above (begins_phrase new) bound es m.up_to (λ e lower. any_none (stand_from new e.doc) e.positions (λ p. m.none e.doc p lower (omega (arith, low, other))))
+    kept_above (begins_near slop new) bound es m.up_to
+    (λ e lower. any_none (stand_near slop new e.doc) e.positions
+    (λ p. any_none (λ (back : ℕ). parts_have (is_near slop back p) new e.doc) (ways_back slop) (λ back. m.none (is_near slop back p) e.doc lower (omega (arith, low, other)))))
 
-here_is : (doc : ℕ) (e : Entry) (others : List PhrasePartState) → AllByRecursion (IsAtDoc doc) others → doc ≡ e.doc → doc < TERMINATED → begins_phrase others e ≡ list_any (stand_here others) e.positions
-here_is doc e others at here low =
-    any_alike (stand_from others e.doc) (stand_here others) e.positions (λ p. ap (λ (d : ℕ). stand_from others d p) (sym here) ∙ sym (stand_at others doc p at low))
+here_is : (slop doc : ℕ) (e : Entry) (others : List PhrasePartState) → AllByRecursion (IsAtDoc doc) others → doc ≡ e.doc → doc < TERMINATED → begins_near slop others e ≡ list_any (stand_near_here slop others) e.positions
+here_is slop doc e others at here low =
+    any_alike (stand_near slop others e.doc) (stand_near_here slop others) e.positions
+    (λ p. any_alike (λ (back : ℕ). parts_have (is_near slop back p) others e.doc) (λ (back : ℕ). parts_pass (is_near slop back p) others) (ways_back slop)
+    (λ back. ap (λ (d : ℕ). parts_have (is_near slop back p) others d) (sym here) ∙ sym (pass_at (is_near slop back p) others doc at low)))
 
 -- all terms are at the document, and there is a phrase
-pub met_here : (doc : ℕ) (es : List Entry) (others : List PhrasePartState) → AllByRecursion (IsAtDoc doc) others → doc ≡ doc_at es → doc < TERMINATED → list_any (stand_here others) (positions_at es) ≡ true → doc_at (phrase_docs es others) ≡ doc
-met_here doc [] others at here low is = absurd (omega (arith, here, low))
-met_here doc (e ∷ es) others at here low is = rw (here_is doc e others at here low, is) (sym here)
+pub met_here : (slop doc : ℕ) (es : List Entry) (others : List PhrasePartState) → AllByRecursion (IsAtDoc doc) others → doc ≡ doc_at es → doc < TERMINATED → list_any (stand_near_here slop others) (positions_at es) ≡ true → doc_at (sloppy_docs slop es others) ≡ doc
+met_here slop doc [] others at here low is = absurd (omega (arith, here, low))
+met_here slop doc (e ∷ es) others at here low is = rw (here_is slop doc e others at here low, is) (sym here)
 
 -- or there is none
-pub met_without : (doc : ℕ) (es : List Entry) (others : List PhrasePartState) → AllByRecursion (IsAtDoc doc) others → IsAscending es → doc ≡ doc_at es → doc < TERMINATED → list_any (stand_here others) (positions_at es) ≡ false → doc + 1 ≤ doc_at (phrase_docs es others)
-met_without doc [] others at ascend here low is = absurd (omega (arith, here, low))
-met_without doc (e ∷ es) others at ascend here low is =
+pub met_without : (slop doc : ℕ) (es : List Entry) (others : List PhrasePartState) → AllByRecursion (IsAtDoc doc) others → IsAscending es → doc ≡ doc_at es → doc < TERMINATED → list_any (stand_near_here slop others) (positions_at es) ≡ false → doc + 1 ≤ doc_at (sloppy_docs slop es others)
+met_without slop doc [] others at ascend here low is = absurd (omega (arith, here, low))
+met_without slop doc (e ∷ es) others at ascend here low is =
     let next = ascend.0 in
-    let up = (kept_ascends (begins_phrase others) es ascend.1).1 in
-    rw (here_is doc e others at here low, is) (omega (arith, here, next, up))
+    let up = (kept_ascends (begins_near slop others) es ascend.1).1 in
+    rw (here_is slop doc e others at here low, is) (omega (arith, here, next, up))
 
-pub phrase_above : (es : List Entry) (others : List PhrasePartState) → IsAscending es → doc_at es ≤ doc_at (phrase_docs es others)
-phrase_above es others ascend = (kept_ascends (begins_phrase others) es ascend).1
+pub phrase_above : (slop : ℕ) (es : List Entry) (others : List PhrasePartState) → IsAscending es → doc_at es ≤ doc_at (sloppy_docs slop es others)
+phrase_above slop es others ascend = (kept_ascends (begins_near slop others) es ascend).1
 
 -- A document is found below which there is no phrase.
-pub phrase_bound : (bound : ℕ) (es : List Entry) (others : List PhrasePartState) → IsSound es → bound ≤ doc_at (phrase_docs es others) → bound ≤ TERMINATED
-phrase_bound bound es others sound least = let below = doc_below (phrase_docs es others) (phrase_sound es others sound).ascending in omega (arith, least, below)
+pub phrase_bound : (slop bound : ℕ) (es : List Entry) (others : List PhrasePartState) → IsSound es → bound ≤ doc_at (sloppy_docs slop es others) → bound ≤ TERMINATED
+phrase_bound slop bound es others sound least = let below = doc_below (sloppy_docs slop es others) (kept_sound (begins_near slop others) es sound).ascending in omega (arith, least, below)
 
-pub phrase_on : (bound : ℕ) (es later : List Entry) (others : List PhrasePartState) → IsSound es → bound ≤ doc_at (phrase_docs es others) → later ≡ from_doc bound es → phrase_docs later others ≡ phrase_docs es others
-phrase_on bound es later others sound least is =
-    ap (λ (l : List Entry). phrase_docs l others) is ∙ phrase_from bound es others ∙ from_doc_here bound (phrase_docs es others) (phrase_sound es others sound).ascending least
+pub phrase_on : (slop bound : ℕ) (es later : List Entry) (others : List PhrasePartState) → IsSound es → bound ≤ doc_at (sloppy_docs slop es others) → later ≡ from_doc bound es → sloppy_docs slop later others ≡ sloppy_docs slop es others
+phrase_on slop bound es later others sound least is =
+    ap (λ (l : List Entry). sloppy_docs slop l others) is ∙ kept_from (begins_near slop others) bound es ∙ from_doc_here bound (sloppy_docs slop es others) (kept_sound (begins_near slop others) es sound).ascending least
 
-pub phrase_smaller : (doc bound next : ℕ) (es later : List Entry) (others : List PhrasePartState) → IsSound es → doc < TERMINATED → doc ≤ bound → bound ≢ doc → bound ≤ doc_at (phrase_docs es others) → later ≡ from_doc bound es → next ≡ doc_at later
+pub phrase_smaller : (slop doc bound next : ℕ) (es later : List Entry) (others : List PhrasePartState) → IsSound es → doc < TERMINATED → doc ≤ bound → bound ≢ doc → bound ≤ doc_at (sloppy_docs slop es others) → later ≡ from_doc bound es → next ≡ doc_at later
     → TERMINATED - next < TERMINATED - doc
-phrase_smaller doc bound next es later others sound low up other least is here =
-    let reached = subst (λ (l : List Entry). bound ≤ doc_at l) (sym is) (doc_at-from_doc bound es (phrase_bound bound es others sound least)) in
+phrase_smaller slop doc bound next es later others sound low up other least is here =
+    let reached = subst (λ (l : List Entry). bound ≤ doc_at l) (sym is) (doc_at-from_doc bound es (phrase_bound slop bound es others sound least)) in
     omega (arith, low, up, other, reached, here)
 
--- a document has a phrase exactly where its entry has
-pub phrase_has : (doc : ℕ) (es : List Entry) (others : List PhrasePartState) → has_doc (phrase_docs es others) doc ≡ list_any (λ (e : Entry). nat_eq e.doc doc && list_any (stand_from others doc) e.positions) es
-phrase_has doc [] others = refl
-phrase_has doc (e ∷ es) others = by (begins_phrase others e) refl (phrase_has doc es others)
+-- a document is kept for one of its positions exactly where its entry is
+pub begins_has : (test : ℕ → ℕ → Bool) (doc : ℕ) (es : List Entry) → has_doc (kept (λ (e : Entry). list_any (test e.doc) e.positions) es) doc ≡ list_any (λ (e : Entry). nat_eq e.doc doc && list_any (test doc) e.positions) es
+begins_has test doc [] = refl
+begins_has test doc (e ∷ es) = by (list_any (test e.doc) e.positions) refl (begins_has test doc es)
   where
-    by : (b : Bool) → begins_phrase others e ≡ b → has_doc (phrase_docs es others) doc ≡ list_any (λ (f : Entry). nat_eq f.doc doc && list_any (stand_from others doc) f.positions) es
-        → has_doc (phrase_docs (e ∷ es) others) doc ≡ list_any (λ (f : Entry). nat_eq f.doc doc && list_any (stand_from others doc) f.positions) (e ∷ es)
+    by : (b : Bool) → list_any (test e.doc) e.positions ≡ b → has_doc (kept (λ (f : Entry). list_any (test f.doc) f.positions) es) doc ≡ list_any (λ (f : Entry). nat_eq f.doc doc && list_any (test doc) f.positions) es
+        → has_doc (kept (λ (f : Entry). list_any (test f.doc) f.positions) (e ∷ es)) doc ≡ list_any (λ (f : Entry). nat_eq f.doc doc && list_any (test doc) f.positions) (e ∷ es)
     by true is later = elim (eqb_tells e.doc doc) [
-      | inl h ↦ rw (is, h.0, subst (λ (d : ℕ). list_any (stand_from others d) e.positions ≡ true) h.1 is) refl
+      | inl h ↦ rw (is, h.0, subst (λ (d : ℕ). list_any (test d) e.positions ≡ true) h.1 is) refl
       | inr h ↦ rw (is, h.0) later
     ]
     by false is later = elim (eqb_tells e.doc doc) [
-      | inl h ↦ rw (is, h.0, subst (λ (d : ℕ). list_any (stand_from others d) e.positions ≡ false) h.1 is) later
+      | inl h ↦ rw (is, h.0, subst (λ (d : ℕ). list_any (test d) e.positions ≡ false) h.1 is) later
       | inr h ↦ rw (is, h.0) later
     ]
+
+-- a document has a phrase exactly where its entry has
+pub phrase_has : (doc : ℕ) (es : List Entry) (others : List PhrasePartState) → has_doc (phrase_docs es others) doc ≡ list_any (λ (e : Entry). nat_eq e.doc doc && list_any (stand_from others doc) e.positions) es
+phrase_has doc es others = begins_has (stand_from others) doc es

@@ -8,13 +8,13 @@ use Rattle.ii_base.specs.declared.doc_id.TheConstants.{TERMINATED}
 use Rattle.ii_base.specs.Entries.{Entry}
 use Rattle.ii_docset.specs.Cursor.{IsSound, doc_at, from_doc, positions_at}
 use Rattle.ii_docset.proofs.CursorLemmas.{doc_below}
-use Rattle.ii_query.specs.Phrase.{IsAtDoc, MeetsAt, PhrasePartState, has_position, is_among, stand_from}
-use Rattle.ii_query.proofs.PhraseLemmas.{has_below, has_from}
+use Rattle.ii_query.specs.Phrase.{IsAtDoc, MeetsAt, PhrasePartState, has_positions, is_among, parts_have}
+use Rattle.ii_query.proofs.PhraseLemmas.{positions_below, positions_from}
 use Rattle.ii_docset.proofs.IntersectionLemmas.{doc_at-from_doc}
 
 -- The first terms so far were taken to a document.
 pub record IsMeeting (doc i : ℕ) (old now : List PhrasePartState) : Type 0 where
-  pub alike : (d start : ℕ) → doc ≤ d → stand_from now d start ≡ stand_from old d start
+  pub alike : (test : ℕ → List ℕ → Bool) (d : ℕ) → doc ≤ d → parts_have test now d ≡ parts_have test old d
   pub met : AllByRecursion (IsAtDoc doc) (take i now)
   pub many : length now ≡ length old
 
@@ -26,19 +26,19 @@ pub record IsMoved (doc bound : ℕ) (old new : PhrasePartState) : Type 0 where
   pub here : bound ≡ doc_at new.rest
 
 pub meeting_first : (doc : ℕ) (old : List PhrasePartState) → IsMeeting doc 0 old old
-meeting_first doc old = record { alike = λ d start up. refl; met = tt; many = refl }
+meeting_first doc old = record { alike = λ test d up. refl; met = tt; many = refl }
 
-part_set : (parts : List PhrasePartState) (i : ℕ) (new old : PhrasePartState) (doc bound d start : ℕ) → i < length parts → old ≡ get_or parts i old → IsMoved doc bound old new → doc ≤ d → stand_from (set parts i new) d start ≡ stand_from parts d start
-part_set [] i new old doc bound d start inside is moved up = absurd (omega (arith, inside))
-part_set (p ∷ ps) zero new old doc bound d start inside is moved up =
-    let same : has_position new.rest d (start + new.distance) ≡ has_position old.rest d (start + old.distance) = rw (moved.distance_is, moved.rest_is) (has_from doc d (start + old.distance) old.rest up) in
-    ap (λ (b : Bool). b && stand_from ps d start) (same ∙ ap (λ (q : PhrasePartState). has_position q.rest d (start + q.distance)) is)
-part_set (p ∷ ps) (suc i) new old doc bound d start inside is moved up = ap (λ (b : Bool). has_position p.rest d (start + p.distance) && b) (part_set ps i new old doc bound d start (omega (arith, inside)) is moved up)
+part_set : (parts : List PhrasePartState) (i : ℕ) (new old : PhrasePartState) (doc bound : ℕ) (test : ℕ → List ℕ → Bool) (d : ℕ) → i < length parts → old ≡ get_or parts i old → IsMoved doc bound old new → doc ≤ d → parts_have test (set parts i new) d ≡ parts_have test parts d
+part_set [] i new old doc bound test d inside is moved up = absurd (omega (arith, inside))
+part_set (p ∷ ps) zero new old doc bound test d inside is moved up =
+    let same : has_positions (test new.distance) new.rest d ≡ has_positions (test old.distance) old.rest d = rw (moved.distance_is, moved.rest_is) (positions_from (test old.distance) doc d old.rest up) in
+    ap (λ (b : Bool). b && parts_have test ps d) (same ∙ ap (λ (q : PhrasePartState). has_positions (test q.distance) q.rest d) is)
+part_set (p ∷ ps) (suc i) new old doc bound test d inside is moved up = ap (λ (b : Bool). has_positions (test p.distance) p.rest d && b) (part_set ps i new old doc bound test d (omega (arith, inside)) is moved up)
 
-part_none : (parts : List PhrasePartState) (i : ℕ) (new : PhrasePartState) (d start : ℕ) → i < length parts → IsSound new.rest → d < doc_at new.rest → stand_from (set parts i new) d start ≡ false
-part_none [] i new d start inside sound low = absurd (omega (arith, inside))
-part_none (p ∷ ps) zero new d start inside sound low = rw (has_below d (start + new.distance) new.rest sound.ascending low) refl
-part_none (p ∷ ps) (suc i) new d start inside sound low = and_right (has_position p.rest d (start + p.distance)) _ (part_none ps i new d start (omega (arith, inside)) sound low)
+part_none : (parts : List PhrasePartState) (i : ℕ) (new : PhrasePartState) (test : ℕ → List ℕ → Bool) (d : ℕ) → i < length parts → IsSound new.rest → d < doc_at new.rest → parts_have test (set parts i new) d ≡ false
+part_none [] i new test d inside sound low = absurd (omega (arith, inside))
+part_none (p ∷ ps) zero new test d inside sound low = rw (positions_below (test new.distance) d new.rest sound.ascending low) refl
+part_none (p ∷ ps) (suc i) new test d inside sound low = and_right (has_positions (test p.distance) p.rest d) _ (part_none ps i new test d (omega (arith, inside)) sound low)
 
 met_set : (doc : ℕ) (parts : List PhrasePartState) (i : ℕ) (new : PhrasePartState) → i < length parts → AllByRecursion (IsAtDoc doc) (take i parts) → IsAtDoc doc new → AllByRecursion (IsAtDoc doc) (take (suc i) (set parts i new))
 met_set doc [] i new inside met at = absurd (omega (arith, inside))
@@ -49,7 +49,7 @@ met_set doc (p ∷ ps) (suc i) new inside met at = (met.0, met_set doc ps i new 
 pub meeting_next : (doc i bound : ℕ) (start now : List PhrasePartState) (old new : PhrasePartState) → IsMeeting doc i start now → i < length now → old ≡ get_or now i old → IsMoved doc bound old new → bound ≡ doc
     → IsMeeting doc (i + 1) start (set now i new)
 meeting_next doc i bound start now old new m inside is moved same = record {
-  alike = λ d from up. part_set now i new old doc bound d from inside is moved up ∙ m.alike d from up;
+  alike = λ test d up. part_set now i new old doc bound test d inside is moved up ∙ m.alike test d up;
   met = subst (λ (n : ℕ). AllByRecursion (IsAtDoc doc) (take n (set now i new))) (sym (add-one i)) (met_set doc now i new inside m.met (record { sound = moved.sound; here = sym moved.here ∙ same }));
   many = length-set now i new ∙ m.many;
 }
@@ -62,11 +62,11 @@ meeting_stops doc i bound start now old new m inside is moved other low =
     let below = doc_below new.rest moved.sound.ascending in
     let up = subst (λ (l : List Entry). doc ≤ doc_at l) (sym moved.rest_is) (doc_at-from_doc doc old.rest (omega (arith, low))) in
     record {
-      alike = λ d from high. part_set now i new old doc bound d from inside is moved high ∙ m.alike d from high;
+      alike = λ test d high. part_set now i new old doc bound test d inside is moved high ∙ m.alike test d high;
       low = omega (arith, here, up);
       up_to = omega (arith, here, below);
       met = λ same. absurd (other same);
-      none = λ d from lower above. part_none now i new d from inside moved.sound (omega (arith, here, lower));
+      none = λ test d lower above. part_none now i new test d inside moved.sound (omega (arith, here, lower));
     }
 
 -- all terms are at the document
@@ -78,7 +78,7 @@ meeting_ends doc start now m low =
       low = omega arith;
       up_to = omega (arith, low);
       met = λ same. subst (λ (ps : List PhrasePartState). AllByRecursion (IsAtDoc doc) ps) (take_all (length start) now (omega (arith, many))) m.met;
-      none = λ d from lower above. absurd (omega (arith, above));
+      none = λ test d lower above. absurd (omega (arith, above));
     }
 
 any_behind : (f : ℕ → Bool) (xs : List ℕ) (i : ℕ) → i < length xs → f (get_or xs i 0) ≡ false → list_any f (drop (suc i) xs) ≡ list_any f (drop i xs)

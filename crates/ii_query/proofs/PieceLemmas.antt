@@ -1,34 +1,41 @@
 -- Positions that don't decrease are passed.
-use Rattle.std.proofs.Common.{◌≡◌, ◌∙◌, ℕ, zero, suc, add-one, ◌+◌, ◌<◌, ◌≤◌, false, Some, None, List, [], ◌∷◌, drop, get_or, length, nat_eq, inl, inr, refl, sym, ap, arith, length-drop}
+use Rattle.std.proofs.Common.{◌≡◌, ◌∙◌, ℕ, zero, suc, add-one, ◌+◌, ◌<◌, ◌≤◌, Bool, false, Some, None, List, [], drop, get_or, length, nat_eq, inl, inr, refl, sym, ap, arith, length-drop}
 use Rattle.std.specs.Prelude.{slice_get}
 use Rattle.std.specs.List.Sorted.{IsNonDecreasing}
 use Rattle.std.proofs.Math.Seq.{drop-cons}
 use Rattle.std.proofs.lemmas.Bool.{cases_lt, ne_eqb}
 use Rattle.std.proofs.lemmas.Bool.Decides.{eqb_tells}
 use Rattle.std.proofs.lemmas.List.{drop_all, get_or-drop}
+use Rattle.std.proofs.lemmas.List.Folds.{list_any_none}
+use Rattle.std.specs.List.{list_any}
 use Rattle.std.proofs.lemmas.Option.{get_or_from_slice_get, none-some, slice_get-get_or, slice_get_within}
 use Rattle.ii_base.specs.Entries.{Entry}
 use Rattle.ii_docset.specs.Cursor.{position_before}
 use Rattle.ii_query.specs.declared.position_piece.PositionPiece.{PositionPiece}
 use Rattle.ii_query.specs.Phrase.{ReadsOnce, is_among}
-use Rattle.ii_query.specs.PositionPiece.{IsPieceOf, term_with}
+use Rattle.ii_query.specs.PositionPiece.{IsPieceOf, PassesBelow, term_with}
 use Rattle.ii_query.proofs.PhraseSteps.{any_next}
 
--- From one place to another, only positions below a number were passed.
-abbrev pub PassedBelow : List ℕ → ℕ → ℕ → ℕ → Type 0
-PassedBelow positions position old new = (p : ℕ) → position ≤ p → is_among (drop new positions) p ≡ is_among (drop old positions) p
-
 -- one more position is passed
-pub passed_more : (positions : List ℕ) (position old i next : ℕ) → Some next ≡ slice_get positions i → next < position → PassedBelow positions position old i → PassedBelow positions position old (i + 1)
-passed_more positions position old i next is low passed p up =
+pub passed_more : (positions : List ℕ) (least old i next : ℕ) → Some next ≡ slice_get positions i → next < least → PassesBelow positions least old i → PassesBelow positions least old (i + 1)
+passed_more positions least old i next is low passed test none =
     let here = get_or_from_slice_get positions i next 0 (sym is) in
-    any_next (λ (q : ℕ). nat_eq q p) positions i (slice_get_within positions i next (sym is)) (ne_eqb (get_or positions i 0) p (λ same. omega (arith, here, same, low, up))) ∙ passed p up
+    any_next test positions i (slice_get_within positions i next (sym is)) (none (get_or positions i 0) (omega (arith, here, low))) ∙ passed test none
 
-none_from : (positions : List ℕ) (least position : ℕ) → position < least → ((j : ℕ) → j < length positions → least ≤ get_or positions j 0) → is_among positions position ≡ false
-none_from [] least position below up = refl
-none_from (p ∷ ps) least position below up =
-    let first = up 0 (omega arith) in
-    rw (ne_eqb p position (λ same. omega (arith, first, below, same))) (none_from ps least position below (λ j inside. up (suc j) (omega (arith, inside))))
+-- a position that isn't passed is told as before
+pub passed_keeps : (positions : List ℕ) (least old new p : ℕ) → PassesBelow positions least old new → least ≤ p → is_among (drop new positions) p ≡ is_among (drop old positions) p
+passed_keeps positions least old new p passed up = passed (λ (q : ℕ). nat_eq q p) (λ q low. ne_eqb q p (λ same. omega (arith, same, low, up)))
+
+-- what holds of no position from the next one on holds of none that is left
+pub none_after : (test : ℕ → Bool) (positions : List ℕ) (i next : ℕ) → IsNonDecreasing positions → Some next ≡ slice_get positions i → ((p : ℕ) → next ≤ p → test p ≡ false) → list_any test (drop i positions) ≡ false
+none_after test positions i next order is none =
+    let left = length-drop i positions in
+    list_any_none test (drop i positions)
+    (λ j d within.
+    let here = get_or_from_slice_get positions i next d (sym is) in
+    let later = order i (i + j) d (omega arith) (omega (arith, left, within)) in
+    let there = get_or-drop i positions j d in
+    none (get_or (drop i positions) j d) (omega (arith, here, later, there)))
 
 -- the first position that isn't below a number tells whether it is there
 pub found_at : (positions : List ℕ) (position i next : ℕ) → IsNonDecreasing positions → Some next ≡ slice_get positions i → position ≤ next → nat_eq next position ≡ is_among (drop i positions) position
@@ -39,11 +46,7 @@ found_at positions position i next order is up =
       | inl h ↦ h.0 ∙ sym (ap (λ (ps : List ℕ). is_among ps position) (drop-cons positions i 0 inside) ∙ rw (here, h.0) refl)
       | inr h ↦
           let other = h.1 in
-          let left = length-drop i positions in
-          h.0
-          ∙ sym
-          (none_from (drop i positions) next position (omega (arith, up, other))
-          (λ j within. let later = order i (i + j) 0 (omega arith) (omega (arith, left, within)) in let there = get_or-drop i positions j 0 in omega (arith, here, later, there)))
+          h.0 ∙ sym (none_after (λ (q : ℕ). nat_eq q position) positions i next order is (λ q above. ne_eqb q position (λ same. omega (arith, same, above, up, other))))
     ]
 
 -- at the end none is left

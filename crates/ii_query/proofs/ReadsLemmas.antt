@@ -1,14 +1,14 @@
 -- What a term of a phrase may still read.
 use Rattle.std.proofs.Common.{◌≡◌, ◌∙◌, ℕ, zero, suc, ◌+◌, ◌<◌, ◌≤◌, Bool, false, ◌&&◌, List, [], ◌∷◌, add-one, drop, get_or, length, map, set, inl, inr, refl, sym, ap, arith}
-use Rattle.std.specs.List.{AllByRecursion, AllZip, sum_by}
+use Rattle.std.specs.List.{AllByRecursion, AllZip, list_all, sum_by}
 use Rattle.std.proofs.Math.Seq.{drop-cons}
 use Rattle.std.proofs.lemmas.List.{drop-drop, drop-set-lt, get_or-drop}
 use Rattle.std.proofs.lemmas.Bool.{lt-leb}
 use Rattle.std.proofs.lemmas.Bool.Decides.{leb_tells}
 use Rattle.std.proofs.lemmas.List.Sums.{sum_by-cons}
 use Rattle.ii_base.specs.Entries.{Entry}
-use Rattle.ii_docset.specs.Cursor.{IsAscending, IsCurrent, doc_at, from_doc}
-use Rattle.ii_query.specs.Phrase.{IsAtDoc, IsUnread, IsUnreadFrom, PhrasePartState, PhraseTermState, ReadsOnce, Spent, cursors_in, is_left, most_reads, num_positions, parts_in, positions_left, reads_left, stand_here, stand_left, unread, unread_term}
+use Rattle.ii_docset.specs.Cursor.{IsAscending, IsCurrent, doc_at, from_doc, positions_at}
+use Rattle.ii_query.specs.Phrase.{IsAtDoc, IsUnread, IsUnreadFrom, PhrasePartState, PhraseTermState, ReadsOnce, Spent, cursors_in, is_at, is_left, most_reads, num_positions, parts_in, parts_pass, positions_left, reads_left, stand_here, stand_left, unread, unread_term}
 
 -- a document of which nothing was read is as the others
 pub whole_reads : (es : List Entry) → reads_left 0 false es ≡ sum_by (λ (e : Entry). most_reads (length e.positions)) es
@@ -58,11 +58,14 @@ reads_moved spent old rest cursor by less =
     record { asked = 0; count = 0; by = by; reads = omega (arith, reads); positions = omega (arith, positions) }
 
 -- terms of which nothing was read
-pub unread_stand : {P : Type 0} (ts : List (PhraseTermState P)) (start : ℕ) → AllByRecursion IsUnread ts → stand_left ts start ≡ stand_here (parts_in ts) start
-unread_stand [] start all = refl
-unread_stand (t ∷ ts) start all =
+pub unread_pass : {P : Type 0} (test : ℕ → List ℕ → Bool) (ts : List (PhraseTermState P)) → AllByRecursion IsUnread ts → list_all (λ (t : PhraseTermState P). test t.part.distance (drop t.passed (positions_at t.part.rest))) ts ≡ parts_pass test (parts_in ts)
+unread_pass test [] all = refl
+unread_pass test (t ∷ ts) all =
     let none : t.passed ≡ 0 = ap (λ (u : PhraseTermState _). u.passed) all.0 in
-    rw (none, unread_stand ts start all.1) refl
+    rw (none, unread_pass test ts all.1) refl
+
+pub unread_stand : {P : Type 0} (ts : List (PhraseTermState P)) (start : ℕ) → AllByRecursion IsUnread ts → stand_left ts start ≡ stand_here (parts_in ts) start
+unread_stand ts start all = unread_pass (is_at start) ts all
 
 -- terms that are at a document, and of which nothing was read from it on
 pub unread_here : {P : Type 0} (doc : ℕ) (ts : List (PhraseTermState P)) → AllByRecursion (IsAtDoc doc) (parts_in ts) → AllByRecursion (IsUnreadFrom doc) ts → AllByRecursion IsUnread ts
@@ -81,11 +84,11 @@ unread_later doc next (t ∷ ts) up unread = (λ above. unread.0 (omega (arith, 
 pub left_next : {P : Type 0} (ts : List (PhraseTermState P)) (i start : ℕ) (t : PhraseTermState P) → i < length ts → t ≡ get_or ts i t → stand_left (drop i ts) start ≡ (is_left t start && stand_left (drop (i + 1) ts) start)
 left_next ts i start t inside is = ap (λ (us : List (PhraseTermState _)). stand_left us start) (drop-cons ts i t inside) ∙ rw (← is, add-one i) refl
 
--- a term that went on without a position that is asked for
-pub left_set : {P : Type 0} (ts : List (PhraseTermState P)) (i start : ℕ) (old new : PhraseTermState P) → i < length ts → old ≡ get_or ts i old → is_left new start ≡ is_left old start → stand_left (set ts i new) start ≡ stand_left ts start
-left_set [] i start old new inside is same = absurd (omega (arith, inside))
-left_set (t ∷ ts) zero start old new inside is same = ap (λ (b : Bool). b && stand_left ts start) (same ∙ ap (λ (u : PhraseTermState _). is_left u start) is)
-left_set (t ∷ ts) (suc i) start old new inside is same = ap (λ (b : Bool). is_left t start && b) (left_set ts i start old new (omega (arith, inside)) is same)
+-- an element is replaced by one that passes a test alike
+pub all_set : {T : Type 0} (test : T → Bool) (ts : List T) (i : ℕ) (old new : T) → i < length ts → old ≡ get_or ts i old → test new ≡ test old → list_all test (set ts i new) ≡ list_all test ts
+all_set test [] i old new inside is same = absurd (omega (arith, inside))
+all_set test (t ∷ ts) zero old new inside is same = ap (λ (b : Bool). b && list_all test ts) (same ∙ ap test is)
+all_set test (t ∷ ts) (suc i) old new inside is same = ap (λ (b : Bool). test t && b) (all_set test ts i old new (omega (arith, inside)) is same)
 
 -- the elements that weren't visited are as they were
 pub kept_at : {T : Type 0} (old now : List T) (i : ℕ) (t : T) → drop i now ≡ drop i old → t ≡ get_or now i t → t ≡ get_or old i t

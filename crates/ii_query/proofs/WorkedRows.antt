@@ -1,10 +1,11 @@
--- Computed examples of hints, of what a phrase may still read, and of sets of documents.
+-- Computed examples of hints, of phrases with slop, of what a phrase may still read, and of sets of documents.
 use Rattle.std.proofs.Common.{◌≡◌, ℕ, ◌^◌, ◌-◌, true, false, List, [], ◌∷◌, replicate, refl, arith}
 use Rattle.ii_base.specs.Entries.{Entry, docs_of}
 use Rattle.ii_query.specs.BitSet.{docs_of_set}
 use Rattle.ii_query.specs.Combined.{QueryCursorState}
-use Rattle.ii_query.specs.Phrase.{most_reads, positions_left, reads_left}
+use Rattle.ii_query.specs.Phrase.{PhrasePartState, most_reads, phrase_docs, positions_left, reads_left}
 use Rattle.ii_query.specs.QueryCursor.{LeadsWith, sum_of_hints}
+use Rattle.ii_query.specs.SloppyPhrase.{sloppy_docs}
 
 -- a cursor without documents that has a hint
 abbrev pub hinted : ℕ → QueryCursorState ℕ
@@ -26,6 +27,40 @@ lesser_leads = (refl, (omega arith, (omega arith, tt)))
 
 pub equal_leads : LeadsWith 3 (hinted 3 ∷ hinted 3 ∷ [])
 equal_leads = (refl, (omega arith, (omega arith, tt)))
+
+-- a document with one position
+abbrev pub at_one : ℕ → ℕ → Entry
+at_one doc position = record { doc = doc; term_freq = 1; positions = position ∷ [] }
+
+-- the words of `old wide sea` and of `sea old`
+abbrev pub old_docs : List Entry
+old_docs = at_one 0 0 ∷ at_one 1 1 ∷ []
+
+abbrev pub then_sea : List PhrasePartState
+then_sea = record { distance = 1; rest = at_one 0 2 ∷ at_one 1 0 ∷ [] } ∷ []
+
+-- "old sea", and with slops 0, 1 and 2
+pub old_sea : docs_of (phrase_docs old_docs then_sea) ≡ []
+old_sea = refl
+
+pub old_sea_within_0 : docs_of (sloppy_docs 0 old_docs then_sea) ≡ []
+old_sea_within_0 = refl
+
+pub old_sea_within_1 : docs_of (sloppy_docs 1 old_docs then_sea) ≡ 0 ∷ []
+old_sea_within_1 = refl
+
+pub old_sea_within_2 : docs_of (sloppy_docs 2 old_docs then_sea) ≡ 0 ∷ 1 ∷ []
+old_sea_within_2 = refl
+
+-- "a b c" in `a x b y c`, with slops 1 and 2
+abbrev pub then_b_c : List PhrasePartState
+then_b_c = record { distance = 1; rest = at_one 0 2 ∷ [] } ∷ record { distance = 2; rest = at_one 0 4 ∷ [] } ∷ []
+
+pub a_b_c_within_1 : docs_of (sloppy_docs 1 (at_one 0 0 ∷ []) then_b_c) ≡ []
+a_b_c_within_1 = refl
+
+pub a_b_c_within_2 : docs_of (sloppy_docs 2 (at_one 0 0 ∷ []) then_b_c) ≡ 0 ∷ []
+a_b_c_within_2 = refl
 
 -- a last call finds that no position is left
 pub reads_of_63 : most_reads 63 ≡ 1

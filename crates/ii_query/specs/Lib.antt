@@ -4,6 +4,7 @@ pub mod Phrase
 pub mod PositionPiece
 pub mod QueryCursor
 pub mod QueryCursorLemmas
+pub mod SloppyPhrase
 pub mod TermOrPhrase
 pub mod TermOrPhraseLaws
 pub mod WorkLaws

@@ -86,13 +86,29 @@ pub record ReadsOnce {P : Type 0} (spent : ℕ → ℕ → P → P → Type 0) (
 abbrev pub is_among : List ℕ → ℕ → Bool
 is_among positions position = list_any (λ (p : ℕ). nat_eq p position) positions
 
+-- whether a list has a document whose positions pass a test
+abbrev pub has_positions : (List ℕ → Bool) → List Entry → ℕ → Bool
+has_positions test es doc = list_any (λ (e : Entry). nat_eq e.doc doc && test e.positions) es
+
 -- whether a list has a document with a position
 abbrev pub has_position : List Entry → ℕ → ℕ → Bool
-has_position es doc position = list_any (λ (e : Entry). nat_eq e.doc doc && is_among e.positions position) es
+has_position es doc position = has_positions (λ (positions : List ℕ). is_among positions position) es doc
+
+-- whether the positions of each other term in a document pass a test of its distance and them
+abbrev pub parts_have : (ℕ → List ℕ → Bool) → List PhrasePartState → ℕ → Bool
+parts_have test others doc = list_all (λ (p : PhrasePartState). has_positions (test p.distance) p.rest doc) others
+
+-- whether those in its current document do
+abbrev pub parts_pass : (ℕ → List ℕ → Bool) → List PhrasePartState → Bool
+parts_pass test others = list_all (λ (p : PhrasePartState). test p.distance (positions_at p.rest)) others
+
+-- whether a position is at a distance from a start
+abbrev pub is_at : ℕ → ℕ → List ℕ → Bool
+is_at start distance positions = is_among positions (start + distance)
 
 -- whether each other term occurs in a document at its distance from a position
 abbrev pub stand_from : List PhrasePartState → ℕ → ℕ → Bool
-stand_from others doc start = list_all (λ (p : PhrasePartState). has_position p.rest doc (start + p.distance)) others
+stand_from others doc start = parts_have (is_at start) others doc
 
 -- whether they do for at least one position of an entry
 abbrev pub begins_phrase : List PhrasePartState → Entry → Bool
@@ -104,7 +120,7 @@ phrase_docs es others = map document (docs_of (filter (begins_phrase others) es)
 
 -- whether each other term occurs in its current document at its distance from a position
 abbrev pub stand_here : List PhrasePartState → ℕ → Bool
-stand_here others start = list_all (λ (p : PhrasePartState). is_among (positions_at p.rest) (start + p.distance)) others
+stand_here others start = parts_pass (is_at start) others
 
 -- whether a term occurs in its current document at its distance from a position, among the positions that weren't passed
 abbrev pub is_left : {P : Type 0} → PhraseTermState P → ℕ → Bool
@@ -119,10 +135,16 @@ pub record IsAtDoc (doc : ℕ) (part : PhrasePartState) : Type 0 where
   pub sound : IsSound part.rest
   pub here : doc_at part.rest ≡ doc
 
--- The result of seeking terms to a document: none dropped a document from it on, and all are at it, or the result is greater, and no phrase is below it.
+-- The result of seeking terms to a document: none dropped a document from it on, and all are at it, or the result is greater, and no document below it has all terms.
 pub record MeetsAt (doc : ℕ) (old new : List PhrasePartState) (bound : ℕ) : Type 0 where
-  pub alike : (d start : ℕ) → doc ≤ d → stand_from new d start ≡ stand_from old d start
+  pub alike : (test : ℕ → List ℕ → Bool) (d : ℕ) → doc ≤ d → parts_have test new d ≡ parts_have test old d
   pub low : doc ≤ bound
   pub up_to : bound ≤ TERMINATED
   pub met : bound ≡ doc → AllByRecursion (IsAtDoc doc) new
-  pub none : (d start : ℕ) → d < bound → doc < bound → stand_from new d start ≡ false
+  pub none : (test : ℕ → List ℕ → Bool) (d : ℕ) → d < bound → doc < bound → parts_have test new d ≡ false
+
+-- The result of a search for the first document of a list, from a document on: no document of the list is below the result, and if that is the document itself, it is the first one.
+pub record IsCandidate (doc : ℕ) (docs : List Entry) (bound : ℕ) : Type 0 where
+  pub low : doc ≤ bound
+  pub least : bound ≤ doc_at docs
+  pub here : bound ≡ doc → doc_at docs ≡ doc

@@ -8,6 +8,7 @@ pub mod intersection;
 pub mod phrase;
 mod position_piece;
 pub mod query_cursor;
+pub mod sloppy_phrase;
 pub mod term_or_phrase;
 pub mod union;
 
@@ -18,5 +19,6 @@ pub use intersection::Intersection;
 pub use phrase::{PhraseMatch, PhrasePart};
 pub use position_piece::POSITIONS_READ;
 pub use query_cursor::QueryCursor;
+pub use sloppy_phrase::SloppyPhraseMatch;
 pub use term_or_phrase::TermOrPhrase;
 pub use union::Union;

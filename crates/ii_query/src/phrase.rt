@@ -1,12 +1,17 @@
-ghost use Rattle.std.specs.Prelude.{◌≡◌, ◌<◌, ◌≤◌, ◌+◌, ◌∷◌, ℕ, drop, map, slice_get, IsSome};
+ghost use Rattle.std.specs.Prelude.{◌≡◌, ◌<◌, ◌≤◌, ◌+◌, ◌*◌, ◌∷◌, ℕ, drop, length, map, slice_get, IfSome, IsSome};
 ghost use Rattle.std.specs.List.{AllByRecursion, AllZip, list_any};
 ghost use Rattle.ii_docset.specs.Cursor.{IsCurrent, IsSound, doc_at, from_doc, positions_at};
 ghost use Rattle.ii_query.specs.Combined.{IsAtFirst};
-ghost use Rattle.ii_query.specs.Phrase.{IsAtDoc, IsUnread, IsUnreadFrom, MeetsAt, PhrasePartState, ReadsOnce, Spent, cursors_in, is_left, parts_in, phrase_docs, stand_here, stand_left, unread, unread_term};
+ghost use Rattle.ii_query.specs.Phrase.{IsAtDoc, IsCandidate, IsUnread, IsUnreadFrom, MeetsAt, PhrasePartState, ReadsOnce, Spent, cursors_in, is_left, parts_in, phrase_docs, stand_here, stand_left, unread, unread_term};
+ghost use Rattle.ii_query.specs.SloppyPhrase.{IsRaised, is_in_window, sloppy_docs};
 
 use crate::position_piece::PositionPiece;
+use crate::sloppy_phrase::is_phrase_within;
 use ii_docset::{DocId, DocSet, Postings, TERMINATED};
 use std::marker::Model;
+
+// How far before the text the windows of phrases with slop begin, so that their starts aren't negative.
+pub(crate) const BEFORE_TEXT: u64 = 1 << 32;
 
 /// A term of a phrase: a cursor over its postings, and how many positions after the first term it occurs.
 #[derive(Drop)]
@@ -43,15 +48,23 @@ impl<P: Postings> PhrasePart<P> {
         }
     }
 
+    // Returns at least the number of remaining documents.
+    pub(crate) fn size_hint(&self) -> u32
+        ensures { length self.now.part.rest ≤ result }
+    {
+        let hint = self.postings.size_hint();
+        hint
+    }
+
     // Forgets what was read of the current document's positions.
-    fn clear(&mut self)
+    pub(crate) fn clear(&mut self)
         ensures { self.new ≡ unread self.old }
     {
         self.piece.clear();
     }
 
     // Returns the current document.
-    fn doc(&self) -> DocId
+    pub(crate) fn doc(&self) -> DocId
         ensures doc { result ≡ doc_at self.now.part.rest }
         ensures sound { IsSound self.now.part.rest }
     {
@@ -59,7 +72,7 @@ impl<P: Postings> PhrasePart<P> {
     }
 
     // Advances to the next document.
-    fn advance(&mut self) -> DocId
+    pub(crate) fn advance(&mut self) -> DocId
         ensures doc { result ≡ doc_at self.new.part.rest }
         ensures rest { self.new.part.rest ≡ drop 1 self.old.part.rest }
         ensures sound { IsSound self.new.part.rest }
@@ -74,7 +87,7 @@ impl<P: Postings> PhrasePart<P> {
 
     // Drops the documents below a target, which may be below the current document.
     #[tactic(auto, using(ii_docset::proofs::CursorLemmas::doc_below))]
-    fn go_to(&mut self, target: DocId) -> DocId
+    pub(crate) fn go_to(&mut self, target: DocId) -> DocId
         requires up_to { target ≤ TERMINATED }
         requires unread { IsUnreadFrom target self.old }
         ensures doc { result ≡ doc_at self.new.part.rest }
@@ -121,6 +134,28 @@ impl<P: Postings> PhrasePart<P> {
             None => false,
         }
     }
+
+    // Returns the least start of a window, from `low` on, that has a position of the term in the current
+    // document. Passes the positions that no window from `low` on has.
+    pub(crate) fn next_window(&mut self, low: u64, slop: u32) -> Option<u64>
+        requires current { IsCurrent self.old.part.rest }
+        requires up_to { low < 2 * BEFORE_TEXT }
+        ensures raised { IsRaised (λ w. is_in_window slop w self.old) low result }
+        ensures up_to { IfSome result (λ w. w < 2 * BEFORE_TEXT) }
+        ensures later { (w : ℕ) → low ≤ w → is_in_window slop w self.new ≡ is_in_window slop w self.old }
+        ensures same { self.new.part ≡ self.old.part }
+        ensures work { ReadsOnce P.spent self.old self.new }
+    {
+        // that positions have 32 bits and don't decrease, for the proof
+        let _doc = self.postings.doc();
+        let distance = u64::from(self.distance);
+        let least = (low + distance).saturating_sub(BEFORE_TEXT);
+        let Some(position) = self.piece.next_from(&mut self.postings, least) else {
+            return None;
+        };
+        let end = u64::from(position) + BEFORE_TEXT;
+        Some(low.max(end.saturating_sub(distance + u64::from(slop))))
+    }
 }
 
 // Moves the other terms to a document. Returns it if all of them have it, else a greater document; the
@@ -160,7 +195,10 @@ fn stand_from<P: Postings>(others: &mut Vec<PhrasePart<P>>, start: u32) -> bool
 
 // Returns whether they do for a position of the first term. All terms are at its current document. Positions
 // are read in pieces, and only forward.
-fn is_phrase<P: Postings>(first: &mut PhrasePart<P>, others: &mut Vec<PhrasePart<P>>) -> bool
+pub(crate) fn is_phrase<P: Postings>(
+    first: &mut PhrasePart<P>,
+    others: &mut Vec<PhrasePart<P>>,
+) -> bool
     requires first { IsCurrent first.old.part.rest }
     requires others { AllByRecursion (λ part. IsCurrent part.rest) (parts_in others.old.items) }
     requires first_unread { IsUnread first.old }
@@ -181,22 +219,22 @@ fn is_phrase<P: Postings>(first: &mut PhrasePart<P>, others: &mut Vec<PhrasePart
     false
 }
 
-// Returns the current document of the first term if it has the phrase, else a greater document; the phrase
-// occurs in no document between.
+// Returns the current document of the first term if it has the phrase within the slop, else a greater
+// document; the phrase occurs in no document between.
 fn candidate<P: Postings>(
     first: &mut PhrasePart<P>,
     others: &mut Vec<PhrasePart<P>>,
+    slop: u32,
     doc: DocId,
 ) -> DocId
     requires low { doc < TERMINATED }
     requires here { doc ≡ doc_at first.old.part.rest }
+    requires leads { first.old.part.distance ≡ 0 }
     requires first_unread { IsUnread first.old }
     requires others_unread { AllByRecursion (IsUnreadFrom doc) others.old.items }
     ensures first { first.new.part ≡ first.old.part }
-    ensures same { phrase_docs first.old.part.rest (parts_in others.new.items) ≡ phrase_docs first.old.part.rest (parts_in others.old.items) }
-    ensures low { doc ≤ result }
-    ensures least { result ≤ doc_at (phrase_docs first.old.part.rest (parts_in others.new.items)) }
-    ensures here { result ≡ doc → doc_at (phrase_docs first.old.part.rest (parts_in others.new.items)) ≡ doc }
+    ensures same { sloppy_docs slop first.old.part.rest (parts_in others.new.items) ≡ sloppy_docs slop first.old.part.rest (parts_in others.old.items) }
+    ensures candidate { IsCandidate doc (sloppy_docs slop first.old.part.rest (parts_in others.new.items)) result }
 
     // the cost, and what was read
     ensures unread { AllByRecursion (IsUnreadFrom (doc + 1)) others.new.items }
@@ -209,29 +247,35 @@ fn candidate<P: Postings>(
     if bound != doc {
         return bound;
     }
-    if is_phrase(first, others) {
+    if is_phrase_within(first, others, slop) {
         doc
     } else {
         doc + 1
     }
 }
 
-// Moves to the next document that has the phrase, which may be the current one.
-fn go_to_phrase<P: Postings>(first: &mut PhrasePart<P>, others: &mut Vec<PhrasePart<P>>) -> DocId
+// Moves to the next document that has the phrase within the slop, which may be the current one.
+pub(crate) fn go_to_phrase<P: Postings>(
+    first: &mut PhrasePart<P>,
+    others: &mut Vec<PhrasePart<P>>,
+    slop: u32,
+) -> DocId
+    requires leads { first.old.part.distance ≡ 0 }
     requires first_unread { IsUnread first.old }
     requires others_unread { IsCurrent first.old.part.rest → AllByRecursion (IsUnreadFrom (doc_at first.old.part.rest)) others.old.items }
     ensures doc { result ≡ doc_at first.new.part.rest }
-    ensures at { IsAtFirst first.new.part.rest (phrase_docs first.new.part.rest (parts_in others.new.items)) }
-    ensures rest { phrase_docs first.new.part.rest (parts_in others.new.items) ≡ phrase_docs first.old.part.rest (parts_in others.old.items) }
+    ensures at { IsAtFirst first.new.part.rest (sloppy_docs slop first.new.part.rest (parts_in others.new.items)) }
+    ensures rest { sloppy_docs slop first.new.part.rest (parts_in others.new.items) ≡ sloppy_docs slop first.old.part.rest (parts_in others.old.items) }
 
-    // the cost, and what was read
+    // the first term's distance, the cost, and what was read
+    ensures leads { first.new.part.distance ≡ 0 }
     ensures unread { IsCurrent first.new.part.rest → AllByRecursion (IsUnreadFrom (doc_at first.new.part.rest + 1)) others.new.items }
     ensures first_work { ReadsOnce P.spent first.old first.new }
     ensures other_work { AllZip (ReadsOnce P.spent) others.old.items others.new.items }
 {
     let mut doc = first.doc();
     while doc < TERMINATED {
-        let bound = candidate(first, others, doc);
+        let bound = candidate(first, others, slop, doc);
         if bound == doc {
             return doc;
         }
@@ -241,7 +285,7 @@ fn go_to_phrase<P: Postings>(first: &mut PhrasePart<P>, others: &mut Vec<PhraseP
 }
 
 // Forgets what was read of the other terms' current documents.
-fn clear_all<P: Postings>(others: &mut Vec<PhrasePart<P>>)
+pub(crate) fn clear_all<P: Postings>(others: &mut Vec<PhrasePart<P>>)
     ensures { others.new.items ≡ map unread others.old.items }
 {
     for i in 0..others.len() {
@@ -259,7 +303,7 @@ pub struct PhraseMatch<P: Postings> {
 }
 
 impl<P: Postings> Model for PhraseMatch<P> {
-    ghost use Rattle.std.specs.Prelude.{◌∷◌, ◌+◌};
+    ghost use Rattle.std.specs.Prelude.{◌≡◌, ◌∷◌, ◌+◌};
     ghost use Rattle.std.specs.List.{AllByRecursion};
     ghost use Rattle.ii_docset.specs.Cursor.{IsCurrent, doc_at};
     ghost use Rattle.ii_query.specs.Combined.{IsAtFirst};
@@ -270,7 +314,8 @@ impl<P: Postings> Model for PhraseMatch<P> {
     ghost view = { λ s. record { first = s.first.part.rest; others = parts_in s.others.items; cursors = cursors_in (s.first ∷ s.others.items); terms = s.first ∷ s.others.items } };
 
     ghost invariant = { λ s. IsAtFirst s.first.part.rest (phrase_docs s.first.part.rest (parts_in s.others.items))
-        × (IsCurrent s.first.part.rest → AllByRecursion (IsUnreadFrom (doc_at s.first.part.rest + 1)) s.others.items) };
+        × (IsCurrent s.first.part.rest → AllByRecursion (IsUnreadFrom (doc_at s.first.part.rest + 1)) s.others.items)
+        × (s.first.part.distance ≡ 0) };
 }
 
 impl<P: Postings> PhraseMatch<P> {
@@ -283,7 +328,7 @@ impl<P: Postings> PhraseMatch<P> {
         let mut first = PhrasePart::new(0, first);
         let mut others = others;
         clear_all(&mut others);
-        go_to_phrase(&mut first, &mut others);
+        go_to_phrase(&mut first, &mut others, 0);
         PhraseMatch { first, others }
     }
 }
@@ -304,7 +349,7 @@ impl<P: Postings> DocSet for PhraseMatch<P> {
 
     fn advance(&mut self) -> DocId {
         self.first.advance();
-        go_to_phrase(&mut self.first, &mut self.others)
+        go_to_phrase(&mut self.first, &mut self.others, 0)
     }
 
     fn doc(&self) -> DocId {
@@ -321,6 +366,6 @@ impl<P: Postings> DocSet for PhraseMatch<P> {
             return doc;
         }
         self.first.go_to(target);
-        go_to_phrase(&mut self.first, &mut self.others)
+        go_to_phrase(&mut self.first, &mut self.others, 0)
     }
 }

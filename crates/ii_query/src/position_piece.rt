@@ -1,8 +1,8 @@
-ghost use Rattle.std.specs.Prelude.{◌≡◌, ◌+◌, ◌<◌, ◌≤◌, ℕ, false, drop, length, replicate, slice_get, IsSome};
+ghost use Rattle.std.specs.Prelude.{◌≡◌, ◌+◌, ◌<◌, ◌≤◌, ℕ, false, drop, length, replicate, slice_get, IfSome, IsSome};
 ghost use Rattle.std.specs.List.Sorted.{IsNonDecreasing};
 ghost use Rattle.ii_docset.specs.Cursor.{IsCurrent, positions_at};
 ghost use Rattle.ii_query.specs.Phrase.{ReadsOnce, is_among};
-ghost use Rattle.ii_query.specs.PositionPiece.{IsPieceOf, num_passed, term_with};
+ghost use Rattle.ii_query.specs.PositionPiece.{IsPieceOf, PassesBelow, num_passed, term_with};
 
 use ii_docset::Postings;
 
@@ -107,6 +107,26 @@ impl PositionPiece {
         Some(position)
     }
 
+    // Passes the positions below a number, and returns the one that follows.
+    pub(crate) fn next_from<P: Postings>(&mut self, postings: &mut P, least: u64) -> Option<u32>
+        requires current { IsCurrent (P.rest postings.old) }
+        requires piece { IsPieceOf (positions_at (P.rest postings.old)) self.old }
+        ensures position { result ≡ slice_get (positions_at (P.rest postings.old)) (num_passed self.new) }
+        ensures from { IfSome result (λ p. least ≤ p) }
+        ensures later { PassesBelow (positions_at (P.rest postings.old)) least (num_passed self.old) (num_passed self.new) }
+        ensures piece { IsPieceOf (positions_at (P.rest postings.old)) self.new }
+        ensures rest { P.rest postings.new ≡ P.rest postings.old }
+        ensures work { (n : ℕ) → ReadsOnce P.spent (term_with n (P.rest postings.old) postings.old self.old) (term_with n (P.rest postings.new) postings.new self.new) }
+    {
+        while let Some(next) = self.peek(postings) {
+            if u64::from(next) >= least {
+                return Some(next);
+            }
+            self.next += 1;
+        }
+        None
+    }
+
     // Passes the positions below one, and returns whether it follows.
     pub(crate) fn pass_below<P: Postings>(&mut self, postings: &mut P, position: u32) -> bool
         requires current { IsCurrent (P.rest postings.old) }
@@ -118,12 +138,9 @@ impl PositionPiece {
         ensures rest { P.rest postings.new ≡ P.rest postings.old }
         ensures work { (n : ℕ) → ReadsOnce P.spent (term_with n (P.rest postings.old) postings.old self.old) (term_with n (P.rest postings.new) postings.new self.new) }
     {
-        while let Some(next) = self.peek(postings) {
-            if next >= position {
-                return next == position;
-            }
-            self.next += 1;
+        match self.next_from(postings, u64::from(position)) {
+            Some(next) => next == position,
+            None => false,
         }
-        false
     }
 }

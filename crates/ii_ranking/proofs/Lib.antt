@@ -20,4 +20,5 @@ pub mod ShareTokenLaws
 pub mod StatisticsLemmas
 pub mod TokenLaws
 pub mod TopLemmas
+mod TopNLemmas
 mod WorkedRows

@@ -16,6 +16,7 @@ use Rattle.ii_segment_search.specs.Searcher.{HaveFields, OpenSegmentState, total
 use Rattle.ii_ranking.specs.declared.segments.RankedSegment.{RankedSegment}
 use Rattle.ii_ranking.specs.Scores.{IsScoreFault, first_of, query_damage, query_score, scored_in}
 use Rattle.ii_ranking.specs.Segments.{living_row, living_score, segment_of, segment_scored, segments_damage, segments_scored}
+use Rattle.ii_ranking.specs.TopNComputer.{KeepsBest, TopNState}
 use Rattle.ii_ranking.proofs.TopLemmas.{scored_alike}
 
 -- the living documents of a list of scores
@@ -32,6 +33,12 @@ pub record IsRanking (statistics : Statistics) (query : Query) (all left : List 
   pub fields : HaveFields query left
 
 -- one segment more
+-- The best are kept of the documents of the segments before the ones that are left.
+pub record KeepsRanking (statistics : Statistics) (query : Query) (all left : List OpenSegmentState) (base : ℕ) (s : TopNState) : Type 0 where
+  pub scored : List (ℕ × ℕ)
+  pub ranking : IsRanking statistics query all left base scored
+  pub kept : KeepsBest scored s
+
 pub ranks_one : (statistics : Statistics) (query : Query) (all left others : List OpenSegmentState) (s : OpenSegmentState) (base : ℕ) (scored more : List (ℕ × ℕ)) → IsRanking statistics query all left base scored → left ≡ s ∷ others
     → more ≡ scored ++ segment_scored base s.alive (query_score (scored_in s.index statistics) query) → query_damage s.index query ≡ None → IsRanking statistics query all others (base + num_living s.alive) more
 ranks_one statistics query all left others s base scored more r is more_is sound = record {

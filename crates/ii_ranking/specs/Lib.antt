@@ -7,3 +7,4 @@ pub mod Statistics
 pub mod TokenCounts
 pub mod TokenScores
 pub mod TopDocs
+pub mod TopNComputer

@@ -13,6 +13,7 @@ pub mod shares;
 pub mod statistics;
 pub mod term_scores;
 pub mod top_docs;
+mod top_n_computer;
 
 pub use ii_bm25::{Bm25StatisticsProvider, SCORE_ONE, Score};
 pub use laws::{scores_are_of_tokens, scores_count_tokens, shares_add_up};

@@ -1,6 +1,5 @@
 //! The best documents of a query.
 ghost use Rattle.std.specs.Prelude.{◌≡◌, ◌<◌, ◌≤◌, ◌^◌, ◌++◌, ℕ, IfErr, IfOk, List, None, OnOk, get_or, length, true};
-ghost use Rattle.std.specs.List.{All};
 ghost use Rattle.ii_io.specs.Faults.{OnlyMemory};
 ghost use Rattle.ii_base.specs.Schema.{SchemaEntry};
 ghost use Rattle.ii_definitions.specs.Tokens.{IndexToken};
@@ -8,10 +7,12 @@ ghost use Rattle.ii_query_parser.specs.Queries.{has_fields};
 ghost use Rattle.ii_reader.specs.OpenIndex.{IndexHolds};
 ghost use Rattle.ii_ranking.specs.Scores.{IsScoreFault, query_damage, query_score, scored_in};
 ghost use Rattle.ii_ranking.specs.TokenScores.{GivesBest, token_score};
-ghost use Rattle.ii_ranking.specs.TopDocs.{AreBest, Fits, scored_docs, with_score};
+ghost use Rattle.ii_ranking.specs.TopDocs.{AreBest, scored_docs};
+ghost use Rattle.ii_ranking.specs.TopNComputer.{KeepsBest};
 
 use crate::scores::score_docs;
 use crate::top_docs::TopDocs;
+use crate::top_n_computer::TopNComputer;
 use ii_base::{DocId, Fault};
 use ii_bm25::{Bm25StatisticsProvider, Score};
 use ii_query_parser::Query;
@@ -37,41 +38,24 @@ pub fn search<S: Bm25StatisticsProvider>(
         → has_fields (length schema) query.now ≡ true → GivesBest docs.now (scored_docs num_docs (token_score schema tokens (S.statistics statistics.now) query.now)) result }
 {
     let scores = score_docs(alloc, index, num_docs, statistics, query)?;
-    let scored = with_scores(alloc, &scores);
+    let mut computer = docs.computer(alloc);
+    let pushed = push_scores(&scores, &mut computer);
     drop(scores);
-    match scored {
-        Ok(scored) => docs.best(scored),
+    match pushed {
+        Ok(()) => docs.best_of(computer),
         Err(fault) => Err(fault),
     }
 }
 
-// Returns the documents that have a score, each with it.
-fn with_scores(alloc: Global, scores: &Vec<Option<Score>>) -> Result<Vec<(Score, DocId)>, Fault>
+// Adds the documents that have a score, each with it.
+fn push_scores(scores: &Vec<Option<Score>>, computer: &mut TopNComputer) -> Result<(), Fault>
     requires { length scores.now.items < 2 ^ 32 }
-    ensures scored { IfOk result (λ scored. scored.items ≡ scored_docs (length scores.now.items) (λ doc. get_or scores.now.items doc None)) }
-    ensures fits { IfOk result (λ scored. All Fits scored.items) }
+    ensures kept { (scored : List (ℕ × ℕ)) → KeepsBest scored computer.old → OnOk result (KeepsBest (scored ++ scored_docs (length scores.now.items) (λ doc. get_or scores.now.items doc None)) computer.new) }
+    ensures wanted { computer.new.top_n ≡ computer.old.top_n }
     ensures only { OnlyMemory result }
 {
-    let mut scored = Vec::new(alloc);
     for place in 0..scores.len() {
-        push_scored(&mut scored, scores[place], place as DocId)?;
-    }
-    Ok(scored)
-}
-
-// Appends a document with its score, if it has one.
-pub(crate) fn push_scored(
-    scored: &mut Vec<(Score, DocId)>,
-    score: Option<Score>,
-    doc: DocId,
-) -> Result<(), Fault>
-    ensures pushed { OnOk result (scored.new.items ≡ scored.old.items ++ with_score score doc) }
-    ensures fits { All Fits scored.old.items → OnOk result (All Fits scored.new.items) }
-    ensures only { OnlyMemory result }
-{
-    match score {
-        Some(score) => scored.push((score, doc))?,
-        None => (),
+        computer.push_scored(scores[place], place as DocId)?;
     }
     Ok(())
 }

@@ -1,6 +1,5 @@
 //! The best documents of several segments.
 ghost use Rattle.std.specs.Prelude.{◌≡◌, ◌+◌, ◌<◌, ◌≤◌, ◌^◌, ◌++◌, ℕ, IfErr, IfOk, List, None, OnOk, get_or, if◌then◌else◌, length, map, true};
-ghost use Rattle.std.specs.List.{All};
 ghost use Rattle.ii_io.specs.Faults.{OnlyMemory};
 ghost use Rattle.ii_base.specs.Schema.{SchemaEntry};
 ghost use Rattle.ii_alive.specs.Alive.{num_living};
@@ -10,11 +9,12 @@ ghost use Rattle.ii_query_parser.specs.Queries.{has_fields};
 ghost use Rattle.ii_ranking.specs.Scores.{IsScoreFault, query_damage, query_score, scored_in};
 ghost use Rattle.ii_ranking.specs.Segments.{living_row, segment_of, segment_scored, segments_damage, segments_scored};
 ghost use Rattle.ii_ranking.specs.TokenScores.{FailsForMemory, GivesBest, tokens_scored};
-ghost use Rattle.ii_ranking.specs.TopDocs.{AreBest, Fits};
+ghost use Rattle.ii_ranking.specs.TopDocs.{AreBest};
+ghost use Rattle.ii_ranking.specs.TopNComputer.{KeepsBest};
 
-use crate::ranking::push_scored;
 use crate::scores::score_docs;
 use crate::top_docs::TopDocs;
+use crate::top_n_computer::TopNComputer;
 use ii_alive::AliveBits;
 use ii_base::{DocId, Fault};
 use ii_bm25::{Bm25StatisticsProvider, Score};
@@ -49,7 +49,7 @@ pub fn search_segments<S: Bm25StatisticsProvider>(
     ensures holds { (schema : List SchemaEntry) (ss : List Segment) → SegmentsHold schema (map segment_of segments.now) ss
         → has_fields (length schema) query.now ≡ true → GivesBest docs.now (tokens_scored schema (S.statistics statistics.now) query.now 0 ss) result }
 {
-    let mut scored = Vec::new(alloc);
+    let mut computer = docs.computer(alloc);
     let mut base = 0;
     for place in 0..segments.len() {
         let segment = segments[place];
@@ -60,17 +60,17 @@ pub fn search_segments<S: Bm25StatisticsProvider>(
             base,
             statistics,
             query,
-            &mut scored,
+            &mut computer,
         ) {
             Ok(()) => (),
             Err(fault) => return Err(fault),
         }
         base += segment.alive.num_living();
     }
-    docs.best(scored)
+    docs.best_of(computer)
 }
 
-// Appends the living documents of a segment that match a query, each with its score.
+// Adds the living documents of a segment that match a query, each with its score.
 fn add_segment<S: Bm25StatisticsProvider>(
     alloc: Global,
     index: &OpenIndex,
@@ -78,41 +78,38 @@ fn add_segment<S: Bm25StatisticsProvider>(
     base: DocId,
     statistics: &S,
     query: &Query,
-    scored: &mut Vec<(Score, DocId)>,
+    computer: &mut TopNComputer,
 ) -> Result<(), Fault>
     requires fields { has_fields (length index.now.readers) query.now ≡ true }
     requires few { base + num_living alive.now < 2 ^ 32 }
-    ensures scored { OnOk result (scored.new.items ≡ scored.old.items ++ segment_scored base alive.now (query_score (scored_in index.now (S.statistics statistics.now)) query.now)) }
-    ensures fits { All Fits scored.old.items → OnOk result (All Fits scored.new.items) }
+    ensures kept { (scored : List (ℕ × ℕ)) → KeepsBest scored computer.old → OnOk result (KeepsBest (scored ++ segment_scored base alive.now (query_score (scored_in index.now (S.statistics statistics.now)) query.now)) computer.new) }
+    ensures wanted { computer.new.top_n ≡ computer.old.top_n }
     ensures sound { OnOk result (query_damage index.now query.now ≡ None) }
     ensures fault { IfErr result (IsScoreFault (query_damage index.now query.now)) }
     ensures memory { IfErr result (FailsForMemory query.now (length alive.now) index.now) }
 {
     let scores = score_docs(alloc, index, alive.num_docs(), statistics, query)?;
-    push_living(alive, base, &scores, scored)?;
+    push_living(alive, base, &scores, computer)?;
     Ok(())
 }
 
-// Appends the living documents that have a score, each with it.
+// Adds the living documents that have a score, each with it.
 fn push_living(
     alive: &AliveBits,
     base: DocId,
     scores: &Vec<Option<Score>>,
-    scored: &mut Vec<(Score, DocId)>,
+    computer: &mut TopNComputer,
 ) -> Result<(), Fault>
     requires many { length scores.now.items ≡ length alive.now }
     requires few { base + num_living alive.now < 2 ^ 32 }
-    ensures scored { OnOk result (scored.new.items ≡ scored.old.items ++ living_row base alive.now (length alive.now) scores.now.items) }
-    ensures fits { All Fits scored.old.items → OnOk result (All Fits scored.new.items) }
+    ensures kept { (scored : List (ℕ × ℕ)) → KeepsBest scored computer.old → OnOk result (KeepsBest (scored ++ living_row base alive.now (length alive.now) scores.now.items) computer.new) }
+    ensures wanted { computer.new.top_n ≡ computer.old.top_n }
     ensures only { OnlyMemory result }
 {
     for doc in 0..alive.num_docs() {
         let number = base + alive.rank(doc);
-        push_scored(
-            scored,
-            score_if_living(alive, doc, scores[doc as usize]),
-            number,
-        )?;
+        let score = score_if_living(alive, doc, scores[doc as usize]);
+        computer.push_scored(score, number)?;
     }
     Ok(())
 }

@@ -1,11 +1,14 @@
 //! The best of the documents that match.
-ghost use Rattle.std.specs.Prelude.{◌≡◌, IfOk};
+ghost use Rattle.std.specs.Prelude.{◌≡◌, ◌+◌, ◌-◌, ◌^◌, [], ℕ, List, IfOk, min};
 ghost use Rattle.std.specs.List.{All};
 ghost use Rattle.ii_io.specs.Faults.{OnlyMemory};
 ghost use Rattle.ii_ranking.specs.TopDocs.{AreBest, AreRanked, Fits, rank_key};
+ghost use Rattle.ii_ranking.specs.TopNComputer.{KeepsBest};
 
+use crate::top_n_computer::TopNComputer;
 use ii_base::{DocId, Fault};
 use ii_bm25::Score;
+use std::alloc::Global;
 
 /// How many of the best documents a search returns, and how many better ones it passes.
 #[derive(Clone, Copy, Debug)]
@@ -32,9 +35,26 @@ impl TopDocs {
         }
     }
 
+    // Returns what keeps as many of the best documents as are returned and passed.
+    pub(crate) fn computer(&self, alloc: Global) -> TopNComputer
+        ensures wanted { result.top_n ≡ min (2 ^ 64 - 1) (self.now.offset + self.now.limit) }
+        ensures none { KeepsBest [] result }
+    {
+        TopNComputer::new(alloc, self.offset.saturating_add(self.limit))
+    }
+
+    // Returns the best of the documents of which the best were kept.
+    pub(crate) fn best_of(&self, computer: TopNComputer) -> Result<Vec<(Score, DocId)>, Fault>
+        requires { computer.top_n ≡ min (2 ^ 64 - 1) (self.now.offset + self.now.limit) }
+        ensures best { (scored : List (ℕ × ℕ)) → KeepsBest scored computer → IfOk result (λ best. AreBest self.now scored best.items) }
+        ensures only { OnlyMemory result }
+    {
+        self.best(computer.into_vec())
+    }
+
     // Returns the best of documents, each with its score: the greatest score first, and of equal ones the smaller
     // document.
-    pub(crate) fn best(&self, scored: Vec<(Score, DocId)>) -> Result<Vec<(Score, DocId)>, Fault>
+    fn best(&self, scored: Vec<(Score, DocId)>) -> Result<Vec<(Score, DocId)>, Fault>
         requires { All Fits scored.items }
         ensures best { IfOk result (λ best. AreBest self.now scored.items best.items) }
         ensures only { OnlyMemory result }
@@ -49,7 +69,7 @@ impl TopDocs {
 }
 
 // Ranks documents with their scores, the best first.
-fn rank(scored: &mut Vec<(Score, DocId)>)
+pub(crate) fn rank(scored: &mut Vec<(Score, DocId)>)
     requires { All Fits scored.old.items }
     ensures { AreRanked scored.old.items scored.new.items }
 {
@@ -57,7 +77,7 @@ fn rank(scored: &mut Vec<(Score, DocId)>)
 }
 
 // Returns a number that is smaller for a greater score, and for the smaller document of equal ones.
-fn rank_key(score: Score, doc: DocId) -> u128
+pub(crate) fn rank_key(score: Score, doc: DocId) -> u128
     ensures { result ≡ rank_key (score, doc) }
 {
     u128::from(u64::MAX - score) * 4_294_967_296 + u128::from(doc)

@@ -1,13 +1,12 @@
 -- What an index holds, before and after a commit.
-use Rattle.std.proofs.Common.{◌≡◌, inl, ⊎_elim, ℕ, zero, suc, ◌<◌, ◌≤◌, ◌==◌, ◌-◌, length, take, drop, bytes_eq, nat_lt, Bool, true, false, not, List, [], ◌∷◌, ◌++◌, Option, None, Some, Result, Ok, Err, refl, sym, ap, subst, ◌∙◌, arith, if◌then◌else◌}
+use Rattle.std.proofs.Common.{◌≡◌, inl, ⊎_elim, ℕ, zero, suc, ◌<◌, ◌≤◌, ◌==◌, Bool, true, false, not, List, [], ◌∷◌, ◌++◌, Option, None, Some, Result, Ok, Err, refl, sym, ap, ◌∙◌, arith, if◌then◌else◌}
 use Rattle.std.specs.Prelude.{IfSome, map, replicate}
 use Rattle.std.specs.List.{AllByRecursion, find, list_all}
 use Rattle.ii_alive.proofs.RankLemmas.{all_living}
 use Rattle.std.proofs.lemmas.Bool.{and_parts, eq-eqb, ltb-true, ne_eqb}
 use Rattle.std.proofs.lemmas.Cmp.{nat_list_eq_equiv}
-use Rattle.sha2.specs.Sha256.{sha256}
 use Rattle.ii_store.specs.declared.faults.IndexFault.{IndexFault}
-use Rattle.ii_store.specs.declared.faults.IndexFault.TheVariants.{DamagedMeta, OtherVersion}
+use Rattle.ii_store.specs.declared.faults.IndexFault.TheVariants.{OtherVersion}
 use Rattle.ii_store.specs.declared.index_meta.FileMeta.{FileMeta}
 use Rattle.ii_store.specs.declared.index_meta.SegmentMeta.{SegmentMeta}
 use Rattle.ii_directory.specs.declared.name.Kind.{Kind}
@@ -18,48 +17,19 @@ use Rattle.ii_directory.specs.declared.name.SegmentComponent.{SegmentComponent}
 use Rattle.ii_directory.specs.declared.name.SegmentComponent.TheVariants.{Counts, FieldNorms, Positions, Postings, Store, Terms}
 use Rattle.ii_directory.specs.declared.name.Slot.{Slot}
 use Rattle.ii_directory.specs.Directory.{Elapses, Files, Same}
+use Rattle.ii_store.specs.FileDigest.{blocks_digest, has_digest}
 use Rattle.ii_store.specs.Index.{◌>>=◌, Index, index_at, index_in, index_of, num_docs_in, used_slot, version_in, whole_num_docs_in}
-use Rattle.ii_store.specs.IndexMeta.{MetaState, SegmentState, checked_list, file_meta, is_consistent, is_segment, list_at, meta_of, segment_view}
+use Rattle.ii_store.specs.IndexMeta.{MetaState, SegmentState, file_meta, is_consistent, is_segment, meta_of, segment_view}
 use Rattle.ii_directory.specs.Names.{other_slot}
 use Rattle.ii_store.specs.Segments.{list_in, listed_bytes}
 use Rattle.ii_directory.proofs.Elapsing.{elapses_none}
+use Rattle.ii_store.proofs.ListLaws.{list_consistent, list_version}
 use Rattle.ii_store.proofs.SaveLaws.{index_outside}
 use Rattle.ii_segment_store.specs.Commits.{HasFileIf, HasSegment, HaveIdsBelow, HoldsOldOr, IsFresh, LeavesOneIndex, emptied, index_of_segment, listed_if, listed_segment}
 use Rattle.ii_segment_store.specs.Contents.{IndexContents, SegmentContents, alive_file, bytes_if_listed, contents_at, contents_in, index_contents, file_of, bytes_of_component, flags_with, list_contents, one_segment, only_segment, segment_in, all_contents, with_segment}
 use Rattle.ii_segment_store.specs.Pending.{with_next}
 
 -- lists that a `meta` file holds
-
-abbrev unless : Bool → IndexFault → Result MetaState IndexFault → Result MetaState IndexFault
-unless b fault rest = if b then Err fault else rest
-
-past : (b : Bool) (fault : IndexFault) (rest : Result MetaState IndexFault) (m : MetaState) → unless b fault rest ≡ Ok m → rest ≡ Ok m
-past true fault rest m e = absurd cc
-past false fault rest m e = e
-
-abbrev taken : Bool → MetaState → Result MetaState IndexFault
-taken b m = if b then Ok m else Err DamagedMeta
-
-chosen : (b : Bool) (x m : MetaState) → taken b x ≡ Ok m → (b ≡ true) × (x ≡ m)
-chosen true x m e = (refl, cc)
-chosen false x m e = absurd cc
-
-last : (r : Result MetaState IndexFault) (m : MetaState) → (r >>= λ x. taken (is_consistent x) x) ≡ Ok m → is_consistent m ≡ true
-last (Ok x) m e = let p = chosen (is_consistent x) x m e in subst (λ (y : MetaState). is_consistent y ≡ true) p.1 p.0
-last (Err fault) m e = absurd cc
-
-of_version : (r : Result ℕ IndexFault) (rest : Result MetaState IndexFault) (m : MetaState) → (r >>= λ version. unless (not (version == 2)) (OtherVersion version) rest) ≡ Ok m → rest ≡ Ok m
-of_version (Ok version) rest m e = past (not (version == 2)) (OtherVersion version) rest m e
-of_version (Err fault) rest m e = absurd cc
-
-consistent : (meta : List ℕ) (m : MetaState) → meta_of meta ≡ Ok m → is_consistent m ≡ true
-unfolding meta_of checked_list
-consistent meta m e =
-    let short = nat_lt (length meta) 44 in
-    let changed = not (bytes_eq (drop (length meta - 32) meta) (sha256 (take (length meta - 32) meta))) in
-    let list = list_at (drop 12 (take (length meta - 32) meta)) in
-    let read = list >>= λ x. taken (is_consistent x) x in
-    last list m (past changed DamagedMeta read m (past short DamagedMeta (unless changed DamagedMeta read) m (of_version (version_in meta) (checked_list meta) m e)))
 
 segments_below : (m : MetaState) → is_consistent m ≡ true → list_all (is_segment m.next_segment_id) m.segments ≡ true
 unfolding is_consistent
@@ -68,7 +38,7 @@ segments_below m e = (and_parts _ _ (and_parts _ _ e).0).0
 listed_valid : (found : Option (List ℕ)) (m : MetaState) → list_in found ≡ Ok m → list_all (is_segment m.next_segment_id) m.segments ≡ true
 unfolding list_in
 listed_valid None m e = absurd cc
-listed_valid (Some meta) m e = segments_below m (consistent meta m e)
+listed_valid (Some meta) m e = segments_below m (list_consistent meta m e)
 
 id_below : (next : ℕ) (s : SegmentState) → is_segment next s ≡ true → s.id < next
 unfolding is_segment
@@ -86,21 +56,12 @@ listed_below found m e = ids_below m.next_segment_id m.segments (listed_valid fo
 
 -- a list of segments is read as one
 
-abbrev either : Bool → Result IndexContents IndexFault → Result IndexContents IndexFault → Result IndexContents IndexFault
-either b one two = if b then one else two
-
-second_version : (r : Result ℕ IndexFault) (rest : Result MetaState IndexFault) (m : MetaState) (one two : Result IndexContents IndexFault) → (r >>= λ version. unless (not (version == 2)) (OtherVersion version) rest) ≡ Ok m
-    → (r >>= λ version. either (version == 1) one two) ≡ two
-second_version (Ok zero) rest m one two e = refl
-second_version (Ok (suc zero)) rest m one two e = absurd cc
-second_version (Ok (suc (suc n))) rest m one two e = rw (ne_eqb (suc (suc n)) 1 (λ same. omega (arith, same))) refl
-second_version (Err fault) rest m one two e = absurd cc
+listed_by : (meta : List ℕ) (m : MetaState) (files : Files) (version : ℕ) → version_in meta ≡ Ok version → (version == 1) ≡ false → meta_of meta ≡ Ok m → contents_at meta files ≡ list_contents m files
+unfolding contents_at
+listed_by meta m files version is other e = rw (is, other, e) refl
 
 listed_at : (meta : List ℕ) (m : MetaState) (files : Files) → meta_of meta ≡ Ok m → contents_at meta files ≡ list_contents m files
-unfolding meta_of contents_at
-listed_at meta m files e =
-    let all : meta_of meta ≡ Ok m = e in
-    second_version (version_in meta) (checked_list meta) m (index_of files >>= λ i. Ok (one_segment i)) (meta_of meta >>= λ x. list_contents x files) e ∙ ap (λ (r : Result MetaState IndexFault). r >>= λ x. list_contents x files) all
+listed_at meta m files e = let v = list_version meta m e in listed_by meta m files v.0 v.1 v.2 e
 
 listed_found : (found : Option (List ℕ)) (m : MetaState) (files : Files) → list_in found ≡ Ok m → contents_in found files ≡ list_contents m files
 unfolding list_in contents_in
@@ -191,6 +152,9 @@ pub record SameBelow (id : ℕ) (a c : Files) : Type 0 where
   pub slots : (slot : Slot) (kind : Kind) → c (File slot kind) ≡ a (File slot kind)
   pub segments : KeepsBelow id a c
 
+abbrev either : Bool → Result IndexContents IndexFault → Result IndexContents IndexFault → Result IndexContents IndexFault
+either b one two = if b then one else two
+
 module _ (id : ℕ) (a c : Files) (same : SameBelow id a c) where
   one_same : index_of c ≡ index_of a
   one_same = index_outside a c (record { meta = same.meta; files = λ kind. same.slots (other_slot (other_slot (used_slot (a Meta)))) kind })
@@ -211,7 +175,7 @@ module _ (id : ℕ) (a c : Files) (same : SameBelow id a c) where
   unfolding contents_in contents_at list_in
   found_contents None fresh = refl
   found_contents (Some meta) fresh = each_version (version_in meta) _ _ _ _ (ap (λ (r : Result Index IndexFault). r >>= λ i. Ok (one_segment i)) one_same)
-      (each_list (meta_of meta) (λ m is. list_same m (fresh m is) (ids_below m.next_segment_id m.segments (segments_below m (consistent meta m is)))))
+      (each_list (meta_of meta) (λ m is. list_same m (fresh m is) (ids_below m.next_segment_id m.segments (segments_below m (list_consistent meta m is)))))
 
   -- they hold the same index
   pub same_contents : IsFresh id a → index_contents c ≡ index_contents a
@@ -221,8 +185,8 @@ module _ (id : ℕ) (a c : Files) (same : SameBelow id a c) where
 -- the files of a new segment are read back
 
 pub read_back : (id : ℕ) (component : SegmentComponent) (bytes : List ℕ) (found : Option (List ℕ)) → found ≡ Some bytes → listed_bytes (record { id = id; file = file_meta component bytes }) found ≡ Ok bytes
-unfolding listed_bytes
-read_back id component bytes found is = rw is (rw (eq-eqb _ _ refl, nat_list_eq_equiv.refl (sha256 bytes)) refl)
+unfolding listed_bytes has_digest
+read_back id component bytes found is = rw is (rw (eq-eqb _ _ refl, nat_list_eq_equiv.refl (blocks_digest bytes)) refl)
 
 -- the files of a new segment, without flags
 abbrev listed_files : List ℕ → List ℕ → List ℕ → List ℕ → Option (List ℕ) → Option (List ℕ) → List FileMeta

@@ -3,6 +3,7 @@ use Rattle.std.proofs.Common.{◌≡◌, ℕ, List, [], ◌∷◌, Option, None,
 use Rattle.std.specs.Prelude.{Bool, Result, map, replicate, true, false}
 use Rattle.ii_store.specs.declared.faults.IndexFault.{IndexFault}
 use Rattle.ii_store.specs.declared.faults.IndexFault.TheVariants.{DeletedDocuments, MissingFile, NoIndex}
+use Rattle.ii_store.specs.declared.file_digest.FileDigest.TheVariants.{Blocks}
 use Rattle.ii_store.specs.declared.index_meta.FileMeta.{FileMeta}
 use Rattle.ii_directory.specs.declared.name.SegmentComponent.{SegmentComponent}
 use Rattle.ii_directory.specs.declared.name.SegmentComponent.TheVariants.{Alive, Counts, FieldNorms, Positions, Postings, Store, Terms}
@@ -20,7 +21,7 @@ abbrev no_files : Files
 no_files name = None
 
 abbrev file : SegmentComponent → FileMeta
-file c = record { component = c; len = 1; digest = [] }
+file c = record { component = c; len = 1; digest = Blocks [] }
 
 -- the file of postings is the second of a list, and one of norms isn't listed
 

@@ -1,4 +1,4 @@
--- What an index in a folder holds, of either version: its schema, the bytes of its segments, and which documents are alive.
+-- What an index in a folder holds, of any version: its schema, the bytes of its segments, and which documents are alive.
 use Rattle.std.specs.Prelude.{ℕ, ◌==◌, Bool, true, List, [], ◌∷◌, ◌++◌, map, replicate, Option, None, Some, Result, Ok, Err, if◌then◌else◌}
 use Rattle.std.specs.List.{find}
 use Rattle.std.specs.Option.{option_map}
@@ -142,7 +142,7 @@ one_segment i = record { schema = i.schema; segments = only_segment i ∷ [] }
 abbrev pub as_index : List ℕ → SegmentContents → Index
 as_index schema s = record { num_docs = s.num_docs; schema = schema; terms = s.terms; postings = s.postings; positions = s.positions; fieldnorms = s.fieldnorms }
 
--- what the index of a `meta` file holds, of either version
+-- what the index of a `meta` file holds, of any version
 unfoldable pub contents_at : List ℕ → Files → Result IndexContents IndexFault
 contents_at meta files = do
   version ← version_in meta

@@ -28,7 +28,7 @@ wanted_segment wanted s = record s { files = filter (λ (f : FileMeta). is_wante
 abbrev pub wanted_list : WantedFiles → MetaState → MetaState
 wanted_list wanted m = record m { segments = map (wanted_segment wanted) m.segments }
 
--- what the index of a `meta` file holds of the wanted files, of either version
+-- what the index of a `meta` file holds of the wanted files, of any version
 unfoldable pub wanted_at : WantedFiles → List ℕ → Files → Result IndexContents IndexFault
 wanted_at wanted meta files = do
   version ← version_in meta

@@ -1,4 +1,4 @@
-//! Removes the files of version 1 once an index is of version 2, and those that an index doesn't have any more.
+//! Removes the files of version 1 once an index is a list of segments, and those that an index doesn't have any more.
 ghost use Rattle.std.specs.Prelude.{◌≡◌, IfErr, IfOk, Ok, OnOk};
 ghost use Rattle.ii_directory.specs.declared.name.Name.TheVariants.{Meta};
 ghost use Rattle.ii_directory.specs.declared.name.Slot.TheVariants.{First, Second};
@@ -16,7 +16,7 @@ use ii_store::segments::load_meta;
 use ii_store::{Directory, DirectoryFault, Kind, Name, Slot, StoreFault};
 use std::alloc::Global;
 
-/// Removes the files of both slots, which an index of version 2 doesn't have. What the index holds doesn't
+/// Removes the files of both slots, which a list of segments doesn't have. What the index holds doesn't
 /// change, wherever this is stopped. Returns the errors of `load_meta`, and then removes nothing.
 pub fn remove_slots<D: Directory>(alloc: Global, directory: &mut D) -> Result<(), StoreFault>
     ensures known { D.is_known directory.old → OnOk result (D.is_known directory.new) }

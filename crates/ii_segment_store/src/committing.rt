@@ -19,7 +19,7 @@ use ii_store::{
 };
 use std::alloc::{AllocError, Global};
 
-/// Adds a segment after those of an index of version 2: writes its files under an id that no segment had, and
+/// Adds a segment after those of an index of version 2 or 3: writes its files under an id that no segment had, and
 /// atomically replaces `meta`.
 ///
 /// After a stop or an error the directory holds the old index or the one with the new segment. After an error,
@@ -47,8 +47,8 @@ pub fn append_segment<D: Directory>(
     commit_segment(alloc, directory, list, segment)
 }
 
-/// Makes an index of version 1 one of version 2 with one segment of the same bytes. Returns whether the index
-/// was of version 1; one of version 2 is left as it is. The files of version 1 remain until `remove_slots`.
+/// Makes an index of version 1 one of version 3 with one segment of the same bytes. Returns whether the index
+/// was of version 1; a later one is left as it is. The files of version 1 remain until `remove_slots`.
 ///
 /// What the index holds doesn't change, wherever this is stopped.
 ///

@@ -30,7 +30,7 @@ use ii_store::{
 };
 use std::alloc::{AllocError, Global};
 
-/// Deletes documents of an index of version 2, and then adds a segment, if one is given. `deleted` has for each
+/// Deletes documents of an index of version 2 or 3, and then adds a segment, if one is given. `deleted` has for each
 /// segment, in order, the numbers of its documents that are deleted; a number that isn't one of its documents
 /// is ignored, and a deleted document stays deleted.
 ///

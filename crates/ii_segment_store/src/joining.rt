@@ -35,8 +35,8 @@ pub fn load_last<D: Directory>(
     }
 }
 
-/// Puts a segment in the place of those of an index of version 2 from a place on: writes its files under an id that
-/// no segment had, and atomically replaces `meta`.
+/// Puts a segment in the place of those of an index of version 2 or 3 from a place on: writes its files under an id
+/// that no segment had, and atomically replaces `meta`.
 ///
 /// After a stop or an error the directory holds the old index or the one with the new segment. After an error,
 /// open the directory again. The files of other segments aren't read; those of the segments that were replaced

@@ -26,7 +26,7 @@ use std::alloc::Global;
 // How often an index is read again while its list changes.
 const MOST_RETRIES: u32 = 10;
 
-/// Loads the index of a directory, of either version: its schema, exactly the bytes of each segment, and which
+/// Loads the index of a directory, of any version: its schema, exactly the bytes of each segment, and which
 /// of its documents are alive. An index of version 1 is one segment.
 ///
 /// Returns `NoIndex` if there is no `meta`, and `OtherVersion` or `DamagedMeta` if it isn't a valid one.

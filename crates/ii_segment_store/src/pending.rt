@@ -40,7 +40,7 @@ impl Model for PendingSegments {
 }
 
 impl PendingSegments {
-    /// Begins with the segments of an index of version 2: those that are added come after them.
+    /// Begins with the segments of an index of version 2 or 3: those that are added come after them.
     ///
     /// # Errors
     ///
@@ -61,7 +61,7 @@ impl PendingSegments {
     }
 
     /// Begins with a schema and no segments. The new index replaces that of the directory, if there is one: of
-    /// either version, also a damaged one.
+    /// any version, also a damaged one.
     ///
     /// # Errors
     ///

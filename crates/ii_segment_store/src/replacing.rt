@@ -14,8 +14,8 @@ use ii_store::segments::load_meta;
 use ii_store::{Directory, DirectoryFault, IndexMeta, StoreFault};
 use std::alloc::Global;
 
-/// Makes the index of a directory one of version 2 with this schema and this segment alone. It replaces the index
-/// that the directory had, if it had one: of either version, also a damaged one.
+/// Makes the index of a directory one of version 3 with this schema and this segment alone. It replaces the index
+/// that the directory had, if it had one: of any version, also a damaged one.
 ///
 /// The files of the segment are written under an id that no segment of the old list had, and then `meta` is
 /// atomically replaced. After a stop or an error the directory holds the old index or the new one. After an

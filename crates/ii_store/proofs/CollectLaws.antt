@@ -1,7 +1,7 @@
 -- What the removal of garbage leaves.
 use Rattle.std.proofs.Common.{◌≡◌, ◌⊎◌, inl, inr, ⊎_elim, ℕ, ◌+◌, ◌≤◌, ◌<◌, ◌==◌, ◌||◌, ◌&&◌, Bool, true, false, not, cond, List, [], ◌∷◌, ◌++◌, length, get_or, take, Option, None, Some, Result, Ok, refl, sym, ap, ◌∙◌, subst, arith}
 use Rattle.std.specs.Prelude.{IsSome, map}
-use Rattle.std.specs.List.{AllByRecursion, Contains, count_by, flat_map, list_any}
+use Rattle.std.specs.List.{AllByRecursion, count_by, flat_map, list_any}
 use Rattle.std.proofs.lemmas.Bool.{eq-eqb}
 use Rattle.std.proofs.lemmas.List.{take_all}
 use Rattle.std.proofs.lemmas.List.Concat.{flat_map-cons}
@@ -17,13 +17,12 @@ use Rattle.ii_directory.specs.declared.name.SegmentComponent.{SegmentComponent}
 use Rattle.ii_store.specs.Collect.{HasNoGarbage, IsCollected, IsRemoved, KeepsOthers, is_file, is_garbage}
 use Rattle.ii_directory.specs.Directory.{Elapses, Elsewhere, Files, IsListing, IsPut, Same}
 use Rattle.ii_store.specs.IndexMeta.{MetaState, SegmentState, segment_view}
-use Rattle.ii_directory.specs.Names.{component_generation, component_number, same_component, same_name}
+use Rattle.ii_directory.specs.Names.{component_generation, component_number, same_component}
 use Rattle.ii_store.specs.Segments.{LeavesSameList, ListedFile, contents_of, files_of_segment, index_with, list_in, listed, segments_of}
 use Rattle.ii_store.proofs.CommitLaws.{same_segments}
 use Rattle.ii_store.proofs.ListChecks.{list_any-map}
 use Rattle.ii_directory.proofs.FlushLaws.{equal_or_not, not_both}
 use Rattle.ii_directory.proofs.ListingLaws.{nothing_in, split}
-use Rattle.ii_directory.proofs.NameLaws.{same_is, same_itself}
 use Rattle.ii_directory.proofs.Elapsing.{elapses_implies, elapses_none, elapses_then}
 
 -- files that a list has aren't garbage

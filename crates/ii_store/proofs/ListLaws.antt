@@ -1,8 +1,8 @@
 -- A list of segments is read back from its `meta` file.
-use Rattle.std.proofs.Common.{◌≡◌, ℕ, suc, ◌+◌, ◌-◌, ◌^◌, ◌<◌, ◌≤◌, false, ltb, List, [], ◌∷◌, ◌++◌, length, take, drop, Result, Ok, refl, sym, ap, ◌∙◌, append_assoc, arith}
+use Rattle.std.proofs.Common.{◌≡◌, ℕ, zero, suc, ◌+◌, ◌-◌, ◌^◌, ◌<◌, ◌≤◌, ◌==◌, Bool, true, false, not, ◌||◌, ltb, nat_lt, bytes_eq, List, [], ◌∷◌, ◌++◌, length, take, drop, Result, Ok, Err, refl, sym, ap, subst, ◌∙◌, append_assoc, arith, if◌then◌else◌}
 use Rattle.std.specs.Int.{Width, w16, w32, w64, byte_len, from_le_bytes, to_le_bytes}
-use Rattle.std.specs.List.{flat_map, AllByRecursion}
-use Rattle.std.proofs.lemmas.Bool.{le-ltb}
+use Rattle.std.specs.List.{flat_map, list_all, AllByRecursion}
+use Rattle.std.proofs.lemmas.Bool.{and_parts, le-ltb, ne_eqb}
 use Rattle.std.proofs.lemmas.Cmp.{nat_list_eq_equiv}
 use Rattle.std.proofs.lemmas.List.{append-nil, take_at, drop_at, length-append}
 use Rattle.std.proofs.lemmas.List.Concat.{flat_map-cons}
@@ -10,11 +10,15 @@ use Rattle.std.proofs.lemmas.Nat.{from_le_bytes-to_le_bytes_2, from_le_bytes-to_
 use Rattle.sha2.specs.Sha256.{sha256}
 use Rattle.sha2.proofs.Facts256.{length-sha256}
 use Rattle.ii_store.specs.declared.faults.IndexFault.{IndexFault}
+use Rattle.ii_store.specs.declared.faults.IndexFault.TheVariants.{DamagedMeta, OtherVersion}
+use Rattle.ii_store.specs.declared.file_digest.FileDigest.{FileDigest}
+use Rattle.ii_store.specs.declared.file_digest.FileDigest.TheVariants.{Sha256, Blocks}
 use Rattle.ii_store.specs.declared.index_meta.FileMeta.{FileMeta}
 use Rattle.ii_directory.specs.declared.name.SegmentComponent.{SegmentComponent}
 use Rattle.ii_directory.specs.declared.name.SegmentComponent.TheVariants.{Alive, Counts, FieldNorms, Positions, Postings, Store, Terms}
-use Rattle.ii_store.specs.Index.{format, version_in}
-use Rattle.ii_store.specs.IndexMeta.{FileFits, IsValidMeta, MetaFits, MetaState, SegmentFits, SegmentState, body_bytes, bytes_at, checked_list, component_of, file_at, file_bytes, items_at, list_at, list_bytes, list_head, list_numbers, meta_bytes, meta_of, number_at, segment_at, segment_bytes, segment_head}
+use Rattle.ii_store.specs.FileDigest.{digest_items, digest_kind}
+use Rattle.ii_store.specs.Index.{◌>>=◌, format, version_in}
+use Rattle.ii_store.specs.IndexMeta.{FileFits, IsValidMeta, MetaFits, MetaState, SegmentFits, SegmentState, body_bytes, byte_at, bytes_at, checked_list, component_of, digest_at, digest_bytes, digest_of, file_at, file_bytes, file_head, has_only_sha256, is_consistent, is_list_version, items_at, digest_kind_at, list_at, list_bytes, list_file, list_head, list_numbers, meta_bytes, meta_of, number_at, segment_at, segment_bytes, segment_head}
 use Rattle.ii_directory.specs.Names.{component_generation, component_number}
 
 -- A width whose numbers are read back.
@@ -72,24 +76,59 @@ number_small Counts = omega arith
 number_small (Alive generation) = omega arith
 number_small Store = omega arith
 
--- four parts and what comes after them
+-- some parts and what comes after them
+
+three : (a b c rest : List ℕ) → (a ++ b ++ c) ++ rest ≡ a ++ (b ++ (c ++ rest))
+three a b c rest = simp append_assoc
+
 four : (a b c d rest : List ℕ) → (a ++ b ++ c ++ d) ++ rest ≡ a ++ (b ++ (c ++ (d ++ rest)))
 four a b c d rest = simp append_assoc
 
 five : (a b c d e rest : List ℕ) → (a ++ b ++ c ++ d ++ e) ++ rest ≡ a ++ (b ++ (c ++ (d ++ (e ++ rest))))
 five a b c d e rest = simp append_assoc
 
-file_again : (f : FileMeta) (rest : List ℕ) → FileFits f → file_at (file_bytes f ++ rest) ≡ Ok (f, rest)
-unfolding file_at file_bytes
-file_again f rest fits =
+-- Whether a list of a version can hold a digest: one of version 2 holds a SHA-256 alone.
+abbrev can_hold : ℕ → FileDigest → Bool
+can_hold version d = not (version == 2) || digest_kind d == 0
+
+abbrev digest_if : Bool → FileDigest → List ℕ
+digest_if first d = if first then digest_items d else digest_kind d ∷ digest_items d
+
+kind_in : (first : Bool) (d : FileDigest) (bytes : List ℕ) → (not first || digest_kind d == 0) ≡ true → (if first then Ok (0, digest_if first d ++ bytes) else byte_at (digest_if first d ++ bytes)) ≡ Ok (digest_kind d, digest_items d ++ bytes)
+kind_in true (Sha256 digest) bytes held = refl
+kind_in true (Blocks digest) bytes held = absurd cc
+kind_in false d bytes held = refl
+
+kind_again : (version : ℕ) (d : FileDigest) (bytes : List ℕ) → can_hold version d ≡ true → digest_kind_at version (digest_bytes version d ++ bytes) ≡ Ok (digest_kind d, digest_items d ++ bytes)
+unfolding digest_kind_at digest_bytes
+kind_again version d bytes held = kind_in (version == 2) d bytes held
+
+kind_of_digest : (d : FileDigest) → digest_of (digest_kind d) (digest_items d) ≡ Ok d
+unfolding digest_of
+kind_of_digest (Sha256 digest) = refl
+kind_of_digest (Blocks digest) = refl
+
+digest_again : (version : ℕ) (d : FileDigest) (rest : List ℕ) → length (digest_items d) ≡ 32 → can_hold version d ≡ true → digest_at version (digest_bytes version d ++ rest) ≡ Ok (d, rest)
+unfolding digest_at
+digest_again version d rest len held = rw (kind_again version d rest held, bytes_again 32 (digest_items d) rest len, kind_of_digest d) refl
+
+-- A file that a list of a version can hold.
+record IsHeld (version : ℕ) (f : FileMeta) : Type 0 where
+  pub fits : FileFits f
+  pub held : can_hold version f.digest ≡ true
+
+file_again : (version : ℕ) (f : FileMeta) (rest : List ℕ) → IsHeld version f → file_at version (file_bytes version f ++ rest) ≡ Ok (f, rest)
+unfolding file_at file_bytes file_head
+file_again version f rest is =
     let number = to_le_bytes w16 (component_number f.component) in
     let generation = to_le_bytes w64 (component_generation f.component) in
     let len = to_le_bytes w64 f.len in
-    ap file_at (four number generation len f.digest rest) ∙ rw (
-      again16 (component_number f.component) (generation ++ (len ++ (f.digest ++ rest))) (number_small f.component),
-      again64 (component_generation f.component) (len ++ (f.digest ++ rest)) fits.generation,
-      again64 f.len (f.digest ++ rest) fits.len,
-      bytes_again 32 f.digest rest fits.digest,
+    let digest = digest_bytes version f.digest in
+    ap (file_at version) (append_assoc (number ++ generation ++ len) digest rest ∙ three number generation len (digest ++ rest)) ∙ rw (
+      again16 (component_number f.component) (generation ++ (len ++ (digest ++ rest))) (number_small f.component),
+      again64 (component_generation f.component) (len ++ (digest ++ rest)) is.fits.generation,
+      again64 f.len (digest ++ rest) is.fits.len,
+      digest_again version f.digest rest is.fits.digest is.held,
       component_again f.component,
     ) refl
 
@@ -103,32 +142,61 @@ items_again item_at item_bytes Fits one (x ∷ xs) rest fits =
     let regrouped : flat_map item_bytes (x ∷ xs) ++ rest ≡ item_bytes x ++ (flat_map item_bytes xs ++ rest) = ap (λ (bytes : List ℕ). bytes ++ rest) (flat_map-cons item_bytes x xs) ∙ append_assoc (item_bytes x) (flat_map item_bytes xs) rest in
     ap (items_at item_at (suc (length xs))) regrouped ∙ rw (one x (flat_map item_bytes xs ++ rest) fits.0, items_again item_at item_bytes Fits one xs rest fits.1) refl
 
-segment_again : (s : SegmentState) (rest : List ℕ) → SegmentFits s → segment_at (segment_bytes s ++ rest) ≡ Ok (s, rest)
+-- whether a list of a version can hold the digests of files
+abbrev holds_files : ℕ → List FileMeta → Bool
+holds_files version fs = list_all (λ (f : FileMeta). can_hold version f.digest) fs
+
+held_files : (version : ℕ) (fs : List FileMeta) → AllByRecursion FileFits fs → holds_files version fs ≡ true → AllByRecursion (IsHeld version) fs
+held_files version [] fits held = tt
+held_files version (f ∷ fs) fits held =
+    let p = and_parts (can_hold version f.digest) (holds_files version fs) held in
+    (record { fits = fits.0; held = p.0 }, held_files version fs fits.1 p.1)
+
+-- A segment that a list of a version can hold.
+record IsHeldSegment (version : ℕ) (s : SegmentState) : Type 0 where
+  pub fits : SegmentFits s
+  pub held : holds_files version s.files ≡ true
+
+segment_again : (version : ℕ) (s : SegmentState) (rest : List ℕ) → IsHeldSegment version s → segment_at version (segment_bytes version s ++ rest) ≡ Ok (s, rest)
 unfolding segment_at segment_bytes segment_head
-segment_again s rest fits =
+segment_again version s rest is =
     let id = to_le_bytes w64 s.id in
     let num_docs = to_le_bytes w32 s.num_docs in
     let num_living = to_le_bytes w32 s.num_living in
     let count = to_le_bytes w16 (length s.files) in
-    let files = flat_map file_bytes s.files in
-    ap segment_at (append_assoc (id ++ num_docs ++ num_living ++ count) files rest ∙ four id num_docs num_living count (files ++ rest)) ∙ rw (
+    let files = flat_map (file_bytes version) s.files in
+    let fits = is.fits in
+    ap (segment_at version) (append_assoc (id ++ num_docs ++ num_living ++ count) files rest ∙ four id num_docs num_living count (files ++ rest)) ∙ rw (
       again64 s.id (num_docs ++ (num_living ++ (count ++ (files ++ rest)))) fits.id,
       again32 s.num_docs (num_living ++ (count ++ (files ++ rest))) fits.num_docs,
       again32 s.num_living (count ++ (files ++ rest)) fits.num_living,
       again16 (length s.files) (files ++ rest) fits.count,
-      items_again file_at file_bytes FileFits file_again s.files rest fits.files,
+      items_again (file_at version) (file_bytes version) (IsHeld version) (file_again version) s.files rest (held_files version s.files fits.files is.held),
     ) refl
 
-list_again : (m : MetaState) → MetaFits m → list_at (list_bytes m) ≡ Ok m
+-- whether a list of a version can hold the digests of segments
+abbrev holds_segments : ℕ → List SegmentState → Bool
+holds_segments version ss = list_all (λ (s : SegmentState). holds_files version s.files) ss
+
+held_segments : (version : ℕ) (ss : List SegmentState) → AllByRecursion SegmentFits ss → holds_segments version ss ≡ true → AllByRecursion (IsHeldSegment version) ss
+held_segments version [] fits held = tt
+held_segments version (s ∷ ss) fits held =
+    let p = and_parts (holds_files version s.files) (holds_segments version ss) held in
+    (record { fits = fits.0; held = p.0 }, held_segments version ss fits.1 p.1)
+
+list_again : (version : ℕ) (m : MetaState) → MetaFits m → holds_segments version m.segments ≡ true → list_at version (list_bytes version m) ≡ Ok m
 unfolding list_at list_bytes list_head list_numbers
-list_again m fits =
+list_again version m fits held =
     let generation = to_le_bytes w64 m.generation in
     let next = to_le_bytes w64 m.next_segment_id in
     let len = to_le_bytes w32 (length m.schema) in
     let count = to_le_bytes w16 (length m.segments) in
-    let segments = flat_map segment_bytes m.segments in
-    let last : items_at segment_at (length m.segments) segments ≡ Ok (m.segments, []) = ap (items_at segment_at (length m.segments)) (sym (append-nil segments)) ∙ items_again segment_at segment_bytes SegmentFits segment_again m.segments [] fits.segments in
-    ap list_at (five generation next len m.schema count segments) ∙ rw (
+    let segments = flat_map (segment_bytes version) m.segments in
+    let all = held_segments version m.segments fits.segments held in
+    let last : items_at (segment_at version) (length m.segments) segments ≡ Ok (m.segments, []) =
+    ap (items_at (segment_at version) (length m.segments)) (sym (append-nil segments)) ∙ items_again (segment_at version) (segment_bytes version) (IsHeldSegment version) (segment_again version) m.segments [] all
+    in
+    ap (list_at version) (five generation next len m.schema count segments) ∙ rw (
       again64 m.generation (next ++ (len ++ (m.schema ++ (count ++ segments)))) fits.generation,
       again64 m.next_segment_id (len ++ (m.schema ++ (count ++ segments))) fits.next_segment_id,
       again32 (length m.schema) (m.schema ++ (count ++ segments)) fits.schema,
@@ -137,55 +205,136 @@ list_again m fits =
       last,
     ) refl
 
-length_front : length (format ++ to_le_bytes w32 2) ≡ 12
-unfolding format
-length_front = refl
+-- a version that lists segments
+record IsListVersion (version : ℕ) : Type 0 where
+  pub small : version < 2 ^ 32
+  pub lists : is_list_version version ≡ true
 
-front_8 : (rest : List ℕ) → take 8 ((format ++ to_le_bytes w32 2) ++ rest) ≡ format
-unfolding format
-front_8 rest = refl
+abbrev front : ℕ → List ℕ
+front version = format ++ to_le_bytes w32 version
 
-front_version : (rest : List ℕ) → take 4 (drop 8 ((format ++ to_le_bytes w32 2) ++ rest)) ≡ to_le_bytes w32 2
+length_front : (version : ℕ) → length (front version) ≡ 12
 unfolding format
-front_version rest = refl
+length_front version = refl
 
-version_of_front : (rest : List ℕ) → version_in ((format ++ to_le_bytes w32 2) ++ rest) ≡ Ok 2
+front_8 : (version : ℕ) (rest : List ℕ) → take 8 (front version ++ rest) ≡ format
+unfolding format
+front_8 version rest = refl
+
+front_version : (version : ℕ) (rest : List ℕ) → take 4 (drop 8 (front version ++ rest)) ≡ to_le_bytes w32 version
+unfolding format
+front_version version rest = refl
+
+version_of_front : (version : ℕ) (rest : List ℕ) → version < 2 ^ 32 → version_in (front version ++ rest) ≡ Ok version
 unfolding version_in
-version_of_front rest =
-    let long : ltb (length ((format ++ to_le_bytes w32 2) ++ rest)) 12 ≡ false = le-ltb _ _ (omega (arith, length-append (format ++ to_le_bytes w32 2) rest, length_front)) in
-    rw (long, front_8 rest, nat_list_eq_equiv.refl format, front_version rest) refl
+version_of_front version rest small =
+    let long : ltb (length (front version ++ rest)) 12 ≡ false = le-ltb _ _ (omega (arith, length-append (front version) rest, length_front version)) in
+    rw (long, front_8 version rest, nat_list_eq_equiv.refl format, front_version version rest, wide32.again version small) refl
 
-body_len : (m : MetaState) → 12 ≤ length (body_bytes m)
-unfolding body_bytes
-body_len m = omega (arith, length-append (format ++ to_le_bytes w32 2) (list_bytes m), length_front)
+module _ (version : ℕ) (m : MetaState) where
+  body_len : 12 ≤ length (body_bytes version m)
+  unfolding body_bytes
+  body_len = omega (arith, length-append (front version) (list_bytes version m), length_front version)
 
-list_of_body : (m : MetaState) → drop 12 (body_bytes m) ≡ list_bytes m
-unfolding body_bytes
-list_of_body m = drop_at (format ++ to_le_bytes w32 2) (list_bytes m) 12 length_front
+  list_of_body : drop 12 (body_bytes version m) ≡ list_bytes version m
+  unfolding body_bytes
+  list_of_body = drop_at (front version) (list_bytes version m) 12 (length_front version)
 
-meta_len : (m : MetaState) → length (meta_bytes m) ≡ length (body_bytes m) + 32
-unfolding meta_bytes
-meta_len m = length-append (body_bytes m) (sha256 (body_bytes m)) ∙ omega (arith, length-sha256 (body_bytes m))
+  meta_len : length (list_file version m) ≡ length (body_bytes version m) + 32
+  unfolding list_file
+  meta_len = length-append (body_bytes version m) (sha256 (body_bytes version m)) ∙ omega (arith, length-sha256 (body_bytes version m))
 
-body_of_meta : (m : MetaState) → take (length (meta_bytes m) - 32) (meta_bytes m) ≡ body_bytes m
-unfolding meta_bytes
-body_of_meta m = take_at (body_bytes m) (sha256 (body_bytes m)) (length (meta_bytes m) - 32) (omega (arith, meta_len m))
+  body_of_meta : take (length (list_file version m) - 32) (list_file version m) ≡ body_bytes version m
+  unfolding list_file
+  body_of_meta = take_at (body_bytes version m) (sha256 (body_bytes version m)) (length (list_file version m) - 32) (omega (arith, meta_len))
 
-checksum_of_meta : (m : MetaState) → drop (length (meta_bytes m) - 32) (meta_bytes m) ≡ sha256 (body_bytes m)
-unfolding meta_bytes
-checksum_of_meta m = drop_at (body_bytes m) (sha256 (body_bytes m)) (length (meta_bytes m) - 32) (omega (arith, meta_len m))
+  checksum_of_meta : drop (length (list_file version m) - 32) (list_file version m) ≡ sha256 (body_bytes version m)
+  unfolding list_file
+  checksum_of_meta = drop_at (body_bytes version m) (sha256 (body_bytes version m)) (length (list_file version m) - 32) (omega (arith, meta_len))
 
-checked_again : (m : MetaState) → IsValidMeta m → checked_list (meta_bytes m) ≡ Ok m
-unfolding checked_list
-checked_again m valid =
-    let long : ltb (length (meta_bytes m)) 44 ≡ false = le-ltb _ _ (omega (arith, meta_len m, body_len m)) in
-    rw (long, checksum_of_meta m, body_of_meta m, nat_list_eq_equiv.refl (sha256 (body_bytes m)), list_of_body m, list_again m valid.fits, valid.consistent) refl
+  checked_again : IsValidMeta m → holds_segments version m.segments ≡ true → checked_list version (list_file version m) ≡ Ok m
+  unfolding checked_list
+  checked_again valid held =
+      let long : ltb (length (list_file version m)) 44 ≡ false = le-ltb _ _ (omega (arith, meta_len, body_len)) in
+      rw (long, checksum_of_meta, body_of_meta, nat_list_eq_equiv.refl (sha256 (body_bytes version m)), list_of_body, list_again version m valid.fits held, valid.consistent) refl
 
-version_of_meta : (m : MetaState) → version_in (meta_bytes m) ≡ Ok 2
-unfolding meta_bytes body_bytes
-version_of_meta m = ap version_in (append_assoc (format ++ to_le_bytes w32 2) (list_bytes m) (sha256 (body_bytes m))) ∙ version_of_front (list_bytes m ++ sha256 (body_bytes m))
+  version_of_meta : version < 2 ^ 32 → version_in (list_file version m) ≡ Ok version
+  unfolding list_file body_bytes
+  version_of_meta small = ap version_in (append_assoc (front version) (list_bytes version m) (sha256 (body_bytes version m))) ∙ version_of_front version (list_bytes version m ++ sha256 (body_bytes version m)) small
+
+  list_file_again : IsListVersion version → IsValidMeta m → holds_segments version m.segments ≡ true → meta_of (list_file version m) ≡ Ok m
+  unfolding meta_of
+  list_file_again is valid held = rw (version_of_meta is.small, is.lists) (checked_again valid held)
+
+all_files : (fs : List FileMeta) → holds_files 3 fs ≡ true
+all_files [] = refl
+all_files (f ∷ fs) = all_files fs
+
+all_segments : (ss : List SegmentState) → holds_segments 3 ss ≡ true
+all_segments [] = refl
+all_segments (s ∷ ss) = rw (all_files s.files) (all_segments ss)
 
 -- a valid list is read back
 pub meta_again : (m : MetaState) → IsValidMeta m → meta_of (meta_bytes m) ≡ Ok m
+meta_again m valid = list_file_again 3 m (record { small = omega arith; lists = refl }) valid (all_segments m.segments)
+
+-- and from a file of version 2, if its digests are SHA-256
+pub earlier_again : (m : MetaState) → IsValidMeta m → has_only_sha256 m ≡ true → meta_of (list_file 2 m) ≡ Ok m
+earlier_again m valid only = list_file_again 2 m (record { small = omega arith; lists = refl }) valid only
+
+-- what a `meta` file gives
+
+abbrev unless : Bool → IndexFault → Result MetaState IndexFault → Result MetaState IndexFault
+unless b fault rest = if b then Err fault else rest
+
+past : (b : Bool) (fault : IndexFault) (rest : Result MetaState IndexFault) (m : MetaState) → unless b fault rest ≡ Ok m → rest ≡ Ok m
+past true fault rest m e = absurd cc
+past false fault rest m e = e
+
+abbrev taken : Bool → MetaState → Result MetaState IndexFault
+taken b m = if b then Ok m else Err DamagedMeta
+
+chosen : (b : Bool) (x m : MetaState) → taken b x ≡ Ok m → (b ≡ true) × (x ≡ m)
+chosen true x m e = (refl, cc)
+chosen false x m e = absurd cc
+
+last : (r : Result MetaState IndexFault) (m : MetaState) → (r >>= λ x. taken (is_consistent x) x) ≡ Ok m → is_consistent m ≡ true
+last (Ok x) m e = let p = chosen (is_consistent x) x m e in subst (λ (y : MetaState). is_consistent y ≡ true) p.1 p.0
+last (Err fault) m e = absurd cc
+
+checked_consistent : (version : ℕ) (meta : List ℕ) (m : MetaState) → checked_list version meta ≡ Ok m → is_consistent m ≡ true
+unfolding checked_list
+checked_consistent version meta m e =
+    let short = nat_lt (length meta) 44 in
+    let changed = not (bytes_eq (drop (length meta - 32) meta) (sha256 (take (length meta - 32) meta))) in
+    let list = list_at version (drop 12 (take (length meta - 32) meta)) in
+    let read = list >>= λ x. taken (is_consistent x) x in
+    last list m (past changed DamagedMeta read m (past short DamagedMeta (unless changed DamagedMeta read) m e))
+
+is_listed : (b : Bool) (fault : IndexFault) (rest : Result MetaState IndexFault) (m : MetaState) → unless (not b) fault rest ≡ Ok m → b ≡ true
+is_listed true fault rest m e = refl
+is_listed false fault rest m e = absurd cc
+
+not_first : (version : ℕ) → is_list_version version ≡ true → (version == 1) ≡ false
+not_first zero lists = refl
+not_first (suc zero) lists = absurd cc
+not_first (suc (suc n)) lists = ne_eqb (suc (suc n)) 1 (λ same. omega (arith, same))
+
+versioned : (r : Result ℕ IndexFault) (lists : ℕ → Result MetaState IndexFault) (m : MetaState) → (r >>= λ version. unless (not (is_list_version version)) (OtherVersion version) (lists version)) ≡ Ok m
+    → (version : ℕ) × (r ≡ Ok version) × (is_list_version version ≡ true) × (lists version ≡ Ok m)
+versioned (Ok version) lists m e = (version, refl, is_listed (is_list_version version) (OtherVersion version) (lists version) m e, past (not (is_list_version version)) (OtherVersion version) (lists version) m e)
+versioned (Err fault) lists m e = absurd cc
+
+-- the list of a `meta` file is consistent
+pub list_consistent : (meta : List ℕ) (m : MetaState) → meta_of meta ≡ Ok m → is_consistent m ≡ true
 unfolding meta_of
-meta_again m valid = rw (version_of_meta m) (checked_again m valid)
+list_consistent meta m e =
+    let v = versioned (version_in meta) (λ version. checked_list version meta) m e in
+    checked_consistent v.0 meta m v.3
+
+-- the version of a `meta` file that lists segments isn't 1
+pub list_version : (meta : List ℕ) (m : MetaState) → meta_of meta ≡ Ok m → (version : ℕ) × (version_in meta ≡ Ok version) × ((version == 1) ≡ false)
+unfolding meta_of
+list_version meta m e =
+    let v = versioned (version_in meta) (λ version. checked_list version meta) m e in
+    (v.0, v.1, not_first v.0 v.2)

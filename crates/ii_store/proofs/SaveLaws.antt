@@ -1,5 +1,5 @@
 -- What a sequence of directory calls leaves.
-use Rattle.std.proofs.Common.{◌≡◌, inl, inr, ⊎_elim, ◌<◌, ◌≤◌, ◌^◌, ℕ, zero, suc, ◌+◌, List, Option, None, Some, Result, Ok, Err, OnOk, refl, subst, sym, ap, ◌∙◌, arith}
+use Rattle.std.proofs.Common.{◌≡◌, inl, inr, ⊎_elim, ◌<◌, ◌≤◌, ◌^◌, ℕ, zero, suc, ◌+◌, List, Option, None, Some, Ok, refl, subst, sym, ap, ◌∙◌, arith}
 use Rattle.ii_directory.specs.declared.name.Kind.{Kind}
 use Rattle.ii_directory.specs.declared.name.Kind.TheVariants.{Schema, Terms, Postings, Positions, FieldNorms}
 use Rattle.ii_directory.specs.declared.name.Name.{Name}

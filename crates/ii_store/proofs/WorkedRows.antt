@@ -1,14 +1,18 @@
 -- Lists of segments, computed on examples.
-use Rattle.std.proofs.Common.{◌≡◌, ℕ, true, false, List, [], ◌∷◌, Ok, Err, refl}
-use Rattle.std.specs.Prelude.{Result}
+use Rattle.std.proofs.Common.{◌≡◌, ℕ, true, false, List, [], ◌∷◌, ◌++◌, Ok, Err, refl}
+use Rattle.std.specs.Prelude.{Result, replicate}
+use Rattle.std.specs.Hash.DefaultHasher.{finish, initial, round, write, write_byte, write_word}
 use Rattle.ii_store.specs.declared.faults.IndexFault.{IndexFault}
 use Rattle.ii_store.specs.declared.faults.IndexFault.TheVariants.{DamagedMeta}
+use Rattle.ii_store.specs.declared.file_digest.FileDigest.{FileDigest}
+use Rattle.ii_store.specs.declared.file_digest.FileDigest.TheVariants.{Sha256, Blocks}
 use Rattle.ii_store.specs.declared.index_meta.FileMeta.{FileMeta}
 use Rattle.ii_directory.specs.declared.name.Name.TheVariants.{Meta, NewMeta, Segment}
 use Rattle.ii_directory.specs.declared.name.SegmentComponent.{SegmentComponent}
-use Rattle.ii_directory.specs.declared.name.SegmentComponent.TheVariants.{Alive, Counts, Positions, Store, Terms}
+use Rattle.ii_directory.specs.declared.name.SegmentComponent.TheVariants.{Alive, Counts, FieldNorms, Positions, Store, Terms}
 use Rattle.ii_store.specs.Collect.{is_garbage}
-use Rattle.ii_store.specs.IndexMeta.{MetaState, SegmentState, component_of, is_consistent, is_segment, items_at, number_at, segment_at}
+use Rattle.ii_store.specs.FileDigest.{block_checksum, blocks}
+use Rattle.ii_store.specs.IndexMeta.{MetaState, SegmentState, bytes_at, component_of, digest_at, digest_of, file_at, is_consistent, is_segment, items_at, digest_kind_at, number_at, segment_at}
 
 -- the components of the numbers 2, 5, 6 and 7; only living documents have a generation
 
@@ -50,11 +54,69 @@ one = record { id = 1; num_docs = 3; num_living = 2; files = [] }
 abbrev read : SegmentState → List ℕ → Result (SegmentState × List ℕ) IndexFault
 read s rest = Ok (s, rest)
 
-segment_1 : segment_at (1 ∷ 0 ∷ 0 ∷ 0 ∷ 0 ∷ 0 ∷ 0 ∷ 0 ∷ 3 ∷ 0 ∷ 0 ∷ 0 ∷ 2 ∷ 0 ∷ 0 ∷ 0 ∷ 0 ∷ 0 ∷ 9 ∷ []) ≡ read one (9 ∷ [])
+segment_1 : segment_at 3 (1 ∷ 0 ∷ 0 ∷ 0 ∷ 0 ∷ 0 ∷ 0 ∷ 0 ∷ 3 ∷ 0 ∷ 0 ∷ 0 ∷ 2 ∷ 0 ∷ 0 ∷ 0 ∷ 0 ∷ 0 ∷ 9 ∷ []) ≡ read one (9 ∷ [])
 unfolding segment_at number_at items_at
 segment_1 = refl
 
--- a list of it: its id must be below the next one, and occur once
+-- the file of field norms, of one byte, in a list of version 3: its digest is of kind 0, a SHA-256, or 1, of blocks
+
+abbrev digest_32 : List ℕ
+digest_32 = replicate 32 7
+
+abbrev norms : FileDigest → Result (FileMeta × List ℕ) IndexFault
+norms digest = Ok (record { component = FieldNorms; len = 1; digest = digest }, 9 ∷ [])
+
+abbrev no_file : Result (FileMeta × List ℕ) IndexFault
+no_file = Err DamagedMeta
+
+-- a file of a list of a version, with these bytes after its length
+abbrev file_with : ℕ → List ℕ → Result (FileMeta × List ℕ) IndexFault
+file_with version bytes = file_at version ((3 ∷ 0 ∷ 0 ∷ 0 ∷ 0 ∷ 0 ∷ 0 ∷ 0 ∷ 0 ∷ 0 ∷ 1 ∷ 0 ∷ 0 ∷ 0 ∷ 0 ∷ 0 ∷ 0 ∷ 0 ∷ []) ++ bytes)
+
+sha256_kind : file_with 3 (0 ∷ digest_32 ++ 9 ∷ []) ≡ norms (Sha256 digest_32)
+unfolding file_at number_at digest_at digest_kind_at bytes_at digest_of component_of
+sha256_kind = refl
+
+blocks_kind : file_with 3 (1 ∷ digest_32 ++ 9 ∷ []) ≡ norms (Blocks digest_32)
+unfolding file_at number_at digest_at digest_kind_at bytes_at digest_of component_of
+blocks_kind = refl
+
+unknown_kind : file_with 3 (2 ∷ digest_32 ++ 9 ∷ []) ≡ no_file
+unfolding file_at number_at digest_at digest_kind_at bytes_at digest_of component_of
+unknown_kind = refl
+
+-- in a list of version 2 there is no kind
+
+without_kind : file_with 2 (digest_32 ++ 9 ∷ []) ≡ norms (Sha256 digest_32)
+unfolding file_at number_at digest_at digest_kind_at bytes_at digest_of component_of
+without_kind = refl
+
+-- blocks of two bytes
+
+no_block : blocks 2 [] ≡ []
+no_block = refl
+
+whole_blocks : blocks 2 (1 ∷ 2 ∷ 3 ∷ 4 ∷ []) ≡ (1 ∷ 2 ∷ []) ∷ (3 ∷ 4 ∷ []) ∷ []
+whole_blocks = refl
+
+short_block : blocks 2 (1 ∷ 2 ∷ 3 ∷ []) ≡ (1 ∷ 2 ∷ []) ∷ (3 ∷ []) ∷ []
+short_block = refl
+
+-- checksums of one byte, of nine, and of the text "abc", as CPython 3.11 hashes them by the same function
+
+checksum_of_1 : block_checksum (1 ∷ []) ≡ 4952851536318644461
+unfolding block_checksum initial write finish write_byte write_word round
+checksum_of_1 = refl
+
+checksum_of_9 : block_checksum (1 ∷ 2 ∷ 3 ∷ 4 ∷ 5 ∷ 6 ∷ 7 ∷ 8 ∷ 9 ∷ []) ≡ 179815269749075123
+unfolding block_checksum initial write finish write_byte write_word round
+checksum_of_9 = refl
+
+checksum_of_abc : block_checksum (97 ∷ 98 ∷ 99 ∷ []) ≡ 13851880170939887858
+unfolding block_checksum initial write finish write_byte write_word round
+checksum_of_abc = refl
+
+-- a list of segment 1: its id must be below the next one, and occur once
 
 abbrev list : ℕ → List SegmentState → MetaState
 list next segments = record { generation = 1; next_segment_id = next; schema = []; segments = segments }
@@ -84,7 +146,7 @@ too_many = refl
 -- files out of order, and in order
 
 abbrev file : SegmentComponent → FileMeta
-file c = record { component = c; len = 0; digest = [] }
+file c = record { component = c; len = 0; digest = Blocks [] }
 
 out_of_order : is_segment 2 (record { id = 1; num_docs = 3; num_living = 2; files = file (Alive 1) ∷ file Terms ∷ [] }) ≡ false
 unfolding is_segment

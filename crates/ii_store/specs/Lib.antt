@@ -1,5 +1,6 @@
 pub mod Collect
 pub mod Faults
+pub mod FileDigest
 pub mod Index
 pub mod IndexMeta
 pub mod SalvagedIndex

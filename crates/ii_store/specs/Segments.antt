@@ -1,7 +1,6 @@
 -- The segments that the files of a folder hold, and what a commit leaves, wherever it is stopped.
-use Rattle.std.specs.Prelude.{◌≡◌, ◌⊎◌, ℕ, ◌+◌, ◌==◌, not, List, [], ◌∷◌, map, length, bytes_eq, Option, None, Some, Result, Ok, Err, if◌then◌else◌}
+use Rattle.std.specs.Prelude.{◌≡◌, ◌⊎◌, ℕ, ◌+◌, ◌==◌, not, List, [], ◌∷◌, map, length, Option, None, Some, Result, Ok, Err, if◌then◌else◌}
 use Rattle.std.specs.List.{flat_map}
-use Rattle.sha2.specs.Sha256.{sha256}
 use Rattle.ii_store.specs.declared.faults.IndexFault.{IndexFault}
 use Rattle.ii_store.specs.declared.faults.IndexFault.TheVariants.{NoIndex, MissingFile, WrongFileLength, WrongFileChecksum}
 use Rattle.ii_store.specs.declared.faults.StoreFault.{StoreFault}
@@ -9,6 +8,7 @@ use Rattle.ii_store.specs.declared.index_meta.FileMeta.{FileMeta}
 use Rattle.ii_directory.specs.declared.name.Name.{Name}
 use Rattle.ii_directory.specs.declared.name.Name.TheVariants.{Meta, NewMeta, Segment}
 use Rattle.ii_directory.specs.Directory.{Elapses, Files}
+use Rattle.ii_store.specs.FileDigest.{has_digest}
 use Rattle.ii_store.specs.Index.{◌>>=◌, Fails}
 use Rattle.ii_store.specs.IndexMeta.{IsValidMeta, MetaState, SegmentState, meta_of}
 
@@ -35,7 +35,7 @@ unfoldable pub listed_bytes : ListedFile → Option (List ℕ) → Result (List 
 listed_bytes l None = Err (MissingFile l.id l.file.component)
 listed_bytes l (Some bytes) =
     if not (length bytes == l.file.len) then Err (WrongFileLength l.id l.file.component)
-    else if not (bytes_eq l.file.digest (sha256 bytes)) then Err (WrongFileChecksum l.id l.file.component)
+    else if not (has_digest l.file.digest bytes) then Err (WrongFileChecksum l.id l.file.component)
     else Ok bytes
 
 -- the bytes of all listed files, or the first fault

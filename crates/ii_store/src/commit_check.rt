@@ -78,7 +78,7 @@ fn file_fits(file: &FileMeta)
 {
     let _generation = file.component.generation();
     let _len = file.len;
-    let _digest = file.digest;
+    let _digest = file.digest.to_bytes();
 }
 
 /// Returns whether `commit` may be called with a list: it is valid, its generation is one higher than that

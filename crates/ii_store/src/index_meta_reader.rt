@@ -1,14 +1,15 @@
-//! Reading of a `meta` file of version 2 (docs/FORMATS).
+//! Reading of a `meta` file of version 2 or 3 (docs/FORMATS).
 ghost use Rattle.std.specs.Prelude.{◌≡◌, List, length, map, nat_lt, ◌==◌};
 ghost use Rattle.std.specs.List.{list_all, list_any};
 ghost use Rattle.std.specs.Int.{w16, w32, w64};
 ghost use Rattle.ii_directory.specs.Directory.{is_obeyed};
 ghost use Rattle.ii_store.specs.Faults.{IsRefused};
 ghost use Rattle.ii_store.specs.Index.{AnswersFromFiles};
-ghost use Rattle.ii_store.specs.IndexMeta.{SegmentState, ascend_from, bytes_at, checked_list, component_of, file_at, ids_differ, is_consistent, is_segment, items_at, list_at, meta_of, meta_view, number_at, segment_at, segment_view, total_living};
+ghost use Rattle.ii_store.specs.IndexMeta.{SegmentState, ascend_from, byte_at, bytes_at, checked_list, component_of, digest_at, digest_of, file_at, ids_differ, is_consistent, is_list_version, is_segment, items_at, digest_kind_at, list_at, meta_of, meta_view, number_at, segment_at, segment_view, total_living};
 
 use crate::faults::{IndexFault, StoreFault};
-use crate::index_meta::{FileMeta, IndexMeta, SEGMENTS_VERSION, SegmentMeta};
+use crate::file_digest::FileDigest;
+use crate::index_meta::{FileMeta, IndexMeta, SEGMENTS_VERSION, SHA256_VERSION, SegmentMeta};
 use crate::meta::{is_checksum, version_of};
 use ii_directory::{Generation, SegmentComponent};
 use std::alloc::Global;
@@ -16,7 +17,7 @@ use std::alloc::Global;
 // The limit of the number of documents of a segment, and of living documents of an index.
 const MAX_DOCS: u64 = 2_147_483_647;
 
-/// Reads the list of segments of a `meta` file of version 2.
+/// Reads the list of segments of a `meta` file of version 2 or 3.
 ///
 /// Returns `OtherVersion` for a `meta` of another version, and `DamagedMeta` for bytes that are no `meta` or
 /// were changed, and for a list that isn't consistent: ids occur twice or aren't below the next one, more
@@ -27,10 +28,17 @@ pub fn decode(alloc: Global, bytes: &[u8]) -> Result<IndexMeta, StoreFault>
     ensures memory { is_obeyed IsRefused ⊥ result }
 {
     let version = version_of(bytes)?;
-    if version != SEGMENTS_VERSION {
+    if !is_version_of_list(version) {
         return Err(StoreFault::Index(IndexFault::OtherVersion(version)));
     }
-    checked(alloc, bytes)
+    checked(alloc, version, bytes)
+}
+
+// Returns whether a `meta` file of a version lists segments.
+fn is_version_of_list(version: u32) -> bool
+    ensures { result ≡ is_list_version version }
+{
+    version == SHA256_VERSION || version == SEGMENTS_VERSION
 }
 
 // Returns the fault of a `meta` file that isn't valid.
@@ -40,10 +48,10 @@ fn damaged() -> StoreFault
     StoreFault::Index(IndexFault::DamagedMeta)
 }
 
-// Reads the list of segments of a file of this version.
+// Reads the list of segments of a file of a version.
 #[tactic(auto, unfolding(crate::specs::IndexMeta::checked_list))]
-fn checked(alloc: Global, bytes: &[u8]) -> Result<IndexMeta, StoreFault>
-    ensures answers { AnswersFromFiles meta_view result (checked_list bytes.now) }
+fn checked(alloc: Global, version: u32, bytes: &[u8]) -> Result<IndexMeta, StoreFault>
+    ensures answers { AnswersFromFiles meta_view result (checked_list version bytes.now) }
     ensures memory { is_obeyed IsRefused ⊥ result }
 {
     if bytes.len() < 44 {
@@ -54,7 +62,7 @@ fn checked(alloc: Global, bytes: &[u8]) -> Result<IndexMeta, StoreFault>
         return Err(damaged());
     }
     let (_, list) = body.split_at(12);
-    let meta = list_of(alloc, list)?;
+    let meta = list_of(alloc, version, list)?;
     if !is_consistent_list(&meta) {
         return Err(damaged());
     }
@@ -105,9 +113,20 @@ fn u64_at(bytes: &[u8]) -> Result<(u64, &[u8]), StoreFault>
     Ok((number, rest))
 }
 
-// Reads a SHA-256.
+// Reads a byte.
+fn u8_at(bytes: &[u8]) -> Result<(u8, &[u8]), StoreFault>
+    ensures answers { AnswersFromFiles (λ x. (x.0, x.1.now)) result (byte_at bytes.now) }
+    ensures memory { is_obeyed IsRefused ⊥ result }
+{
+    let Some((byte, rest)) = bytes.split_first() else {
+        return Err(damaged());
+    };
+    Ok((*byte, rest))
+}
+
+// Reads 32 bytes.
 #[tactic(auto, unfolding(crate::specs::IndexMeta::bytes_at))]
-fn digest_at(bytes: &[u8]) -> Result<([u8; 32], &[u8]), StoreFault>
+fn array_at(bytes: &[u8]) -> Result<([u8; 32], &[u8]), StoreFault>
     ensures answers { AnswersFromFiles (λ x. (x.0, x.1.now)) result (bytes_at 32 bytes.now) }
     ensures memory { is_obeyed IsRefused ⊥ result }
 {
@@ -115,6 +134,43 @@ fn digest_at(bytes: &[u8]) -> Result<([u8; 32], &[u8]), StoreFault>
         return Err(damaged());
     };
     Ok((*digest, rest))
+}
+
+// Returns the digest of a kind with these bytes.
+#[tactic(auto, unfolding(crate::specs::IndexMeta::digest_of))]
+fn digest_of_kind(kind: u8, digest: [u8; 32]) -> Result<FileDigest, StoreFault>
+    ensures answers { AnswersFromFiles (λ x. x) result (digest_of kind digest) }
+    ensures memory { is_obeyed IsRefused ⊥ result }
+{
+    match kind {
+        0 => Ok(FileDigest::Sha256(digest)),
+        1 => Ok(FileDigest::Blocks(digest)),
+        _ => Err(damaged()),
+    }
+}
+
+// Reads the kind of a digest, which is a SHA-256 in a list of version 2.
+#[tactic(auto, unfolding(crate::specs::IndexMeta::digest_kind_at))]
+fn kind_of(version: u32, bytes: &[u8]) -> Result<(u8, &[u8]), StoreFault>
+    ensures answers { AnswersFromFiles (λ x. (x.0, x.1.now)) result (digest_kind_at version bytes.now) }
+    ensures memory { is_obeyed IsRefused ⊥ result }
+{
+    if version == SHA256_VERSION {
+        return Ok((0, bytes));
+    }
+    u8_at(bytes)
+}
+
+// Reads a digest.
+#[tactic(auto, unfolding(crate::specs::IndexMeta::digest_at))]
+fn file_digest_at(version: u32, bytes: &[u8]) -> Result<(FileDigest, &[u8]), StoreFault>
+    ensures answers { AnswersFromFiles (λ x. (x.0, x.1.now)) result (digest_at version bytes.now) }
+    ensures memory { is_obeyed IsRefused ⊥ result }
+{
+    let (kind, rest) = kind_of(version, bytes)?;
+    let (digest, rest) = array_at(rest)?;
+    let digest = digest_of_kind(kind, digest)?;
+    Ok((digest, rest))
 }
 
 // Copies bytes.
@@ -156,14 +212,14 @@ fn component_at(number: u16, generation: Generation) -> Result<SegmentComponent,
 
 // Reads a file.
 #[tactic(auto, unfolding(crate::specs::IndexMeta::file_at))]
-fn file_of(bytes: &[u8]) -> Result<(FileMeta, &[u8]), StoreFault>
-    ensures answers { AnswersFromFiles (λ x. (x.0, x.1.now)) result (file_at bytes.now) }
+fn file_of(version: u32, bytes: &[u8]) -> Result<(FileMeta, &[u8]), StoreFault>
+    ensures answers { AnswersFromFiles (λ x. (x.0, x.1.now)) result (file_at version bytes.now) }
     ensures memory { is_obeyed IsRefused ⊥ result }
 {
     let (number, rest) = u16_at(bytes)?;
     let (generation, rest) = u64_at(rest)?;
     let (len, rest) = u64_at(rest)?;
-    let (digest, rest) = digest_at(rest)?;
+    let (digest, rest) = file_digest_at(version, rest)?;
     let component = component_at(number, generation)?;
     Ok((
         FileMeta {
@@ -176,14 +232,19 @@ fn file_of(bytes: &[u8]) -> Result<(FileMeta, &[u8]), StoreFault>
 }
 
 // Reads a number of files.
-fn files_of(alloc: Global, count: u16, bytes: &[u8]) -> Result<(Vec<FileMeta>, &[u8]), StoreFault>
-    ensures answers { AnswersFromFiles (λ x. (x.0.items, x.1.now)) result (items_at file_at count bytes.now) }
+fn files_of(
+    alloc: Global,
+    version: u32,
+    count: u16,
+    bytes: &[u8],
+) -> Result<(Vec<FileMeta>, &[u8]), StoreFault>
+    ensures answers { AnswersFromFiles (λ x. (x.0.items, x.1.now)) result (items_at (file_at version) count bytes.now) }
     ensures memory { is_obeyed IsRefused ⊥ result }
 {
     let mut files = Vec::new(alloc);
     let mut rest = bytes;
     for _ in 0..count {
-        let (file, after) = file_of(rest)?;
+        let (file, after) = file_of(version, rest)?;
         files.push(file)?;
         rest = after;
     }
@@ -192,15 +253,15 @@ fn files_of(alloc: Global, count: u16, bytes: &[u8]) -> Result<(Vec<FileMeta>, &
 
 // Reads a segment with its files.
 #[tactic(auto, unfolding(crate::specs::IndexMeta::segment_at))]
-fn segment_of(alloc: Global, bytes: &[u8]) -> Result<(SegmentMeta, &[u8]), StoreFault>
-    ensures answers { AnswersFromFiles (λ x. (segment_view x.0, x.1.now)) result (segment_at bytes.now) }
+fn segment_of(alloc: Global, version: u32, bytes: &[u8]) -> Result<(SegmentMeta, &[u8]), StoreFault>
+    ensures answers { AnswersFromFiles (λ x. (segment_view x.0, x.1.now)) result (segment_at version bytes.now) }
     ensures memory { is_obeyed IsRefused ⊥ result }
 {
     let (id, rest) = u64_at(bytes)?;
     let (num_docs, rest) = u32_at(rest)?;
     let (num_living, rest) = u32_at(rest)?;
     let (count, rest) = u16_at(rest)?;
-    let (files, rest) = files_of(alloc, count, rest)?;
+    let (files, rest) = files_of(alloc, version, count, rest)?;
     Ok((
         SegmentMeta {
             id,
@@ -215,16 +276,17 @@ fn segment_of(alloc: Global, bytes: &[u8]) -> Result<(SegmentMeta, &[u8]), Store
 // Reads a number of segments.
 fn segments_of(
     alloc: Global,
+    version: u32,
     count: u16,
     bytes: &[u8],
 ) -> Result<(Vec<SegmentMeta>, &[u8]), StoreFault>
-    ensures answers { AnswersFromFiles (λ x. (map segment_view x.0.items, x.1.now)) result (items_at segment_at count bytes.now) }
+    ensures answers { AnswersFromFiles (λ x. (map segment_view x.0.items, x.1.now)) result (items_at (segment_at version) count bytes.now) }
     ensures memory { is_obeyed IsRefused ⊥ result }
 {
     let mut segments = Vec::new(alloc);
     let mut rest = bytes;
     for _ in 0..count {
-        let (segment, after) = segment_of(alloc, rest)?;
+        let (segment, after) = segment_of(alloc, version, rest)?;
         segments.push(segment)?;
         rest = after;
     }
@@ -233,8 +295,8 @@ fn segments_of(
 
 // Reads everything between the version and the checksum.
 #[tactic(auto, unfolding(crate::specs::IndexMeta::list_at))]
-fn list_of(alloc: Global, bytes: &[u8]) -> Result<IndexMeta, StoreFault>
-    ensures answers { AnswersFromFiles meta_view result (list_at bytes.now) }
+fn list_of(alloc: Global, version: u32, bytes: &[u8]) -> Result<IndexMeta, StoreFault>
+    ensures answers { AnswersFromFiles meta_view result (list_at version bytes.now) }
     ensures memory { is_obeyed IsRefused ⊥ result }
 {
     let (generation, rest) = u64_at(bytes)?;
@@ -242,7 +304,7 @@ fn list_of(alloc: Global, bytes: &[u8]) -> Result<IndexMeta, StoreFault>
     let (len, rest) = u32_at(rest)?;
     let (schema, rest) = schema_at(alloc, len, rest)?;
     let (count, rest) = u16_at(rest)?;
-    let (segments, rest) = segments_of(alloc, count, rest)?;
+    let (segments, rest) = segments_of(alloc, version, count, rest)?;
     if !rest.is_empty() {
         return Err(damaged());
     }

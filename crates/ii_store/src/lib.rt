@@ -5,6 +5,7 @@
 pub mod collect;
 pub mod commit_check;
 pub mod faults;
+pub mod file_digest;
 pub mod index_meta;
 pub mod index_meta_reader;
 pub mod meta;
@@ -14,6 +15,7 @@ pub mod segments;
 pub mod stored_index;
 
 pub use faults::{IndexFault, StoreFault};
+pub use file_digest::FileDigest;
 pub use ii_directory::{
     Directory, DirectoryFault, Folder, FolderLock, Generation, Kind, MemoryDirectory, Name,
     SegmentComponent, SegmentId, Slot,

@@ -10,7 +10,6 @@ ghost use Rattle.ii_store.specs.Segments.{AreThere, KeepsOtherFiles, LeavesOneLi
 use crate::faults::{IndexFault, StoreFault};
 use crate::index_meta::{FileMeta, IndexMeta, encode};
 use crate::index_meta_reader::decode;
-use crate::meta::is_checksum;
 use ii_directory::{Directory, DirectoryFault, Name, SegmentId};
 use std::alloc::Global;
 
@@ -94,7 +93,7 @@ pub fn load_segment_file<D: Directory>(
     if bytes.len() as u64 != file.len {
         return Err(StoreFault::Index(IndexFault::WrongFileLength(id, file.component)));
     }
-    if !is_checksum(&file.digest, bytes.as_slice()) {
+    if !file.digest.is_of(bytes.as_slice()) {
         return Err(StoreFault::Index(IndexFault::WrongFileChecksum(id, file.component)));
     }
     Ok(bytes)

@@ -32,7 +32,9 @@ pub use ii_docset::{
     COLLECT_BLOCK_BUFFER_LEN, CursorAnswer, CursorCall, DocId, DocSet, Lent, Postings,
     SeekDangerResult, SeekOnce, TERMINATED, Walk, intersect, walk,
 };
-pub use ii_query::{AllDocs, Exclude, Intersection, PhraseMatch, PhrasePart, Union};
+pub use ii_query::{
+    AllDocs, Exclude, Intersection, PhraseMatch, PhrasePart, SloppyPhraseMatch, Union,
+};
 pub use ii_reader::{BlockSegmentPostings, FreqReadingOption, LoadedPostings, SegmentPostings};
 
 // how an index is searched

@@ -174,11 +174,11 @@ static WRITING: [Usage; 5] = [
     },
     Usage {
         name: "upgrade",
-        about: "Makes an index of version 1 one of version 2, to which add can add; add does so by itself",
+        about: "Makes an index of version 1 one of version 3, to which add can add; add does so by itself",
         words: &[Word {
             name: "json",
             given: Given::Flag,
-            help: "Prints a JSON object: version, which is 2, and upgraded, whether the index was of version 1",
+            help: "Prints a JSON object: version, which the index has now, and upgraded, whether it was of version 1",
         }],
     },
 ];

@@ -36,7 +36,7 @@ pub struct Checked {
 /// How the damages of files are written.
 #[derive(Clone, Copy, Debug)]
 pub struct DamageRows {
-    /// The id of the segment that has the files, in an index of version 2.
+    /// The id of the segment that has the files, in an index of version 2 or 3.
     pub segment: Option<u64>,
     /// How each is written.
     pub format: RowFormat,

@@ -147,7 +147,7 @@ pub(crate) fn write_space_json<W: Write>(
 pub struct DamageRow<'a> {
     /// What is wrong.
     pub damage: &'a str,
-    /// The id of the segment that has the file, in an index of version 2.
+    /// The id of the segment that has the file, in an index of version 2 or 3.
     pub segment: Option<u64>,
     /// What the file holds, if it is about a file.
     pub file: Option<&'a str>,

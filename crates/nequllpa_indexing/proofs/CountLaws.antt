@@ -21,7 +21,7 @@ use Rattle.nequllpa_indexing.proofs.FieldLaws.{pieces_with_by}
 
 -- the tokens of a call are of its document, in its field
 
-abbrev IsPieceOf : ℕ → ℕ → Piece → Type 0
+abbrev pub IsPieceOf : ℕ → ℕ → Piece → Type 0
 IsPieceOf doc field p = (p.doc ≡ doc) × (p.field ≡ field)
 
 abbrev pub IsTokenOf : ℕ → ℕ → IndexToken → Type 0
@@ -41,7 +41,7 @@ module _ (analyze : List ℕ → List Word) (doc field : ℕ) where
   leaves_of [] = tt
   leaves_of (l ∷ ls) = both_all (IsPieceOf doc field) (leaf_pieces analyze doc field l) (flat_map (leaf_pieces analyze doc field) ls) (leaf_of l) (leaves_of ls)
 
-  content_of : (c : Content) → AllByRecursion (IsPieceOf doc field) (content_pieces analyze (record { doc = doc; field = field; content = c }) c)
+  pub content_of : (c : Content) → AllByRecursion (IsPieceOf doc field) (content_pieces analyze (record { doc = doc; field = field; content = c }) c)
   content_of (text t) = ((refl, refl), tt)
   content_of (words ws) = ((refl, refl), tt)
   content_of (value key) = ((refl, refl), tt)

@@ -1,4 +1,5 @@
 mod DocumentLemmas
 mod FieldLaws
+pub mod LineTokens
 mod StoredLaws
 mod CountLaws

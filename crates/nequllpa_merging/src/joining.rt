@@ -13,7 +13,7 @@ use ii_store::Directory;
 use ii_store::segments::load_meta;
 use std::alloc::Global;
 
-/// Merges the segments of an index of version 2 from a place on, and puts the merged one in their place. The
+/// Merges the segments of an index of version 2 or 3 from a place on, and puts the merged one in their place. The
 /// schema must be that of the index. The segments before aren't read.
 ///
 /// After a stop or an error the directory holds an index of the same documents, with the same tokens under the

@@ -121,7 +121,7 @@ fn current_schema(
     }
 }
 
-// Returns the bytes of the schema of an index of either version.
+// Returns the bytes of the schema of an index of any version.
 fn schema_bytes(rt: &HostRuntime, path: &str) -> Result<Vec<u8>, StoreFault> {
     let folder = Folder::new(rt, path);
     match load_meta(rt.alloc(), &folder) {

@@ -153,7 +153,7 @@ fn begun_new(rt: &HostRuntime, path: &str, schema: &[u8]) -> Result<PendingSegme
     PendingSegments::begin_new(rt.alloc(), &folder, schema)
 }
 
-// Begins the list that follows that of the folder, which becomes one of version 2.
+// Begins the list that follows that of the folder, which becomes a list of segments.
 fn begun_after(rt: &HostRuntime, path: &str) -> Result<PendingSegments, CommitFault> {
     let mut folder = Folder::new(rt, path);
     upgrade(rt.alloc(), &mut folder)?;
@@ -178,7 +178,7 @@ fn committed(
     Ok(())
 }
 
-// Removes the files of segments that no list has. A folder without a list of version 2 lists none.
+// Removes the files of segments that no list has. A folder without a list of segments lists none.
 fn remove_unlisted(rt: &HostRuntime, path: &str) -> Result<(), StoreFault> {
     let mut folder = Folder::new(rt, path);
     match collect(rt.alloc(), &mut folder) {

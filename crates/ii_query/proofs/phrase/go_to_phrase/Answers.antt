@@ -15,14 +15,14 @@ pub go_to-doc-requires-clause-up_to : goal.go_to-doc-requires-clause-up_to
 go_to-doc-requires-clause-up_to g c =
     let l = c.loop-doc in
     let e = c.candidate-bound.ensures in
-    phrase_bound c.candidate-bound.result l.first.part.rest (parts_in c.candidate-bound.new.others.items) l.invariant.sound e.least
+    phrase_bound c.args.slop c.candidate-bound.result l.first.part.rest (parts_in c.candidate-bound.new.others.items) l.invariant.sound e.candidate.least
 
 pub go_to-doc-requires-clause-unread : goal.go_to-doc-requires-clause-unread
 go_to-doc-requires-clause-unread g c up =
     let l = c.loop-doc in
     let e = c.candidate-bound.ensures in
     let here = l.invariant.here in
-    let low = e.low in
+    let low = e.candidate.low in
     let other = c.if-bound-doc.false in
     let still = ap (λ (p : PhrasePartState). doc_at p.rest) e.first in
     absurd (omega (arith, up, here, low, other, still))
@@ -31,7 +31,7 @@ pub loop-doc-smaller : goal.loop-doc-smaller
 loop-doc-smaller g c =
     let l = c.loop-doc in
     let e = c.candidate-bound.ensures in
-    phrase_smaller l.doc c.candidate-bound.result c.go_to-doc.result l.first.part.rest c.go_to-doc.new.self.part.rest (parts_in c.candidate-bound.new.others.items) l.invariant.sound c.loop-doc-test.true e.low c.if-bound-doc.false e.least
+    phrase_smaller c.args.slop l.doc c.candidate-bound.result c.go_to-doc.result l.first.part.rest c.go_to-doc.new.self.part.rest (parts_in c.candidate-bound.new.others.items) l.invariant.sound c.loop-doc-test.true e.candidate.low c.if-bound-doc.false e.candidate.least
     (c.go_to-doc.ensures.rest ∙ ap (λ (p : PhrasePartState). from_doc c.candidate-bound.result p.rest) e.first) c.go_to-doc.ensures.doc
 
 pub loop-doc-preserved : goal.loop-doc-preserved
@@ -39,15 +39,16 @@ loop-doc-preserved g c =
     let l = c.loop-doc in
     let e = c.candidate-bound.ensures in
     let moved = c.go_to-doc.ensures.rest ∙ ap (λ (p : PhrasePartState). from_doc c.candidate-bound.result p.rest) e.first in
-    let bound = phrase_bound c.candidate-bound.result l.first.part.rest (parts_in c.candidate-bound.new.others.items) l.invariant.sound e.least in
+    let bound = phrase_bound c.args.slop c.candidate-bound.result l.first.part.rest (parts_in c.candidate-bound.new.others.items) l.invariant.sound e.candidate.least in
     let reached = subst (λ (es : List Entry). c.candidate-bound.result ≤ doc_at es) (sym moved) (doc_at-from_doc c.candidate-bound.result l.first.part.rest bound) in
     let here = c.go_to-doc.ensures.doc in
-    let low = e.low in
+    let low = e.candidate.low in
     let other = c.if-bound-doc.false in
     record {
       here = c.go_to-doc.ensures.doc;
       sound = c.go_to-doc.ensures.sound;
-      met = phrase_on c.candidate-bound.result l.first.part.rest c.go_to-doc.new.self.part.rest (parts_in c.candidate-bound.new.others.items) l.invariant.sound e.least moved ∙ e.same ∙ l.invariant.met;
+      met = phrase_on c.args.slop c.candidate-bound.result l.first.part.rest c.go_to-doc.new.self.part.rest (parts_in c.candidate-bound.new.others.items) l.invariant.sound e.candidate.least moved ∙ e.same ∙ l.invariant.met;
+      leads = c.go_to-doc.ensures.distance ∙ ap (λ (p : PhrasePartState). p.distance) e.first ∙ l.invariant.leads;
       first_unread = c.go_to-doc.ensures.unread;
       others_unread = λ current. unread_later (l.doc + 1) c.go_to-doc.result c.candidate-bound.new.others.items (omega (arith, reached, here, low, other)) e.unread;
       first_work = reads_in_turn g.P.Postings.spent g.met.P.Postings.spent_on c.args.first.now l.first c.go_to-doc.new.self l.invariant.first_work (reads_in_turn g.P.Postings.spent g.met.P.Postings.spent_on l.first c.candidate-bound.new.first c.go_to-doc.new.self e.first_work c.go_to-doc.ensures.work);
@@ -67,6 +68,7 @@ loop-doc-init g c =
       here = here;
       sound = c.doc-doc.ensures.sound;
       met = refl;
+      leads = c.requires.leads;
       first_unread = c.requires.first_unread;
       others_unread = λ current. rw here (c.requires.others_unread (omega (arith, here, current)));
       first_work = still c.args.first.now;

@@ -1,9 +1,9 @@
 use Rattle.std.proofs.Common.{◌<◌, ◌+◌, ◌∙◌, Bool, ◌&&◌, length, drop, rules, ap, subst, sym, refl}
 use Rattle.std.specs.List.{AllByRecursion}
 use Rattle.ii_docset.specs.Cursor.{IsCurrent}
-use Rattle.ii_query.specs.Phrase.{PhrasePartState, ReadsOnce, parts_in, stand_left}
+use Rattle.ii_query.specs.Phrase.{PhrasePartState, PhraseTermState, ReadsOnce, is_left, parts_in, stand_left}
 use Rattle.ii_query.specs.WorkLaws.{none_went, reads_in_turn, reads_nothing}
-use Rattle.ii_query.proofs.ReadsLemmas.{kept_at, kept_more, left_next, left_set}
+use Rattle.ii_query.proofs.ReadsLemmas.{all_set, kept_at, kept_more, left_next}
 use Rattle.ii_query.proofs.WorkLemmas.{each_at, part_got, parts_many, parts_same, work_set}
 use Rattle.ii_query.proofs.phrase.stand_from.Goals as goal
 
@@ -38,7 +38,7 @@ pub returns-then-not-stands_from-clause-later : goal.returns-then-not-stands_fro
 returns-then-not-stands_from-clause-later g c s up =
     let l = c.loop-i in
     let inside : l.i < length l.others.items = search rules in
-    left_set l.others.items l.i s c.index_mut.result.now c.stands_from.new.self inside c.index_mut.ensures.value (c.stands_from.ensures.later s up) ∙ l.invariant.later s up
+    all_set (λ (u : PhraseTermState _). is_left u s) l.others.items l.i c.index_mut.result.now c.stands_from.new.self inside c.index_mut.ensures.value (c.stands_from.ensures.later s up) ∙ l.invariant.later s up
 
 pub returns-then-not-stands_from-clause-same : goal.returns-then-not-stands_from-clause-same
 returns-then-not-stands_from-clause-same g c =
@@ -65,6 +65,6 @@ loop-i-preserved g c =
       same = parts_same l.others.items l.i t c.stands_from.new.self inside c.index_mut.ensures.value c.stands_from.ensures.same ∙ l.invariant.same;
       kept = kept_more start l.others.items l.i c.stands_from.new.self l.invariant.kept;
       left = sym (ap (λ (b : Bool). b && stand_left (drop (l.i + 1) start) c.args.start) has) ∙ sym (left_next start l.i c.args.start t within got) ∙ l.invariant.left;
-      later = λ s up. left_set l.others.items l.i s t c.stands_from.new.self inside c.index_mut.ensures.value (c.stands_from.ensures.later s up) ∙ l.invariant.later s up;
+      later = λ s up. all_set (λ (u : PhraseTermState _). is_left u s) l.others.items l.i t c.stands_from.new.self inside c.index_mut.ensures.value (c.stands_from.ensures.later s up) ∙ l.invariant.later s up;
       work = work_set (ReadsOnce g.P.Postings.spent) (reads_in_turn g.P.Postings.spent g.met.P.Postings.spent_on) start l.others.items l.i t c.stands_from.new.self inside c.index_mut.ensures.value c.stands_from.ensures.work l.invariant.work;
     }

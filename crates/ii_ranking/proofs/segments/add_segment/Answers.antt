@@ -1,8 +1,9 @@
-use Rattle.std.proofs.Common.{◌∙◌, ◌++◌, ◌<◌, ◌^◌, ℕ, List, ap, arith, length, map, rules}
+use Rattle.std.proofs.Common.{◌∙◌, ◌++◌, ◌<◌, ◌^◌, ℕ, List, ap, arith, length, map, rules, subst}
 use Rattle.std.specs.List.{range_with_len}
 use Rattle.std.proofs.lemmas.Result.{err_from_is_err_and}
 use Rattle.std.proofs.lemmas.List.FromFn.{length-map-range_with_len}
 use Rattle.ii_ranking.specs.Scores.{query_score, scored_in}
+use Rattle.ii_ranking.specs.TopNComputer.{KeepsBest}
 use Rattle.ii_ranking.proofs.SegmentLemmas.{rows_scored}
 use Rattle.ii_ranking.proofs.segments.add_segment.Goals as goal
 
@@ -11,11 +12,11 @@ push_living-requires-clause-many g c =
     let f = query_score (scored_in c.args.index.now (g.S.Bm25StatisticsProvider.statistics c.args.statistics.now)) c.args.query.now in
     ap length c.in_ok-scores.ensures.scored ∙ length-map-range_with_len f 0 c.num_docs.result ∙ c.num_docs.ensures
 
-pub returns-clause-scored : goal.returns-clause-scored
-returns-clause-scored g c =
+pub returns-clause-kept : goal.returns-clause-kept
+returns-clause-kept g c = λ scored h.
     let f = query_score (scored_in c.args.index.now (g.S.Bm25StatisticsProvider.statistics c.args.statistics.now)) c.args.query.now in
     let scores = c.in_ok-scores.ensures.scored ∙ ap (λ (n : ℕ). map f (range_with_len 0 n)) c.num_docs.ensures in
-    c.in_ok-push_living.ensures.scored ∙ ap (λ (row : List (ℕ × ℕ)). c.args.scored.now.items ++ row) (rows_scored c.args.base c.args.alive.now f c.in_ok-scores.scores.items scores)
+    subst (λ (row : List (ℕ × ℕ)). KeepsBest (scored ++ row) c.push_living.new.computer) (rows_scored c.args.base c.args.alive.now f c.in_ok-scores.scores.items scores) (c.in_ok-push_living.ensures.kept scored h)
 
 pub returns-in_err-scores-clause-memory : goal.returns-in_err-scores-clause-memory
 returns-in_err-scores-clause-memory g c =

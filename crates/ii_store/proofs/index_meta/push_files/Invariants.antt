@@ -5,4 +5,4 @@ use Rattle.ii_store.proofs.index_meta.push_files.Given as goal
 
 -- the files before the index were appended
 abbrev pub invariant-loop-file : goal.invariant-loop-file
-invariant-loop-file l = l.bytes.items ≡ l.fn.bytes.items ++ flat_map file_bytes (take l.file-index l.files)
+invariant-loop-file l = l.bytes.items ≡ l.fn.bytes.items ++ flat_map (file_bytes 3) (take l.file-index l.files)

@@ -6,4 +6,4 @@ use Rattle.ii_store.proofs.index_meta.push_segments.Given as goal
 
 -- the segments before the index were appended
 abbrev pub invariant-loop-segment : goal.invariant-loop-segment
-invariant-loop-segment l = l.bytes.items ≡ l.fn.bytes.items ++ flat_map segment_bytes (map segment_view (take l.segment-index l.segments))
+invariant-loop-segment l = l.bytes.items ≡ l.fn.bytes.items ++ flat_map (segment_bytes 3) (map segment_view (take l.segment-index l.segments))

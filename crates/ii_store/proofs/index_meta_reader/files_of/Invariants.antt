@@ -5,4 +5,4 @@ use Rattle.ii_store.proofs.index_meta_reader.files_of.Given as goal
 
 -- what was read, and what is still to be read, is all of it
 abbrev pub invariant-loop : goal.invariant-loop
-invariant-loop l = with_front l.files.items (items_at file_at (l.count - l.counter) l.rest) ≡ items_at file_at l.count l.bytes
+invariant-loop l = with_front l.files.items (items_at (file_at l.version) (l.count - l.counter) l.rest) ≡ items_at (file_at l.version) l.count l.bytes

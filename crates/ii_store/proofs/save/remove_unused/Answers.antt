@@ -1,6 +1,6 @@
 use Rattle.std.proofs.Common.{◌≡◌, None, ap, ◌∙◌}
 use Rattle.ii_directory.specs.declared.name.Name.TheVariants.{Meta, NewMeta}
-use Rattle.ii_directory.specs.Directory.{Elapses, Elsewhere, IsPut}
+use Rattle.ii_directory.specs.Directory.{Elsewhere, IsPut}
 use Rattle.ii_directory.specs.Names.{other_slot}
 use Rattle.ii_store.specs.Index.{index_of, used_slot}
 use Rattle.ii_store.specs.Save.{HasNoUnused, IsOutside, KeepsUsed}

@@ -1,25 +1,46 @@
 use Rattle.std.proofs.Common.{◌∙◌, ap, inr, refl, sym}
 use Rattle.ii_index.specs.Segments.{no_documents}
 use Rattle.ii_index.proofs.CommitLemmas.{document_fault, other_fault}
-use Rattle.ii_index.proofs.PendingLemmas.{pending_with}
+use Rattle.ii_index.proofs.PendingLemmas.{adds_line}
 use Rattle.ii_index.proofs.index_writer.IndexWriter.add_last.Goals as goal
 
+pub returns-in-Ok-flush-clause-added : goal.returns-in-Ok-flush-clause-added
+returns-in-Ok-flush-clause-added g c =
+    let were = rw (← c.self.view_is) at c.requires.calls in
+    rw (← c.self.view_is)
+    (λ known.
+    record {
+      calls = c.in-Ok-push_line.ensures.ok.0;
+      is_document = c.in-Ok-push_line.ensures.ok.1;
+      pending = λ k us h.
+          let p = adds_line c.self.inside.index.schema c.self.inside.documents c.push_line.new.self c.args.document.now c.self.invariant.0 were c.in-Ok-push_line.ensures.ok (g.D.Directory.seen c.self.inside.index.directory) c.self.inside.flushed k us h in
+          let written = (rw (c.replace-documents.ensures.value, c.take-flushed.ensures.value) at c.in-Ok-flush.ensures.written) known _ _ p in
+          let fresh = c.replace-documents.ensures.after ∙ c.in-Ok.ensures.none in
+          rw (c.in-Ok-flush.ensures.schema, fresh) written;
+    })
+
 pub returns-in-Ok-flush-clause-same : goal.returns-in-Ok-flush-clause-same
-returns-in-Ok-flush-clause-same g c = rw (← c.self.view_is)
+returns-in-Ok-flush-clause-same g c =
+    let were = rw (← c.self.view_is) at c.requires.calls in
+    rw (← c.self.view_is)
     (λ known k us h.
-    let p = pending_with c.self.inside.index.schema (g.D.Directory.seen c.self.inside.index.directory) c.self.inside.flushed c.self.inside.documents c.push_line.new.self k us h in
+    let p = adds_line c.self.inside.index.schema c.self.inside.documents c.push_line.new.self c.args.document.now c.self.invariant.0 were c.in-Ok-push_line.ensures.ok (g.D.Directory.seen c.self.inside.index.directory) c.self.inside.flushed k us h in
     (rw (c.replace-documents.ensures.value, c.take-flushed.ensures.value) at c.in-Ok-flush.ensures.same) known _ _ p)
 
 pub returns-in-Ok-flush-clause-leaves_same : goal.returns-in-Ok-flush-clause-leaves_same
-returns-in-Ok-flush-clause-leaves_same g c = rw (← c.self.view_is)
+returns-in-Ok-flush-clause-leaves_same g c =
+    let were = rw (← c.self.view_is) at c.requires.calls in
+    rw (← c.self.view_is)
     (λ known k us h n ts held files left.
-    let p = pending_with c.self.inside.index.schema (g.D.Directory.seen c.self.inside.index.directory) c.self.inside.flushed c.self.inside.documents c.push_line.new.self k us h in
+    let p = adds_line c.self.inside.index.schema c.self.inside.documents c.push_line.new.self c.args.document.now c.self.invariant.0 were c.in-Ok-push_line.ensures.ok (g.D.Directory.seen c.self.inside.index.directory) c.self.inside.flushed k us h in
     (rw (c.replace-documents.ensures.value, c.take-flushed.ensures.value) at c.flush.ensures.leaves_same) known _ _ p n ts held files left)
 
 pub returns-in-Err-flush-clause-leaves_same : goal.returns-in-Err-flush-clause-leaves_same
-returns-in-Err-flush-clause-leaves_same g c = rw (← c.self.view_is)
+returns-in-Err-flush-clause-leaves_same g c =
+    let were = rw (← c.self.view_is) at c.requires.calls in
+    rw (← c.self.view_is)
     (λ known k us h n ts held files left.
-    let p = pending_with c.self.inside.index.schema (g.D.Directory.seen c.self.inside.index.directory) c.self.inside.flushed c.self.inside.documents c.push_line.new.self k us h in
+    let p = adds_line c.self.inside.index.schema c.self.inside.documents c.push_line.new.self c.args.document.now c.self.invariant.0 were c.in-Ok-push_line.ensures.ok (g.D.Directory.seen c.self.inside.index.directory) c.self.inside.flushed k us h in
     (rw (c.replace-documents.ensures.value, c.take-flushed.ensures.value) at c.flush.ensures.leaves_same) known _ _ p n ts held files left)
 
 pub returns-in-Err-flush-clause-err : goal.returns-in-Err-flush-clause-err

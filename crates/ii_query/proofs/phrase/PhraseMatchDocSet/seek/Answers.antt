@@ -7,6 +7,7 @@ use Rattle.ii_query.specs.Phrase.{ReadsOnce, parts_in, phrase_docs}
 use Rattle.ii_query.proofs.PhraseLemmas.{phrase_from, phrase_sound}
 use Rattle.ii_query.proofs.ReadsLemmas.{cursors_spent, unread_later}
 use Rattle.ii_query.specs.WorkLaws.{none_went, reads_in_turn, reads_nothing}
+use Rattle.ii_query.proofs.SloppyLemmas.{zero_at, zero_same}
 use Rattle.ii_query.proofs.phrase.PhraseMatchDocSet.seek.Goals as goal
 
 pub returns-then-doc-target-clause-rest : goal.returns-then-doc-target-clause-rest
@@ -40,7 +41,7 @@ pub returns-clause-rest : goal.returns-clause-rest
 returns-clause-rest g c =
     let others = parts_in c.self.inside.others.items in
     let moved : phrase_docs c.go_to.new.self.part.rest others ≡ from_doc c.args.target (phrase_docs c.self.inside.first.part.rest others) = rw (c.go_to.ensures.rest) (phrase_from c.args.target c.self.inside.first.part.rest others) in
-    rw (← c.self.view_is) (c.go_to_phrase.ensures.rest ∙ moved)
+    rw (← c.self.view_is) (zero_same c.go_to.new.self.part.rest c.go_to_phrase.new.first.part.rest others (parts_in c.go_to_phrase.new.others.items) c.go_to_phrase.ensures.rest ∙ moved)
 
 pub returns-clause-sound : goal.returns-clause-sound
 returns-clause-sound g c = phrase_sound c.go_to_phrase.new.first.part.rest (parts_in c.go_to_phrase.new.others.items) c.go_to_phrase.ensures.at.sound
@@ -50,3 +51,12 @@ returns-clause-work g c =
     let first = reads_in_turn g.P.Postings.spent g.met.P.Postings.spent_on c.self.inside.first c.go_to.new.self c.go_to_phrase.new.first c.go_to.ensures.work c.go_to_phrase.ensures.first_work in
     let reads : AllZip (ReadsOnce g.P.Postings.spent) (c.self.inside.first ∷ c.self.inside.others.items) (c.go_to_phrase.new.first ∷ c.go_to_phrase.new.others.items) = (first, c.go_to_phrase.ensures.other_work) in
     rw (← c.self.view_is) (cursors_spent g.P.Postings.spent (c.self.inside.first ∷ c.self.inside.others.items) (c.go_to_phrase.new.first ∷ c.go_to_phrase.new.others.items) reads, reads)
+
+pub invariant_of-self : goal.invariant_of-self
+invariant_of-self g c =
+    (zero_at c.go_to_phrase.new.first.part.rest (parts_in c.go_to_phrase.new.others.items) c.go_to_phrase.ensures.at, c.go_to_phrase.ensures.unread, c.go_to_phrase.ensures.leads)
+
+pub returns-clause-doc : goal.returns-clause-doc
+returns-clause-doc g c =
+    let at = zero_at c.go_to_phrase.new.first.part.rest (parts_in c.go_to_phrase.new.others.items) c.go_to_phrase.ensures.at in
+    c.go_to_phrase.ensures.doc ∙ sym at.here

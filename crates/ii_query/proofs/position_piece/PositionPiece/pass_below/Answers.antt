@@ -1,42 +1,30 @@
-use Rattle.std.proofs.Common.{◌≡◌, ◌∙◌, ◌+◌, List, refl, ap, sym, subst, arith}
-use Rattle.std.specs.Prelude.{slice_get}
-use Rattle.ii_base.specs.Entries.{Entry}
+use Rattle.std.proofs.Common.{◌∙◌, arith}
 use Rattle.ii_docset.specs.Cursor.{positions_at}
-use Rattle.ii_query.specs.PositionPiece.{IsPieceOf, num_passed, term_with}
-use Rattle.ii_query.specs.WorkLaws.{reads_in_turn}
-use Rattle.ii_query.proofs.PieceLemmas.{PassedBelow, found_at, none_left, one_passed, passed_more, passed_one, reads_passed}
+use Rattle.ii_query.specs.PositionPiece.{num_passed}
+use Rattle.ii_query.proofs.PieceLemmas.{found_at, none_left, passed_keeps}
 use Rattle.ii_query.proofs.position_piece.PositionPiece.pass_below.Goals as goal
 
-pub returns-then-next-position-clause-found : goal.returns-then-next-position-clause-found
-returns-then-next-position-clause-found g c =
-    let l = c.loop-next in
-    let is = c.in-Some.ensures.position ∙ ap (λ (es : List Entry). slice_get (positions_at es) (num_passed l.self)) l.invariant.rest in
-    found_at (positions_at (g.P.DocSet.rest c.args.postings.now)) c.args.position (num_passed l.self) c.in-Some.next c.requires.order is c.if-next-position.true ∙ l.invariant.passed c.args.position (omega arith)
-
-pub returns-then-next-position-clause-work : goal.returns-then-next-position-clause-work
-returns-then-next-position-clause-work g c n = reads_in_turn g.P.Postings.spent g.met.P.Postings.spent_on _ _ _ (c.loop-next.invariant.work n) (c.peek.ensures.work n)
-
-pub loop-next-preserved : goal.loop-next-preserved
-loop-next-preserved g c =
-    let l = c.loop-next in
+pub returns-in-Some-clause-found : goal.returns-in-Some-clause-found
+returns-in-Some-clause-found g c =
     let ps = positions_at (g.P.DocSet.rest c.args.postings.now) in
-    let is = c.in-Some.ensures.position ∙ ap (λ (es : List Entry). slice_get (positions_at es) (num_passed l.self)) l.invariant.rest in
-    let piece = subst (λ (es : List Entry). IsPieceOf (positions_at es) c.peek.new.self) l.invariant.rest c.peek.ensures.piece in
-    let passed = passed_more ps c.args.position (num_passed c.args.self.now) (num_passed l.self) c.in-Some.next is (omega (arith, c.if-next-position.false)) l.invariant.passed in
-    let before = c.peek.ensures.passed in
-    let same : num_passed l.self + 1 ≡ num_passed (passed_one c.peek.new.self) = omega (arith, before) in
-    record {
-      rest = c.peek.ensures.rest ∙ l.invariant.rest;
-      piece = one_passed ps c.peek.new.self piece (c.in-Some.ensures.inside refl);
-      passed = subst (PassedBelow ps c.args.position (num_passed c.args.self.now)) same passed;
-      work = λ n. reads_passed g.P.Postings.spent n (g.P.DocSet.rest c.args.postings.now) (g.P.DocSet.rest c.peek.new.postings) c.args.postings.now c.peek.new.postings c.args.self.now c.peek.new.self (reads_in_turn g.P.Postings.spent g.met.P.Postings.spent_on (term_with n (g.P.DocSet.rest c.args.postings.now) c.args.postings.now c.args.self.now) (term_with n (g.P.DocSet.rest l.postings) l.postings l.self) (term_with n (g.P.DocSet.rest c.peek.new.postings) c.peek.new.postings c.peek.new.self) (l.invariant.work n) (c.peek.ensures.work n));
-    }
+    let same = c.from.ensures in
+    let up = c.in-Some.ensures.from in
+    found_at ps c.args.position (num_passed c.next_from.new.self) c.in-Some.next c.requires.order c.in-Some.ensures.position (omega (arith, same, up))
+    ∙ passed_keeps ps c.from.result (num_passed c.args.self.now) (num_passed c.next_from.new.self) c.args.position c.next_from.ensures.later (omega (arith, same))
 
-pub returns-clause-found : goal.returns-clause-found
-returns-clause-found g c =
-    let l = c.loop-next in
-    let is = sym c.in_default.is ∙ c.peek.ensures.position ∙ ap (λ (es : List Entry). slice_get (positions_at es) (num_passed l.self)) l.invariant.rest in
-    none_left (positions_at (g.P.DocSet.rest c.args.postings.now)) (num_passed l.self) c.args.position is ∙ l.invariant.passed c.args.position (omega arith)
+pub returns-in-Some-clause-later : goal.returns-in-Some-clause-later
+returns-in-Some-clause-later g c p up =
+    let same = c.from.ensures in
+    passed_keeps (positions_at (g.P.DocSet.rest c.args.postings.now)) c.from.result (num_passed c.args.self.now) (num_passed c.next_from.new.self) p c.next_from.ensures.later (omega (arith, same, up))
 
-pub returns-clause-work : goal.returns-clause-work
-returns-clause-work g c n = reads_in_turn g.P.Postings.spent g.met.P.Postings.spent_on _ _ _ (c.loop-next.invariant.work n) (c.peek.ensures.work n)
+pub returns-in-None-clause-found : goal.returns-in-None-clause-found
+returns-in-None-clause-found g c =
+    let ps = positions_at (g.P.DocSet.rest c.args.postings.now) in
+    let same = c.from.ensures in
+    none_left ps (num_passed c.next_from.new.self) c.args.position c.in-None.ensures.position
+    ∙ passed_keeps ps c.from.result (num_passed c.args.self.now) (num_passed c.next_from.new.self) c.args.position c.next_from.ensures.later (omega (arith, same))
+
+pub returns-in-None-clause-later : goal.returns-in-None-clause-later
+returns-in-None-clause-later g c p up =
+    let same = c.from.ensures in
+    passed_keeps (positions_at (g.P.DocSet.rest c.args.postings.now)) c.from.result (num_passed c.args.self.now) (num_passed c.next_from.new.self) p c.next_from.ensures.later (omega (arith, same, up))
