@@ -15,7 +15,7 @@ ghost use Rattle.ii_segment_search.specs.Searcher.{HaveFields, MayAsk, Reaches, 
 
 use ii_merger::{MergeSource, merge};
 use ii_segment_search::{Searcher, SegmentsCursor};
-use nequllpa::{
+use ii_ram::{
     Fault, IndexWriters, OpenIndex, Query, QueryCursor, Schema, SegmentPostings, TermOrPhrase,
     open_in_ram, search,
 };

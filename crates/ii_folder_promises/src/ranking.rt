@@ -26,7 +26,7 @@ use ii_ranking::{
     GatheredStatistics, RankedSegment, Score, Share, TopDocs, explain, score_docs, search,
     search_segments, shares_add_up,
 };
-use nequllpa::{
+use ii_ram::{
     DocId, Fault, IndexCall, OpenIndex, Query, Schema, Term, TextAnalyzer, index_in_ram,
 };
 use std::alloc::Global;

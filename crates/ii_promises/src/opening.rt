@@ -12,7 +12,7 @@ ghost use Rattle.ii_reader.specs.OpenIndex.{IndexHolds, OpenIndexState, ReadersH
 
 use bytes::Bytes;
 use ii_termdict::TermInfo;
-use nequllpa::{
+use ii_ram::{
     DamagedTerm, Fault, Field, IndexRecordOption, InvertedIndexReader, OpenIndex, Schema,
     SegmentPostings, Term, open_index, open_index_with_norms,
 };

@@ -20,7 +20,7 @@ ghost use Rattle.ii_promises.specs.DecodedBlocks.{DecodesNoneTwice};
 ghost use Rattle.ii_promises.specs.HopelessBlocks.{hopeful_blocks, is_hopeless_block};
 
 use bytes::Bytes;
-use nequllpa::{
+use ii_ram::{
     DocId, DocSet, Fault, IndexCall, OpenIndex, Query, QueryCursor, Schema, SegmentPostings, Term,
     TermOrPhrase, TermRange, TextAnalyzer, count, index_in_ram, open_index_with_norms, search,
     top_by_count,

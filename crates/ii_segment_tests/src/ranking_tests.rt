@@ -6,7 +6,7 @@ use ii_alive::AliveBits;
 use ii_ranking::{
     GatheredStatistics, RankedSegment, Score, TopDocs, explain, score_docs, search, search_segments,
 };
-use nequllpa::{
+use ii_ram::{
     AsciiTokenizer, DocId, Fault, Field, FieldEntry, IndexCall, IndexRecordOption, OpenIndex,
     Query, Schema, Term, index_in_ram, parse_query,
 };

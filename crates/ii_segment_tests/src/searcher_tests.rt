@@ -3,7 +3,7 @@ ghost use Rattle.std.specs.Prelude.{◌≡◌, length, IfOk};
 
 use ii_alive::AliveBits;
 use ii_segment_search::{OpenSegment, Searcher};
-use nequllpa::{
+use ii_ram::{
     AsciiTokenizer, DocId, DocSet, Fault, Field, FieldEntry, IndexCall, IndexRecordOption, Schema,
     TERMINATED, index_in_ram, parse_query,
 };

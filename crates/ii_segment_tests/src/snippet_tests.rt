@@ -3,7 +3,7 @@ ghost use Rattle.std.specs.Prelude.{◌≡◌, length, IfOk};
 
 use ii_snippet::{MarkStyle, Snippet, snippet_tokens, wanted_words};
 use ii_tokenizers::Analyzer;
-use nequllpa::{
+use ii_ram::{
     Fault, Field, FieldEntry, IndexRecordOption, Query, Schema, TextAnalyzer, parse_query,
 };
 use std::alloc::Global;

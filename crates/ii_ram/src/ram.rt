@@ -11,8 +11,8 @@ ghost use Rattle.ii_indexing.specs.Refusals.{calls_fault};
 ghost use Rattle.ii_indexing.specs.RamFiles.{IsRamFault};
 ghost use Rattle.ii_reader.specs.InvertedIndexReader.{AllOpen, IsTrusted};
 ghost use Rattle.ii_reader.specs.OpenIndex.{GivesReaders, IndexHolds, NormsHold, index_of_files, trusted_index};
-ghost use Rattle.nequllpa.specs.OpenedFiles.{OpensFiles};
-ghost use Rattle.nequllpa.specs.TrueBounds.{IndexHasTrueBounds};
+ghost use Rattle.ii_ram.specs.OpenedFiles.{OpensFiles};
+ghost use Rattle.ii_ram.specs.TrueBounds.{IndexHasTrueBounds};
 
 use bytes::Bytes;
 use ii_base::{Fault, Schema, TextAnalyzer};

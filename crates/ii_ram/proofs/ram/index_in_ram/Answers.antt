@@ -13,12 +13,12 @@ use Rattle.ii_indexing.specs.RamFiles.{IsRamFault}
 use Rattle.ii_reader.specs.InvertedIndexReader.{trusted_reader}
 use Rattle.ii_reader.specs.OpenIndex.{GivesReaders, OpenIndexState, index_of_files}
 use Rattle.ii_definitions.specs.TrueBounds.{HaveTrueBounds}
-use Rattle.nequllpa.specs.OpenedFiles.{OpensFiles}
-use Rattle.nequllpa.proofs.BoundLaws.{opens_true_bounds, trusted_bounds}
+use Rattle.ii_ram.specs.OpenedFiles.{OpensFiles}
+use Rattle.ii_ram.proofs.BoundLaws.{opens_true_bounds, trusted_bounds}
 use Rattle.ii_reader.proofs.KnownLemmas.{all_trusted}
 use Rattle.ii_indexing.proofs.RamLaws.{fault_in_ram}
-use Rattle.nequllpa.proofs.RamLaws.{GivesAll, all_open, in_ram, index_holds, readers_fault}
-use Rattle.nequllpa.proofs.ram.index_in_ram.Goals as goal
+use Rattle.ii_ram.proofs.RamLaws.{GivesAll, all_open, in_ram, index_holds, readers_fault}
+use Rattle.ii_ram.proofs.ram.index_in_ram.Goals as goal
 
 pub trusted-requires : goal.trusted-requires
 trusted-requires g c =

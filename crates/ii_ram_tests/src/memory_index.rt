@@ -10,7 +10,7 @@ use ii_base::{
 use ii_docset::{DocId, DocSet, Postings, TERMINATED};
 use ii_indexing::{IndexCall, IndexWriters, write_index};
 use ii_reader::{OpenIndex, SegmentPostings};
-use nequllpa::index_in_ram;
+use ii_ram::index_in_ram;
 use std::alloc::Global;
 
 /// Records counts and positions.

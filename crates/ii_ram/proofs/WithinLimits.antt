@@ -14,7 +14,7 @@ use Rattle.ii_postings_writer.specs.TokenFiles.{FirstEnds, FirstTerm, token_term
 use Rattle.ii_indexing.specs.IndexFiles.{HaveNoRoom, PassLimits}
 use Rattle.ii_reader.specs.OpenIndex.{OpenIndexState}
 use Rattle.ii_indexing.specs.RamFiles.{IsRamFault, empty_file}
-use Rattle.nequllpa.proofs.NoTokens.{norms_have_room}
+use Rattle.ii_ram.proofs.NoTokens.{norms_have_room}
 
 none_of_terms : (mode : IndexRecordOption) (P : WrittenTerm → Type 0) → ((t : WrittenTerm) → IsWithin mode t → P t → ⊥) → (ts : List WrittenTerm) → AllByRecursion (IsWithin mode) ts → FirstOf (IsWithin mode) P ts → ⊥
 none_of_terms mode P none [] within found = found

@@ -14,7 +14,7 @@ use Rattle.ii_reader.specs.InvertedIndexReader.{AllOpen, IsRefusal}
 use Rattle.ii_reader.proofs.KnownLemmas.{readers_open, readers_trusted}
 use Rattle.ii_indexing.specs.RamFiles.{empty_files}
 use Rattle.ii_io.specs.declared.faults.Part.{Part}
-use Rattle.nequllpa.specs.OpenedFiles.{OpensFiles}
+use Rattle.ii_ram.specs.OpenedFiles.{OpensFiles}
 
 pub appended : (bytes : List ℕ) (o : Option (List ℕ)) → Appends (Some []) o bytes → o ≡ Some bytes
 appended bytes None h = absurd h

@@ -6,7 +6,7 @@ use crate::memory_index::{Call, Kind, Said, calls_of, cursor_of, indexed, ready_
 use ii_base::{AsciiTokenizer, Fault, Field, Term};
 use ii_docset::{DocId, DocSet, TERMINATED};
 use ii_reader::{OpenIndex, SegmentPostings};
-use nequllpa::{
+use ii_ram::{
     AllDocs, KeyBound, PhraseTerm, Query, QueryCursor, TermOrPhrase, TermRange, count,
     index_in_ram, search, top_by_count,
 };

@@ -21,7 +21,7 @@ use Rattle.ii_definitions.specs.TrueBounds.{HasTrueTerms, HaveTrueBounds}
 use Rattle.ii_check.specs.declared.validation.Validation.TheVariants.{Complete}
 use Rattle.ii_reader.specs.InvertedIndexReader.{InvertedIndexReaderState, reader_over, trusted_reader}
 use Rattle.ii_reader.specs.OpenIndex.{IndexBodies, OpenIndexState, all_or_first, field_readers, reader_if, reader_of_bodies, reader_of_field, trusted_index}
-use Rattle.nequllpa.specs.TrueBounds.{IndexHasTrueBounds, OpensTrueBounds}
+use Rattle.ii_ram.specs.TrueBounds.{IndexHasTrueBounds, OpensTrueBounds}
 
 -- The field of a schema that gave a result.
 record Gave {A : Type 0} (give : ℕ × SchemaEntry → Result A Part) (n : ℕ) (entries : List SchemaEntry) (i : ℕ) (x : A) : Type 0 where

@@ -2,11 +2,11 @@ use Rattle.std.proofs.Common.{List, ℕ, refl, subst, Result, ap, sym, ◌∙◌
 use Rattle.ii_definitions.specs.Fields.{option_of}
 use Rattle.ii_definitions.specs.Files.{HoldTokens}
 use Rattle.ii_definitions.specs.Norms.{HoldNorms}
-use Rattle.nequllpa.proofs.RamLaws.{same_file, opens_files}
-use Rattle.nequllpa.proofs.ram.open_in_ram.Goals as goal
+use Rattle.ii_ram.proofs.RamLaws.{same_file, opens_files}
+use Rattle.ii_ram.proofs.ram.open_in_ram.Goals as goal
 use Rattle.ii_io.specs.declared.faults.Part.{Part}
 use Rattle.ii_reader.specs.OpenIndex.{OpenIndexState, index_of_files}
-use Rattle.nequllpa.specs.OpenedFiles.{OpensFiles}
+use Rattle.ii_ram.specs.OpenedFiles.{OpensFiles}
 
 pub returns-clause-holds : goal.returns-clause-holds
 returns-clause-holds c t p q f n ts terms postings positions fieldnorms hold norms =

@@ -1,6 +1,6 @@
 use Rattle.std.proofs.Common.{arith}
-use Rattle.nequllpa_tests.proofs.CheckedCalls.{more_checked}
-use Rattle.nequllpa_tests.proofs.memory_index.checked.Goals as goal
+use Rattle.ii_ram_tests.proofs.CheckedCalls.{more_checked}
+use Rattle.ii_ram_tests.proofs.memory_index.checked.Goals as goal
 
 pub loop-call-preserved : goal.loop-call-preserved
 loop-call-preserved c =

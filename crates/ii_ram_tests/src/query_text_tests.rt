@@ -1,7 +1,7 @@
 // Query texts, the trees they parse to, and parse errors.
 use crate::memory_index::{Kind, schema_of};
 use ii_base::{AsciiTokenizer, Fault, Field};
-use nequllpa::{ParseError, parse, parse_query};
+use ii_ram::{ParseError, parse, parse_query};
 use std::alloc::{AllocError, Global};
 use std::test::Fail;
 
