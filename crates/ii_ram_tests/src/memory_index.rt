@@ -9,8 +9,8 @@ use ii_base::{
 };
 use ii_docset::{DocId, DocSet, Postings, TERMINATED};
 use ii_indexing::{IndexCall, IndexWriters, write_index};
-use ii_reader::{OpenIndex, SegmentPostings};
 use ii_ram::index_in_ram;
+use ii_reader::{OpenIndex, SegmentPostings};
 use std::alloc::Global;
 
 /// Records counts and positions.

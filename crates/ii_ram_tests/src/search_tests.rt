@@ -5,11 +5,11 @@ ghost use Rattle.ii_query_parser.specs.Queries.{has_fields};
 use crate::memory_index::{Call, Kind, Said, calls_of, cursor_of, indexed, ready_of};
 use ii_base::{AsciiTokenizer, Fault, Field, Term};
 use ii_docset::{DocId, DocSet, TERMINATED};
-use ii_reader::{OpenIndex, SegmentPostings};
 use ii_ram::{
     AllDocs, KeyBound, PhraseTerm, Query, QueryCursor, TermOrPhrase, TermRange, count,
     index_in_ram, search, top_by_count,
 };
+use ii_reader::{OpenIndex, SegmentPostings};
 use std::alloc::Global;
 use std::test::Fail;
 

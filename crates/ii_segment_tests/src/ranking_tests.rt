@@ -3,12 +3,12 @@
 ghost use Rattle.std.specs.Prelude.{◌≡◌, ◌<◌, length, IfOk};
 
 use ii_alive::AliveBits;
-use ii_ranking::{
-    GatheredStatistics, RankedSegment, Score, TopDocs, explain, score_docs, search, search_segments,
-};
 use ii_ram::{
     AsciiTokenizer, DocId, Fault, Field, FieldEntry, IndexCall, IndexRecordOption, OpenIndex,
     Query, Schema, Term, index_in_ram, parse_query,
+};
+use ii_ranking::{
+    GatheredStatistics, RankedSegment, Score, TopDocs, explain, score_docs, search, search_segments,
 };
 use std::alloc::Global;
 use std::test::Fail;

@@ -15,8 +15,8 @@ use ii_base::{
 };
 use ii_docset::DocId;
 use ii_indexing::IndexCall;
-use ii_reader::OpenIndex;
 use ii_ram::{QueryParserError, index_in_ram, parse_query, search};
+use ii_reader::OpenIndex;
 use std::alloc::{AllocError, Global};
 use std::mem;
 
