@@ -477,6 +477,7 @@ fn prefix_query(words: PhraseWords) -> Query
 }
 
 // The query of a term or a phrase.
+#[tactic(auto, using(crate::proofs::SlopLemmas::phrase_within_zero))]
 fn words_query(words: PhraseWords) -> Query
     ensures matches { (ts : List IndexToken) (doc : ℕ) → matches result ts doc ≡ has_words ts doc words.first words.others }
     ensures fields { (n : ℕ) → has_fields n result ≡ phrase_within n words }
@@ -487,5 +488,5 @@ fn words_query(words: PhraseWords) -> Query
     if others.is_empty() {
         return Query::Term(first);
     }
-    Query::Phrase(first, others)
+    Query::Phrase(first, others, 0)
 }
