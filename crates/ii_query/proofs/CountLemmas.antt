@@ -1,5 +1,5 @@
 -- The positions that begin a phrase within a slop are counted.
-use Rattle.std.proofs.Common.{◌≡◌, ◌≢◌, ◌∙◌, ℕ, ◌+◌, ◌-◌, ◌<◌, ◌≤◌, Bool, true, false, Some, None, Option, List, [], ◌∷◌, drop, filter, length, inl, inr, refl, sym, ap, add-one, arith}
+use Rattle.std.proofs.Common.{◌≡◌, ◌≢◌, ◌∙◌, ℕ, ◌+◌, ◌-◌, ◌<◌, ◌≤◌, Bool, true, false, Some, None, Option, List, [], ◌∷◌, suc, drop, filter, length, inl, inr, refl, sym, ap, add-one, arith}
 use Rattle.std.specs.Prelude.{IfSome, max, slice_get}
 use Rattle.std.specs.List.{AllByRecursion, list_any}
 use Rattle.std.specs.List.Sorted.{IsNonDecreasing}
@@ -25,9 +25,14 @@ pub record AreCounted {P : Type 0} (slop : ℕ) (starts : List ℕ) (parts : Lis
   pub later : (w : ℕ) → low ≤ w → are_in_window slop terms w ≡ parts_pass (is_near slop BEFORE_TEXT w) parts
 
 -- A window was sought for the next position, from the first one that is its own and wasn't tried.
-pub record IsSought {P : Type 0} (slop : ℕ) (starts : List ℕ) (i low start : ℕ) (found : Option ℕ) (terms later : List (PhraseTermState P)) : Type 0 where
+pub record IsSought {P : Type 0} (slop : ℕ) (starts : List ℕ) (i low : ℕ) (found : Option ℕ) (terms later : List (PhraseTermState P)) : Type 0 where
+  pub start : ℕ
+  pub least : ℕ
+  pub last : ℕ
   pub is : Some start ≡ slice_get starts i
-  pub raised : IsRaisedTo (are_in_window slop terms) (max low (start + BEFORE_TEXT - slop)) (start + BEFORE_TEXT) found
+  pub least_is : least ≡ max low (start + BEFORE_TEXT - slop)
+  pub last_is : last ≡ start + BEFORE_TEXT
+  pub raised : IsRaisedTo (are_in_window slop terms) least last found
   pub kept : IfSome found (λ (next : ℕ). (w : ℕ) → next ≤ w → are_in_window slop later w ≡ are_in_window slop terms w)
 
 none_pass : (test : ℕ → Bool) (xs : List ℕ) → list_any test xs ≡ false → filter test xs ≡ []
@@ -45,66 +50,68 @@ next_left starts i start is =
 
 pub none_counted : {P : Type 0} (slop : ℕ) (starts : List ℕ) (i : ℕ) (terms : List (PhraseTermState P)) → i ≡ 0 → AllByRecursion IsUnread terms → AreCounted slop starts (parts_in terms) i 0 0 terms
 none_counted slop starts i terms first unread = record {
-  left = ap (λ (k : ℕ). length (filter (stand_near_here slop (parts_in terms)) (drop k starts))) first;
+  left = let all = ap (λ (k : ℕ). length (filter (stand_near_here slop (parts_in terms)) (drop k starts))) first in omega (arith, all);
   few = omega arith;
   none = λ w from low. absurd (omega (arith, low));
   later = λ w up. unread_window slop w terms unread;
 }
 
-module _ {P : Type 0} (slop : ℕ) (starts : List ℕ) (parts : List PhrasePartState) (small : slop ≤ BEFORE_TEXT) (order : IsNonDecreasing starts) where
+module _ {P : Type 0} (slop : ℕ) (starts : List ℕ) (parts : List PhrasePartState) (small : slop ≤ BEFORE_TEXT) (order : IsNonDecreasing starts) (i low count : ℕ) (terms later : List (PhraseTermState P)) (c : AreCounted slop starts parts i low count terms) where
   -- no window of a position that is below the one that was found has the other terms
-  missed : (i low count start bound w : ℕ) (terms : List (PhraseTermState P)) → AreCounted slop starts parts i low count terms → Some start ≡ slice_get starts i
-      → ((n : ℕ) → max low (start + BEFORE_TEXT - slop) ≤ n → n < bound → are_in_window slop terms n ≡ false) → start + BEFORE_TEXT ≤ w + slop → w < bound → parts_pass (is_near slop BEFORE_TEXT w) parts ≡ false
-  missed i low count start bound w terms c is none from below =
-      let before = before_next starts i start order is in
+  missed : (found : Option ℕ) (s : IsSought slop starts i low found terms later) (bound w : ℕ) → ((n : ℕ) → s.least ≤ n → n < bound → are_in_window slop terms n ≡ false) → s.start + BEFORE_TEXT ≤ w + slop → w < bound → parts_pass (is_near slop BEFORE_TEXT w) parts ≡ false
+  missed found s bound w none from below =
+      let before = before_next starts i s.start order s.is in
+      let least = s.least_is in
       elim (cases_lt w low) [
         | inl lower ↦ c.none w (omega (arith, before, from)) lower
-        | inr above ↦ sym (c.later w above) ∙ none w (omega (arith, from, above)) below
+        | inr above ↦ sym (c.later w above) ∙ none w (omega (arith, from, above, least)) below
       ]
 
   -- a position begins the phrase
-  pub one_counted : (i low count start window : ℕ) (terms later : List (PhraseTermState P)) → AreCounted slop starts parts i low count terms → IsSought slop starts i low start (Some window) terms later → window ≤ start + BEFORE_TEXT → AreCounted slop starts parts (i + 1) window (count + 1) later
-  one_counted i low count start window terms later c s up =
+  pub one_counted : (window : ℕ) (s : IsSought slop starts i low (Some window) terms later) → window ≤ s.last → AreCounted slop starts parts (i + 1) window (count + 1) later
+  one_counted window s up =
       let from = s.raised.0 in
-      let above : low ≤ window = omega (arith, from) in
-      let holds = start_near slop window start parts (omega (arith, from)) up (sym (c.later window above) ∙ s.raised.1 up) in
-      let more : length (filter (stand_near_here slop parts) (drop i starts)) ≡ length (filter (stand_near_here slop parts) (drop (i + 1) starts)) + 1 =
-      ap (λ (ps : List ℕ). length (filter (stand_near_here slop parts) ps)) (next_left starts i start s.is) ∙ rw holds (add-one _)
-      in
+      let least = s.least_is in
+      let last = s.last_is in
+      let above : low ≤ window = omega (arith, from, least) in
+      let holds = start_near slop window s.start parts (omega (arith, from, least)) (omega (arith, up, last)) (sym (c.later window above) ∙ s.raised.1 up) in
+      let next : length (filter (stand_near_here slop parts) (s.start ∷ drop (i + 1) starts)) ≡ suc (length (filter (stand_near_here slop parts) (drop (i + 1) starts))) = rw holds refl in
+      let split = ap (λ (ps : List ℕ). length (filter (stand_near_here slop parts) ps)) (next_left starts i s.start s.is) in
       let left = c.left in
       let few = c.few in
-      let place = after_next starts i start s.is in
+      let place = after_next starts i s.start s.is in
       record {
-        left = omega (arith, left, more);
+        left = omega (arith, left, split, next);
         few = omega (arith, few);
-        none = λ w low_of below. missed i low count start window w terms c s.is s.raised.2 (omega (arith, place, low_of)) below;
+        none = λ w low_of below. missed (Some window) s window w s.raised.2 (omega (arith, place, low_of)) below;
         later = λ w high. s.kept w high ∙ c.later w (omega (arith, above, high));
       }
 
   -- a position doesn't
-  pub one_passed_over : (i low count start window : ℕ) (terms later : List (PhraseTermState P)) → AreCounted slop starts parts i low count terms → IsSought slop starts i low start (Some window) terms later → start + BEFORE_TEXT < window → AreCounted slop starts parts (i + 1) window count later
-  one_passed_over i low count start window terms later c s over =
+  pub one_passed_over : (window : ℕ) (s : IsSought slop starts i low (Some window) terms later) → s.last < window → AreCounted slop starts parts (i + 1) window count later
+  one_passed_over window s over =
       let from = s.raised.0 in
-      let fails = start_far slop start parts small (λ w low_of up. missed i low count start window w terms c s.is s.raised.2 low_of (omega (arith, up, over))) in
-      let same : length (filter (stand_near_here slop parts) (drop i starts)) ≡ length (filter (stand_near_here slop parts) (drop (i + 1) starts)) =
-      ap (λ (ps : List ℕ). length (filter (stand_near_here slop parts) ps)) (next_left starts i start s.is) ∙ rw fails refl
-      in
+      let least = s.least_is in
+      let last = s.last_is in
+      let fails = start_far slop s.start parts small (λ w low_of up. missed (Some window) s window w s.raised.2 low_of (omega (arith, up, over, last))) in
+      let next : length (filter (stand_near_here slop parts) (s.start ∷ drop (i + 1) starts)) ≡ length (filter (stand_near_here slop parts) (drop (i + 1) starts)) = rw fails refl in
+      let split = ap (λ (ps : List ℕ). length (filter (stand_near_here slop parts) ps)) (next_left starts i s.start s.is) in
       let left = c.left in
       let few = c.few in
-      let place = after_next starts i start s.is in
+      let place = after_next starts i s.start s.is in
       record {
-        left = omega (arith, left, same);
+        left = omega (arith, left, split, next);
         few = omega (arith, few);
-        none = λ w low_of below. missed i low count start window w terms c s.is s.raised.2 (omega (arith, place, low_of)) below;
-        later = λ w high. s.kept w high ∙ c.later w (omega (arith, from, high));
+        none = λ w low_of below. missed (Some window) s window w s.raised.2 (omega (arith, place, low_of)) below;
+        later = λ w high. s.kept w high ∙ c.later w (omega (arith, from, least, high));
       }
 
   -- no later position does
-  pub none_left_over : (i low count start : ℕ) (terms later : List (PhraseTermState P)) → AreCounted slop starts parts i low count terms → IsSought slop starts i low start None terms later → count ≡ length (filter (stand_near_here slop parts) starts)
-  none_left_over i low count start terms later c s =
-      let fails = none_after (stand_near_here slop parts) starts i start order s.is
+  pub none_begins : (s : IsSought slop starts i low None terms later) → count ≡ length (filter (stand_near_here slop parts) starts)
+  none_begins s =
+      let fails = none_after (stand_near_here slop parts) starts i s.start order s.is
       (λ p above. start_far slop p parts small
-      (λ w low_of up. missed i low count start (w + 1) w terms c s.is (λ n from below. s.raised n from) (omega (arith, above, low_of)) (omega arith)))
+      (λ w low_of up. missed None s (w + 1) w (λ n from below. s.raised n from) (omega (arith, above, low_of)) (omega arith)))
       in
       let none = ap length (none_pass (stand_near_here slop parts) (drop i starts) fails) in
       let left = c.left in

@@ -60,7 +60,7 @@ fn count_here<P: Postings>(
     let _doc = first.doc();
     let _most = first.most_positions();
     let mut count = 0;
-    let mut low = 0;
+    let mut low: u64 = 0;
     while let Some(start) = first.next_position() {
         let end = u64::from(start) + BEFORE_TEXT;
         let least = low.max(end - u64::from(slop));

@@ -16,7 +16,7 @@ in_slop_zero place n = grind (arith, nat_tests)
 near_zero : (ts : List IndexToken) (doc : ℕ) (term : TermState) (place : ℕ) → stands_near 0 0 ts doc term place ≡ stands_at ts doc term place
 near_zero ts doc term place = ap (λ (test : ℕ → Bool). is_text_key term ts && list_any (λ (t : IndexToken). is_token_of term doc t && test t.position) ts) (λ i n. in_slop_zero place n i)
 
-follow_zero : (ts : List IndexToken) (doc : ℕ) (others : List PhraseTerm) (start : ℕ) → follow_near 0 ts doc others start ≡ follow ts doc others start
+pub follow_zero : (ts : List IndexToken) (doc : ℕ) (others : List PhraseTerm) (start : ℕ) → follow_near 0 ts doc others start ≡ follow ts doc others start
 follow_zero ts doc others start =
     or-false (list_all (λ (o : PhraseTerm). stands_near 0 0 ts doc o.term (start + o.distance)) others)
     ∙ ap (λ (test : TermState → ℕ → Bool). list_all (λ (o : PhraseTerm). test o.term (start + o.distance)) others) (λ i term place. near_zero ts doc term place i)
