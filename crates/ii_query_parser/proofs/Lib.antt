@@ -8,6 +8,7 @@ pub mod RangeTextLemmas
 pub mod SetLemmas
 pub mod SetRows
 pub mod SlopLemmas
+pub mod SlopRows
 pub mod TermLemmas
 mod TokenizerRows
 pub mod TreeLemmas

@@ -1,5 +1,5 @@
--- Phrases within a slop of 0.
-use Rattle.std.proofs.Common.{◌≡◌, ◌∙◌, ℕ, ◌+◌, Bool, ◌&&◌, List, refl, ap, arith}
+-- Phrases within a slop.
+use Rattle.std.proofs.Common.{◌≡◌, ◌∙◌, ℕ, ◌+◌, Bool, ◌&&◌, List, [], ◌∷◌, refl, ap, arith}
 use Rattle.std.specs.Prelude.{nat_eq}
 use Rattle.std.specs.List.{list_all, list_any}
 use Rattle.std.proofs.Math.Bool.{or-false}
@@ -7,6 +7,7 @@ use Rattle.std.proofs.lemmas.Bool.Decides.{nat_tests}
 use Rattle.ii_base.specs.Terms.{TermState}
 use Rattle.ii_definitions.specs.Tokens.{IndexToken}
 use Rattle.ii_query_parser.specs.declared.query.PhraseTerm.{PhraseTerm}
+use Rattle.ii_query_parser.specs.QueryTexts.{has_words, has_words_within}
 use Rattle.ii_query_parser.specs.Queries.{follow, follow_near, has_phrase, has_phrase_within, is_in_slop, is_text_key, is_token_of, stands_at, stands_near}
 
 -- with slop 0 a term is at its very place
@@ -24,3 +25,8 @@ follow_zero ts doc others start =
 -- a phrase within a slop of 0 is the phrase
 pub phrase_within_zero : (ts : List IndexToken) (doc : ℕ) (first : TermState) (others : List PhraseTerm) → has_phrase_within 0 ts doc first others ≡ has_phrase ts doc first others
 phrase_within_zero ts doc first others = ap (λ (test : ℕ → Bool). is_text_key first ts && list_any (λ (t : IndexToken). is_token_of first doc t && test t.position) ts) (λ i start. follow_zero ts doc others start i)
+
+-- the same of a term or a phrase
+pub words_within_zero : (ts : List IndexToken) (doc : ℕ) (first : TermState) (others : List PhraseTerm) → has_words_within 0 ts doc first others ≡ has_words ts doc first others
+words_within_zero ts doc first [] = refl
+words_within_zero ts doc first (o ∷ os) = phrase_within_zero ts doc first (o ∷ os)
