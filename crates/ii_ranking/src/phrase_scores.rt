@@ -1,19 +1,15 @@
 //! The scores of the documents that have a phrase.
-ghost use Rattle.std.specs.Prelude.{◌≡◌, ◌<◌, ◌≤◌, ◌+◌, ◌∷◌, ◌++◌, [], ℕ, List, Option, Some, None, IfOk, IfErr, OnOk, filter, length, map, true, nat_lt};
-ghost use Rattle.std.specs.List.{list_all};
-ghost use Rattle.std.specs.List.Sorted.{IsNonDecreasing};
+ghost use Rattle.std.specs.Prelude.{◌≡◌, ◌<◌, ◌∷◌, ℕ, List, Option, None, IfOk, IfErr, OnOk, length, map, true, nat_lt};
+ghost use Rattle.std.specs.List.{AllByRecursion, list_all};
 ghost use Rattle.std.specs.Option.{option_map};
-ghost use Rattle.ii_io.specs.Faults.{OnlyMemory};
 ghost use Rattle.ii_io.specs.Composite.{body_of};
 ghost use Rattle.ii_base.specs.declared.schema.index_record_option.IndexRecordOption.TheVariants.{WithFreqsAndPositions};
-ghost use Rattle.ii_docset.specs.Cursor.{IsCurrent, IsSound, doc_at, from_doc, positions_at};
 ghost use Rattle.ii_bm25.specs.Bm25.{bm25_score, bm25_weight};
 ghost use Rattle.ii_bm25.specs.Statistics.{Statistics, idfs_of};
 ghost use Rattle.ii_fieldnorm.specs.Readers.{norms_of_ids};
-ghost use Rattle.ii_query.specs.Phrase.{has_position, is_among, stand_from};
-ghost use Rattle.ii_search.specs.Found.{docs_of_term};
+ghost use Rattle.ii_query.specs.Phrase.{IsUnread, parts_in};
 ghost use Rattle.ii_ranking.specs.Combinations.{Adds};
-ghost use Rattle.ii_ranking.specs.Scores.{AreFrom, IsScoreFault, damage_of, if_occurs, norm_id_in, norms_damage, num_starts, parts_damage, parts_of, phrase_count, phrase_damage, phrase_score, scored_in};
+ghost use Rattle.ii_ranking.specs.Scores.{IsScoreFault, if_occurs, norm_id_in, norms_damage, parts_damage, parts_of, phrase_count, phrase_damage, phrase_score, scored_in};
 
 use crate::combination::add_at;
 use crate::term_scores::{goes_to, norm_id, norms_of};
@@ -127,11 +123,15 @@ fn phrase_parts(
 {
     let mut parts = Vec::new(alloc);
     for other in others {
-        let cursor = postings_of(index, &other.term, IndexRecordOption::WithFreqsAndPositions);
-        match cursor {
-            Ok(postings) => parts.push(PhrasePart::new(other.distance, postings))?,
+        let cursor = match postings_of(
+            index,
+            &other.term,
+            IndexRecordOption::WithFreqsAndPositions,
+        ) {
+            Ok(cursor) => cursor,
             Err(fault) => return Err(fault),
-        }
+        };
+        parts.push(PhrasePart::new(other.distance, cursor))?;
     }
     Ok(parts)
 }
