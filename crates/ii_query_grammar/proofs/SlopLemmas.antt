@@ -1,6 +1,5 @@
 -- The slop of a phrase, as a number that is read and written.
-use Rattle.std.proofs.Common.{◌≡◌, ◌∙◌, ap, sym, decimal, ℕ, zero, suc, ◌<◌, ◌^◌, Bool, true, false, ◌&&◌, ◌||◌, ◌==◌, not, nat_lt, List, [], ◌∷◌, ◌++◌, length, Option, None, Some, Result, Ok, Err, cond, drop, take, refl, arith, eqb}
-use Rattle.std.specs.Prelude.{slice_index}
+use Rattle.std.proofs.Common.{◌≡◌, ◌∙◌, ap, decimal, ℕ, suc, ◌<◌, ◌^◌, Bool, true, false, ◌&&◌, ◌||◌, ◌==◌, not, nat_lt, List, [], ◌∷◌, ◌++◌, length, None, Some, Result, Ok, Err, cond, drop, take, refl, arith}
 use Rattle.std.specs.Char.{is_ascii_digit}
 use Rattle.std.specs.Result.{OkIff, result_ok}
 use Rattle.std.specs.Str.{all_ascii_digits}
@@ -10,7 +9,7 @@ use Rattle.std.proofs.lemmas.Fmt.{decimal_is_IsNumeral}
 use Rattle.std.proofs.lemmas.List.{drop_at, take_at}
 use Rattle.std.proofs.lemmas.Str.Parse.{IsNumeralModel, numerals_by_value, tells_all_ascii_digits}
 use Rattle.ii_query_grammar.specs.declared.cut.Stop.TheVariants as stops
-use Rattle.ii_query_grammar.specs.Lexemes.{before_stop, begins, ends_word, from_stop, is_empty, is_space, place_of, slop_of, stops_at}
+use Rattle.ii_query_grammar.specs.Lexemes.{before_stop, begins, ends_word, from_stop, is_empty, is_space, place_of, slop_of}
 use Rattle.ii_query_grammar.proofs.CutLemmas.{place_case}
 use Rattle.ii_query_grammar.proofs.EscapeLemmas.{differs}
 
