@@ -10,7 +10,7 @@ use Rattle.std.proofs.lemmas.Option.{get_or_from_slice_get, slice_get_within}
 use Rattle.ii_base.specs.declared.doc_id.TheConstants.{TERMINATED}
 use Rattle.ii_docset.specs.Cursor.{position_before}
 use Rattle.ii_query.specs.declared.phrase.TheConstants.{BEFORE_TEXT}
-use Rattle.ii_query.specs.Phrase.{IsAtDoc, IsUnread, MeetsAt, PhrasePartState, PhraseTermState, parts_have, parts_in, parts_pass}
+use Rattle.ii_query.specs.Phrase.{IsUnread, MeetsAt, PhrasePartState, PhraseTermState, parts_have, parts_in, parts_pass}
 use Rattle.ii_query.specs.SloppyPhrase.{IsRaisedTo, are_in_window, is_near, stand_near, stand_near_here, ways_back}
 use Rattle.ii_query.proofs.PhraseLemmas.{any_alike, any_none, pass_at}
 use Rattle.ii_query.proofs.PieceLemmas.{after_next, all_passed, before_next, none_after}
