@@ -7,7 +7,7 @@ use Rattle.std.proofs.lemmas.Bool.{cases_lt, eq-eqb, ne_eqb}
 use Rattle.std.proofs.lemmas.Bool.Decides.{eqb_tells, leb_tells}
 use Rattle.ii_base.specs.declared.doc_id.TheConstants.{TERMINATED}
 use Rattle.ii_base.specs.Entries.{Entry, docs_of, document}
-use Rattle.ii_docset.specs.Cursor.{IsAscending, IsCurrent, IsSound, IsTarget, doc_at, from_doc, positions_at}
+use Rattle.ii_docset.specs.Cursor.{IsAscending, IsCurrent, IsSound, doc_at, from_doc, positions_at}
 use Rattle.ii_docset.proofs.CursorLemmas.{doc_below, from_doc_here, ascending_sound}
 use Rattle.ii_docset.specs.Intersection.{has_doc}
 use Rattle.ii_query.specs.Combined.{IsAtFirst}
@@ -93,7 +93,7 @@ pub any_alike : (f g : ℕ → Bool) (ps : List ℕ) → ((p : ℕ) → f p ≡ 
 any_alike f g [] same = refl
 any_alike f g (p ∷ ps) same = rw (same p, any_alike f g ps same) refl
 
-any_none : (f : ℕ → Bool) (ps : List ℕ) → ((p : ℕ) → f p ≡ false) → list_any f ps ≡ false
+pub any_none : (f : ℕ → Bool) (ps : List ℕ) → ((p : ℕ) → f p ≡ false) → list_any f ps ≡ false
 any_none f [] none = refl
 any_none f (p ∷ ps) none = rw (none p) (any_none f ps none)
 
@@ -131,7 +131,7 @@ pub has_here : (doc position : ℕ) (es : List Entry) → IsAscending es → doc
 has_here doc position es ascend here low = positions_here (λ (ps : List ℕ). is_among ps position) doc es ascend here low
 
 -- the other terms pass a test, given that all are at the document
-pass_at : (test : ℕ → List ℕ → Bool) (others : List PhrasePartState) (doc : ℕ) → AllByRecursion (IsAtDoc doc) others → doc < TERMINATED → parts_pass test others ≡ parts_have test others doc
+pub pass_at : (test : ℕ → List ℕ → Bool) (others : List PhrasePartState) (doc : ℕ) → AllByRecursion (IsAtDoc doc) others → doc < TERMINATED → parts_pass test others ≡ parts_have test others doc
 pass_at test [] doc at low = refl
 pass_at test (p ∷ ps) doc at low = rw (positions_here (test p.distance) doc p.rest at.0.sound.ascending at.0.here low, pass_at test ps doc at.1 low) refl
 

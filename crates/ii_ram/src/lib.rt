@@ -33,7 +33,7 @@ pub use ii_docset::{
     SeekDangerResult, SeekOnce, TERMINATED, Walk, intersect, walk,
 };
 pub use ii_query::{
-    AllDocs, Exclude, Intersection, PhraseMatch, PhrasePart, SloppyPhraseMatch, Union,
+    AllDocs, Exclude, Intersection, PhraseMatch, PhrasePart, SloppyPhraseMatch, Union, count_starts,
 };
 pub use ii_reader::{BlockSegmentPostings, FreqReadingOption, LoadedPostings, SegmentPostings};
 

@@ -88,8 +88,8 @@ enum Put {
     Or(&'static [Asked]),
     // the first without any of the others
     Without(&'static [Asked]),
-    // the first, and the other word this many positions after it
-    Phrase(u32, Asked),
+    // the first, and the other word this many positions after it, within a slop
+    Phrase(u32, u32, Asked),
 }
 
 fn term(alloc: Global, word: &Asked) -> Result<Term, Fault> {
@@ -116,17 +116,23 @@ fn any(alloc: Global, listed: &[Asked]) -> Result<Query, Fault> {
     Ok(Query::or_any(words(alloc, listed)?))
 }
 
-fn phrase(alloc: Global, first: &Asked, distance: u32, other: &Asked) -> Result<Query, Fault> {
+fn phrase(
+    alloc: Global,
+    first: &Asked,
+    distance: u32,
+    slop: u32,
+    other: &Asked,
+) -> Result<Query, Fault> {
     let (start, term) = (term(alloc, first)?, term(alloc, other)?);
     let mut others = Vec::new(alloc);
     others.push(PhraseTerm { distance, term })?;
-    Ok(Query::Phrase(start, others))
+    Ok(Query::Phrase(start, others, slop))
 }
 
 // Combines the query of a word with others.
 fn query_of(alloc: Global, first: &Asked, others: &Put) -> Result<Query, Fault> {
-    if let Put::Phrase(distance, other) = others {
-        return phrase(alloc, first, *distance, other);
+    if let Put::Phrase(distance, slop, other) = others {
+        return phrase(alloc, first, *distance, *slop, other);
     }
     let one = word(alloc, first)?;
     match others {
@@ -134,11 +140,11 @@ fn query_of(alloc: Global, first: &Asked, others: &Put) -> Result<Query, Fault> 
         Put::And(listed) => Query::and(alloc, one, any(alloc, listed)?),
         Put::Or(listed) => Query::or(alloc, one, any(alloc, listed)?),
         Put::Without(listed) => Query::and_not(alloc, one, any(alloc, listed)?),
-        Put::Phrase(_, _) => Ok(one),
+        Put::Phrase(_, _, _) => Ok(one),
     }
 }
 
-static QUERIES: [(Asked, Put, &str); 28] = [
+static QUERIES: [(Asked, Put, &str); 32] = [
     // words
     ((0, "a"), Put::All(&[]), "0,1,4,3 in all"),
     ((0, "b"), Put::All(&[]), "0,2,4,3 in all"),
@@ -169,10 +175,15 @@ static QUERIES: [(Asked, Put, &str); 28] = [
     ((0, "a"), Put::Or(&[]), "0,1,4,3 in all"),
     ((0, "a"), Put::Without(&[]), "0,1,4,3 in all"),
     // phrases
-    ((0, "a"), Put::Phrase(1, (0, "b")), "0,4,2 in all"),
-    ((0, "b"), Put::Phrase(1, (0, "a")), "0 in all"),
-    ((0, "a"), Put::Phrase(2, (0, "c")), "0,1 in all"),
-    ((0, "a"), Put::Phrase(0, (1, "x")), "0,4,2 in all"),
+    ((0, "a"), Put::Phrase(1, 0, (0, "b")), "0,4,2 in all"),
+    ((0, "b"), Put::Phrase(1, 0, (0, "a")), "0 in all"),
+    ((0, "a"), Put::Phrase(2, 0, (0, "c")), "0,1 in all"),
+    ((0, "a"), Put::Phrase(0, 0, (1, "x")), "0,4,2 in all"),
+    // a word between, and words that are exchanged
+    ((0, "a"), Put::Phrase(1, 0, (0, "c")), "1,1 in all"),
+    ((0, "a"), Put::Phrase(1, 1, (0, "c")), "0,1,2 in all"),
+    ((0, "b"), Put::Phrase(1, 1, (0, "a")), "0 in all"),
+    ((0, "b"), Put::Phrase(1, 2, (0, "a")), "0,4,2 in all"),
 ];
 
 #[test]

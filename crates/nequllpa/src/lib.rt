@@ -32,7 +32,7 @@ pub use ii_ram::{
     AliveBitSet, AllDocs, BlockSegmentPostings, COLLECT_BLOCK_BUFFER_LEN, CursorAnswer, CursorCall,
     DocId, DocSet, Exclude, FreqReadingOption, Intersection, Lent, LoadedPostings, PhraseMatch,
     PhrasePart, Postings, SeekDangerResult, SeekOnce, SegmentPostings, SloppyPhraseMatch,
-    TERMINATED, Union, Walk, intersect, walk,
+    TERMINATED, Union, Walk, count_starts, intersect, walk,
 };
 
 // how an index is searched
