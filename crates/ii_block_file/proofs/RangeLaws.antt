@@ -7,7 +7,7 @@ use Rattle.std.proofs.lemmas.Bool.Decides.{nat_tests}
 use Rattle.std.proofs.lemmas.List.{drop-drop, drop-take, length-drop, length-take-le, take_all, take_at}
 use Rattle.std.proofs.Math.Seq.{take-add}
 use Rattle.ii_store.specs.FileDigest.{block_checksum}
-use Rattle.ii_block_file.specs.BlockTable.{AreListed, BlockTableState, IsRange, IsReadFault, block_at, is_listed, num_blocks, table_of}
+use Rattle.ii_block_file.specs.BlockTable.{AreListed, BlockTableState, IsRange, IsReadFault, file_block, lists_checksum, num_file_blocks, block_table_of}
 use Rattle.ii_block_file.proofs.TableLaws.{own_block}
 use Rattle.ii_block_file.specs.declared.faults.ReadFault.{ReadFault}
 use Rattle.ii_block_file.specs.declared.faults.ReadFault.TheVariants as faults
@@ -31,7 +31,7 @@ cut_out file start skipped len long within =
     ap (λ n. take len (drop skipped (take n rest))) parts ∙ ap (take len) (drop-take skipped more rest) ∙ shorter len more (drop skipped rest) (omega (arith, within)) ∙ ap (take len) (drop-drop skipped start file)
 
 -- a block of a file, cut out of blocks that begin with one before it
-pub block_of_range : (file : List ℕ) (first k blocks long : ℕ) → first ≤ k → k < first + blocks → long ≡ min (blocks * 65536) (length file - first * 65536) → k * 65536 < length file → block_at (k - first) (take long (drop (first * 65536) file)) ≡ block_at k file
+pub block_of_range : (file : List ℕ) (first k blocks long : ℕ) → first ≤ k → k < first + blocks → long ≡ min (blocks * 65536) (length file - first * 65536) → k * 65536 < length file → file_block (k - first) (take long (drop (first * 65536) file)) ≡ file_block k file
 block_of_range file first k blocks long from within least inside =
     let at : first * 65536 + (k - first) * 65536 ≡ k * 65536 = omega (arith, from) in
     let rest = drop (first * 65536) file in
@@ -76,7 +76,7 @@ pub told : (source : Option (List ℕ)) (P : List ℕ → Type 0) → ((file : L
 told None P each = tt
 told (Some file) P each = each file refl
 
-module _ (file : List ℕ) (t : BlockTableState) (own : t ≡ table_of file) where
+module _ (file : List ℕ) (t : BlockTableState) (own : t ≡ block_table_of file) where
   len_is : t.len ≡ length file
   len_is = ap (λ (u : BlockTableState). u.len) own
 
@@ -85,7 +85,7 @@ module _ (file : List ℕ) (t : BlockTableState) (own : t ≡ table_of file) whe
   no_fault faults.Range fault = absurd (omega (arith, fault))
   no_fault (faults.Refused kind) fault = absurd (omega (arith, fault, len_is))
   no_fault (faults.Damaged k) fault =
-      let listed : is_listed t k (block_at k file) ≡ true = ap (λ u. is_listed u k (block_at k file)) own ∙ own_block file k (omega (arith, fault.0, len_is)) in
+      let listed : lists_checksum t k (file_block k file) ≡ true = ap (λ u. lists_checksum u k (file_block k file)) own ∙ own_block file k (omega (arith, fault.0, len_is)) in
       absurd (true≢false (sym listed ∙ fault.1 (sym len_is)))
 
   -- a file with its own table isn't found damaged
@@ -94,8 +94,8 @@ module _ (file : List ℕ) (t : BlockTableState) (own : t ≡ table_of file) whe
 
 -- a block that isn't listed is damaged in the file, if the blocks were read from it
 pub is_damaged : (t : BlockTableState) (source : Option (List ℕ)) (first k blocks : ℕ) (read : List ℕ) → ((file : List ℕ) → source ≡ Some file → length file ≡ t.len → read ≡ take (length read) (drop (first * 65536) file))
-    → length read ≡ min (blocks * 65536) (t.len - first * 65536) → first ≤ k → k < first + num_blocks (length read) → is_listed t k (block_at (k - first) read) ≡ false
-    → IfSome source (λ file. length file ≡ t.len → is_listed t k (block_at k file) ≡ false)
+    → length read ≡ min (blocks * 65536) (t.len - first * 65536) → first ≤ k → k < first + num_file_blocks (length read) → lists_checksum t k (file_block (k - first) read) ≡ false
+    → IfSome source (λ file. length file ≡ t.len → lists_checksum t k (file_block k file) ≡ false)
 is_damaged t source first k blocks read exact long from within other = told source _ (λ file known same.
-    let same_block = ap (block_at (k - first)) (exact file known same) ∙ block_of_range file first k blocks (length read) from (omega (arith, long, within)) (long ∙ ap (λ n. min (blocks * 65536) (n - first * 65536)) (sym same)) (omega (arith, long, within, from, same)) in
-    ap (is_listed t k) (sym same_block) ∙ other)
+    let same_block = ap (file_block (k - first)) (exact file known same) ∙ block_of_range file first k blocks (length read) from (omega (arith, long, within)) (long ∙ ap (λ n. min (blocks * 65536) (n - first * 65536)) (sym same)) (omega (arith, long, within, from, same)) in
+    ap (lists_checksum t k) (sym same_block) ∙ other)

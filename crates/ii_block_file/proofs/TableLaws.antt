@@ -11,16 +11,16 @@ use Rattle.std.proofs.Math.Seq.{drop-append-add}
 use Rattle.sha2.specs.Sha256.{sha256}
 use Rattle.ii_store.specs.FileDigest.{block_checksum, blocks, blocks_digest, checksum_bytes}
 use Rattle.ii_store.specs.declared.file_digest.FileDigest.TheVariants as digests
-use Rattle.ii_block_file.specs.BlockTable.{block_at, is_listed, is_table, num_blocks, table_of}
+use Rattle.ii_block_file.specs.BlockTable.{file_block, lists_checksum, is_table, num_file_blocks, block_table_of}
 
 -- std's rounded quotient is the number of blocks
-pub blocks_divide : (n : ℕ) → div_ceil n 65536 ≡ num_blocks n
+pub blocks_divide : (n : ℕ) → div_ceil n 65536 ≡ num_file_blocks n
 blocks_divide n =
     let (most, least) = div_ceil_times n 65536 (search rules) in
     omega (arith, most, least)
 
 -- a block, cut out as the program does
-pub block_is : (k n : ℕ) (file : List ℕ) → n ≡ min 65536 (length file - k * 65536) → take (k * 65536 + n - k * 65536) (drop (k * 65536) file) ≡ block_at k file
+pub block_is : (k n : ℕ) (file : List ℕ) → n ≡ min 65536 (length file - k * 65536) → take (k * 65536 + n - k * 65536) (drop (k * 65536) file) ≡ file_block k file
 block_is k n file least =
     let rest = drop (k * 65536) file in
     let all : k * 65536 + n - k * 65536 ≡ n = omega arith in
@@ -52,21 +52,21 @@ same_bytes : (a b : List ℕ) → a ≡ b → bytes_eq a b ≡ true
 same_bytes a b = (bytes_eq-Decides a b).1
 
 -- a file has the checksums of its own table
-pub own_block : (file : List ℕ) (k : ℕ) → k < num_blocks (length file) → is_listed (table_of file) k (block_at k file) ≡ true
+pub own_block : (file : List ℕ) (k : ℕ) → k < num_file_blocks (length file) → lists_checksum (block_table_of file) k (file_block k file) ≡ true
 own_block file k inside =
-    let n = num_blocks (length file) in
-    let at = λ (j : ℕ). block_at j file in
+    let n = num_file_blocks (length file) in
+    let at = λ (j : ℕ). file_block j file in
     let here = checksum_here (blocks 65536 file) k [] (omega (arith, inside, length-map-range_with_len at 0 n)) in
-    let block : get_or (blocks 65536 file) k [] ≡ block_at k file = get_or-map-range_with_len at 0 n k k [] inside (omega arith) in
+    let block : get_or (blocks 65536 file) k [] ≡ file_block k file = get_or-map-range_with_len at 0 n k k [] inside (omega arith) in
     same_bytes _ _ (here ∙ ap (λ b. to_le_bytes w64 (block_checksum b)) block)
 
 equal_is : (a b : ℕ) → a ≡ b → (a == b) ≡ true
 equal_is a b e = grind (arith, nat_tests)
 
 -- a file's table is the one that its digest is of
-pub own_table : (file : List ℕ) → is_table (length file) (digests.Blocks (blocks_digest file)) (table_of file).bytes ≡ true
+pub own_table : (file : List ℕ) → is_table (length file) (digests.Blocks (blocks_digest file)) (block_table_of file).bytes ≡ true
 unfolding blocks_digest
 own_table file =
-    let bytes = (table_of file).bytes in
-    let n = num_blocks (length file) in
-    ap (λ b. b && bytes_eq (sha256 bytes) (sha256 bytes)) (equal_is (length bytes) (8 * n) (num_bytes (λ k. block_at k file) n)) ∙ same_bytes (sha256 bytes) (sha256 bytes) refl
+    let bytes = (block_table_of file).bytes in
+    let n = num_file_blocks (length file) in
+    ap (λ b. b && bytes_eq (sha256 bytes) (sha256 bytes)) (equal_is (length bytes) (8 * n) (num_bytes (λ k. file_block k file) n)) ∙ same_bytes (sha256 bytes) (sha256 bytes) refl

@@ -1,6 +1,6 @@
 //! A file that is read by ranges, each of which is checked.
 ghost use Rattle.std.specs.Prelude.{◌≡◌, ◌<◌, ◌≤◌, ◌+◌, ◌-◌, ◌*◌, List, IfErr, IfOk, Some, drop, length, min, take, ℕ};
-ghost use Rattle.ii_block_file.specs.BlockTable.{AreListed, IsRange, IsReadFault, num_blocks, table_of};
+ghost use Rattle.ii_block_file.specs.BlockTable.{AreListed, IsRange, IsReadFault, num_file_blocks, block_table_of};
 ghost use Rattle.ii_block_file.specs.declared.faults.ReadFault.TheVariants as faults;
 
 use crate::block_table::BlockTable;
@@ -45,7 +45,7 @@ impl<R: ReadAt> BlockFile<R> {
     pub fn read(&self, alloc: Global, from: u64, len: usize) -> Result<Bytes, ReadFault>
         ensures checked { IfOk result (λ bytes. IsRange self.now.table from len bytes) }
         ensures exact { (file : List ℕ) → R.bytes self.now.source ≡ Some file → length file ≡ self.now.table.len → IfOk result (λ bytes. bytes ≡ take len (drop from file)) }
-        ensures sound { (file : List ℕ) → R.bytes self.now.source ≡ Some file → self.now.table ≡ table_of file → from + len ≤ length file → IfErr result (λ e. e ≡ faults.OutOfMemory) }
+        ensures sound { (file : List ℕ) → R.bytes self.now.source ≡ Some file → self.now.table ≡ block_table_of file → from + len ≤ length file → IfErr result (λ e. e ≡ faults.OutOfMemory) }
         ensures fault { IfErr result (IsReadFault self.now.table (R.bytes self.now.source) from len) }
     {
         if from > self.table.len() || len as u64 > self.table.len() - from {
@@ -67,7 +67,7 @@ impl<R: ReadAt> BlockFile<R> {
     // Returns the blocks from `first` to `last`, if they have their checksums.
     fn read_blocks(&self, alloc: Global, first: u64, last: u64) -> Result<Bytes, ReadFault>
         requires order { first ≤ last }
-        requires within { last < num_blocks self.now.table.len }
+        requires within { last < num_file_blocks self.now.table.len }
         ensures listed { IfOk result (λ bytes. AreListed self.now.table first bytes) }
         ensures long { IfOk result (λ bytes. length bytes ≡ min ((last + 1) * 65536) self.now.table.len - first * 65536) }
         ensures exact { (file : List ℕ) → R.bytes self.now.source ≡ Some file → length file ≡ self.now.table.len → IfOk result (λ bytes. bytes ≡ take (length bytes) (drop (first * 65536) file)) }

@@ -1,6 +1,6 @@
 //! The checksums of a file's blocks, in a table that has the file's digest.
 ghost use Rattle.std.specs.Prelude.{◌≡◌, ◌<◌, ◌≤◌, ◌+◌, ◌-◌, ◌*◌, IfOk, IfSome, None, false, length, true};
-ghost use Rattle.ii_block_file.specs.BlockTable.{AreListed, block_at, is_listed, is_table, num_blocks, table_of};
+ghost use Rattle.ii_block_file.specs.BlockTable.{AreListed, file_block, lists_checksum, is_table, num_file_blocks, block_table_of};
 
 use ii_store::FileDigest;
 use ii_store::file_digest::{BLOCK_LEN, checksum_of};
@@ -17,23 +17,23 @@ pub struct BlockTable {
 
 impl Model for BlockTable {
     ghost use Rattle.std.specs.Prelude.{◌≡◌, ◌*◌, length};
-    ghost use Rattle.ii_block_file.specs.BlockTable.{BlockTableState, num_blocks};
+    ghost use Rattle.ii_block_file.specs.BlockTable.{BlockTableState, num_file_blocks};
 
     ghost Value = { BlockTableState };
 
     ghost view = { λ t. record { len = t.len; bytes = t.bytes.items } };
 
-    ghost invariant = { λ t. length t.bytes.items ≡ 8 * num_blocks t.len };
+    ghost invariant = { λ t. length t.bytes.items ≡ 8 * num_file_blocks t.len };
 }
 
 impl BlockTable {
     /// Returns the table of a file with these bytes.
     pub fn of(alloc: Global, file: &[u8]) -> Result<BlockTable, AllocError>
-        ensures { IfOk result (λ t. t ≡ table_of file.now) }
+        ensures { IfOk result (λ t. t ≡ block_table_of file.now) }
     {
         let mut bytes = Vec::new(alloc);
         for place in 0..file.len().div_ceil(BLOCK_LEN) {
-            let checksum = checksum_of(block_at(file, place)).to_le_bytes();
+            let checksum = checksum_of(file_block(file, place)).to_le_bytes();
             bytes.extend_from_slice(&checksum)?;
         }
         Ok(BlockTable {
@@ -72,15 +72,15 @@ impl BlockTable {
 
     // Returns the first block, of these from one on, that has another checksum than the table lists.
     pub(crate) fn first_damage(&self, first: u64, bytes: &[u8]) -> Option<u64>
-        requires { first + num_blocks (length bytes.now) ≤ num_blocks self.now.len }
+        requires { first + num_file_blocks (length bytes.now) ≤ num_file_blocks self.now.len }
         ensures none { result ≡ None → AreListed self.now first bytes.now }
-        ensures some { IfSome result (λ k. (first ≤ k) × (k < first + num_blocks (length bytes.now)) × (is_listed self.now k (block_at (k - first) bytes.now) ≡ false)) }
+        ensures some { IfSome result (λ k. (first ≤ k) × (k < first + num_file_blocks (length bytes.now)) × (lists_checksum self.now k (file_block (k - first) bytes.now) ≡ false)) }
     {
         // that there are fewer than 2^64 blocks, for the proof
         let _table = self.bytes.len();
         for place in 0..bytes.len().div_ceil(BLOCK_LEN) {
             let block_id = first + place as u64;
-            if !self.lists(block_id, block_at(bytes, place)) {
+            if !self.lists(block_id, file_block(bytes, place)) {
                 return Some(block_id);
             }
         }
@@ -89,8 +89,8 @@ impl BlockTable {
 
     // Returns whether the table lists the checksum of a block.
     fn lists(&self, block_id: u64, block: &[u8]) -> bool
-        requires { block_id < num_blocks self.now.len }
-        ensures { result ≡ is_listed self.now block_id block.now }
+        requires { block_id < num_file_blocks self.now.len }
+        ensures { result ≡ lists_checksum self.now block_id block.now }
     {
         let table = self.bytes.as_slice();
         let from = 8 * block_id as usize;
@@ -114,9 +114,9 @@ fn is_table(len: u64, digest: &FileDigest, bytes: &[u8]) -> bool
 }
 
 // Returns a block of a file.
-fn block_at(file: &[u8], place: usize) -> &[u8]
-    requires { place < num_blocks (length file.now) }
-    ensures { result.now ≡ block_at place file.now }
+fn file_block(file: &[u8], place: usize) -> &[u8]
+    requires { place < num_file_blocks (length file.now) }
+    ensures { result.now ≡ file_block place file.now }
 {
     let from = place * BLOCK_LEN;
     let len = BLOCK_LEN.min(file.len() - from);

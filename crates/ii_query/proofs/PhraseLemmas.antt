@@ -107,18 +107,12 @@ positions_from test target doc (e ∷ es) up =
       | inr h ↦ rw (h.0, ne_eqb e.doc doc (λ same. omega (arith, h.1, same))) later
     ]
 
-pub has_from : (target doc position : ℕ) (es : List Entry) → target ≤ doc → has_position (from_doc target es) doc position ≡ has_position es doc position
-has_from target doc position es up = positions_from (λ (ps : List ℕ). is_among ps position) target doc es up
-
 -- below its first document it has none
 pub positions_below : (test : List ℕ → Bool) (doc : ℕ) (es : List Entry) → IsAscending es → doc < doc_at es → has_positions test es doc ≡ false
 positions_below test doc [] ascend low = refl
 positions_below test doc (e ∷ es) ascend low =
     let first = ascend.0 in
     rw (ne_eqb e.doc doc (λ same. omega (arith, low, same))) (positions_below test doc es ascend.1 (omega (arith, low, first)))
-
-pub has_below : (doc position : ℕ) (es : List Entry) → IsAscending es → doc < doc_at es → has_position es doc position ≡ false
-has_below doc position es ascend low = positions_below (λ (ps : List ℕ). is_among ps position) doc es ascend low
 
 -- at its first document it has those of its entry
 positions_here : (test : List ℕ → Bool) (doc : ℕ) (es : List Entry) → IsAscending es → doc_at es ≡ doc → doc < TERMINATED → has_positions test es doc ≡ test (positions_at es)
@@ -205,7 +199,3 @@ begins_has test doc (e ∷ es) = by (list_any (test e.doc) e.positions) refl (be
       | inl h ↦ rw (is, h.0, subst (λ (d : ℕ). list_any (test d) e.positions ≡ false) h.1 is) later
       | inr h ↦ rw (is, h.0) later
     ]
-
--- a document has a phrase exactly where its entry has
-pub phrase_has : (doc : ℕ) (es : List Entry) (others : List PhrasePartState) → has_doc (phrase_docs es others) doc ≡ list_any (λ (e : Entry). nat_eq e.doc doc && list_any (stand_from others doc) e.positions) es
-phrase_has doc es others = begins_has (stand_from others) doc es

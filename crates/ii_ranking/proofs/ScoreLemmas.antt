@@ -76,8 +76,3 @@ pub phrase_same : (index : OpenIndexState) (st : Statistics) (first : TermState)
     → w ≡ bm25_weight (idfs_of st (first ∷ map (λ (o : PhraseTerm). o.term) others)) st.num_docs (st.num_tokens first.field)
     → (doc : ℕ) → if_occurs (bm25_score w (norm_id_in (body_of first.field index.fieldnorms) doc)) (phrase_count slop es parts doc) ≡ phrase_score (scored_in index st) first others slop doc
 phrase_same index st first others slop es parts w listed parts_are made doc = rw (listed, made, parts_are) refl
-
--- an allocation failure is always a cause
-pub memory_first : {A : Type 0} (damage : Option Part) (r : Result A Fault) → OnlyMemory r → IfErr r (IsScoreFault damage)
-memory_first damage (Ok x) only = tt
-memory_first damage (Err fault) only = inl only
