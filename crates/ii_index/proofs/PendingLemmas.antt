@@ -233,7 +233,7 @@ abbrev calls_in : Result (List Call) Refusal → List Call
 calls_in (Ok cs) = cs
 calls_in (Err refusal) = []
 
-module _ (s : TextSchemaState) (d : DocumentsState) (cs : List Call) (line : List ℕ) (below : AllByRecursion (λ (c : Call). c.doc < d.num_docs) d.calls)
+module _ (s : TextSchemaState) (d : DocumentsState) (cs : List Call) (line : List ℕ) (lines : Option (List (List ℕ))) (below : AllByRecursion (λ (c : Call). c.doc < d.num_docs) d.calls)
     (are : line_calls_by s.unknown_keys floats.Refuse s.schema d.num_docs line ≡ Ok cs) where
   abbrev words : ℕ → List ℕ → List Word
   words = analyzed_in s.tokenizers
@@ -249,7 +249,7 @@ module _ (s : TextSchemaState) (d : DocumentsState) (cs : List Call) (line : Lis
   tokens_under k = ap (tokens_if words) (renumbered floats.Refuse k d.num_docs s.unknown_keys s.schema line ∙ ap (all_of_doc k) are)
 
   abbrev grown : DocumentsState
-  grown = with_document d cs line
+  grown = with_document d cs line lines
 
   all_below : AllByRecursion (λ (c : Call). c.doc < grown.num_docs) grown.calls
   all_below = subst (λ (xs : List Call). AllByRecursion (λ (c : Call). c.doc < d.num_docs + 1) (d.calls ++ xs)) own_calls (docs_with d.num_docs d.calls cs below)
@@ -292,7 +292,7 @@ calls_below entries n calls were = subst (AllByRecursion (λ (c : Call). c.doc <
 
 -- the calls of a line that was added, as the schema's text says
 line_calls : (s : TextSchemaState) (d : DocumentsState) (line : List ℕ) (cs : List Call) → AreReadBy s d → next_calls d line ≡ Ok cs → line_calls_by s.unknown_keys floats.Refuse s.schema d.num_docs line ≡ Ok cs
-line_calls s d line cs read is = rw (read.unknown_keys, read.floats, read.schema) at (taken (nat_lt d.num_docs TERMINATED) (may_be_stored d.lines line) (line_calls_by d.unknown_keys d.floats d.schema d.num_docs line) is)
+line_calls s d line cs read is = rw (read.unknown_keys, read.floats, read.schema) at (taken (nat_lt d.num_docs TERMINATED) (may_be_stored d.stored line) (line_calls_by d.unknown_keys d.floats d.schema d.num_docs line) is)
   where
     taken : (fits stored : Bool) (r : Result (List Call) Refusal) → (if fits then (if stored then r else Err too_long) else Err too_many_documents) ≡ Ok cs → r ≡ Ok cs
     taken true true r is = is
@@ -303,8 +303,8 @@ line_calls s d line cs read is = rw (read.unknown_keys, read.floats, read.schema
 pub adds_line : (s : TextSchemaState) (d e : DocumentsState) (line : List ℕ) → AreReadBy s d → WereCalls d.schema d.num_docs d.calls → AddsLine d e line
     → (files : Files) (flushed : Option FlushedState) (k : ℕ) (us : List IndexToken) → ArePending s files flushed d k us → ArePending s files flushed e (k + 1) (us ++ document_tokens s k line)
 adds_line s d e line read were adds files flushed k us h =
-    subst (λ (x : DocumentsState). ArePending s files flushed x (k + 1) (us ++ document_tokens s k line)) (sym adds.2)
-    (pending_more s d adds.0 line (calls_below d.schema d.num_docs d.calls were) (line_calls s d line adds.0 read adds.1) files flushed k us h)
+    subst (λ (x : DocumentsState). ArePending s files flushed x (k + 1) (us ++ document_tokens s k line)) (sym adds.3)
+    (pending_more s d adds.0 line e.lines (calls_below d.schema d.num_docs d.calls were) (line_calls s d line adds.0 read adds.1) files flushed k us h)
 
 -- segments that were written hold what they hold
 pub written_hold : (entries : List SchemaEntry) (cs : List SegmentContents) (ss : List Segment) → AllZip (IsWrittenSegment entries) cs ss → HoldSegments entries cs ss
