@@ -49,7 +49,7 @@ with_document s cs line lines = record s { num_docs = s.num_docs + 1; calls = s.
 
 -- The document of a line was added.
 abbrev pub AddsLine : DocumentsState → DocumentsState → List ℕ → Type 0
-AddsLine old new line = (cs : List Call) × (next_calls old line ≡ Ok cs) × AddsRecord old.stored old.schema line old.lines new.lines × (new ≡ with_document old cs line new.lines)
+AddsLine old new line = (cs : List Call) × (lines : Option (List (List ℕ))) × (next_calls old line ≡ Ok cs) × AddsRecord old.stored old.schema line old.lines lines × (new ≡ with_document old cs line lines)
 
 -- The record of a line that has calls is too long to be stored.
 abbrev pub IsTooLong : DocumentsState → List ℕ → Type 0

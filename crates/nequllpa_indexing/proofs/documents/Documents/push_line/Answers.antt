@@ -28,6 +28,7 @@ returns-clause-ok c =
     let records : AddsRecord s.stored s.schema c.args.line.now (lines_view s.lines) (lines_view c.push_record.new.records) = c.in_ok-push_record.ensures.ok in
     let skipped : c.saturating_add-self-inside.result ≡ counted (s.skipped_floats + skipped_in_line s.floats s.schema c.args.line.now) = omega (arith, c.saturating_add-self-inside.ensures, c.in_ok-read.ensures.skipped) in (
       cs,
+      lines_view c.push_record.new.records,
       rw (← c.self.view_is) (adds_line (record { schema = s.schema; num_docs = s.num_docs; calls = map (call_of s.schema) s.calls.items; stored = s.stored; lines = lines_view s.lines; unknown_keys = s.unknown_keys; floats = s.floats; skipped_floats = s.skipped_floats }) cs c.args.line.now room short c.in_ok-read.ensures.gives),
       rw (← c.self.view_is) records,
       rw (← c.self.view_is, calls, skipped, map-append) refl,
