@@ -57,10 +57,7 @@ pub(crate) fn push_record(
     if record.len() > MAX_DOCUMENT_LEN {
         return Err(LineFault::TooLong);
     }
-    match records.push(record) {
-        Ok(()) => Ok(()),
-        Err(_) => Err(LineFault::OutOfMemory),
-    }
+    Ok(records.push(record)?)
 }
 
 // Removes the last record, if something is stored.
