@@ -8,8 +8,7 @@ use Rattle.ii_base.specs.declared.schema.index_record_option.IndexRecordOption.T
 use Rattle.ii_base.specs.declared.schema.value_type.ValueType.TheVariants.{Str}
 use Rattle.ii_definitions.specs.Tokens.{Call, IndexToken, text, tokens_of}
 use Rattle.ii_query_grammar.specs.Lexemes.{tokens}
-use Rattle.ii_query_parser.specs.QueryTexts.{AnalyzedFields, QueryFields, by_one, repeats, text_matches_by, text_refusal_by}
-use Rattle.ii_query_parser.specs.declared.query.PhraseTerm.{PhraseTerm}
+use Rattle.ii_query_parser.specs.QueryTexts.{AnalyzedFields, by_one, repeats, text_matches_by, text_refusal_by}
 use Rattle.ii_query_parser.specs.declared.query_parser_error.QueryParserError.{QueryParserError}
 use Rattle.ii_query_parser.specs.declared.query_parser_error.QueryParserError.TheVariants as errors
 
