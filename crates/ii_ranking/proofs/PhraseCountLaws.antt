@@ -18,7 +18,7 @@ use Rattle.ii_definitions.specs.Cut.{cut_entry}
 use Rattle.ii_definitions.specs.Fields.{option_of}
 use Rattle.ii_definitions.specs.Postings.{grouped, is_at, key_postings, kind_of, tokens_at}
 use Rattle.ii_definitions.specs.Tokens.{IndexToken}
-use Rattle.ii_query.specs.Phrase.{PhrasePartState, has_positions, parts_have}
+use Rattle.ii_query.specs.Phrase.{PhrasePartState, has_positions as has_some_of, parts_have}
 use Rattle.ii_query.specs.SloppyPhrase.{is_near, is_within, stand_near, ways_back}
 use Rattle.ii_query.proofs.PhraseLemmas.{any_alike}
 use Rattle.ii_segments.proofs.OrderLemmas.{Ascend}
@@ -39,14 +39,14 @@ abbrev pub parts_by : List SchemaEntry → List IndexToken → List PhraseTerm �
 parts_by schema ts others = map (λ (o : PhraseTerm). record { distance = o.distance; rest = kept_entries schema ts o.term }) others
 
 -- a document below all entries has no position
-no_position : (doc : ℕ) (holds : ℕ → Bool) (least : ℕ) (es : List Entry) → AscendFrom least es → doc < least → has_positions (list_any holds) es doc ≡ false
+no_position : (doc : ℕ) (holds : ℕ → Bool) (least : ℕ) (es : List Entry) → AscendFrom least es → doc < least → has_some_of (list_any holds) es doc ≡ false
 no_position doc holds least [] up low = refl
 no_position doc holds least (e ∷ es) up low =
     let first = up.0 in
     rw (ne_eqb e.doc doc (λ same. omega (arith, first, same, low))) (no_position doc holds (e.doc + 1) es up.1 (omega (arith, first, low)))
 
 -- the positions of a document are those of its entry
-position_at : (doc : ℕ) (holds : ℕ → Bool) (least : ℕ) (es : List Entry) → AscendFrom least es → has_positions (list_any holds) es doc ≡ list_any holds (positions_of (entry_at es doc))
+position_at : (doc : ℕ) (holds : ℕ → Bool) (least : ℕ) (es : List Entry) → AscendFrom least es → has_some_of (list_any holds) es doc ≡ list_any holds (positions_of (entry_at es doc))
 position_at doc holds least [] up = refl
 position_at doc holds least (e ∷ es) up = elim (eqb_tells e.doc doc) [
   | inl h ↦ let here = h.1 in rw (h.0, no_position doc holds (e.doc + 1) es up.1 (omega (arith, here))) (or-false (list_any holds e.positions))
@@ -135,7 +135,7 @@ starts_at slop parts doc (e ∷ es) = elim (eqb_tells e.doc doc) [
 ]
 
 module _ (schema : List SchemaEntry) (ts : List IndexToken) (up : (term : TermState) → Ascend 0 (tokens_at term.field term.value ts)) (doc : ℕ) where
-  stands : (term : TermState) (holds : ℕ → Bool) → has_positions_in schema term ≡ true → has_positions (list_any holds) (kept_entries schema ts term) doc ≡ (is_text_key term ts && list_any (λ (t : IndexToken). is_token_of term doc t && holds t.position) ts)
+  stands : (term : TermState) (holds : ℕ → Bool) → has_positions_in schema term ≡ true → has_some_of (list_any holds) (kept_entries schema ts term) doc ≡ (is_text_key term ts && list_any (λ (t : IndexToken). is_token_of term doc t && holds t.position) ts)
   stands term holds keeps =
       let us = tokens_at term.field term.value ts in
       let option = downgrade (kind_of (option_of schema term.field) us) WithFreqsAndPositions in

@@ -23,11 +23,11 @@ loop-doc-init c = record {
   adding = λ ids norms. record { many = refl; each = λ doc inside. refl };
 }
 
-pub count_starts-requires-clause-current : goal.count_starts-requires-clause-current
-count_starts-requires-clause-current c = let here = c.loop-doc.invariant.doc_is in let test = c.loop-doc-test.true in omega (arith, here, test)
+pub count_starts-count-requires-clause-current : goal.count_starts-count-requires-clause-current
+count_starts-count-requires-clause-current c = let here = c.loop-doc.invariant.doc_is in let test = c.loop-doc-test.true in omega (arith, here, test)
 
-pub count_starts-requires-clause-others_unread : goal.count_starts-requires-clause-others_unread
-count_starts-requires-clause-others_unread c = c.loop-doc.invariant.others_unread (let here = c.loop-doc.invariant.doc_is in let test = c.loop-doc-test.true in omega (arith, here, test))
+pub count_starts-count-requires-clause-others_unread : goal.count_starts-count-requires-clause-others_unread
+count_starts-count-requires-clause-others_unread c = c.loop-doc.invariant.others_unread (let here = c.loop-doc.invariant.doc_is in let test = c.loop-doc-test.true in omega (arith, here, test))
 
 pub loop-doc-preserved : goal.loop-doc-preserved
 loop-doc-preserved c =
