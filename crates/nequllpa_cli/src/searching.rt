@@ -280,7 +280,9 @@ fn stored_names<'a>(
     for name in &names {
         if let Some(field) = opened.field_named(*name) {
             if !opened.stored().has_field(field) {
-                eprintln!(rt; "{PROGRAM}: the field {name} is not stored; the schema needs stored = true for it, or store_source = true")?;
+                eprintln!(rt;
+                    "{PROGRAM}: the field {name} is not stored; the schema needs stored = true for it, or store_source = true"
+                )?;
                 return Ok(Err(REFUSED));
             }
         }
