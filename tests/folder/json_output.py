@@ -167,11 +167,14 @@ def explanations(user):
 
 
 def gaps(user):
-    """Compares what is printed of a phrase between whose words some are left out."""
+    """Compares what is printed of a phrase between whose words some are left out, and of its slop."""
     user.write('gaps.toml', '[[field]]\nname = "body"\ntype = "text"\ntokenizer = "en"\nstop_words = ["of", "the"]\n')
     user.wants(['index', 'gaps', '--schema', 'gaps.toml'], 0, given=given([{'body': 'Theory of the deep sea'}]))
-    share, row = share_row('body:"theori ? ? deep sea"', [1, 1, 1], 1, 3, 3, 1)
-    user.wants(['search', 'gaps', '"theory of the deep sea"', '--top', 1, '--json', '--explain'], 0, f'{{"doc":0,"score":{ranking_meaning.show(share)},"units":{share},"explain":[{row}]}}\n')
+    for query, part in (('"theory of the deep sea"', '"theori ? ? deep sea"'), ('"theory of the deep sea"~0', '"theori ? ? deep sea"'), ('"theory of the deep sea"~1', '"theori ? ? deep sea"~1'),
+                        ('"deep theory of the sea"~4', '"deep theori ? ? sea"~4')):
+        share, row = share_row('body:' + part, [1, 1, 1], 1, 3, 3, 1)
+        user.wants(['search', 'gaps', query, '--top', 1, '--json', '--explain'], 0, f'{{"doc":0,"score":{ranking_meaning.show(share)},"units":{share},"explain":[{row}]}}\n')
+    user.wants(['search', 'gaps', '"deep theory of the sea"~3', '--top', 1, '--json', '--explain'], 1)
 
 
 def by_hand(user):

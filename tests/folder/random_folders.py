@@ -1,7 +1,7 @@
 #!/usr/bin/env python3
 """Runs `nequllpa` over random folders: random schemas and lines of every type, with every tokenizer, some with lists of
 several blocks. Segments are added, documents deleted and replaced, and all segments merged. `check` must find no damage, and
-`terms`, `postings`, `fields` and `search`, also for phrases, prefixes, sets and ranges, must answer what a plain reading of the lines gives.
+`terms`, `postings`, `fields` and `search`, also for phrases with a slop and without one, prefixes, sets and ranges, must answer what a plain reading of the lines gives.
 
     random_folders.py              60 folders, as the gate runs it
     random_folders.py N SEED       N others"""
@@ -23,6 +23,7 @@ import analyzers
 import dates
 import programs
 import versions
+from segments_meaning import phrase_starts
 
 PROGRAM = 'nequllpa_cli'
 WORDS = ['sea', 'old', 'The', 'the', 'bird', 'x1', '42', 'naïve', '老人', 'a', 'new', 'york', 'of', 'man', 'true', '7', 'co', 'op', '-3', 'it’s']
@@ -412,16 +413,17 @@ class Reader:
         many = lambda kind: sum(name.endswith('.' + kind) for name in names)
         return many('count') > 0 and many('count') == many('term')
 
-    def docs_of(self, field, text):
-        """Returns the documents in which a text is a word or a phrase of a text field."""
+    def docs_of(self, field, text, slop=0):
+        """Returns the documents in which a text is a word, or a phrase within a slop, of a text field."""
         words = field.words_of(text)
         if not words:
             return set()
         (begin, first), *others = words
         if not others:
             return set(field.lists.get(first.encode(), {}))
-        lists = [(position - begin, field.lists.get(word.encode(), {})) for position, word in others]
-        return {doc for doc, places in field.lists.get(first.encode(), {}).items() if any(all(place + more in docs.get(doc, ()) for more, docs in lists) for place in places)}
+        lists = [(position - begin, field.lists.get(word.encode(), {})) for position, word in words]
+        moved = lambda doc: [[place - distance for place in docs.get(doc, ())] for distance, docs in lists]
+        return {doc for doc in lists[0][1] if phrase_starts(moved(doc), slop)}
 
     def searches(self, chosen):
         """Compares searches for words, pairs of words, phrases, prefixes, ranges and values with a filter of the documents."""
@@ -498,13 +500,16 @@ class Reader:
         self.finds(query, found)
 
     def phrase(self, chosen, field, name):
-        """Compares the search for a phrase of two words, or of words of a document, in a field."""
+        """Compares the search for a phrase of two words, or of words of a document, in a field, also within a slop."""
         said = [text for line in self.lines for text in self.texts_in(line.get(name))]
         words = chosen.choice(said).split(' ') if said else []
         begin = chosen.randrange(len(words)) if words else 0
         for text in (f'{chosen.choice(PLAIN)} {chosen.choice(PLAIN)}', ' '.join(words[begin:begin + 3])):
-            if field.words_of(text):
+            words, slop = [word for _, word in field.words_of(text)], chosen.choice([0, 1, 2, 3, 9])
+            if words:
                 self.finds(f'{name}:{quoted(text)}', self.docs_of(field, text))
+            if words and (slop == 0 or len(set(words)) == len(words)):
+                self.finds(f'{name}:{quoted(text)}~{slop}', self.docs_of(field, text, slop))
 
     def texts_in(self, value):
         """Returns the texts of a value of a text field."""

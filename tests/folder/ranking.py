@@ -16,7 +16,7 @@ sys.dont_write_bytecode = True
 import player
 import users
 from ranking_meaning import SCORE_MAX, WEIGHT_BITS, Ranking, show
-from segments_meaning import FIELD, SCHEMA, WORDS, i64_key, some_doc, some_key, u64_key
+from segments_meaning import FIELD, SCHEMA, WORDS, i64_key, some_doc, some_key, some_phrase as words_of_phrase, u64_key
 
 FOLDERS = 50
 QUERIES = 200
@@ -67,14 +67,14 @@ def some_prefix(chosen):
 
 def some_phrase(chosen):
     """Returns a query for a phrase of a field, of a path or of all texts, and its text."""
-    words = chosen.choices(WORDS, k=chosen.choice([2, 2, 3]))
-    keys, text = [word.encode() for word in words], '"' + ' '.join(words) + '"'
+    keys, slop = words_of_phrase(chosen)
+    text = '"' + b' '.join(keys).decode() + '"' + (f'~{slop}' if slop or chosen.random() < 0.1 else '')
     how = chosen.random()
     if how < 0.2:
-        return ('or', *(('phrase', field, keys) for field in TEXTS)), text
+        return ('or', *(('phrase', field, keys, slop) for field in TEXTS)), text
     if how < 0.35:
-        return ('phrase', FIELD['j'], [b'p\0s' + key for key in keys]), f'j.p:{text}'
-    return ('phrase', FIELD['body'], keys), f'body:{text}'
+        return ('phrase', FIELD['j'], [b'p\0s' + key for key in keys], slop), f'j.p:{text}'
+    return ('phrase', FIELD['body'], keys, slop), f'body:{text}'
 
 
 def some_part(chosen):
@@ -123,7 +123,7 @@ def text_of_part(query):
         return others[1]
     if kind == 'term':
         return f'{SCHEMA[field][0]}:{player.term_of(field, *others)}'
-    return f'{SCHEMA[field][0]}:"{" ".join(player.term_of(field, key) for key in others[0])}"'
+    return f'{SCHEMA[field][0]}:"{" ".join(player.term_of(field, key) for key in others[0])}"' + (f'~{others[1]}' if others[1] else '')
 
 
 def explained(shares, units, is_json):

@@ -1,7 +1,7 @@
 """What a document scores by a query: BM25 in integers, with k1 = 1.2 and b = 0.75. Every function is a definition in natural numbers
 and floors of quotients. What is asked is a list of documents, as `segments_meaning.py` reads them; segments are unknown here.
 
-A query is a list: `["term", FIELD, KEY]`, `["phrase", FIELD, KEYS]`, `["range", FIELD, TAKES, TEXT]` of the keys that a function
+A query is a list: `["term", FIELD, KEY]`, `["phrase", FIELD, KEYS, SLOP]`, `["range", FIELD, TAKES, TEXT]` of the keys that a function
 takes (a prefix too), with its text, and `and`, `or`, `not` of two queries or more."""
 import bisect
 
@@ -121,25 +121,13 @@ class Ranking:
         of_all = weight([len(self.postings(field, key)) for key in keys], self.num_docs)
         return {doc: score(of_all, count, self.length_of(field, doc)) for doc, count in counts.items()}
 
-    def phrase_counts(self, field, keys):
-        """Returns at how many positions a phrase starts in each document."""
-        if SCHEMA[field][2] < 2:
-            return {}
-        at = {(doc, place, position) for place, key in enumerate(keys) for doc, _, positions in self.postings(field, key) for position in positions}
-        counts = {}
-        for doc, _, positions in self.postings(field, keys[0]):
-            starts = sum(all((doc, place, position + place) in at for place in range(len(keys))) for position in positions)
-            if starts:
-                counts[doc] = starts
-        return counts
-
     def scores(self, query):
         """Returns what each document that matches a query scores."""
         kind, *parts = query
         if kind == 'term':
             return self.scores_by(parts[0], parts[1:], {doc: count for doc, count, _ in self.postings(*parts)})
         if kind == 'phrase':
-            return self.scores_by(*parts, self.phrase_counts(*parts))
+            return self.scores_by(*parts[:2], self.meaning.phrase_counts(*parts))
         if kind == 'range':
             field, takes = parts[:2]
             return {token[0]: 2 ** SCORE_BITS for token in self.meaning.tokens if token[1] == field and takes(token[2])}
@@ -160,8 +148,8 @@ class Ranking:
         if kind == 'range':
             return [(query, 0, 1, 1, 2 ** SCORE_BITS) for _ in range(doc in self.scores(query))]
         if kind in ('term', 'phrase'):
-            field, keys = (parts[0], parts[1:]) if kind == 'term' else parts
-            counts = {other: count for other, count, _ in self.postings(*parts)} if kind == 'term' else self.phrase_counts(*parts)
+            field, keys = (parts[0], parts[1:]) if kind == 'term' else parts[:2]
+            counts = {other: count for other, count, _ in self.postings(*parts)} if kind == 'term' else self.meaning.phrase_counts(*parts)
             of_all = weight([len(self.postings(field, key)) for key in keys], self.num_docs)
             return [(query, of_all, counts[doc], self.norm_of(field, doc), score(of_all, counts[doc], self.length_of(field, doc))) for _ in range(doc in counts)]
         of_each = [self.shares(part, doc) for part in parts]

@@ -2,7 +2,8 @@
 added, deleted by a term, committed, rolled back and merged. Also random sessions, documents and queries.
 
 A document maps names of fields to values. A key is the bytes of a term of its field. A query is a list: `["all"]`,
-`["term", FIELD, KEY]`, `["phrase", FIELD, KEYS]`, and `and`, `or` and `not` (the first and not the second) of two queries."""
+`["term", FIELD, KEY]`, `["phrase", FIELD, KEYS, SLOP]`, and `and`, `or` and `not` (the first and not the second) of two queries."""
+import itertools
 import random
 import re
 
@@ -56,6 +57,14 @@ def doc_tokens(doc):
     return tokens
 
 
+def phrase_starts(moved, slop):
+    """Given the positions of each word of a phrase in a document, moved back by its distance from the first word, returns those of the
+    first word for which one of each other word can be chosen so that all of them differ by at most the slop."""
+    first, *others = moved
+    near = lambda start: itertools.product(*([position for position in positions if abs(position - start) <= slop] for positions in others))
+    return [start for start in first if any(max(start, *chosen) - min(start, *chosen) <= slop for chosen in near(start))]
+
+
 class Meaning:
     """The answers that a list of documents gives. Documents are numbered from 0."""
 
@@ -84,6 +93,14 @@ class Meaning:
                 found.append((doc, [position], SCHEMA[field][2] if is_word else 0))
         return [(doc, len(positions) if kept >= 1 else 1, positions if kept == 2 else []) for doc, positions, kept in found]
 
+    def phrase_counts(self, field, keys, slop):
+        """Returns at how many positions of its first word a phrase starts in each document that has it."""
+        if SCHEMA[field][2] < 2:
+            return {}
+        moved = [{doc: [position - place for position in positions] for doc, _, positions in self.postings(field, key)} for place, key in enumerate(keys)]
+        starts = {doc: len(phrase_starts([one[doc] for one in moved], slop)) for doc in set.intersection(*map(set, moved))}
+        return {doc: count for doc, count in sorted(starts.items()) if count}
+
     def num_tokens(self, field):
         return sum(token[1] == field for token in self.tokens)
 
@@ -95,11 +112,7 @@ class Meaning:
         if kind == 'term':
             return {token[0] for token in self.tokens if token[1] == query[1] and token[2] == query[2]}
         if kind == 'phrase':
-            field, keys = query[1], query[2]
-            if SCHEMA[field][2] < 2:
-                return set()
-            at = {(doc, key, position) for doc, other, key, position, is_word in self.tokens if other == field and is_word}
-            return {doc for doc, key, position in at if key == keys[0] and all((doc, other, position + place) in at for place, other in enumerate(keys))}
+            return set(self.phrase_counts(*query[1:]))
         first, second = self.match(query[1]), self.match(query[2])
         return first & second if kind == 'and' else first | second if kind == 'or' else first - second
 
@@ -165,13 +178,20 @@ def some_key(chosen, fields):
     return field, path + (b'\0s' + chosen.choice(WORDS).encode() if chosen.random() < 0.5 else b'\0i' + i64_key(chosen.randint(-2, 2)))
 
 
+def some_phrase(chosen):
+    """Returns the words of a phrase and its slop, with which they differ."""
+    slop = chosen.choice([0, 0, 1, 2, 3, 6])
+    words = chosen.sample(WORDS, chosen.randint(2, 3)) if slop else chosen.choices(WORDS, k=chosen.randint(2, 3))
+    return [word.encode() for word in words], slop
+
+
 def some_query(chosen, depth=2):
     """Returns a query."""
     if depth == 0 or chosen.random() < 0.4:
         if chosen.random() < 0.2:
             return ['all']
         if chosen.random() < 0.4:
-            return ['phrase', FIELD['body'], [chosen.choice(WORDS).encode() for _ in range(chosen.randint(2, 3))]]
+            return ['phrase', FIELD['body'], *some_phrase(chosen)]
         return ['term', *some_key(chosen, list(FIELD.values()))]
     return [chosen.choice(['and', 'or', 'not']), some_query(chosen, depth - 1), some_query(chosen, depth - 1)]
 

@@ -175,7 +175,9 @@ def random_part(chosen, fields, default):
         return f'{before}{word}*', {name: [begins(key) for key in keys_of(fields[name], word)] for name in names}
     if kind == 'phrase':
         text = ' '.join(chosen.choices(ASKED, k=2))
-        return f'{before}"{text}"', {name: [is_key(key) for key in keys_of(fields[name], text)] for name in names}
+        keys = {name: keys_of(fields[name], text) for name in names}
+        slop = chosen.choice(['', '~2', '~9']) if all(len(set(some)) == len(some) for some in keys.values()) else ''
+        return f'{before}"{text}"{slop}', {name: [is_key(key) for key in some] for name, some in keys.items()}
     word = chosen.choice(ASKED)
     return before + word, {name: [is_key(key) for key in keys_of(fields[name], word)] for name in names}
 

@@ -117,7 +117,9 @@ KEYS = ('7FFFFFFFFFFFFFFF 8000000000000001', '88C24D6667470000 8D93A53711350000'
 
 LITERAL = '; put the word in quotes to search for it as it is'
 WILDCARDS = 'wildcards (s*a, s?a) are not supported, but for a * that ends a word' + LITERAL
-FUZZY = 'fuzzy words and phrases with slop (sea~1, "new york"~2) are not supported' + LITERAL
+FUZZY = 'fuzzy words (sea~1) are not supported' + LITERAL
+SLOP = 'a slop is a number up to 4294967295'
+TWICE = 'a word stands twice in a phrase with slop, which is not supported'
 RANGES = 'a range needs the name of a field before it, as in year:[1 TO 2]' + LITERAL
 REFUSING_SCHEMA = '''\
 [[field]]
@@ -148,7 +150,8 @@ indexed = false
 REFUSED = (
     ('se?', 'at byte 2: ' + WILDCARDS), ('*a', 'at byte 0: ' + WILDCARDS), ('a*b', 'at byte 1: ' + WILDCARDS),
     ('/re/', 'at byte 0: regular expressions (/se.*/) are not supported' + LITERAL),
-    ('sea~1', 'at byte 3: ' + FUZZY), ('"a b"~99999999999', 'at byte 5: ' + FUZZY), ('"a a b"~2', 'at byte 7: ' + FUZZY),
+    ('sea~1', 'at byte 3: ' + FUZZY), ('"a b"~99999999999', 'at byte 6: ' + SLOP), ('"a b"~', 'at byte 6: ' + SLOP), ('body:"a b"~2.5', 'at byte 11: ' + SLOP), ('"a b" ~2', 'at byte 6: ' + FUZZY),
+    ('"a a b"~2', 'field body: ' + TWICE), ('"b c B"~1', 'field body: ' + TWICE), ('bare:"a b"~2', 'field bare: the field keeps no positions, which a phrase needs'), ('note:"a b"~2', 'field note: the field is not indexed'),
     ('a^2', 'at byte 1: boosts (sea^2) are not supported' + LITERAL),
     ('+a', 'at byte 0: required clauses (+sea) are not supported; join the words that must all match with AND'),
     ('the-sea*', 'field body: a prefix must be the start of one word, in a field of texts'),

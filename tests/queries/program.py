@@ -71,6 +71,18 @@ class Index:
         return {doc for doc, texts in self.texts.get(place, {}).items()
                 if any(text[i:i + len(phrase)] == phrase for text in texts for i in range(len(text)))}
 
+    def with_phrase_within(self, place, phrase, slop):
+        """Returns the documents in whose texts at a place each of these words has a position, such that these positions, each less
+        its place in the phrase, differ by at most the slop. One position is left between two texts."""
+        found = set()
+        for doc, texts in self.texts.get(place, {}).items():
+            row = [word for text in texts for word in (*text, None)]
+            moved = [[at - i for at, other in enumerate(row) if other == word] for i, word in enumerate(phrase)]
+            starts = {position - back for position in moved[0] for back in range(slop + 1)}
+            if any(all(any(start <= position <= start + slop for position in positions) for positions in moved) for start in starts):
+                found.add(doc)
+        return found
+
     def with_prefix(self, place, start):
         """Returns the documents with a text at a place in which a word starts like this."""
         return {doc for doc, texts in self.texts.get(place, {}).items() if any(word.startswith(start) for text in texts for word in text)}
@@ -157,8 +169,14 @@ def literal(index, draw):
         written = chosen[0]
     else:
         written = f'"{spelled(chosen, draw)}"'
+    slop = draw.choice((0, 1, 2, 3, 7)) if written[0] == '"' and len(set(chosen)) == len(chosen) and draw.random() < 0.4 else None
+    if slop is not None:
+        written += f'~{slop}'
     prefix = {'': '', 'text': 'text:'}.get(place, f'leaf.{place}:')
-    found = index.with_prefix(place or 'text', chosen[0]) if is_prefix else index.with_phrase(place or 'text', chosen)
+    if is_prefix:
+        found = index.with_prefix(place or 'text', chosen[0])
+    else:
+        found = index.with_phrase_within(place or 'text', chosen, slop) if slop else index.with_phrase(place or 'text', chosen)
     if place in PATHS and len(chosen) == 1 and chosen[0].isdecimal():
         found = found | index.with_number(place, int(chosen[0]))
     return prefix + written, found
@@ -185,7 +203,7 @@ def query(index, draw, depth):
 def part(index, draw, depth):
     """Returns a literal, or a query in parentheses."""
     text, docs = query(index, draw, depth - 1)
-    return (text, docs) if re.fullmatch(r'[^ ]+|[^" ]*"[^"]*"|[^" ]*(IN *)?[\[{][^\]}]*[\]}]', text) and '(' not in text else (f'({text})', docs)
+    return (text, docs) if re.fullmatch(r'[^ ]+|[^" ]*"[^"]*"(~\d+)?|[^" ]*(IN *)?[\[{][^\]}]*[\]}]', text) and '(' not in text else (f'({text})', docs)
 
 
 def all_of(index, draw, depth):

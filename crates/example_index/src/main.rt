@@ -1,7 +1,7 @@
 //! Creates an index of three documents in memory, searches it, and ranks what matches.
 #![tactic(auto)]
 
-use ii_index::{DocSet, Field, Index, MemoryDirectory, TERMINATED, TopDocs};
+use nequllpa::{DocSet, Field, Index, MemoryDirectory, TERMINATED, TopDocs};
 
 const SCHEMA: &str = "[[field]]\nname = \"body\"\ntype = \"text\"\n";
 

@@ -9,8 +9,8 @@ use ii_base::{
 };
 use ii_docset::{DocId, TERMINATED};
 use ii_indexing::IndexCall;
+use ii_ram::index_in_ram;
 use ii_reader::OpenIndex;
-use nequllpa::index_in_ram;
 use std::alloc::Global;
 
 /// A kind of a field.

@@ -8,8 +8,8 @@ use ii_base::{
 };
 use ii_docset::{DocSet, Postings, TERMINATED};
 use ii_indexing::{IndexCall, JsonTermSerializer};
+use ii_ram::index_in_ram;
 use ii_reader::{InvertedIndexReader, OpenIndex};
-use nequllpa::index_in_ram;
 use std::alloc::Global;
 
 const FULL: IndexRecordOption = IndexRecordOption::WithFreqsAndPositions;

@@ -1,5 +1,5 @@
 -- The text of a part of a query.
-use Rattle.std.specs.Prelude.{ℕ, ◌-◌, ◌==◌, ◌&&◌, List, [], ◌∷◌, ◌++◌, Option, None, Some, codes, drop, if◌then◌else◌, length, position, slice_get, take, unwrap_or}
+use Rattle.std.specs.Prelude.{ℕ, ◌-◌, ◌==◌, ◌&&◌, List, [], ◌∷◌, ◌++◌, Option, None, Some, codes, decimal, drop, if◌then◌else◌, length, position, slice_get, take, unwrap_or}
 use Rattle.std.specs.List.{repeat}
 use Rattle.ii_base.specs.Schema.{SchemaEntry}
 use Rattle.ii_base.specs.Terms.{TermState}
@@ -31,6 +31,10 @@ later_terms t last (o ∷ os) = (repeat (o.distance - last - 1) (codes " ?") ++ 
 -- the terms of a phrase, in quotes
 abbrev pub phrase_text : TermState → List PhraseTerm → ValueType → List ℕ
 phrase_text first others t = 34 ∷ (text_of_key t first.value ++ later_terms t 0 others ++ 34 ∷ [])
+
+-- the slop of a phrase, after a `~`; nothing for 0
+abbrev pub slop_text : ℕ → List ℕ
+slop_text slop = if slop == 0 then [] else 126 ∷ decimal slop
 
 -- the beginning of a value; nothing if it is empty
 abbrev pub value_start : ValueType → List ℕ → List ℕ
@@ -91,7 +95,7 @@ abbrev pub part_text : List SchemaEntry → QueryTree → List ℕ
 part_text entries nothing = []
 part_text entries (all_below n) = codes "*"
 part_text entries (one_term term) = in_field entries term.field (λ t. text_of_key t term.value)
-part_text entries (one_phrase first others) = in_field entries first.field (phrase_text first others)
+part_text entries (one_phrase first others slop) = in_field entries first.field (λ t. phrase_text first others t ++ slop_text slop)
 part_text entries (one_range range) = in_field entries range.prefix.field (range_text (keys_of range))
 part_text entries (each_of qs) = []
 part_text entries (any_of qs) = []

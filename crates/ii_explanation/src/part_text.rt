@@ -2,7 +2,7 @@
 ghost use Rattle.std.specs.Prelude.{◌≡◌, ◌==◌, ◌<◌, ◌≤◌, ◌++◌, ◌-◌, ◌∷◌, [], IfSome, OnOk, codes, length, position, slice_get, string_bytes};
 ghost use Rattle.std.specs.List.{repeat};
 ghost use Rattle.std.specs.Option.{option_map};
-ghost use Rattle.ii_explanation.specs.PartTexts.{bound_text, closing, in_field, json_start, key_start, later_terms, lettered_start, opening, part_text, path_len, phrase_text, range_text, typed_start};
+ghost use Rattle.ii_explanation.specs.PartTexts.{bound_text, closing, in_field, json_start, key_start, later_terms, lettered_start, opening, part_text, path_len, phrase_text, range_text, slop_text, typed_start};
 ghost use Rattle.ii_query_parser.specs.Queries.{tree_of};
 ghost use Rattle.ii_query_parser.specs.QueryTexts.{is_unbounded};
 ghost use Rattle.ii_query_parser.specs.Ranges.{key_bound, keys_of};
@@ -15,8 +15,9 @@ use std::alloc::{AllocError, Global};
 
 /// Appends the text of a part of a query that has no parts, as a query is written: the name of the field, a colon, and
 /// the term as the command `terms` prints it (`push_key`); for a phrase its terms in quotes, with `?` for each position
-/// between two of them that has none; for a range its bounds in brackets, or the beginning of its keys and `*`; for all
-/// documents `*`. Of any other query, and of a field that the schema doesn't have, it appends nothing.
+/// between two of them that has none, and `~` and its slop if it isn't 0; for a range its bounds in brackets, or the
+/// beginning of its keys and `*`; for all documents `*`. Of any other query, and of a field that the schema doesn't
+/// have, it appends nothing.
 #[tactic(auto, using(ii_query_parser::proofs::QueryLemmas::nothing_tree, ii_query_parser::proofs::QueryLemmas::all_tree, ii_query_parser::proofs::QueryLemmas::term_tree, ii_query_parser::proofs::QueryLemmas::phrase_tree, ii_query_parser::proofs::QueryLemmas::range_tree, ii_query_parser::proofs::QueryLemmas::and_tree, ii_query_parser::proofs::QueryLemmas::or_tree, ii_query_parser::proofs::QueryLemmas::and_not_tree))]
 pub fn push_part(
     alloc: Global,
@@ -29,7 +30,9 @@ pub fn push_part(
     match part {
         Query::All(_) => text.push_str("*"),
         Query::Term(term) => push_term(alloc, text, schema, term),
-        Query::Phrase(first, others) => push_phrase(alloc, text, schema, first, others),
+        Query::Phrase(first, others, slop) => {
+            push_phrase(alloc, text, schema, first, others, *slop)
+        }
         Query::Range(range) => push_range(alloc, text, schema, range),
         Query::Empty | Query::And(_) | Query::Or(_) | Query::AndNot(_, _) => Ok(()),
     }
@@ -74,21 +77,33 @@ fn push_term(
     )
 }
 
-// Appends the text of a phrase.
+// Appends the text of a phrase, and its slop.
 fn push_phrase(
     alloc: Global,
     text: &mut String,
     schema: &Schema,
     first: &Term,
     others: &[PhraseTerm],
+    slop: u32,
 ) -> Result<(), AllocError>
-    ensures { OnOk result (string_bytes text.new ≡ string_bytes text.old ++ in_field schema.now first.now.field (phrase_text first.now others.now)) }
+    ensures { OnOk result (string_bytes text.new ≡ string_bytes text.old ++ in_field schema.now first.now.field (λ t. phrase_text first.now others.now t ++ slop_text slop)) }
 {
     let Some(entry) = entry_of(schema, first.field()) else {
         return Ok(());
     };
     push_name(text, entry)?;
-    push_terms(alloc, text, entry.value_type(), first, others)
+    push_terms(alloc, text, entry.value_type(), first, others)?;
+    push_slop(text, slop)
+}
+
+// Appends the slop of a phrase, if it isn't 0.
+fn push_slop(text: &mut String, slop: u32) -> Result<(), AllocError>
+    ensures { OnOk result (string_bytes text.new ≡ string_bytes text.old ++ slop_text slop) }
+{
+    if slop == 0 {
+        return Ok(());
+    }
+    write!(text, "~{slop}")
 }
 
 // Appends the terms of a phrase, in quotes.

@@ -18,7 +18,7 @@ use Rattle.ii_base.specs.Schema.{SchemaEntry}
 use Rattle.ii_definitions.specs.Tokens.{IndexToken}
 use Rattle.ii_io.specs.declared.faults.Part.{Part}
 use Rattle.ii_reader.specs.OpenIndex.{IndexHolds, OpenIndexState}
-use Rattle.nequllpa.proofs.RamLaws.{GivesAll}
+use Rattle.ii_ram.proofs.RamLaws.{GivesAll}
 
 pub living_are_found : {T : Type 0} (query : Query) (ss : List Segment) (answer : Result (ChainState (LivingParts (QueryCursorState T))) Fault) → GivesFound query ss answer
     → IfOk answer (λ cursor. docs_of (chained living_rest cursor.cursors cursor.current) ≡ filter (matches query (index_tokens ss)) (range_with_len 0 (num_docs_of ss)))

@@ -3,8 +3,8 @@ ghost use Rattle.std.specs.Prelude.{◌≡◌, IfOk, Some};
 ghost use Rattle.ii_io.specs.Faults.{OnlyMemory};
 ghost use Rattle.ii_term_text.specs.KeyTexts.{IsOfField, KeyValue, value_key};
 
+use ii_ram::{Fault, Field, FieldEntry, Term};
 use ii_term_text::{push_key, term_of};
-use nequllpa::{Fault, Field, FieldEntry, Term};
 use std::alloc::Global;
 
 /// The printed key of each value of a field is read back as the term of that key. Such a value is a word, a number,

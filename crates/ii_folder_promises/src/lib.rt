@@ -2,6 +2,7 @@
 //! can prove it: like `ii_promises`, one short function for each sentence.
 #![tactic(auto)]
 
+pub mod block_files;
 pub mod damage;
 pub mod folder;
 pub mod index;

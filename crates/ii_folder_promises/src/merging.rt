@@ -14,11 +14,11 @@ ghost use Rattle.ii_merger.specs.MergedIndex.{MergeSourcesHold, all_living, open
 ghost use Rattle.ii_segment_search.specs.Searcher.{HaveFields, MayAsk, Reaches, SegmentsHold, living_rest};
 
 use ii_merger::{MergeSource, merge};
-use ii_segment_search::{Searcher, SegmentsCursor};
-use nequllpa::{
+use ii_ram::{
     Fault, IndexWriters, OpenIndex, Query, QueryCursor, Schema, SegmentPostings, TermOrPhrase,
     open_in_ram, search,
 };
+use ii_segment_search::{Searcher, SegmentsCursor};
 use nequllpa_merging::first_to_merge;
 use nequllpa_merging::merge_policy::{merges_settle, settled_are_few};
 use std::alloc::Global;

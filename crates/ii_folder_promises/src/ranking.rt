@@ -21,13 +21,11 @@ ghost use Rattle.ii_ranking.specs.declared.shares.Share.{Share};
 ghost use Rattle.ii_segment_search.specs.Searcher.{HaveFields, MayAsk, Reaches, SegmentsHold, total_living};
 ghost use Rattle.ii_segments.specs.Segments.{Segment, index_tokens, num_docs_of, type_of_field};
 
+use ii_ram::{DocId, Fault, IndexCall, OpenIndex, Query, Schema, Term, TextAnalyzer, index_in_ram};
 use ii_ranking::laws::segments_score_as_one;
 use ii_ranking::{
     GatheredStatistics, RankedSegment, Score, Share, TopDocs, explain, score_docs, search,
     search_segments, shares_add_up,
-};
-use nequllpa::{
-    DocId, Fault, IndexCall, OpenIndex, Query, Schema, Term, TextAnalyzer, index_in_ram,
 };
 use std::alloc::Global;
 

@@ -1,6 +1,8 @@
-//! Tests `ii_store`, `ii_io`, `ii_base`, `ii_tokenizers` and `ii_json` through their public calls.
+//! Tests `ii_store`, `ii_block_file`, `ii_io`, `ii_base`, `ii_tokenizers` and `ii_json` through their public calls.
 #![tactic(auto)]
 
+#[cfg(test)]
+mod block_file_tests;
 #[cfg(test)]
 mod io_tests;
 #[cfg(test)]

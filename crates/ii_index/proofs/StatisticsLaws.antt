@@ -60,18 +60,18 @@ module _ (x : Scored) (a b : Statistics) (docs : a.num_docs ≡ b.num_docs) wher
         let tokens = same.num_tokens in
         λ j. option_map (λ (e : Entry). score_with (idfs j) (docs j) (tokens j) (x.norm_id term.field doc) e.term_freq) (entry_at (x.entries WithFreqs term) doc)
 
-    same_phrase : (first : TermState) (others : List PhraseTerm) → AllByRecursion (AreSameFor a b) (first ∷ map (λ (o : PhraseTerm). o.term) others) → phrase_score (by_numbers a) first others doc ≡ phrase_score (by_numbers b) first others doc
-    same_phrase first others same =
+    same_phrase : (first : TermState) (others : List PhraseTerm) (slop : ℕ) → AllByRecursion (AreSameFor a b) (first ∷ map (λ (o : PhraseTerm). o.term) others) → phrase_score (by_numbers a) first others slop doc ≡ phrase_score (by_numbers b) first others slop doc
+    same_phrase first others slop same =
         let idfs = same_sum (first ∷ map (λ (o : PhraseTerm). o.term) others) same in
         let tokens = same.0.num_tokens in
-        λ j. if_occurs (score_with (idfs j) (docs j) (tokens j) (x.norm_id first.field doc)) (phrase_count (x.entries WithFreqsAndPositions first) (parts_of x others) doc)
+        λ j. if_occurs (score_with (idfs j) (docs j) (tokens j) (x.norm_id first.field doc)) (phrase_count slop (x.entries WithFreqsAndPositions first) (parts_of x others) doc)
 
     mutual
       same_tree : (q : QueryTree) → AllByRecursion (AreSameFor a b) (tree_terms q) → tree_score (by_numbers a) q doc ≡ tree_score (by_numbers b) q doc
       same_tree queries.nothing same = refl
       same_tree (queries.all_below m) same = refl
       same_tree (queries.one_term term) same = same_term term same.0
-      same_tree (queries.one_phrase first others) same = same_phrase first others same
+      same_tree (queries.one_phrase first others slop) same = same_phrase first others slop same
       same_tree (queries.one_range range) same = refl
       same_tree (queries.each_of qs) same = ap each_of (same_trees qs same)
       same_tree (queries.any_of qs) same = ap any_of (same_trees qs same)

@@ -27,8 +27,8 @@ terms_of_all n = ap tree_terms (all_tree n)
 pub terms_of_term : (term : TermState) → query_terms (Term term) ≡ term ∷ []
 terms_of_term term = ap tree_terms (term_tree term)
 
-pub terms_of_phrase : (first : TermState) (others : Vec PhraseTerm Global) → query_terms (Phrase first others) ≡ first ∷ map (λ (o : PhraseTerm). o.term) others.items
-terms_of_phrase first others = ap tree_terms (phrase_tree first others)
+pub terms_of_phrase : (first : TermState) (others : Vec PhraseTerm Global) (slop : ℕ) → query_terms (Phrase first others slop) ≡ first ∷ map (λ (o : PhraseTerm). o.term) others.items
+terms_of_phrase first others slop = ap tree_terms (phrase_tree first others slop)
 
 pub terms_of_range : (range : TermRange) → query_terms (Range range) ≡ []
 terms_of_range range = ap tree_terms (range_tree range)
@@ -59,7 +59,7 @@ module _ (n : ℕ) where
     tree_below queries.nothing is = tt
     tree_below (queries.all_below m) is = tt
     tree_below (queries.one_term term) is = (ltb-true term.field n is, tt)
-    tree_below (queries.one_phrase first others) is =
+    tree_below (queries.one_phrase first others slop) is =
         let h = and_parts (nat_lt first.field n) (list_all (λ (o : PhraseTerm). nat_lt o.term.field n) others) is in
         (ltb-true first.field n h.0, others_below others h.1)
     tree_below (queries.one_range range) is = tt

@@ -24,7 +24,7 @@ abbrev mutual
   tree_terms nothing = []
   tree_terms (all_below n) = []
   tree_terms (one_term term) = term ∷ []
-  tree_terms (one_phrase first others) = first ∷ map (λ (o : PhraseTerm). o.term) others
+  tree_terms (one_phrase first others slop) = first ∷ map (λ (o : PhraseTerm). o.term) others
   tree_terms (one_range range) = []
   tree_terms (each_of qs) = trees_terms qs
   tree_terms (any_of qs) = trees_terms qs

@@ -4,7 +4,7 @@ ghost use Rattle.std.specs.Prelude.{◌≡◌, length, IfOk};
 use bytes::Bytes;
 use ii_alive::AliveBits;
 use ii_merger::{MergeSource, merge};
-use nequllpa::{
+use ii_ram::{
     AsciiTokenizer, DocId, Fault, FieldEntry, IndexRecordOption, IndexWriters, OpenIndex, Schema,
     ValueType, open_index_with_norms,
 };

@@ -12,11 +12,11 @@ use Rattle.ii_promises.specs.Decodes.{HasDecodedFew, HaveDecodedFew}
 
 told : (t : TermOrPhrase SegmentPostingsState) → EachDecodesFew t → HaveDecodedFew t
 told (Term cursor) few = (few.doc_decodes, few.freq_decodes, few.doc_blocks, few.freq_blocks)
-told (Phrase cursor) few = all_mapped DecodesFew HasDecodedFew (λ s f. (f.doc_decodes, f.freq_decodes, f.doc_blocks, f.freq_blocks)) cursor.cursors few
+told (Phrase cursor) few = all_mapped DecodesFew HasDecodedFew (λ s f. (f.doc_decodes, f.freq_decodes, f.doc_blocks, f.freq_blocks)) cursor.phrase.cursors few
 
 asked : (t : TermOrPhrase SegmentPostingsState) → HaveDecodedFew t → EachDecodesFew t
 asked (Term cursor) few = record { doc_decodes = few.0; freq_decodes = few.1; doc_blocks = few.2; freq_blocks = few.3 }
-asked (Phrase cursor) few = all_mapped HasDecodedFew DecodesFew (λ s f. record { doc_decodes = f.0; freq_decodes = f.1; doc_blocks = f.2; freq_blocks = f.3 }) cursor.cursors few
+asked (Phrase cursor) few = all_mapped HasDecodedFew DecodesFew (λ s f. record { doc_decodes = f.0; freq_decodes = f.1; doc_blocks = f.2; freq_blocks = f.3 }) cursor.phrase.cursors few
 
 pub few_are_told : (ts : List (TermOrPhrase SegmentPostingsState)) → AllByRecursion EachDecodesFew ts → AllByRecursion HaveDecodedFew ts
 few_are_told ts few = all_mapped EachDecodesFew HaveDecodedFew told ts few

@@ -10,7 +10,7 @@ use Rattle.ii_io.specs.CountingWriter.{IsFull}
 use Rattle.ii_indexing.specs.IndexFiles.{HaveNoRoom}
 use Rattle.ii_indexing.specs.RamFiles.{IsRamFault, empty_file}
 use Rattle.ii_reader.specs.OpenIndex.{OpenIndexState}
-use Rattle.nequllpa.proofs.WithinLimits.{memory_within}
+use Rattle.ii_ram.proofs.WithinLimits.{memory_within}
 
 -- an empty file has room for fewer bytes than 2^64
 room : (size : ℕ) → size < 2 ^ 64 → IsFull empty_file size → ⊥

@@ -5,6 +5,7 @@ mod DeepLaws
 mod HintLaws
 mod LoadedLaws
 mod NearLaws
+mod NearTokens
 mod NormBoundLaws
 mod OpenedLaws
 mod OpeningLaws

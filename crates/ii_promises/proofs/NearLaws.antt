@@ -19,7 +19,7 @@ is_close slop place q = nat_le place (q + slop) && nat_le q (place + slop)
 abbrev pub are_close : ℕ → ℕ → List ℕ → Bool
 are_close slop place positions = list_any (is_close slop place) positions
 
-any_more : {X : Type 0} (f g : X → Bool) → ((x : X) → f x ≡ true → g x ≡ true) → (xs : List X) → list_any f xs ≡ true → list_any g xs ≡ true
+pub any_more : {X : Type 0} (f g : X → Bool) → ((x : X) → f x ≡ true → g x ≡ true) → (xs : List X) → list_any f xs ≡ true → list_any g xs ≡ true
 any_more f g more [] is = is
 any_more f g more (x ∷ xs) is = by (f x) refl (any_more f g more xs)
   where
@@ -28,7 +28,7 @@ any_more f g more (x ∷ xs) is = by (f x) refl (any_more f g more xs)
     by false here later = or_right (g x) (list_any g xs) (later (rw here at is))
 
 -- a position within the slop by a way back is close
-near_close : (slop back place q : ℕ) → back ≤ slop → is_within slop place (q + back) ≡ true → is_close slop place q ≡ true
+pub near_close : (slop back place q : ℕ) → back ≤ slop → is_within slop place (q + back) ≡ true → is_close slop place q ≡ true
 near_close slop back place q up is =
     let both = within_true slop place (q + back) is in
     let low = both.0 in
@@ -36,7 +36,7 @@ near_close slop back place q up is =
     and_from (nat_le place (q + slop)) (nat_le q (place + slop)) (le-leb place (q + slop) (omega (arith, low, up))) (le-leb q (place + slop) (omega (arith, high)))
 
 -- and a close one has a way back
-close_near : (slop place q : ℕ) → is_close slop place q ≡ true → (place - q ≤ slop) × (is_within slop place (q + (place - q)) ≡ true)
+pub close_near : (slop place q : ℕ) → is_close slop place q ≡ true → (place - q ≤ slop) × (is_within slop place (q + (place - q)) ≡ true)
 close_near slop place q is =
     let both = and_parts (nat_le place (q + slop)) (nat_le q (place + slop)) is in
     let low = leb-true place (q + slop) both.0 in
@@ -44,10 +44,10 @@ close_near slop place q is =
     (omega (arith, low), within_here slop place (q + (place - q)) (omega arith) (omega (arith, low, high)))
 
 -- one of the positions is close, by some way back
-record Way (slop : ℕ) (near : ℕ → Bool) : Type 0 where
-  back : ℕ
-  up : back ≤ slop
-  is : near back ≡ true
+pub record Way (slop : ℕ) (near : ℕ → Bool) : Type 0 where
+  pub back : ℕ
+  pub up : back ≤ slop
+  pub is : near back ≡ true
 
 close_way : (slop place : ℕ) (positions : List ℕ) → are_close slop place positions ≡ true → Way slop (λ (back : ℕ). list_any (λ (q : ℕ). is_within slop place (q + back)) positions)
 close_way slop place [] is = absurd (let wrong : false ≡ true = is in cc)

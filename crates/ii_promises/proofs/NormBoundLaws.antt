@@ -29,7 +29,7 @@ use Rattle.ii_reader.specs.Bounds.{bounds_of, bounds_read, entry_bounds}
 use Rattle.ii_reader.specs.BlockSegmentPostings.{BlockSegmentPostingsState}
 use Rattle.ii_reader.specs.InvertedIndexReader.{InvertedIndexReaderState, OpensBlocks, if_they_lie, lies_in}
 use Rattle.ii_reader.specs.OpenIndex.{OpenIndexState}
-use Rattle.nequllpa.specs.TrueBounds.{IndexHasTrueBounds}
+use Rattle.ii_ram.specs.TrueBounds.{IndexHasTrueBounds}
 
 abbrev fine : {A : Type 0} → A → Result A Part
 fine x = Ok x

@@ -14,7 +14,7 @@ HasDecodedFew s = (s.doc_decodes ≤ s.block + 1) × (s.freq_decodes ≤ s.block
 -- `HasDecodedFew` holds for the cursor of a term, and for each cursor of a phrase.
 abbrev pub HaveDecodedFew : TermOrPhrase SegmentPostingsState → Type 0
 HaveDecodedFew (Term cursor) = HasDecodedFew cursor
-HaveDecodedFew (Phrase cursor) = AllByRecursion HasDecodedFew cursor.cursors
+HaveDecodedFew (Phrase cursor) = AllByRecursion HasDecodedFew cursor.phrase.cursors
 
 -- the number of positions of the remaining documents
 abbrev pub num_remaining_positions : SegmentPostingsState → ℕ

@@ -5,7 +5,7 @@ ghost use Rattle.ii_layout.specs.TermList.{docs_and_freqs};
 ghost use Rattle.ii_promises.specs.DecodedBlocks.{DecodesNewBlock, HasDecodedOnce};
 
 use bytes::Bytes;
-use nequllpa::{BlockSegmentPostings, DocId, IndexRecordOption, LayoutFault};
+use ii_ram::{BlockSegmentPostings, DocId, IndexRecordOption, LayoutFault};
 
 /// Any bytes open as the documents and term frequencies that the layout relation gives. If it gives
 /// none, the first corrupt part is returned. To validate the list, each block of it is decoded at most

@@ -10,10 +10,10 @@ ghost use Rattle.ii_layout.specs.Documents.{skip_entry};
 ghost use Rattle.ii_layout.specs.SkipList.{SkipList, skip_list};
 ghost use Rattle.ii_layout.specs.Written.{AreFreqs, written_postings};
 ghost use Rattle.ii_promises.specs.DecodedBlocks.{DecodesNoneTwice};
-ghost use Rattle.nequllpa.specs.TrueBounds.{IndexHasTrueBounds};
+ghost use Rattle.ii_ram.specs.TrueBounds.{IndexHasTrueBounds};
 
 use ii_layout::written::bounds_what_is_written;
-use nequllpa::{
+use ii_ram::{
     BlockSegmentPostings, DocId, Fault, FieldNormReader, IndexCall, IndexRecordOption, OpenIndex,
     Schema, SegmentPostings, Term, TextAnalyzer, index_in_ram,
 };

@@ -13,7 +13,7 @@ ghost use Rattle.ii_reader.specs.LoadedPostings.{num_positions};
 ghost use Rattle.ii_promises.specs.DecodedBlocks.{DecodesNoneTwice, DecodesNewBlock, HasDecodedOnce};
 
 use bytes::Bytes;
-use nequllpa::{
+use ii_ram::{
     COLLECT_BLOCK_BUFFER_LEN, CursorCall, DocId, DocSet, Fault, IndexRecordOption, LayoutFault,
     Lent, LoadedPostings, Postings, SeekDangerResult, SeekOnce, SegmentPostings, Walk, walk,
 };

@@ -4,7 +4,7 @@ ghost use Rattle.ii_io.specs.declared.faults.LeafKind.{LeafKind};
 ghost use Rattle.ii_io.specs.declared.faults.LimitName.{LimitName};
 ghost use Rattle.ii_io.specs.declared.faults.Part.{Part};
 
-use nequllpa::Fault;
+use ii_ram::Fault;
 
 /// Each fault has a number from 1 to 8.
 pub fn faults_have_numbers(fault: Fault) -> u8

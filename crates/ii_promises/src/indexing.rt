@@ -17,7 +17,7 @@ ghost use Rattle.ii_indexing.specs.RamFiles.{IsRamFault, empty_file};
 ghost use Rattle.ii_promises.specs.PlainCalls.{IsTextOrNumber, call_size};
 ghost use Rattle.ii_reader.specs.OpenIndex.{IndexHolds};
 
-use nequllpa::{
+use ii_ram::{
     AsciiTokenizer, DocId, Fault, Field, IndexCall, IndexRecordOption, OpenIndex, Schema,
     SegmentPostings, Term, TextAnalyzer, index_in_ram,
 };

@@ -5,7 +5,7 @@ ghost use Rattle.std.specs.Cmp.Lexicographic.{slice_cmp};
 ghost use Rattle.std.specs.List.Sorted.{IsStrictlySortedBy};
 ghost use Rattle.ii_reader.specs.JsonFields.{label_of, spaces_of};
 
-use nequllpa::{Fault, InvertedIndexFieldSpace, InvertedIndexReader, Part};
+use ii_ram::{Fault, InvertedIndexFieldSpace, InvertedIndexReader, Part};
 use std::alloc::Global;
 
 /// The paths and types of a field's keys are listed once each, in ascending order, with sums over

@@ -11,11 +11,11 @@ ghost use Rattle.ii_reader.specs.InvertedIndexReader.{AllOpen, InvertedIndexRead
 ghost use Rattle.ii_reader.specs.OpenIndex.{IndexHolds, OpenIndexState, ReadersHold, index_of_files, trusted_index};
 
 use bytes::Bytes;
-use ii_termdict::TermInfo;
-use nequllpa::{
+use ii_ram::{
     DamagedTerm, Fault, Field, IndexRecordOption, InvertedIndexReader, OpenIndex, Schema,
     SegmentPostings, Term, open_index, open_index_with_norms,
 };
+use ii_termdict::TermInfo;
 use std::alloc::Global;
 
 /// Four files open as the index that the definition gives. Otherwise the first corrupt part is

@@ -4,7 +4,7 @@ ghost use Rattle.ii_layout.specs.Positions.{position_deltas};
 
 use bytes::Bytes;
 use ii_layout::PositionReader;
-use nequllpa::{LayoutFault, Part};
+use ii_ram::{LayoutFault, Part};
 
 /// Bytes open exactly if they hold deltas of positions. Opening decodes at most one block, the last
 /// one, which is kept.

@@ -8,7 +8,7 @@ ghost use Rattle.ii_promises.specs.Decodes.{ReadsEachOnce};
 ghost use Rattle.ii_query.specs.Phrase.{cursors_in, has_position};
 ghost use Rattle.ii_reader.specs.SegmentPostings.{SegmentPostingsState};
 
-use nequllpa::{
+use ii_ram::{
     DocId, DocSet, Exclude, Fault, Intersection, PhraseMatch, PhrasePart, QueryCursor,
     SeekDangerResult, SegmentPostings, SloppyPhraseMatch, Union,
 };

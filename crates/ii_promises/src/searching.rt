@@ -1,5 +1,5 @@
 // What queries find.
-ghost use Rattle.std.specs.Prelude.{◌≡◌, ◌+◌, ◌<◌, ◌≤◌, ◌⊎◌, ◌&&◌, ◌==◌, ℕ, [], List, true, false, length, map, min, nat_eq, slice_index, None, IfErr, IfOk, OnOk};
+ghost use Rattle.std.specs.Prelude.{◌≡◌, ◌+◌, ◌<◌, ◌≤◌, ◌⊎◌, ◌&&◌, ◌==◌, ℕ, [], List, true, false, length, map, min, nat_eq, nat_le, slice_index, None, IfErr, IfOk, OnOk};
 ghost use Rattle.std.specs.List.{AllByRecursion, Contains, list_any, starts_with};
 ghost use Rattle.ii_base.specs.Entries.{Entry};
 ghost use Rattle.ii_docset.specs.Cursor.{IsAscending, IsTarget};
@@ -10,20 +10,21 @@ ghost use Rattle.ii_definitions.specs.Norms.{HoldNorms};
 ghost use Rattle.ii_definitions.specs.Tokens.{IndexToken, tokens_of};
 ghost use Rattle.ii_definitions.specs.IndexCalls.{MayAllBeIndexed, call_of};
 ghost use Rattle.ii_indexing.specs.Refusals.{calls_fault};
-ghost use Rattle.ii_query_parser.specs.Queries.{has_fields, keeps_positions, matches};
+ghost use Rattle.ii_query_parser.specs.Queries.{has_fields, is_token_of, keeps_positions, matches};
 ghost use Rattle.ii_query_parser.specs.Ranges.{in_range};
 ghost use Rattle.ii_base.specs.Schema.{SchemaEntry};
 ghost use Rattle.ii_reader.specs.OpenIndex.{IndexHolds};
 ghost use Rattle.ii_indexing.specs.RamFiles.{IsRamFault};
 ghost use Rattle.ii_promises.specs.Decodes.{HaveDecodedFew};
+ghost use Rattle.ii_promises.specs.Phrases.{AreTexts, KeepPositions};
 ghost use Rattle.ii_promises.specs.DecodedBlocks.{DecodesNoneTwice};
 ghost use Rattle.ii_promises.specs.HopelessBlocks.{hopeful_blocks, is_hopeless_block};
 
 use bytes::Bytes;
-use nequllpa::{
-    DocId, DocSet, Fault, IndexCall, OpenIndex, Query, QueryCursor, Schema, SegmentPostings, Term,
-    TermOrPhrase, TermRange, TextAnalyzer, count, index_in_ram, open_index_with_norms, search,
-    top_by_count,
+use ii_ram::{
+    DocId, DocSet, Fault, IndexCall, OpenIndex, PhraseTerm, Query, QueryCursor, Schema,
+    SegmentPostings, Term, TermOrPhrase, TermRange, TextAnalyzer, count, index_in_ram,
+    open_index_with_norms, search, top_by_count,
 };
 use std::alloc::Global;
 
@@ -140,6 +141,37 @@ pub fn ranges_find_what_is_between(
         → IfErr result (λ fault. fault ≡ Fault.OutOfMemory) }
 {
     let query = Query::range(range);
+    let found = search(alloc, index, &query);
+    drop(query);
+    found
+}
+
+/// A phrase of two terms within a slop finds exactly the documents with a token of the first term, and one of the
+/// second at most `slop` positions before or after the one that follows it, in ascending order. Both are keys of texts,
+/// of fields with positions. Where the index holds tokens, this fails only with `OutOfMemory`.
+#[tactic(auto, using(crate::proofs::SearchingLaws::found_ascend))]
+pub fn phrases_find_what_is_near(
+    alloc: Global,
+    index: &OpenIndex,
+    first: Term,
+    second: Term,
+    slop: u32,
+) -> Result<QueryCursor<TermOrPhrase<SegmentPostings>>, Fault>
+    requires first { first.field < length index.now.readers }
+    requires second { second.field < length index.now.readers }
+    ensures ascending { IfOk result (λ cursor. IsAscending cursor.rest) }
+    ensures found { (schema : List SchemaEntry) (num_docs : ℕ) (tokens : List IndexToken) → IndexHolds schema num_docs index.now tokens → KeepPositions schema first second → AreTexts tokens first second
+        → IfOk result (λ cursor. (doc : ℕ) → has_doc cursor.rest doc
+        ≡ list_any (λ t. is_token_of first doc t && list_any (λ u. is_token_of second doc u && nat_le (t.position + 1) (u.position + slop) && nat_le u.position (t.position + 1 + slop)) tokens) tokens) }
+    ensures memory { (schema : List SchemaEntry) (num_docs : ℕ) (tokens : List IndexToken) → IndexHolds schema num_docs index.now tokens → KeepPositions schema first second
+        → IfErr result (λ fault. fault ≡ Fault.OutOfMemory) }
+{
+    let mut others = Vec::new(alloc);
+    others.push(PhraseTerm {
+        distance: 1,
+        term: second,
+    })?;
+    let query = Query::Phrase(first, others, slop);
     let found = search(alloc, index, &query);
     drop(query);
     found

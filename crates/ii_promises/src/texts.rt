@@ -15,11 +15,11 @@ ghost use Rattle.ii_promises.specs.Texts.{GivesOrTells};
 
 use ii_query_grammar::laws::reads_what_is_spelled;
 use ii_query_parser::parse_query_by;
-use ii_tokenizers::{FieldAnalyzers, FieldTokenizer, FieldTokenizers, OneAnalyzer};
-use nequllpa::{
+use ii_ram::{
     DocId, Fault, Field, OpenIndex, ParseError, Query, QueryCursor, QueryParserError, Schema,
     SegmentPostings, TermOrPhrase, TextAnalyzer, UserInputAst, parse, search,
 };
+use ii_tokenizers::{FieldAnalyzers, FieldTokenizer, FieldTokenizers, OneAnalyzer};
 use std::alloc::Global;
 
 /// A query that is bounded by the number of documents matches each of them or not as it did.

@@ -10,7 +10,7 @@ ghost use Rattle.ii_indexing.specs.Refusals.{call_fault, calls_fault, leaf_fault
 ghost use Rattle.ii_promises.specs.DeepValues.{in_arrays};
 
 use ii_io::{CountedCalls, FailingWriter};
-use nequllpa::{
+use ii_ram::{
     DocId, Fault, Field, IndexCall, IndexWriters, Indexer, JsonValue, Schema, TextAnalyzer,
     ValueType, write_index,
 };

@@ -1,5 +1,6 @@
 pub mod AllLemmas
 pub mod CommonLemmas
+pub mod CountLemmas
 pub mod HintLemmas
 pub mod MatchLaws
 pub mod MeetLemmas

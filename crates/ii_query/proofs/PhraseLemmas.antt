@@ -7,7 +7,7 @@ use Rattle.std.proofs.lemmas.Bool.{cases_lt, eq-eqb, ne_eqb}
 use Rattle.std.proofs.lemmas.Bool.Decides.{eqb_tells, leb_tells}
 use Rattle.ii_base.specs.declared.doc_id.TheConstants.{TERMINATED}
 use Rattle.ii_base.specs.Entries.{Entry, docs_of, document}
-use Rattle.ii_docset.specs.Cursor.{IsAscending, IsCurrent, IsSound, IsTarget, doc_at, from_doc, positions_at}
+use Rattle.ii_docset.specs.Cursor.{IsAscending, IsCurrent, IsSound, doc_at, from_doc, positions_at}
 use Rattle.ii_docset.proofs.CursorLemmas.{doc_below, from_doc_here, ascending_sound}
 use Rattle.ii_docset.specs.Intersection.{has_doc}
 use Rattle.ii_query.specs.Combined.{IsAtFirst}
@@ -93,7 +93,7 @@ pub any_alike : (f g : ℕ → Bool) (ps : List ℕ) → ((p : ℕ) → f p ≡ 
 any_alike f g [] same = refl
 any_alike f g (p ∷ ps) same = rw (same p, any_alike f g ps same) refl
 
-any_none : (f : ℕ → Bool) (ps : List ℕ) → ((p : ℕ) → f p ≡ false) → list_any f ps ≡ false
+pub any_none : (f : ℕ → Bool) (ps : List ℕ) → ((p : ℕ) → f p ≡ false) → list_any f ps ≡ false
 any_none f [] none = refl
 any_none f (p ∷ ps) none = rw (none p) (any_none f ps none)
 
@@ -107,18 +107,12 @@ positions_from test target doc (e ∷ es) up =
       | inr h ↦ rw (h.0, ne_eqb e.doc doc (λ same. omega (arith, h.1, same))) later
     ]
 
-pub has_from : (target doc position : ℕ) (es : List Entry) → target ≤ doc → has_position (from_doc target es) doc position ≡ has_position es doc position
-has_from target doc position es up = positions_from (λ (ps : List ℕ). is_among ps position) target doc es up
-
 -- below its first document it has none
 pub positions_below : (test : List ℕ → Bool) (doc : ℕ) (es : List Entry) → IsAscending es → doc < doc_at es → has_positions test es doc ≡ false
 positions_below test doc [] ascend low = refl
 positions_below test doc (e ∷ es) ascend low =
     let first = ascend.0 in
     rw (ne_eqb e.doc doc (λ same. omega (arith, low, same))) (positions_below test doc es ascend.1 (omega (arith, low, first)))
-
-pub has_below : (doc position : ℕ) (es : List Entry) → IsAscending es → doc < doc_at es → has_position es doc position ≡ false
-has_below doc position es ascend low = positions_below (λ (ps : List ℕ). is_among ps position) doc es ascend low
 
 -- at its first document it has those of its entry
 positions_here : (test : List ℕ → Bool) (doc : ℕ) (es : List Entry) → IsAscending es → doc_at es ≡ doc → doc < TERMINATED → has_positions test es doc ≡ test (positions_at es)
@@ -131,7 +125,7 @@ pub has_here : (doc position : ℕ) (es : List Entry) → IsAscending es → doc
 has_here doc position es ascend here low = positions_here (λ (ps : List ℕ). is_among ps position) doc es ascend here low
 
 -- the other terms pass a test, given that all are at the document
-pass_at : (test : ℕ → List ℕ → Bool) (others : List PhrasePartState) (doc : ℕ) → AllByRecursion (IsAtDoc doc) others → doc < TERMINATED → parts_pass test others ≡ parts_have test others doc
+pub pass_at : (test : ℕ → List ℕ → Bool) (others : List PhrasePartState) (doc : ℕ) → AllByRecursion (IsAtDoc doc) others → doc < TERMINATED → parts_pass test others ≡ parts_have test others doc
 pass_at test [] doc at low = refl
 pass_at test (p ∷ ps) doc at low = rw (positions_here (test p.distance) doc p.rest at.0.sound.ascending at.0.here low, pass_at test ps doc at.1 low) refl
 
@@ -205,7 +199,3 @@ begins_has test doc (e ∷ es) = by (list_any (test e.doc) e.positions) refl (be
       | inl h ↦ rw (is, h.0, subst (λ (d : ℕ). list_any (test d) e.positions ≡ false) h.1 is) later
       | inr h ↦ rw (is, h.0) later
     ]
-
--- a document has a phrase exactly where its entry has
-pub phrase_has : (doc : ℕ) (es : List Entry) (others : List PhrasePartState) → has_doc (phrase_docs es others) doc ≡ list_any (λ (e : Entry). nat_eq e.doc doc && list_any (stand_from others doc) e.positions) es
-phrase_has doc es others = begins_has (stand_from others) doc es

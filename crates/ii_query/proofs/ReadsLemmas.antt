@@ -72,6 +72,10 @@ pub unread_here : {P : Type 0} (doc : ℕ) (ts : List (PhraseTermState P)) → A
 unread_here doc [] at unread = tt
 unread_here doc (t ∷ ts) at unread = let here = at.0.here in (unread.0 (omega (arith, here)), unread_here doc ts at.1 unread.1)
 
+pub unread_all : {P : Type 0} (doc : ℕ) (ts : List (PhraseTermState P)) → AllByRecursion IsUnread ts → AllByRecursion (IsUnreadFrom doc) ts
+unread_all doc [] unread = tt
+unread_all doc (t ∷ ts) unread = (λ up. unread.0, unread_all doc ts unread.1)
+
 pub unread_above : {P : Type 0} (doc : ℕ) (ts : List (PhraseTermState P)) → AllByRecursion (IsAtDoc doc) (parts_in ts) → AllByRecursion (IsUnreadFrom (doc + 1)) ts
 unread_above doc [] at = tt
 unread_above doc (t ∷ ts) at = let here = at.0.here in (λ up. absurd (omega (arith, here, up)), unread_above doc ts at.1)

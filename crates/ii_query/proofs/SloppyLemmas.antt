@@ -61,6 +61,19 @@ other_false : (a b c : Bool) → ((a || b) && c) ≡ false → (b && c) ≡ fals
 other_false true b c fails = and_right b c fails
 other_false false b c fails = fails
 
+-- a position that a window begins at most `slop` before, which all other terms have
+pub start_near : (slop window p : ℕ) (others : List PhrasePartState) → p + BEFORE_TEXT ≤ window + slop → window ≤ p + BEFORE_TEXT → parts_pass (is_near slop BEFORE_TEXT window) others ≡ true → stand_near_here slop others p ≡ true
+start_near slop window p others low up all =
+    let moved : window + (p + BEFORE_TEXT - window) ≡ p + BEFORE_TEXT = omega (arith, up) in
+    way_found (λ (n : ℕ). parts_pass (is_near slop n p) others) slop (p + BEFORE_TEXT - window) (omega (arith, low, up)) (sym (near_all slop window (p + BEFORE_TEXT - window) p BEFORE_TEXT others moved) ∙ all)
+
+-- or none
+pub start_far : (slop p : ℕ) (others : List PhrasePartState) → slop ≤ BEFORE_TEXT → ((window : ℕ) → p + BEFORE_TEXT ≤ window + slop → window ≤ p + BEFORE_TEXT → parts_pass (is_near slop BEFORE_TEXT window) others ≡ false) → stand_near_here slop others p ≡ false
+start_far slop p others small none = way_none (λ (back : ℕ). parts_pass (is_near slop back p) others) slop
+    (λ back up.
+    let moved : p + BEFORE_TEXT - back + back ≡ p + BEFORE_TEXT = omega (arith, small, up) in
+    sym (near_all slop (p + BEFORE_TEXT - back) back p BEFORE_TEXT others moved) ∙ none (p + BEFORE_TEXT - back) (omega (arith, moved, up)) (omega (arith, moved)))
+
 -- all terms have a position in one window
 pub window_found : (slop window : ℕ) (positions : List ℕ) (others : List PhrasePartState) → is_near slop BEFORE_TEXT window 0 positions ≡ true → parts_pass (is_near slop BEFORE_TEXT window) others ≡ true
     → list_any (stand_near_here slop others) positions ≡ true
@@ -72,9 +85,7 @@ window_found slop window (p ∷ ps) others first all = by (is_within slop (windo
         let in_window = within_true slop (window + 0) (p + BEFORE_TEXT) is in
         let low = in_window.0 in
         let up = in_window.1 in
-        let moved : window + (p + BEFORE_TEXT - window) ≡ p + BEFORE_TEXT = omega (arith, low) in
-        let near = sym (near_all slop window (p + BEFORE_TEXT - window) p BEFORE_TEXT others moved) ∙ all in
-        let found = way_found (λ (n : ℕ). parts_pass (is_near slop n p) others) slop (p + BEFORE_TEXT - window) (omega (arith, low, up)) near in
+        let found = start_near slop window p others (omega (arith, up)) (omega (arith, low)) all in
         rw found refl
     by false is later =
         let left : is_near slop BEFORE_TEXT window 0 ps ≡ true = rw is at first in
@@ -85,12 +96,10 @@ pub window_missed : (slop : ℕ) (positions : List ℕ) (others : List PhrasePar
     → list_any (stand_near_here slop others) positions ≡ false
 window_missed slop [] others low none = refl
 window_missed slop (p ∷ ps) others low none =
-    let first : stand_near_here slop others p ≡ false = way_none (λ (back : ℕ). parts_pass (is_near slop back p) others) slop
-    (λ back up.
-    let moved : p + BEFORE_TEXT - back + back ≡ p + BEFORE_TEXT = omega (arith, low, up) in
-    let near : is_within slop (p + BEFORE_TEXT - back + 0) (p + BEFORE_TEXT) ≡ true = within_here slop (p + BEFORE_TEXT - back + 0) (p + BEFORE_TEXT) (omega (arith, moved)) (omega (arith, moved, up)) in
-    let others_miss : parts_pass (is_near slop BEFORE_TEXT (p + BEFORE_TEXT - back)) others ≡ false = rw near at (none (p + BEFORE_TEXT - back)) in
-    sym (near_all slop (p + BEFORE_TEXT - back) back p BEFORE_TEXT others moved) ∙ others_miss) in
+    let first : stand_near_here slop others p ≡ false = start_far slop p others low
+    (λ window down up.
+    let near : is_within slop (window + 0) (p + BEFORE_TEXT) ≡ true = within_here slop (window + 0) (p + BEFORE_TEXT) (omega (arith, up)) (omega (arith, down)) in
+    rw near at (none window)) in
     rw first (window_missed slop ps others low (λ w. other_false (is_within slop (w + 0) (p + BEFORE_TEXT)) (is_near slop BEFORE_TEXT w 0 ps) (parts_pass (is_near slop BEFORE_TEXT w) others) (none w)))
 
 -- the same of a first term and others of which nothing was read

@@ -51,3 +51,8 @@ are_in_window slop terms window = list_all (is_in_window slop window) terms
 abbrev pub IsRaised : (ℕ → Bool) → ℕ → Option ℕ → Type 0
 IsRaised test low None = (n : ℕ) → low ≤ n → test n ≡ false
 IsRaised test low (Some next) = (low ≤ next) × (next ≡ low → test low ≡ true) × ((n : ℕ) → low ≤ n → n < next → test n ≡ false)
+
+-- The result is at least a first number, and no number from that on passes a test that is below the result, or any at all if there is no result. If it is at most an end, it passes.
+abbrev pub IsRaisedTo : (ℕ → Bool) → ℕ → ℕ → Option ℕ → Type 0
+IsRaisedTo test low end None = (n : ℕ) → low ≤ n → test n ≡ false
+IsRaisedTo test low end (Some next) = (low ≤ next) × (next ≤ end → test next ≡ true) × ((n : ℕ) → low ≤ n → n < next → test n ≡ false)

@@ -63,16 +63,16 @@ impl<P: Postings> PhrasePart<P> {
         self.piece.clear();
     }
 
-    // Returns the current document.
-    pub(crate) fn doc(&self) -> DocId
+    /// Returns the current document of the term, or `TERMINATED`.
+    pub fn doc(&self) -> DocId
         ensures doc { result ≡ doc_at self.now.part.rest }
         ensures sound { IsSound self.now.part.rest }
     {
         self.postings.doc()
     }
 
-    // Advances to the next document.
-    pub(crate) fn advance(&mut self) -> DocId
+    /// Advances to the next document of the term, and returns it.
+    pub fn advance(&mut self) -> DocId
         ensures doc { result ≡ doc_at self.new.part.rest }
         ensures rest { self.new.part.rest ≡ drop 1 self.old.part.rest }
         ensures sound { IsSound self.new.part.rest }
@@ -83,6 +83,14 @@ impl<P: Postings> PhrasePart<P> {
         let doc = self.postings.advance();
         self.piece.clear();
         doc
+    }
+
+    // Returns at least the number of positions of the current document.
+    pub(crate) fn most_positions(&self) -> u32
+        requires { IsCurrent self.now.part.rest }
+        ensures { length (positions_at self.now.part.rest) ≤ result }
+    {
+        self.postings.term_freq()
     }
 
     // Drops the documents below a target, which may be below the current document.
@@ -108,7 +116,7 @@ impl<P: Postings> PhrasePart<P> {
     }
 
     // Returns the next position of the current document, and passes it.
-    fn next_position(&mut self) -> Option<u32>
+    pub(crate) fn next_position(&mut self) -> Option<u32>
         requires { IsCurrent self.old.part.rest }
         ensures position { result ≡ slice_get (positions_at self.old.part.rest) self.old.passed }
         ensures passed { IsSome result → self.new.passed ≡ self.old.passed + 1 }
@@ -160,7 +168,7 @@ impl<P: Postings> PhrasePart<P> {
 
 // Moves the other terms to a document. Returns it if all of them have it, else a greater document; the
 // phrase occurs in no document between.
-fn meet_others<P: Postings>(others: &mut Vec<PhrasePart<P>>, doc: DocId) -> DocId
+pub(crate) fn meet_others<P: Postings>(others: &mut Vec<PhrasePart<P>>, doc: DocId) -> DocId
     requires low { doc < TERMINATED }
     requires unread { AllByRecursion (IsUnreadFrom doc) others.old.items }
     ensures meets { MeetsAt doc (parts_in others.old.items) (parts_in others.new.items) result }

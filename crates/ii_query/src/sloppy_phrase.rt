@@ -10,7 +10,11 @@ use std::marker::Model;
 
 // Raises the start of a window until each of these terms in turn has a position in it. The result is the same
 // start if all of them have one in the first window. If a term has none from there on, returns `None`.
-fn raise_window<P: Postings>(terms: &mut Vec<PhrasePart<P>>, low: u64, slop: u32) -> Option<u64>
+pub(crate) fn raise_window<P: Postings>(
+    terms: &mut Vec<PhrasePart<P>>,
+    low: u64,
+    slop: u32,
+) -> Option<u64>
     requires current { AllByRecursion (λ part. IsCurrent part.rest) (parts_in terms.old.items) }
     requires up_to { low < 2 * BEFORE_TEXT }
     ensures raised { IsRaised (are_in_window slop terms.old.items) low result }

@@ -1,4 +1,4 @@
-use crate::phrase::PhraseMatch;
+use crate::sloppy_phrase::SloppyPhraseMatch;
 use ii_docset::{DocId, DocSet, Postings};
 
 /// A cursor over the documents of a term, or of a phrase.
@@ -6,8 +6,8 @@ use ii_docset::{DocId, DocSet, Postings};
 pub enum TermOrPhrase<P: Postings> {
     /// The documents of a term.
     Term(P),
-    /// The documents of a phrase.
-    Phrase(PhraseMatch<P>),
+    /// The documents of a phrase within a slop.
+    Phrase(SloppyPhraseMatch<P>),
 }
 
 impl<P: Postings> DocSet for TermOrPhrase<P> {

@@ -12,7 +12,7 @@ use Rattle.ii_query_grammar.specs.declared.parse_error.Expected.TheVariants as w
 use Rattle.ii_query_grammar.specs.declared.parse_error.Feature.{Feature}
 use Rattle.ii_query_grammar.specs.declared.parse_error.ParseError.{ParseError}
 use Rattle.ii_query_grammar.specs.declared.sets.TheConstants.{MAX_SET_VALUES}
-use Rattle.ii_query_grammar.specs.Lexemes.{Front, Limit, RangeFront, SetFront, Token, after_spaces, after_to, before_stop, begins, bound_with, ended_range, feature_after, feature_in_front, from_stop, front, front_at, greater, has_star, is_empty, is_prefix, is_set, is_space, less as less_range, lexemes, limit_at, next_value, one_more, phrase_front, place_of, range_above, range_after_to, range_at, range_below, range_between, range_from, range_to, set_front, after_bracket, set_values, text_limit, tokens, unless_feature, unless_range, value_and, value_front, values_from, with_values, word_front}
+use Rattle.ii_query_grammar.specs.Lexemes.{Front, Limit, RangeFront, SetFront, Token, after_spaces, after_to, before_stop, begins, bound_with, closed_phrase, ended_range, feature_after, feature_in_front, from_stop, front, front_at, greater, has_star, is_empty, is_prefix, is_set, is_space, less as less_range, lexemes, limit_at, next_value, one_more, phrase_front, phrase_with_slop, place_of, range_above, range_after_to, range_at, range_below, range_between, range_from, range_to, set_front, after_bracket, set_values, slop_of, text_limit, tokens, unless_feature, unless_range, value_and, value_front, values_from, with_values, word_front}
 use Rattle.ii_query_grammar.specs.Trees.{Bound}
 
 -- The text after the first lexeme has fewer than n bytes.
@@ -31,10 +31,21 @@ unless (Some feature) at n f some leaves = some
 end_leaves : (k n : ℕ) (text : List ℕ) → length text < n → length (drop k text) < n
 end_leaves k n text less = omega (arith, length-drop k text, less)
 
+slop_leaves : (place at n : ℕ) (field : Option (List ℕ)) (phrase rest : List ℕ) (slop : Option ℕ) → length rest < n → Leaves n (phrase_with_slop place at field phrase rest slop)
+slop_leaves place at n field phrase rest None few = omega (arith, few)
+slop_leaves place at n field phrase rest (Some slop) few = few
+
+closed_leaves : (size at n : ℕ) (field : Option (List ℕ)) (phrase rest : List ℕ) → length rest < n → Leaves n (closed_phrase size at field phrase rest)
+closed_leaves size at n field phrase rest few =
+    let text = drop 1 rest in
+    either (begins 126 rest) n _ _
+    (λ is. slop_leaves (size - length text) at n field phrase (from_stop stops.WordEnd text) (slop_of (before_stop stops.WordEnd text)) (end_leaves (place_of stops.WordEnd false text) n text (end_leaves 1 n rest few)))
+    (λ is. few)
+
 phrase_leaves : (size at n : ℕ) (field : Option (List ℕ)) (text : List ℕ) → length text < n → Leaves n (phrase_front size at field text)
 phrase_leaves size at n field text less =
     either (begins 34 (from_stop stops.PhraseEnd text)) n _ _
-    (λ is. end_leaves 1 n (from_stop stops.PhraseEnd text) (end_leaves (place_of stops.PhraseEnd false text) n text less))
+    (λ is. closed_leaves size at n field (before_stop stops.PhraseEnd text) _ (end_leaves 1 n (from_stop stops.PhraseEnd text) (end_leaves (place_of stops.PhraseEnd false text) n text less)))
     (λ is. omega (arith, less))
 
 -- The text after what was read has fewer than n bytes.

@@ -1,9 +1,9 @@
 -- The text of a tree is parsed as that tree.
-use Rattle.std.proofs.Common.{◌≡◌, ◌∙◌, ℕ, zero, suc, ◌-◌, ◌≤◌, Bool, true, false, ◌&&◌, ◌||◌, ◌==◌, not, List, [], ◌∷◌, ◌++◌, append_assoc, append-nil, cond, drop, take, length, Option, None, Some, option_map, Result, Ok, refl, sym, ap, subst, arith}
+use Rattle.std.proofs.Common.{◌≡◌, ◌∙◌, ℕ, zero, suc, ◌-◌, ◌≤◌, Bool, true, false, ◌&&◌, ◌||◌, ◌==◌, not, List, [], ◌∷◌, ◌++◌, append_assoc, append-nil, cond, drop, take, length, Option, None, Some, option_map, Result, Ok, decimal, nat_lt, refl, sym, ap, subst, arith}
 use Rattle.std.proofs.Math.Bool.{and-false}
 use Rattle.std.specs.Prelude.{bytes_eq, codes, nat_le}
 use Rattle.std.specs.List.{list_all, take_while}
-use Rattle.std.proofs.lemmas.Bool.{and_parts, eqb-true, leb-true, not-true}
+use Rattle.std.proofs.lemmas.Bool.{and_parts, eqb-true, leb-true, ltb-true, not-true}
 use Rattle.ii_query_grammar.specs.declared.sets.TheConstants.{MAX_SET_VALUES}
 use Rattle.std.proofs.lemmas.List.{drop_at, take_at}
 use Rattle.std.proofs.lemmas.List.Sums.{take_while-cons}
@@ -18,13 +18,14 @@ use Rattle.ii_query_grammar.specs.declared.parse_error.ParseError.{ParseError}
 use Rattle.ii_query_grammar.specs.declared.user_input_ast.Delimiter.{Delimiter}
 use Rattle.ii_query_grammar.specs.declared.user_input_ast.Delimiter.TheVariants as delimiters
 use Rattle.ii_query_grammar.specs.Grammar.{Kind, Spells, all, alone, among_values, and, and_not, between_bounds, chain, in_parentheses, next_to, nothing, one, or, part, query, star_alone, token, wanted, wants}
-use Rattle.ii_query_grammar.specs.Lexemes.{Front, Lexeme, Limit, RangeFront, Token, after_spaces, after_to, and_word, asterisk, before_stop, begins, closing, ended_phrase, ends_prefix, feature_after, feature_in_front, first_feature_of, from_stop, front_at, front_with, has_star, is_empty, is_prefix, is_prefix_end, is_set, is_space, is_special, lexemes, limit_at, literal, literal_with, minus, next_value, one_more, opening, or_word, phrase_front, place_of, quoted_limit, range, range_after_to, range_at, range_from, range_front, range_to, range_with, set_front, set_values, text_limit, unescaped, unless_feature, unless_range, value_front, value_or_prefix, value_set, values_from, with_values, word_front, word_lexeme, word_or_name, word_or_prefix}
+use Rattle.ii_query_grammar.specs.Lexemes.{Front, Lexeme, Limit, RangeFront, Token, after_spaces, after_to, and_word, asterisk, before_stop, begins, closed_phrase, closing, ended_phrase, ends_prefix, feature_after, feature_in_front, first_feature_of, from_stop, front_at, front_with, has_star, is_empty, is_prefix, is_prefix_end, is_set, is_space, is_special, lexemes, limit_at, literal, literal_with, minus, next_value, one_more, opening, or_word, phrase_front, phrase_with_slop, place_of, quoted_limit, range, range_after_to, range_at, range_from, range_front, range_to, range_with, set_front, set_values, slop_of, text_limit, unescaped, unless_feature, unless_range, value_front, value_or_prefix, value_set, values_from, with_values, word_front, word_lexeme, word_or_name, word_or_prefix}
 use Rattle.ii_query_grammar.specs.Parsed.{ChainState, chain_tree, parsed}
 use Rattle.ii_query_grammar.specs.Spelling.{are_several, delimited, escaped, field_text, has_spelling, have_spelling, is_bound, is_literal, is_no_operator, is_range, is_value, is_writable, is_writable_word, literal_text, lower_text, may_be_alone, may_be_set, nesting, part_nesting, part_text, parts_nesting, parts_text, quoted, range_text, set_text, spelled, upper_text, values_text, word_text}
 use Rattle.ii_query_grammar.specs.Trees.{Ast, Asts, Bound, Literal, Range, ValueSet, all_of, and_asts, any_of, asts_from, everything, exclusive, in_set, inclusive, leaf, no_asts, ranged, unbounded, without}
 use Rattle.ii_query_grammar.proofs.CompleteLemmas.{reads_query}
 use Rattle.ii_query_grammar.proofs.EscapeLemmas.{IsPlain, differs, ends_there, is_plain, phrase_unescapes, phrases, word_unescapes, words, writable}
 use Rattle.ii_query_grammar.proofs.LexerLemmas.{lexemes_step}
+use Rattle.ii_query_grammar.proofs.SlopLemmas.{slop_cut, slop_of_decimal}
 
 -- six tests that fail
 all_fail : (p q r s o t : Bool) (a b c d e f g : Front) → p ≡ false → q ≡ false → r ≡ false → s ≡ false → o ≡ false → t ≡ false → cond p a (cond q b (cond r c (cond s d (cond o e (cond t f g))))) ≡ g
@@ -158,14 +159,41 @@ is_phrase phrase rest may =
     }
 
 -- a phrase after its first quote
-quoted_front : (size at : ℕ) (field : Option (List ℕ)) (phrase rest : List ℕ) → is_writable phrase ≡ true
-    → phrase_front size at field (escaped stops.PhraseEscape false phrase ++ 34 ∷ rest) ≡ front_with at (literal (record { field_name = option_map unescaped field; phrase = phrase; delimiter = delimiters.DoubleQuotes })) rest
-quoted_front size at field phrase rest may =
+closed_front : (size at : ℕ) (field : Option (List ℕ)) (phrase rest : List ℕ) → is_writable phrase ≡ true
+    → phrase_front size at field (escaped stops.PhraseEscape false phrase ++ 34 ∷ rest) ≡ closed_phrase size at field (escaped stops.PhraseEscape false phrase) rest
+closed_front size at field phrase rest may =
     let text = escaped stops.PhraseEscape false phrase in
     let cut = is_phrase phrase rest may in
     ap (λ (p : List ℕ). ended_phrase size at field p (from_stop stops.PhraseEnd (text ++ 34 ∷ rest))) cut.before
     ∙ ap (ended_phrase size at field text) cut.after
+
+-- one without a slop
+quoted_front : (size at : ℕ) (field : Option (List ℕ)) (phrase rest : List ℕ) → is_writable phrase ≡ true → begins 126 rest ≡ false
+    → phrase_front size at field (escaped stops.PhraseEscape false phrase ++ 34 ∷ rest) ≡ front_with at (literal (record { field_name = option_map unescaped field; phrase = phrase; delimiter = delimiters.DoubleQuotes })) rest
+quoted_front size at field phrase rest may none =
+    closed_front size at field phrase rest may
+    ∙ one_fails (begins 126 rest) _ _ none
     ∙ ap (λ (p : List ℕ). front_with at (literal (record { field_name = option_map unescaped field; phrase = p; delimiter = delimiters.DoubleQuotes })) rest) (phrase_unescapes phrase)
+
+-- one with a slop
+sloppy_front : (size at slop : ℕ) (field : Option (List ℕ)) (phrase rest : List ℕ) → (is_writable phrase && nat_lt slop 4294967296) ≡ true → place_of stops.WordEnd false rest ≡ 0
+    → phrase_front size at field ((escaped stops.PhraseEscape false phrase ++ 34 ∷ []) ++ 126 ∷ (decimal slop ++ rest)) ≡ front_with at (literal (record { field_name = option_map unescaped field; phrase = phrase; delimiter = delimiters.Slop slop })) rest
+sloppy_front size at slop field phrase rest h stop =
+    let text = escaped stops.PhraseEscape false phrase in
+    let after = decimal slop ++ rest in
+    let parts = and_parts (is_writable phrase) (nat_lt slop 4294967296) h in
+    let low = ltb-true slop 4294967296 parts.1 in
+    let cut = slop_cut slop rest low stop in
+    ap (phrase_front size at field) (append_assoc text (34 ∷ []) (126 ∷ after))
+    ∙ closed_front size at field phrase (126 ∷ after) parts.0
+    ∙ ap (λ (ds : List ℕ). phrase_with_slop (size - length after) at field text (from_stop stops.WordEnd after) (slop_of ds)) cut.before
+    ∙ ap (λ (s : Option ℕ). phrase_with_slop (size - length after) at field text (from_stop stops.WordEnd after) s) (slop_of_decimal slop low)
+    ∙ ap (λ (l : List ℕ). front_with at (literal_with field text (delimiters.Slop slop)) l) cut.after
+    ∙ ap (λ (p : List ℕ). front_with at (literal (record { field_name = option_map unescaped field; phrase = p; delimiter = delimiters.Slop slop })) rest) (phrase_unescapes phrase)
+
+-- the text of a phrase and its slop, after its first quote
+slop_text : (slop : ℕ) (phrase rest : List ℕ) → ((escaped stops.PhraseEscape false phrase ++ 34 ∷ []) ++ 126 ∷ decimal slop) ++ rest ≡ (escaped stops.PhraseEscape false phrase ++ 34 ∷ []) ++ 126 ∷ (decimal slop ++ rest)
+slop_text slop phrase rest = append_assoc (escaped stops.PhraseEscape false phrase ++ 34 ∷ []) (126 ∷ decimal slop) rest
 
 -- a bound that was read, and the text after it
 abbrev limit : List ℕ → List ℕ → Result Limit ParseError
@@ -268,6 +296,15 @@ star_ends (b ∷ bs) end = by (b == 32) refl (here (b ∷ bs) end)
     by true is h = rw (eqb-true b 32 is) refl
     by false is h = rw (eqb-true b 41 h) refl
 
+-- no slop follows a phrase
+no_slop : (rest : List ℕ) → ends rest ≡ true → begins 126 rest ≡ false
+no_slop [] end = refl
+no_slop (b ∷ bs) end = by (b == 32) refl (here (b ∷ bs) end)
+  where
+    by : (space : Bool) → (b == 32) ≡ space → (space || b == 41) ≡ true → (b == 126) ≡ false
+    by true is h = rw (eqb-true b 32 is) refl
+    by false is h = rw (eqb-true b 41 h) refl
+
 lexeme_fails : (p : Bool) (a b : Lexeme) → p ≡ false → cond p a b ≡ b
 lexeme_fails p a b h = rw h refl
 
@@ -292,7 +329,8 @@ named_value size at name delimiters.None phrase rest h follows end =
     ∙ value_follows size at name (word_text phrase) rest follows (some_in_word phrase some)
     ∙ ap (λ (w : List ℕ). front_with at (literal (record { field_name = Some (unescaped name); phrase = w; delimiter = delimiters.None })) rest) (word_unescapes phrase)
 named_value size at name delimiters.DoubleQuotes phrase rest h follows end =
-    ap (phrase_front size at (Some name)) (append_assoc (escaped stops.PhraseEscape false phrase) (34 ∷ []) rest) ∙ quoted_front size at (Some name) phrase rest h
+    ap (phrase_front size at (Some name)) (append_assoc (escaped stops.PhraseEscape false phrase) (34 ∷ []) rest) ∙ quoted_front size at (Some name) phrase rest h (no_slop rest end)
+named_value size at name (delimiters.Slop slop) phrase rest h follows end = ap (phrase_front size at (Some name)) (slop_text slop phrase rest) ∙ sloppy_front size at slop (Some name) phrase rest h follows.stop
 named_value size at name delimiters.Star phrase rest h follows end =
     let parts = and_parts (not (is_empty phrase)) (is_writable phrase) h in
     ap (value_front size at name) (append_assoc (word_text phrase) (42 ∷ []) rest) ∙ prefix_value size at name phrase rest parts.1 (not-true (is_empty phrase) parts.0) end
@@ -373,7 +411,12 @@ begins_alone size delimiters.Star phrase rest h end =
 begins_alone size delimiters.DoubleQuotes phrase rest h end = record {
   no_space_first = refl;
   some = refl;
-  front_is = λ at. ap (phrase_front size at None) (append_assoc (escaped stops.PhraseEscape false phrase) (34 ∷ []) rest) ∙ quoted_front size at None phrase rest h;
+  front_is = λ at. ap (phrase_front size at None) (append_assoc (escaped stops.PhraseEscape false phrase) (34 ∷ []) rest) ∙ quoted_front size at None phrase rest h (no_slop rest end);
+}
+begins_alone size (delimiters.Slop slop) phrase rest h end = record {
+  no_space_first = refl;
+  some = refl;
+  front_is = λ at. ap (phrase_front size at None) (slop_text slop phrase rest) ∙ sloppy_front size at slop None phrase rest h (word_ends rest end).0.stop;
 }
 
 begins_named : (size : ℕ) (name : List ℕ) (delimiter : Delimiter) (phrase rest : List ℕ) → is_writable_word name ≡ true → is_value delimiter phrase ≡ true → ends rest ≡ true

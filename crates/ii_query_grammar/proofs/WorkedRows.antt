@@ -1,8 +1,9 @@
 -- Texts with known trees, as examples of the definitions.
 use Rattle.std.proofs.Common.{◌≡◌, ℕ, List, [], ◌∷◌, None, Some, Result, Ok, Err, refl}
 use Rattle.std.specs.Prelude.{codes}
+use Rattle.std.specs.Fmt.{digits}
 use Rattle.ii_query_grammar.specs.declared.parse_error.Expected.{Expected}
-use Rattle.ii_query_grammar.specs.declared.parse_error.Expected.TheVariants.{Bound as ABound, Closing, End, Excluded, Included, LessNesting, Operand, Query, Quote, RangeEnd, SetValue, FewerValues, To, Value}
+use Rattle.ii_query_grammar.specs.declared.parse_error.Expected.TheVariants.{Bound as ABound, Closing, End, Excluded, Included, LessNesting, Operand, Query, Quote, RangeEnd, SetValue, FewerValues, Slop, To, Value}
 use Rattle.ii_query_grammar.specs.declared.parse_error.Feature.{Feature}
 use Rattle.ii_query_grammar.specs.declared.parse_error.Feature.TheVariants.{Boosts, Comparisons, Fuzzy, Ranges, RegularExpressions, RequiredClauses, Sets, Wildcards}
 use Rattle.ii_query_grammar.specs.declared.parse_error.ParseError.{ParseError}
@@ -21,6 +22,12 @@ in_field name text = leaf (record { field_name = Some name; phrase = text; delim
 
 abbrev phrase : List ℕ → Ast
 phrase text = leaf (record { field_name = None; phrase = text; delimiter = delimiters.DoubleQuotes })
+
+abbrev sloppy : ℕ → List ℕ → Ast
+sloppy slop text = leaf (record { field_name = None; phrase = text; delimiter = delimiters.Slop slop })
+
+abbrev sloppy_in : List ℕ → ℕ → List ℕ → Ast
+sloppy_in name slop text = leaf (record { field_name = Some name; phrase = text; delimiter = delimiters.Slop slop })
 
 abbrev prefix : List ℕ → Ast
 prefix text = leaf (record { field_name = None; phrase = text; delimiter = delimiters.Star })
@@ -162,9 +169,43 @@ abbrev fuzzy_row : parsed 9 (codes "sea~1") ≡ unsupported Fuzzy 3
 unfolding tokens
 fuzzy_row = refl
 
-abbrev slop_row : parsed 9 (codes "\"a b\"~2") ≡ unsupported Fuzzy 5
+abbrev slop_row : parsed 9 (codes "\"a b\"~2 AND (x:\"b\"~0)") ≡ tree (all (sloppy 2 (codes "a b") ∷ sloppy_in (codes "x") 0 (codes "b") ∷ []))
 unfolding tokens
 slop_row = refl
+
+-- the digits are one word, of which the slop is the number
+abbrev slop_digits_row : parsed 9 (codes "\"a\"~004294967295\"b\"~7 ~") ≡ unsupported Fuzzy 22
+unfolding tokens
+slop_digits_row = refl
+
+abbrev slop_limit_row : parsed 9 (codes "\"a b\"~4294967295") ≡ tree (sloppy 4294967295 (codes "a b"))
+unfolding tokens
+slop_limit_row = refl
+
+abbrev large_slop_row : parsed 9 (codes "\"a b\"~4294967296") ≡ syntax_error Slop 6
+unfolding tokens
+large_slop_row = refl
+
+abbrev no_slop_row : parsed 9 (codes "x:\"a b\"~ c") ≡ syntax_error Slop 8
+unfolding tokens
+no_slop_row = refl
+
+abbrev odd_slop_row : parsed 9 (codes "\"a b\"~2.5") ≡ syntax_error Slop 6
+unfolding tokens
+odd_slop_row = refl
+
+abbrev signed_slop_row : parsed 9 (codes "\"a b\"~+2") ≡ syntax_error Slop 6
+unfolding tokens
+signed_slop_row = refl
+
+-- a slop directly after the quotes
+abbrev far_slop_row : parsed 9 (codes "\"a b\" ~2") ≡ unsupported Fuzzy 6
+unfolding tokens
+far_slop_row = refl
+
+abbrev spelled_slop_row : spelled (all (sloppy 2 (codes "a \"b") ∷ sloppy_in (codes "x") 0 [] ∷ [])) ≡ codes "\"a \\\"b\"~2 AND x:\"\"~0"
+unfolding digits
+spelled_slop_row = refl
 
 abbrev boost_row : parsed 9 (codes "(a b)^2") ≡ unsupported Boosts 5
 unfolding tokens

@@ -1,5 +1,7 @@
 -- The words, phrases, ranges, signs and parentheses of a text.
-use Rattle.std.specs.Prelude.{◌≡◌, ◌<◌, ℕ, zero, suc, ◌-◌, Bool, true, false, ◌&&◌, ◌||◌, ◌==◌, not, List, [], ◌∷◌, ◌++◌, Option, None, Some, Result, Ok, Err, option_map, bytes_eq, codes, drop, take, if◌then◌else◌, length, take_while}
+use Rattle.std.specs.Prelude.{◌≡◌, ◌<◌, ℕ, zero, suc, ◌-◌, Bool, true, false, ◌&&◌, ◌||◌, ◌==◌, not, List, [], ◌∷◌, ◌++◌, Option, None, Some, Result, Ok, Err, option_map, bytes_eq, codes, drop, take, if◌then◌else◌, length, nat_lt, take_while}
+use Rattle.std.specs.Str.{all_ascii_digits}
+use Rattle.std.specs.Str.Parse.{digits_value}
 use Rattle.ii_query_grammar.specs.declared.cut.Stop.{Stop}
 use Rattle.ii_query_grammar.specs.declared.cut.Stop.TheVariants as stops
 use Rattle.ii_query_grammar.specs.declared.lexeme.BoundView.{BoundView}
@@ -167,9 +169,24 @@ unless_feature (Some feature) at front = broken_front at (Unsupported feature at
 abbrev pub literal_with : Option (List ℕ) → List ℕ → Delimiter → Lexeme
 literal_with field phrase delimiter = literal (record { field_name = option_map unescaped field; phrase = unescaped phrase; delimiter = delimiter })
 
+-- the number up to 4294967295 that decimal digits denote
+abbrev pub slop_of : List ℕ → Option ℕ
+slop_of digits = if not (is_empty digits) && all_ascii_digits digits && nat_lt (digits_value 10 digits) 4294967296 then Some (digits_value 10 digits) else None
+
+-- a phrase with the slop that is expected at a byte, if it is a number, and the text after it
+abbrev pub phrase_with_slop : ℕ → ℕ → Option (List ℕ) → List ℕ → List ℕ → Option ℕ → Front
+phrase_with_slop place at field phrase rest None = broken_front place (Syntax expected.Slop place)
+phrase_with_slop place at field phrase rest (Some slop) = front_with at (literal_with field phrase (delimiters.Slop slop)) rest
+
+-- a phrase, from the text after its last quote: after a `~` the word that is its slop
+abbrev pub closed_phrase : ℕ → ℕ → Option (List ℕ) → List ℕ → List ℕ → Front
+closed_phrase size at field phrase rest =
+    if begins 126 rest then phrase_with_slop (size - length (drop 1 rest)) at field phrase (from_stop stops.WordEnd (drop 1 rest)) (slop_of (before_stop stops.WordEnd (drop 1 rest)))
+    else front_with at (literal_with field phrase delimiters.DoubleQuotes) rest
+
 -- a phrase, from the text at its end: a quote, or nothing
 abbrev pub ended_phrase : ℕ → ℕ → Option (List ℕ) → List ℕ → List ℕ → Front
-ended_phrase size at field phrase rest = if begins 34 rest then front_with at (literal_with field phrase delimiters.DoubleQuotes) (drop 1 rest) else broken_front size (Syntax expected.Quote size)
+ended_phrase size at field phrase rest = if begins 34 rest then closed_phrase size at field phrase (drop 1 rest) else broken_front size (Syntax expected.Quote size)
 
 -- a phrase, from the text after its first quote
 abbrev pub phrase_front : ℕ → ℕ → Option (List ℕ) → List ℕ → Front

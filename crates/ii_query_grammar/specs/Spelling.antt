@@ -1,5 +1,5 @@
 -- Trees as texts.
-use Rattle.std.specs.Prelude.{ℕ, suc, ◌-◌, Bool, true, false, ◌&&◌, not, ◌==◌, List, [], ◌∷◌, ◌++◌, Option, None, Some, bytes_eq, codes, if◌then◌else◌, length, max, nat_le, slice_index}
+use Rattle.std.specs.Prelude.{ℕ, suc, ◌-◌, Bool, true, false, ◌&&◌, not, ◌==◌, List, [], ◌∷◌, ◌++◌, Option, None, Some, bytes_eq, codes, decimal, if◌then◌else◌, length, max, nat_le, nat_lt, slice_index}
 use Rattle.std.specs.List.{list_all}
 use Rattle.ii_query_grammar.specs.declared.cut.Stop.{Stop}
 use Rattle.ii_query_grammar.specs.declared.cut.Stop.TheVariants as stops
@@ -27,6 +27,7 @@ abbrev pub delimited : Delimiter → List ℕ → List ℕ
 delimited delimiters.None phrase = word_text phrase
 delimited delimiters.DoubleQuotes phrase = quoted phrase
 delimited delimiters.Star phrase = word_text phrase ++ 42 ∷ []
+delimited (delimiters.Slop slop) phrase = quoted phrase ++ 126 ∷ decimal slop
 
 -- the text of a word or a phrase without the name of its field
 abbrev pub phrase_text : Literal → List ℕ
@@ -112,12 +113,14 @@ abbrev pub is_value : Delimiter → List ℕ → Bool
 is_value delimiters.None phrase = is_writable_word phrase
 is_value delimiters.DoubleQuotes phrase = is_writable phrase
 is_value delimiters.Star phrase = is_writable_word phrase
+is_value (delimiters.Slop slop) phrase = is_writable phrase && nat_lt slop 4294967296
 
 -- whether a phrase can be written alone
 abbrev pub may_be_alone : Delimiter → List ℕ → Bool
 may_be_alone delimiters.None phrase = is_writable_word phrase && is_no_operator phrase
 may_be_alone delimiters.DoubleQuotes phrase = is_writable phrase
 may_be_alone delimiters.Star phrase = is_writable_word phrase
+may_be_alone (delimiters.Slop slop) phrase = is_writable phrase && nat_lt slop 4294967296
 
 -- whether a word or a phrase can be written
 abbrev pub is_literal : Option (List ℕ) → Delimiter → List ℕ → Bool

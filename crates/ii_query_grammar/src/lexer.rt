@@ -2,13 +2,14 @@ ghost use Rattle.std.specs.Prelude.{◌≡◌, ◌∷◌, ◌<◌, ◌≤◌, []
 ghost use Rattle.std.specs.Option.{option_copied};
 ghost use Rattle.ii_query_grammar.specs.declared.parse_error.ParseError.{ParseError};
 ghost use Rattle.ii_query_grammar.specs.declared.parse_error.ParseError.TheVariants.{Syntax, Unsupported};
-ghost use Rattle.ii_query_grammar.specs.Lexemes.{IsFront, IsRange, RangeFront, broken, feature_after, feature_in_front, feature_of, first_feature_of, front, front_at, lexeme_seen, lexemes, literal_with, has_star, is_prefix, phrase_front, range_front, set_front, set_values, star_lexeme, token_seen, unless_feature, unless_range, value_front, value_or_prefix, value_word, word_front, word_lexeme, word_or_name, word_or_prefix, is_empty};
+ghost use Rattle.ii_query_grammar.specs.Lexemes.{IsFront, IsRange, RangeFront, broken, closed_phrase, feature_after, feature_in_front, feature_of, first_feature_of, front, front_at, lexeme_seen, lexemes, literal_with, has_star, is_prefix, phrase_front, range_front, set_front, set_values, star_lexeme, token_seen, unless_feature, unless_range, value_front, value_or_prefix, value_word, word_front, word_lexeme, word_or_name, word_or_prefix, is_empty};
 
 use crate::cut::{Stop, after_spaces, cut_at, is_nothing, strip, strip_star};
 use crate::lexeme::{BoundView, Lexeme, LiteralView, RangeView, SetView, Token};
 use crate::parse_error::{Expected, Feature, ParseError};
 use crate::ranges::range_at;
 use crate::sets::{MAX_SET_VALUES, after_bracket, after_set};
+use crate::slop::slop_of;
 use crate::user_input_ast::Delimiter;
 use std::marker::Model;
 
@@ -267,12 +268,34 @@ fn phrase<'a>(
 {
     let (phrase, rest) = cut_at(text, Stop::PhraseEnd);
     if let Some(rest) = strip(rest, b'"') {
+        return closed_phrase(size, at, field_name, phrase, rest);
+    }
+    (syntax_error(size, Expected::Quote), "")
+}
+
+// Reads the slop of a phrase, if it has one, given the text after its last quote.
+fn closed_phrase<'a>(
+    size: usize,
+    at: usize,
+    field_name: Option<&'a str>,
+    phrase: &'a str,
+    rest: &'a str,
+) -> (Token<'a>, &'a str)
+    requires { length rest.now ≤ size }
+    ensures front { IsFront (closed_phrase size at (option_copied field_name.entry) phrase.now rest.now) (token_seen result.0) result.1.now }
+    ensures shorter { length result.1.now ≤ size }
+{
+    let Some(text) = strip(rest, b'~') else {
         return (
             literal(at, field_name, phrase, Delimiter::DoubleQuotes),
             rest,
         );
+    };
+    let (digits, rest) = cut_at(text, Stop::WordEnd);
+    match slop_of(digits) {
+        Some(slop) => (literal(at, field_name, phrase, Delimiter::Slop(slop)), rest),
+        None => (syntax_error(size - text.len(), Expected::Slop), ""),
     }
-    (syntax_error(size, Expected::Quote), "")
 }
 
 // Classifies a word: an operator, or a word to search for.

@@ -11,6 +11,7 @@ pub mod parse_error;
 pub mod query_grammar;
 mod ranges;
 pub mod sets;
+mod slop;
 pub mod user_input_ast;
 
 pub use escapes::{can_name, spell_name};

@@ -27,6 +27,8 @@ pub enum Expected {
     FewerValues,
     /// The quote that ends a phrase.
     Quote,
+    /// The slop of a phrase, after its quotes and a `~`: decimal digits of a number up to 4294967295.
+    Slop,
     /// The parenthesis that closes an open one.
     Closing,
     /// The end of the query, instead of a parenthesis that closes none.
@@ -56,6 +58,7 @@ impl Expected {
             }
             Expected::FewerValues => "expected at most 65536 values in a set",
             Expected::Quote => "expected a closing quote",
+            Expected::Slop => "a slop is a number up to 4294967295",
             Expected::Closing => "expected a closing parenthesis",
             Expected::End => "expected the end of the query: this parenthesis closes none",
             Expected::LessNesting => "expected at most 128 open parentheses",
@@ -74,7 +77,7 @@ impl fmt::Display for Expected {
 pub enum Feature {
     /// `s*a`, `*a`, `s?a`.
     Wildcards,
-    /// `sea~1`, and `"a b"~2` for a phrase with slop.
+    /// `sea~1`. A `~` after quotes is the slop of a phrase.
     Fuzzy,
     /// `sea^2`.
     Boosts,
@@ -98,7 +101,7 @@ impl Feature {
                 "wildcards (s*a, s?a) are not supported, but for a * that ends a word; put the word in quotes to search for it as it is"
             }
             Feature::Fuzzy => {
-                "fuzzy words and phrases with slop (sea~1, \"new york\"~2) are not supported; put the word in quotes to search for it as it is"
+                "fuzzy words (sea~1) are not supported; put the word in quotes to search for it as it is"
             }
             Feature::Boosts => {
                 "boosts (sea^2) are not supported; put the word in quotes to search for it as it is"

@@ -11,6 +11,8 @@ use std::alloc::{AllocError, Global};
 pub enum Delimiter {
     /// Double quotes.
     DoubleQuotes,
+    /// Double quotes with a `~` and this slop after them.
+    Slop(u32),
     /// A `*` after it: the text is a prefix of the words to search for.
     Star,
     /// None.
@@ -24,7 +26,7 @@ pub struct UserInputLiteral {
     pub field_name: Option<String>,
     /// The word, the text between quotes, or the prefix, without escapes.
     pub phrase: String,
-    /// Whether it is in quotes, or a prefix.
+    /// Whether it is in quotes, which may have a slop after them, or a prefix.
     pub delimiter: Delimiter,
 }
 
@@ -91,7 +93,7 @@ impl UserInputLiteral {
         self.spell_phrase(text)
     }
 
-    // Appends its phrase, in quotes if it has these.
+    // Appends its phrase, in quotes if it has these, and its slop if it has one.
     fn spell_phrase(&self, text: &mut String) -> Result<(), AllocError>
         ensures { OnOk result (string_bytes text.new ≡ string_bytes text.old ++ phrase_text (literal_of self.now)) }
     {
@@ -102,10 +104,10 @@ impl UserInputLiteral {
                 push_escaped(Stop::WordEscape, true, phrase, text)?;
                 text.push_str("*")
             }
-            Delimiter::DoubleQuotes => {
-                text.push_str("\"")?;
-                push_escaped(Stop::PhraseEscape, false, phrase, text)?;
-                text.push_str("\"")
+            Delimiter::DoubleQuotes => spell_quoted(phrase, text),
+            Delimiter::Slop(slop) => {
+                spell_quoted(phrase, text)?;
+                write!(text, "~{slop}")
             }
         }
     }

@@ -29,7 +29,7 @@ mutual
   same_below n nothing ts doc lt = refl
   same_below n (all_below m) ts doc lt = below_least doc n m TERMINATED lt
   same_below n (one_term term) ts doc lt = refl
-  same_below n (one_phrase first others) ts doc lt = refl
+  same_below n (one_phrase first others slop) ts doc lt = refl
   same_below n (one_range range) ts doc lt = refl
   same_below n (each_of qs) ts doc lt = ap (λ (b : Bool). b && all_match (each_bounded n qs) ts doc) (has_as_many n qs) ∙ ap (λ (b : Bool). has_tree qs && b) (all_same n qs ts doc lt)
   same_below n (any_of qs) ts doc lt = any_same n qs ts doc lt
@@ -52,7 +52,7 @@ mutual
   bounded_holds of_term of_phrase n nothing = refl
   bounded_holds of_term of_phrase n (all_below m) = refl
   bounded_holds of_term of_phrase n (one_term term) = refl
-  bounded_holds of_term of_phrase n (one_phrase first others) = refl
+  bounded_holds of_term of_phrase n (one_phrase first others slop) = refl
   bounded_holds of_term of_phrase n (one_range range) = refl
   bounded_holds of_term of_phrase n (each_of qs) = each_bounded_holds of_term of_phrase n qs
   bounded_holds of_term of_phrase n (any_of qs) = each_bounded_holds of_term of_phrase n qs

@@ -7,6 +7,8 @@ pub mod RangeRows
 pub mod RangeTextLemmas
 pub mod SetLemmas
 pub mod SetRows
+pub mod SlopLemmas
+pub mod SlopRows
 pub mod TermLemmas
 mod TokenizerRows
 pub mod TreeLemmas

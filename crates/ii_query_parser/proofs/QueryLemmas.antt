@@ -24,8 +24,8 @@ all_tree n = ap tree_of (sym (rolls-All n)) ∙ fold-roll-Query QueryTree tree_s
 pub term_tree : (term : TermState) → tree_of (Term term) ≡ one_term term
 term_tree term = ap tree_of (sym (rolls-Term term)) ∙ fold-roll-Query QueryTree tree_step (Query-F.Term term)
 
-pub phrase_tree : (first : TermState) (others : Vec PhraseTerm Global) → tree_of (Phrase first others) ≡ one_phrase first others.items
-phrase_tree first others = ap tree_of (sym (rolls-Phrase first others)) ∙ fold-roll-Query QueryTree tree_step (Query-F.Phrase first others)
+pub phrase_tree : (first : TermState) (others : Vec PhraseTerm Global) (slop : ℕ) → tree_of (Phrase first others slop) ≡ one_phrase first others.items slop
+phrase_tree first others slop = ap tree_of (sym (rolls-Phrase first others slop)) ∙ fold-roll-Query QueryTree tree_step (Query-F.Phrase first others slop)
 
 pub range_tree : (range : TermRange) → tree_of (Range range) ≡ one_range range
 range_tree range = ap tree_of (sym (rolls-Range range)) ∙ fold-roll-Query QueryTree tree_step (Query-F.Range range)
@@ -63,8 +63,8 @@ all_fields n m = ap (holds_for_all (is_within n) (phrase_is_within n)) (all_tree
 pub term_fields : (n : ℕ) (term : TermState) → has_fields n (Term term) ≡ is_within n term
 term_fields n term = ap (holds_for_all (is_within n) (phrase_is_within n)) (term_tree term)
 
-pub phrase_fields : (n : ℕ) (first : TermState) (others : Vec PhraseTerm Global) → has_fields n (Phrase first others) ≡ phrase_is_within n first others.items
-phrase_fields n first others = ap (holds_for_all (is_within n) (phrase_is_within n)) (phrase_tree first others)
+pub phrase_fields : (n : ℕ) (first : TermState) (others : Vec PhraseTerm Global) (slop : ℕ) → has_fields n (Phrase first others slop) ≡ phrase_is_within n first others.items
+phrase_fields n first others slop = ap (holds_for_all (is_within n) (phrase_is_within n)) (phrase_tree first others slop)
 
 pub range_fields : (n : ℕ) (range : TermRange) → has_fields n (Range range) ≡ is_within n range.prefix
 range_fields n range = ap (holds_for_all (is_within n) (phrase_is_within n)) (range_tree range)
@@ -88,9 +88,9 @@ all_positions entries m = ap (holds_for_all (λ (t : TermState). true) (phrase_h
 pub term_positions : (entries : List SchemaEntry) (term : TermState) → keeps_positions entries (Term term) ≡ true
 term_positions entries term = ap (holds_for_all (λ (t : TermState). true) (phrase_has_positions entries)) (term_tree term)
 
-pub phrase_positions : (entries : List SchemaEntry) (first : TermState) (others : Vec PhraseTerm Global)
-    → keeps_positions entries (Phrase first others) ≡ phrase_has_positions entries first others.items
-phrase_positions entries first others = ap (holds_for_all (λ (t : TermState). true) (phrase_has_positions entries)) (phrase_tree first others)
+pub phrase_positions : (entries : List SchemaEntry) (first : TermState) (others : Vec PhraseTerm Global) (slop : ℕ)
+    → keeps_positions entries (Phrase first others slop) ≡ phrase_has_positions entries first others.items
+phrase_positions entries first others slop = ap (holds_for_all (λ (t : TermState). true) (phrase_has_positions entries)) (phrase_tree first others slop)
 
 pub range_positions : (entries : List SchemaEntry) (range : TermRange) → keeps_positions entries (Range range) ≡ true
 range_positions entries range = ap (holds_for_all (λ (t : TermState). true) (phrase_has_positions entries)) (range_tree range)
@@ -106,17 +106,8 @@ pub and_not_positions : (entries : List SchemaEntry) (first other : Box Query Gl
 and_not_positions entries first other = ap (holds_for_all (λ (t : TermState). true) (phrase_has_positions entries)) (and_not_tree first other)
 
 -- whether the parts of a query for all documents reach so many, for each variant
-pub nothing_covers : (n : ℕ) → covers_docs n Empty ≡ true
-nothing_covers n = ap (tree_covers n) nothing_tree
-
 pub all_covers : (n m : ℕ) → covers_docs n (All m) ≡ nat_le n (min m TERMINATED)
 all_covers n m = ap (tree_covers n) (all_tree m)
-
-pub term_covers : (n : ℕ) (term : TermState) → covers_docs n (Term term) ≡ true
-term_covers n term = ap (tree_covers n) (term_tree term)
-
-pub phrase_covers : (n : ℕ) (first : TermState) (others : Vec PhraseTerm Global) → covers_docs n (Phrase first others) ≡ true
-phrase_covers n first others = ap (tree_covers n) (phrase_tree first others)
 
 pub range_covers : (n : ℕ) (range : TermRange) → covers_docs n (Range range) ≡ true
 range_covers n range = ap (tree_covers n) (range_tree range)
@@ -130,9 +121,6 @@ and_covers n qs = ap (tree_covers n) (and_tree qs) ∙ each_covers n qs.items
 
 pub or_covers : (n : ℕ) (qs : Vec Query Global) → covers_docs n (Or qs) ≡ list_all (covers_docs n) qs.items
 or_covers n qs = ap (tree_covers n) (or_tree qs) ∙ each_covers n qs.items
-
-pub and_not_covers : (n : ℕ) (first other : Box Query Global) → covers_docs n (AndNot first other) ≡ (covers_docs n first.value && covers_docs n other.value)
-and_not_covers n first other = ap (tree_covers n) (and_not_tree first other)
 
 pub or_matches : (qs : Vec Query Global) (ts : List IndexToken) (doc : ℕ) → matches (Or qs) ts doc ≡ list_any (λ (q : Query). matches q ts doc) qs.items
 or_matches qs ts doc = ap (λ (t : QueryTree). tree_matches t ts doc) (or_tree qs) ∙ any_matched qs.items ts doc

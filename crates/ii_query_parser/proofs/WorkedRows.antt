@@ -8,7 +8,7 @@ use Rattle.ii_definitions.specs.Tokens.{Call, IndexToken, text, tokens_of}
 use Rattle.ii_query_parser.specs.declared.query.PhraseTerm.{PhraseTerm}
 use Rattle.ii_query_parser.specs.declared.term_range.KeyBound.{KeyBound}
 use Rattle.ii_query_parser.specs.declared.term_range.KeyBound.TheVariants.{Excluded, Included, Unbounded}
-use Rattle.ii_query_parser.specs.Queries.{has_phrase, is_token_in}
+use Rattle.ii_query_parser.specs.Queries.{has_phrase, has_phrase_within, is_token_in}
 use Rattle.ii_query_grammar.specs.Trees.{unbounded}
 use Rattle.ii_query_parser.specs.QueryTexts.{PhraseState, words_phrase}
 use Rattle.ii_query_parser.specs.Ranges.{in_keys}
@@ -116,3 +116,26 @@ from_61_ff = refl
 
 pub from_ff_ff : map (starts_with (0xFF ∷ 0xFF ∷ [])) ((0xFE ∷ 0xFF ∷ []) ∷ (0xFF ∷ []) ∷ (0xFF ∷ 0xFE ∷ 0xFF ∷ []) ∷ (0xFF ∷ 0xFF ∷ []) ∷ (0xFF ∷ 0xFF ∷ 0xFF ∷ []) ∷ []) ≡ false ∷ false ∷ false ∷ true ∷ true ∷ []
 from_ff_ff = refl
+
+-- phrases within a slop: one word between, exchanged, and at their distances
+abbrev seas_far : List IndexToken
+seas_far = tokens_of ascii_words (said 0 0 (codes "old wide sea") ∷ said 1 0 (codes "sea old") ∷ said 2 0 (codes "old sea") ∷ said 3 0 (codes "old deep wide sea") ∷ [])
+
+abbrev docs_within : ℕ → List IndexToken → TermState → List PhraseTerm → List ℕ
+docs_within slop ts first others = filter (λ (doc : ℕ). has_phrase_within slop ts doc first others) (0 ∷ 1 ∷ 2 ∷ 3 ∷ [])
+
+abbrev old_sea : ℕ → List ℕ
+old_sea slop = docs_within slop seas_far (word 0 (codes "old")) (behind 1 (word 0 (codes "sea")) ∷ [])
+
+pub slop_of_two : map old_sea (0 ∷ 1 ∷ 2 ∷ []) ≡ (2 ∷ []) ∷ (0 ∷ 2 ∷ []) ∷ (0 ∷ 1 ∷ 2 ∷ 3 ∷ []) ∷ []
+slop_of_two = refl
+
+-- two gaps of one word add up
+abbrev letters : List IndexToken
+letters = tokens_of ascii_words (said 0 0 (codes "a x b y c") ∷ [])
+
+abbrev a_b_c : ℕ → List ℕ
+a_b_c slop = docs_within slop letters (word 0 (codes "a")) (behind 1 (word 0 (codes "b")) ∷ behind 2 (word 0 (codes "c")) ∷ [])
+
+pub slop_of_three : map a_b_c (0 ∷ 1 ∷ 2 ∷ []) ≡ [] ∷ [] ∷ (0 ∷ []) ∷ []
+slop_of_three = refl

@@ -8,7 +8,7 @@ abbrev mutual
   bounded n nothing = nothing
   bounded n (all_below m) = all_below (min m n)
   bounded n (one_term term) = one_term term
-  bounded n (one_phrase first others) = one_phrase first others
+  bounded n (one_phrase first others slop) = one_phrase first others slop
   bounded n (one_range range) = one_range range
   bounded n (each_of qs) = each_of (each_bounded n qs)
   bounded n (any_of qs) = any_of (each_bounded n qs)

@@ -28,6 +28,7 @@ field_of_error (errors.ExpectedIpAddr field) = Some field
 field_of_error (errors.UnsupportedPhrase field) = Some field
 field_of_error (errors.FieldDoesNotHavePositionsIndexed field) = Some field
 field_of_error (errors.UnsupportedPrefix field) = Some field
+field_of_error (errors.UnsupportedSlop field) = Some field
 field_of_error (errors.UnsupportedBound field) = Some field
 field_of_error (errors.UnsupportedPath field) = Some field
 field_of_error (errors.Fault fault) = None

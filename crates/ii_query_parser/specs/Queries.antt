@@ -1,6 +1,6 @@
 -- What a query means, by the tokens of an index.
 use Rattle.std.specs.Prelude.{ℕ, ◌+◌, Bool, true, false, ◌&&◌, ◌||◌, ◌==◌, not, List, [], ◌∷◌, map, min, nat_le, nat_lt}
-use Rattle.std.specs.List.{list_all, list_any}
+use Rattle.std.specs.List.{list_all, list_any, range_with_len}
 use Rattle.ii_base.specs.Options.{has_positions}
 use Rattle.ii_base.specs.Schema.{SchemaEntry}
 use Rattle.ii_base.specs.Terms.{TermState}
@@ -39,6 +39,22 @@ follow ts doc others start = list_all (λ (o : PhraseTerm). stands_at ts doc o.t
 abbrev pub has_phrase : List IndexToken → ℕ → TermState → List PhraseTerm → Bool
 has_phrase ts doc first others = is_text_key first ts && list_any (λ (t : IndexToken). is_token_of first doc t && follow ts doc others t.position) ts
 
+-- whether a number is from a least one up to `slop` more
+abbrev pub is_in_slop : ℕ → ℕ → ℕ → Bool
+is_in_slop slop least n = nat_le least n && nat_le n (least + slop)
+
+-- whether a token of a document, of a text, has the field and the key of a term near a place: its position, moved forward by `back`, is from there up to `slop` more
+abbrev pub stands_near : ℕ → ℕ → List IndexToken → ℕ → TermState → ℕ → Bool
+stands_near slop back ts doc term place = is_text_key term ts && list_any (λ (t : IndexToken). is_token_of term doc t && is_in_slop slop place (t.position + back)) ts
+
+-- whether each other term of a phrase occurs in a document near its distance from a position: all positions, each moved back by its distance, begin at most `slop` before that one, and end at most `slop` after they begin
+abbrev pub follow_near : ℕ → List IndexToken → ℕ → List PhraseTerm → ℕ → Bool
+follow_near slop ts doc others start = list_any (λ (back : ℕ). list_all (λ (o : PhraseTerm). stands_near slop back ts doc o.term (start + o.distance)) others) (range_with_len 0 (slop + 1))
+
+-- whether a document has a phrase within a slop: a token of its first term, from which each other term occurs near its distance
+abbrev pub has_phrase_within : ℕ → List IndexToken → ℕ → TermState → List PhraseTerm → Bool
+has_phrase_within slop ts doc first others = is_text_key first ts && list_any (λ (t : IndexToken). is_token_of first doc t && follow_near slop ts doc others t.position) ts
+
 -- whether a token of a document has the field of a range, and a key that the range has
 abbrev pub is_token_between : KeyRange → ℕ → IndexToken → Bool
 is_token_between range doc t = (t.doc == doc) && (t.field == range.prefix.field) && in_keys range t.key
@@ -47,13 +63,13 @@ is_token_between range doc t = (t.doc == doc) && (t.field == range.prefix.field)
 abbrev pub is_token_in : TermRange → ℕ → IndexToken → Bool
 is_token_in range doc t = is_token_between (keys_of range) doc t
 
--- What a query is made of: none; all documents below a number; a term; a phrase; a range of terms; what each of some queries matches, or any of them; what one matches and another one doesn't.
+-- What a query is made of: none; all documents below a number; a term; a phrase within a slop; a range of terms; what each of some queries matches, or any of them; what one matches and another one doesn't.
 mutual
   pub data QueryTree : Type 0 where
     nothing : QueryTree
     all_below : ℕ → QueryTree
     one_term : TermState → QueryTree
-    one_phrase : TermState → List PhraseTerm → QueryTree
+    one_phrase : TermState → List PhraseTerm → ℕ → QueryTree
     one_range : TermRange → QueryTree
     each_of : QueryTrees → QueryTree
     any_of : QueryTrees → QueryTree
@@ -73,7 +89,7 @@ abbrev pub tree_step : Query-F QueryTree → QueryTree
 tree_step Query-F.Empty = nothing
 tree_step (Query-F.All n) = all_below n
 tree_step (Query-F.Term term) = one_term term
-tree_step (Query-F.Phrase first others) = one_phrase first others.items
+tree_step (Query-F.Phrase first others slop) = one_phrase first others.items slop
 tree_step (Query-F.Range range) = one_range range
 tree_step (Query-F.And queries) = each_of (trees_from queries.items)
 tree_step (Query-F.Or queries) = any_of (trees_from queries.items)
@@ -92,13 +108,13 @@ abbrev pub has_tree : QueryTrees → Bool
 has_tree no_tree = false
 has_tree (tree t ts) = true
 
--- Whether a document matches: it is below a number, has a token with the term's field and key, has the phrase, has a token in the range, or matches as the parts say.
+-- Whether a document matches: it is below a number, has a token with the term's field and key, has the phrase within its slop, has a token in the range, or matches as the parts say.
 abbrev mutual
   pub tree_matches : QueryTree → List IndexToken → ℕ → Bool
   tree_matches nothing ts doc = false
   tree_matches (all_below n) ts doc = nat_lt doc (min n TERMINATED)
   tree_matches (one_term term) ts doc = list_any (is_token_of term doc) ts
-  tree_matches (one_phrase first others) ts doc = has_phrase ts doc first others
+  tree_matches (one_phrase first others slop) ts doc = has_phrase_within slop ts doc first others
   tree_matches (one_range range) ts doc = list_any (is_token_in range doc) ts
   tree_matches (each_of qs) ts doc = has_tree qs && all_match qs ts doc
   tree_matches (any_of qs) ts doc = any_matches qs ts doc
@@ -116,13 +132,13 @@ abbrev mutual
 abbrev pub matches : Query → List IndexToken → ℕ → Bool
 matches query ts doc = tree_matches (tree_of query) ts doc
 
--- Whether a test of terms and of phrases holds for all of a query; a range is tested by its prefix.
+-- Whether a test of terms and of phrases holds for all of a query, whatever the slop; a range is tested by its prefix.
 abbrev mutual
   pub holds_for_all : (TermState → Bool) → (TermState → List PhraseTerm → Bool) → QueryTree → Bool
   holds_for_all of_term of_phrase nothing = true
   holds_for_all of_term of_phrase (all_below n) = true
   holds_for_all of_term of_phrase (one_term term) = of_term term
-  holds_for_all of_term of_phrase (one_phrase first others) = of_phrase first others
+  holds_for_all of_term of_phrase (one_phrase first others slop) = of_phrase first others
   holds_for_all of_term of_phrase (one_range range) = of_term range.prefix
   holds_for_all of_term of_phrase (each_of qs) = hold_for_all of_term of_phrase qs
   holds_for_all of_term of_phrase (any_of qs) = hold_for_all of_term of_phrase qs
@@ -162,7 +178,7 @@ abbrev mutual
   tree_covers n nothing = true
   tree_covers n (all_below m) = nat_le n (min m TERMINATED)
   tree_covers n (one_term term) = true
-  tree_covers n (one_phrase first others) = true
+  tree_covers n (one_phrase first others slop) = true
   tree_covers n (one_range range) = true
   tree_covers n (each_of qs) = trees_cover n qs
   tree_covers n (any_of qs) = trees_cover n qs

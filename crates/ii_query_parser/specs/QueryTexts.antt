@@ -27,7 +27,7 @@ use Rattle.ii_query_grammar.specs.declared.parse_error.ParseError.{ParseError}
 use Rattle.ii_query_grammar.specs.declared.user_input_ast.Delimiter.{Delimiter}
 use Rattle.ii_query_grammar.specs.declared.user_input_ast.Delimiter.TheVariants as delimiters
 use Rattle.ii_query_grammar.specs.declared.query_grammar.TheConstants.{MAX_NESTING}
-use Rattle.ii_query_parser.specs.Queries.{covers_docs, has_fields, has_phrase, is_token_between, is_token_of, keeps_positions, matches}
+use Rattle.ii_query_parser.specs.Queries.{covers_docs, has_fields, has_phrase, has_phrase_within, is_token_between, is_token_of, keeps_positions, matches}
 use Rattle.ii_query_parser.specs.ParserErrors.{as_parser_error}
 use Rattle.ii_query_parser.specs.Ranges.{KeyRange, KeyRanges}
 use Rattle.ii_query_parser.specs.declared.query.PhraseTerm.{PhraseTerm}
@@ -197,6 +197,7 @@ needs_positions (errors.ExpectedBytes field) = false
 needs_positions (errors.ExpectedIpAddr field) = false
 needs_positions (errors.UnsupportedPhrase field) = false
 needs_positions (errors.UnsupportedPrefix field) = false
+needs_positions (errors.UnsupportedSlop field) = false
 needs_positions (errors.UnsupportedBound field) = false
 needs_positions (errors.UnsupportedPath field) = false
 needs_positions (errors.Fault fault) = false
@@ -280,18 +281,46 @@ abbrev pub prefix_terms : List PhraseState → Option PhraseState → Terms
 prefix_terms terms None = some_terms terms
 prefix_terms terms (Some p) = Err (errors.UnsupportedPrefix p.first.field)
 
+-- whether two terms are the same
+abbrev pub is_same_term : TermState → TermState → Bool
+is_same_term s t = (s.field == t.field) && bytes_eq s.value t.value
+
+-- whether a term is one of those of a phrase after its first
+abbrev pub is_among : TermState → List PhraseTerm → Bool
+is_among t others = list_any (λ (o : PhraseTerm). is_same_term t o.term) others
+
+-- whether one of these is also one of those after it
+abbrev pub are_repeated : List PhraseTerm → Bool
+are_repeated [] = false
+are_repeated (o ∷ os) = is_among o.term os || are_repeated os
+
+-- whether a term occurs twice in a phrase
+abbrev pub repeats : PhraseState → Bool
+repeats p = is_among p.first p.others || are_repeated p.others
+
+-- terms, unless this phrase has a term twice
+abbrev pub unless_repeated : List PhraseState → Option PhraseState → Terms
+unless_repeated terms None = Ok terms
+unless_repeated terms (Some p) = Err (errors.UnsupportedSlop p.first.field)
+
+-- the terms of a text with a slop: if it is above 0, no phrase may have a term twice
+abbrev pub sloppy_terms : ℕ → List PhraseState → Terms
+sloppy_terms slop terms = if slop == 0 then Ok terms else unless_repeated terms (find repeats terms)
+
 -- the terms of a text by its delimiter: those of a prefix are terms of which each may be one
 abbrev pub delimited_terms : List SchemaEntry → Terms → Delimiter → Terms
 delimited_terms entries (Err e) delimiter = Err e
 delimited_terms entries (Ok terms) delimiters.None = Ok terms
 delimited_terms entries (Ok terms) delimiters.DoubleQuotes = Ok terms
 delimited_terms entries (Ok terms) delimiters.Star = prefix_terms terms (no_prefix entries terms)
+delimited_terms entries (Ok terms) (delimiters.Slop slop) = sloppy_terms slop terms
 
 -- the analyzers of a literal: a prefix has its own
 abbrev pub texts_for : AnalyzedFields → Delimiter → FieldTexts
 texts_for q delimiters.None = q.texts
 texts_for q delimiters.DoubleQuotes = q.texts
 texts_for q delimiters.Star = prefix_texts q
+texts_for q (delimiters.Slop slop) = q.texts
 
 -- the terms of the text of a literal of a tree, by the analyzers that it has
 abbrev pub undelimited_terms : AnalyzedFields → Literal → Terms
@@ -503,15 +532,21 @@ abbrev pub has_words : List IndexToken → ℕ → TermState → List PhraseTerm
 has_words ts doc first [] = list_any (is_token_of first doc) ts
 has_words ts doc first (o ∷ os) = has_phrase ts doc first (o ∷ os)
 
+-- whether a document has a term, or the phrase within a slop where others follow it
+abbrev pub has_words_within : ℕ → List IndexToken → ℕ → TermState → List PhraseTerm → Bool
+has_words_within slop ts doc first [] = list_any (is_token_of first doc) ts
+has_words_within slop ts doc first (o ∷ os) = has_phrase_within slop ts doc first (o ∷ os)
+
 -- whether a token of a document has the field of a term, and a key that starts with the term's
 abbrev pub is_token_under : TermState → ℕ → IndexToken → Bool
 is_token_under term doc t = (t.doc == doc) && (t.field == term.field) && starts_with nat_eq t.key term.value
 
--- whether a document has a term or a phrase, or a term of which it is a prefix
+-- whether a document has a term or a phrase, which may have a slop, or a term of which it is a prefix
 abbrev pub has_delimited : Delimiter → List IndexToken → ℕ → PhraseState → Bool
 has_delimited delimiters.None ts doc p = has_words ts doc p.first p.others
 has_delimited delimiters.DoubleQuotes ts doc p = has_words ts doc p.first p.others
 has_delimited delimiters.Star ts doc p = list_any (is_token_under p.first doc) ts
+has_delimited (delimiters.Slop slop) ts doc p = has_words_within slop ts doc p.first p.others
 
 -- whether a document has one of these terms, phrases or prefixes
 abbrev pub has_term : Delimiter → List IndexToken → ℕ → List PhraseState → Bool

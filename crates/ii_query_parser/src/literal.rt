@@ -6,8 +6,8 @@ ghost use Rattle.ii_base.specs.declared.schema.value_type.ValueType.TheVariants 
 ghost use Rattle.ii_query_grammar.specs.Trees.{literal_of, set_of};
 ghost use Rattle.ii_query_parser.specs.declared.query_parser_error.QueryParserError.TheVariants as errors;
 ghost use Rattle.ii_query_parser.specs.QuerySteps.{Adds, AddsIn, AddsOrKeeps, AddsMaybe, AddsText, AddsUnlessLeft, AreAlone, CutsAtDot};
-ghost use Rattle.ii_query_parser.specs.QueryTexts.{IsWhyRefused, delimited_terms, field_named, has_json_values, holds_texts, is_alone, literal_terms, may_be_prefix, named_terms, no_phrase, no_prefix, none_unless, prefix_terms, refused, set_terms, some_default, some_terms, terms_in_field, terms_of, text_terms, typed_terms, undelimited_terms, words_phrase};
-ghost use Rattle.std.specs.List.{list_all};
+ghost use Rattle.ii_query_parser.specs.QueryTexts.{IsWhyRefused, delimited_terms, field_named, has_json_values, holds_texts, is_alone, literal_terms, may_be_prefix, named_terms, no_phrase, no_prefix, none_unless, prefix_terms, refused, repeats, set_terms, sloppy_terms, some_default, some_terms, terms_in_field, terms_of, text_terms, typed_terms, undelimited_terms, unless_repeated, words_phrase};
+ghost use Rattle.std.specs.List.{find, list_all};
 
 use crate::phrase_words::{PhraseWords, has_words, words_phrase};
 use crate::prefix_analyzers::PrefixAnalyzers;
@@ -61,6 +61,7 @@ fn push_delimited<F: FieldAnalyzers>(
         Delimiter::DoubleQuotes => {
             push_text(alloc, schema, default_fields, analyzers, literal, terms)
         }
+        Delimiter::Slop(_) => push_text(alloc, schema, default_fields, analyzers, literal, terms),
     }
 }
 
@@ -87,7 +88,8 @@ pub(crate) fn push_set<F: FieldAnalyzers>(
     Ok(())
 }
 
-// Returns an error if terms are prefixes and one of them may be none.
+// Returns an error if terms are prefixes and one of them may be none, or if they have a slop above 0 and a term
+// occurs twice in one.
 fn check_delimiter(
     schema: &Schema,
     delimiter: Delimiter,
@@ -101,7 +103,32 @@ fn check_delimiter(
         Delimiter::Star => check_prefixes(schema, terms),
         Delimiter::None => Ok(()),
         Delimiter::DoubleQuotes => Ok(()),
+        Delimiter::Slop(slop) => check_slop(slop, terms),
     }
+}
+
+// Returns an error if the slop is above 0 and a term occurs twice in a phrase.
+fn check_slop(slop: u32, terms: &[PhraseWords]) -> Result<(), QueryParserError>
+    ensures taken { OnOk result (sloppy_terms slop terms.now ≡ Ok terms.now) }
+    ensures refused { IfErr result (λ e. sloppy_terms slop terms.now ≡ Err e) }
+{
+    if slop == 0 {
+        return Ok(());
+    }
+    check_repeated(terms)
+}
+
+// Returns an error if a term occurs twice in a phrase.
+fn check_repeated(terms: &[PhraseWords]) -> Result<(), QueryParserError>
+    ensures taken { OnOk result (find repeats terms.now ≡ None) }
+    ensures refused { IfErr result (λ e. unless_repeated terms.now (find repeats terms.now) ≡ Err e) }
+{
+    for words in terms {
+        if words.repeats() {
+            return Err(QueryParserError::UnsupportedSlop(words.field()));
+        }
+    }
+    Ok(())
 }
 
 // Returns an error if there is no term, or if one may be no prefix.

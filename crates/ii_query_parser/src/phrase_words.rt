@@ -1,7 +1,7 @@
 ghost use Rattle.std.specs.Prelude.{◌≡◌, ◌-◌, ◌&&◌, None, Some, length, nat_le, nat_lt, if◌then◌else◌, IfOk};
 ghost use Rattle.std.specs.Option.{option_map};
 ghost use Rattle.ii_io.specs.Faults.{OnlyMemory};
-ghost use Rattle.ii_query_parser.specs.QueryTexts.{is_alone, one_term, stand_after, terms_after, word_term, words_phrase};
+ghost use Rattle.ii_query_parser.specs.QueryTexts.{are_repeated, is_alone, is_among, is_same_term, one_term, repeats, stand_after, terms_after, word_term, words_phrase};
 
 use crate::query::PhraseTerm;
 use ii_base::{Fault, Field, Term, TextAnalyzer, TokenStream};
@@ -50,6 +50,16 @@ impl PhraseWords {
         self.others.is_empty()
     }
 
+    // Whether a term occurs twice. It compares each two terms.
+    pub(crate) fn repeats(&self) -> bool
+        ensures { result ≡ repeats self.now }
+    {
+        if is_among(&self.first, &self.others) {
+            return true;
+        }
+        are_repeated(&self.others)
+    }
+
     // The field of its first term.
     pub(crate) fn field(&self) -> Field
         ensures { result ≡ self.now.first.field }
@@ -72,6 +82,39 @@ impl PhraseWords {
         let PhraseWords { first, others } = self;
         (first, others)
     }
+}
+
+// Whether a term is one of those of a phrase after its first.
+fn is_among(term: &Term, others: &[PhraseTerm]) -> bool
+    ensures { result ≡ is_among term.now others.now }
+{
+    for other in others {
+        if is_same_term(term, &other.term) {
+            return true;
+        }
+    }
+    false
+}
+
+// Whether one of these is also one of those after it.
+fn are_repeated(others: &[PhraseTerm]) -> bool
+    ensures { result ≡ are_repeated others.now }
+{
+    let mut rest = others;
+    while let Some((other, after)) = rest.split_first() {
+        if is_among(&other.term, after) {
+            return true;
+        }
+        rest = after;
+    }
+    false
+}
+
+fn is_same_term(first: &Term, other: &Term) -> bool
+    ensures { result ≡ is_same_term first.now other.now }
+{
+    first.field() == other.field()
+        && first.serialized_value_bytes() == other.serialized_value_bytes()
 }
 
 /// Returns the phrase of a text's tokens, each after a prefix. Returns `None` if there are no tokens, or if

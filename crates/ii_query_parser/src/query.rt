@@ -31,9 +31,10 @@ pub enum Query {
     All(DocId),
     /// Matches the documents with a token of the term's field whose key is the term's value.
     Term(Term),
-    /// Matches the documents with a phrase: a token of its first term, with each other term at its distance
-    /// after that. The fields of the terms keep positions.
-    Phrase(Term, Vec<PhraseTerm>),
+    /// Matches the documents with a phrase within a slop, the last of these: its terms have positions that, each
+    /// moved back by its distance, differ by at most the slop. With slop 0 each other term is at its distance after
+    /// the first one. The fields of the terms keep positions.
+    Phrase(Term, Vec<PhraseTerm>, u32),
     /// Matches the documents with a token whose field is that of the range, and whose key the range has. A
     /// search collects these documents when it is opened.
     Range(TermRange),
@@ -174,7 +175,7 @@ impl Query {
             Query::Empty => true,
             Query::All(_) => true,
             Query::Term(term) => is_in(term, schema),
-            Query::Phrase(first, others) => is_in(first, schema) && are_in(others, schema),
+            Query::Phrase(first, others, _) => is_in(first, schema) && are_in(others, schema),
             Query::Range(range) => is_in(&range.prefix, schema),
             Query::And(queries) => have_fields(queries, schema),
             Query::Or(queries) => have_fields(queries, schema),
@@ -193,7 +194,7 @@ impl Query {
             Query::All(_) => true,
             Query::Term(_) => true,
             Query::Range(_) => true,
-            Query::Phrase(first, others) => {
+            Query::Phrase(first, others, _) => {
                 has_positions_in(first, schema) && have_positions_in(others, schema)
             }
             Query::And(queries) => keep_positions(queries, schema),
@@ -215,7 +216,7 @@ fn bound_query(query: &mut Query, num_docs: DocId)
         Query::Empty => {}
         Query::All(limit) => *limit = (*limit).min(num_docs),
         Query::Term(_) => {}
-        Query::Phrase(_, _) => {}
+        Query::Phrase(_, _, _) => {}
         Query::Range(_) => {}
         Query::And(queries) => bound_each(queries.as_mut_slice(), num_docs),
         Query::Or(queries) => bound_each(queries.as_mut_slice(), num_docs),

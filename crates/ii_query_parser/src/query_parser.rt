@@ -8,7 +8,7 @@ ghost use Rattle.ii_query_grammar.specs.Trees.{Ast, all_of, any_of, ast_of, asts
 ghost use Rattle.ii_query_parser.specs.Queries.{covers_docs, has_fields, has_tree, keeps_positions, matches, trees_of};
 ghost use Rattle.ii_query_parser.specs.Ranges.{keys_of, ranges_of};
 ghost use Rattle.ii_query_parser.specs.QuerySteps.{AreAlone, AreQueriesOf, HasPushed, HasTermsUnless, AreInside, IsInside, IsLeftBy, phrase_kept, phrase_within};
-ghost use Rattle.ii_query_parser.specs.QueryTexts.{AnalyzedFields, IsQueryBy, IsQueryOf, IsQueryOfText, IsQueryOfTextBy, has_between, has_delimited, has_keys, has_term, has_values, has_words, are_some, is_alone, is_token_under, is_wordless};
+ghost use Rattle.ii_query_parser.specs.QueryTexts.{AnalyzedFields, IsQueryBy, IsQueryOf, IsQueryOfText, IsQueryOfTextBy, has_between, has_delimited, has_keys, has_term, has_values, has_words_within, are_some, is_alone, is_token_under, is_wordless};
 
 use crate::literal::{push_literal, push_set};
 use crate::phrase_words::PhraseWords;
@@ -91,6 +91,8 @@ pub fn query_of<A: TextAnalyzer>(
 ///   `ExpectedIpAddr` if it is none.
 /// - At a JSON path, a text matches as a token or phrase, as in a text field, or as a value: a signed number,
 ///   an unsigned one or a boolean.
+/// - A phrase with a slop matches the documents that have it within the slop (`Query::Phrase`). `UnsupportedSlop` if the
+///   slop is above 0 and a token occurs twice.
 /// - A text without tokens, which at a JSON path is no value either, is left out of the query: `the AND "-"` is
 ///   `the`, and so is `the AND NOT "-"`. A set is left out if all its values are. `NoWords` if nothing is left, and
 ///   for a prefix without a token.
@@ -448,6 +450,7 @@ fn single_or_any(mut queries: Vec<Query>) -> Query
 }
 
 // The query of a term, a phrase or a prefix.
+#[tactic(auto, using(crate::proofs::SlopLemmas::words_within_zero))]
 fn delimited_query(words: PhraseWords, delimiter: Delimiter) -> Query
     requires alone { delimiter ≡ Delimiter.Star → is_alone words ≡ true }
     ensures matches { (ts : List IndexToken) (doc : ℕ) → matches result ts doc ≡ has_delimited delimiter ts doc words }
@@ -457,8 +460,9 @@ fn delimited_query(words: PhraseWords, delimiter: Delimiter) -> Query
 {
     match delimiter {
         Delimiter::Star => prefix_query(words),
-        Delimiter::None => words_query(words),
-        Delimiter::DoubleQuotes => words_query(words),
+        Delimiter::None => words_query(words, 0),
+        Delimiter::DoubleQuotes => words_query(words, 0),
+        Delimiter::Slop(slop) => words_query(words, slop),
     }
 }
 
@@ -476,9 +480,9 @@ fn prefix_query(words: PhraseWords) -> Query
     Query::prefix(first)
 }
 
-// The query of a term or a phrase.
-fn words_query(words: PhraseWords) -> Query
-    ensures matches { (ts : List IndexToken) (doc : ℕ) → matches result ts doc ≡ has_words ts doc words.first words.others }
+// The query of a term, or of a phrase within a slop.
+fn words_query(words: PhraseWords, slop: u32) -> Query
+    ensures matches { (ts : List IndexToken) (doc : ℕ) → matches result ts doc ≡ has_words_within slop ts doc words.first words.others }
     ensures fields { (n : ℕ) → has_fields n result ≡ phrase_within n words }
     ensures positions { (entries : List SchemaEntry) → keeps_positions entries result ≡ phrase_kept entries words }
     ensures covers { (n : ℕ) → covers_docs n result ≡ true }
@@ -487,5 +491,5 @@ fn words_query(words: PhraseWords) -> Query
     if others.is_empty() {
         return Query::Term(first);
     }
-    Query::Phrase(first, others)
+    Query::Phrase(first, others, slop)
 }

@@ -50,6 +50,9 @@ pub enum QueryParserError {
     /// A prefix that is not one word, or in a field without texts.
     #[error("a prefix must be the start of one word, in a field of texts")]
     UnsupportedPrefix(Field),
+    /// A phrase with a slop above 0 in which a word occurs twice.
+    #[error("a word stands twice in a phrase with slop, which is not supported")]
+    UnsupportedSlop(Field),
     /// A bound of a range that is not one word, in a field of texts or of JSON values.
     #[error("a bound of a range must be one word")]
     UnsupportedBound(Field),
@@ -79,6 +82,7 @@ impl QueryParserError {
             | QueryParserError::UnsupportedPhrase(field)
             | QueryParserError::FieldDoesNotHavePositionsIndexed(field)
             | QueryParserError::UnsupportedPrefix(field)
+            | QueryParserError::UnsupportedSlop(field)
             | QueryParserError::UnsupportedBound(field)
             | QueryParserError::UnsupportedPath(field) => Some(field),
             QueryParserError::SyntaxError(..)

@@ -6,10 +6,8 @@ pub mod GatherLemmas
 pub mod LocalScores
 pub mod OneIndexLaws
 pub mod MatchLaws
-pub mod PartLemmas
 pub mod PhraseCountLaws
 pub mod PhraseScoreLemmas
-pub mod PositionLemmas
 pub mod QueryScoreLemmas
 pub mod ScoreLemmas
 pub mod SegmentLemmas

@@ -19,7 +19,7 @@ use Rattle.ii_definitions.specs.Postings.{is_at}
 use Rattle.ii_definitions.specs.Tokens.{IndexToken}
 use Rattle.ii_query_parser.specs.declared.query.PhraseTerm.{PhraseTerm}
 use Rattle.ii_query_parser.specs.Queries as queries
-use Rattle.ii_query_parser.specs.Queries.{QueryTree, QueryTrees, are_of_texts, follow, has_positions_in, hold_for_all, holds_for_all, is_text_key, is_token_of, phrase_has_positions, tree_covers, tree_of, trees_cover}
+use Rattle.ii_query_parser.specs.Queries.{QueryTree, QueryTrees, are_of_texts, follow_near, has_positions_in, hold_for_all, holds_for_all, is_text_key, is_token_of, phrase_has_positions, tree_covers, tree_of, trees_cover}
 use Rattle.ii_segments.specs.Segments.{AreSegmentTokens, Segment, at_rank, index_tokens, is_key_of_text_in, is_living, living_tokens, num_docs_of, tokens_from}
 use Rattle.ii_segments.proofs.CountLaws.{all_weaker, test_by_rank, tokens_after}
 use Rattle.ii_segments.proofs.MergedLaws.{IsTyped, index_typed, merged_is_segment}
@@ -28,7 +28,7 @@ use Rattle.ii_segment_search.proofs.LocalLaws.{bound_local, follow_local, range_
 use Rattle.ii_ranking.specs.Combinations.{any_of, each_of, unless}
 use Rattle.ii_ranking.specs.OneIndex.{ScoresAreLocal}
 use Rattle.ii_ranking.specs.Scores.{if_occurs, phrase_score, score_by, scored_by_tokens, term_score, tree_score, tree_scores}
-use Rattle.ii_ranking.specs.TokenCounts.{AreOrdered, num_tokens_of, phrase_starts, term_count}
+use Rattle.ii_ranking.specs.TokenCounts.{AreOrdered, num_tokens_of, phrase_starts_within, term_count}
 use Rattle.ii_ranking.proofs.CountLaws.{terms_score_by_counts}
 use Rattle.ii_ranking.proofs.MatchLaws.{phrases_score_by_starts}
 
@@ -121,8 +121,8 @@ module _ (schema : List SchemaEntry) (ts : List IndexToken) (typed : AllByRecurs
       (λ some. text_of_some schema term.field term.value (is_token_of term doc) (λ t is. (and_parts (t.doc == doc) (is_at term.field term.value t) is).1) ts typed (any_counted (is_token_of term doc) ts some))
 
   -- how often a phrase begins, by the type of its first key
-  abbrev starts_at : TermState → List PhraseTerm → IndexToken → Bool
-  starts_at first others t = is_token_of first doc t && follow ts doc others t.position
+  abbrev starts_at : ℕ → TermState → List PhraseTerm → IndexToken → Bool
+  starts_at slop first others t = is_token_of first doc t && follow_near slop ts doc others t.position
 
   abbrev begun_as : Bool → ℕ → ℕ
   begun_as text n = if text then n else 0
@@ -131,11 +131,11 @@ module _ (schema : List SchemaEntry) (ts : List IndexToken) (typed : AllByRecurs
   no_start true = refl
   no_start false = refl
 
-  starts_by_type : (first : TermState) (others : List PhraseTerm) → phrase_starts ts first others doc ≡ begun_as (is_key_of_text_in schema first.field first.value) (count_by (starts_at first others) ts)
-  starts_by_type first others =
-      either_way begun_as no_start (is_text_key first ts) (is_key_of_text_in schema first.field first.value) (count_by (starts_at first others) ts)
-      (λ some. text_of_some schema first.field first.value (starts_at first others)
-      (λ t is. (and_parts (t.doc == doc) (is_at first.field first.value t) (and_parts (is_token_of first doc t) (follow ts doc others t.position) is).0).1) ts typed (any_counted (starts_at first others) ts some))
+  starts_by_type : (slop : ℕ) (first : TermState) (others : List PhraseTerm) → phrase_starts_within slop ts first others doc ≡ begun_as (is_key_of_text_in schema first.field first.value) (count_by (starts_at slop first others) ts)
+  starts_by_type slop first others =
+      either_way begun_as no_start (is_text_key first ts) (is_key_of_text_in schema first.field first.value) (count_by (starts_at slop first others) ts)
+      (λ some. text_of_some schema first.field first.value (starts_at slop first others)
+      (λ t is. (and_parts (t.doc == doc) (is_at first.field first.value t) (and_parts (is_token_of first doc t) (follow_near slop ts doc others t.position) is).0).1) ts typed (any_counted (starts_at slop first others) ts some))
 
 -- ---- the parts of a query
 module _ (schema : List SchemaEntry) (st : Statistics) (before after : List Segment) (s : Segment) (doc : ℕ) where
@@ -164,22 +164,22 @@ module _ (schema : List SchemaEntry) (st : Statistics) (before after : List Segm
         ∙ (λ j. if_occurs (score_local (term ∷ []) term.field j) (term_count_local term j))
         ∙ sym (terms_score_by_counts schema s.tokens st term doc own_ordered)
 
-    starts_local : (first : TermState) (others : List PhraseTerm) → phrase_starts all first others number ≡ phrase_starts s.tokens first others doc
-    starts_local first others =
-        let follows : (t : IndexToken) → (is_token_of first number t && follow all number others t.position) ≡ (is_token_of first number t && follow s.tokens doc others t.position) =
-        λ t. ap (λ (b : Bool). is_token_of first number t && b) (follow_local schema before after s doc lives all_typed own_typed others t.position) in
-        starts_by_type schema all all_typed number first others
+    starts_local : (slop : ℕ) (first : TermState) (others : List PhraseTerm) → phrase_starts_within slop all first others number ≡ phrase_starts_within slop s.tokens first others doc
+    starts_local slop first others =
+        let follows : (t : IndexToken) → (is_token_of first number t && follow_near slop all number others t.position) ≡ (is_token_of first number t && follow_near slop s.tokens doc others t.position) =
+        λ t. ap (λ (b : Bool). is_token_of first number t && b) (follow_local schema before after s doc lives all_typed own_typed slop others t.position) in
+        starts_by_type schema all all_typed number slop first others
         ∙ ap (begun_as schema s.tokens own_typed doc (is_key_of_text_in schema first.field first.value))
         ((λ j. count_by (λ (t : IndexToken). follows t j) all)
-        ∙ count_local (λ b t. b && is_at first.field first.value t && follow s.tokens doc others t.position) (λ t. refl) (λ b t d. refl) before after s doc lives)
-        ∙ sym (starts_by_type schema s.tokens own_typed doc first others)
+        ∙ count_local (λ b t. b && is_at first.field first.value t && follow_near slop s.tokens doc others t.position) (λ t. refl) (λ b t d. refl) before after s doc lives)
+        ∙ sym (starts_by_type schema s.tokens own_typed doc slop first others)
 
-    phrase_local : (first : TermState) (others : List PhraseTerm) → phrase_has_positions schema first others ≡ true
-        → phrase_score (scored_by_tokens schema all st) first others number ≡ phrase_score (scored_by_tokens schema s.tokens st) first others doc
-    phrase_local first others keeps =
-        phrases_score_by_starts schema all st first others number all_ordered keeps
-        ∙ (λ j. if_occurs (score_local (first ∷ map (λ (o : PhraseTerm). o.term) others) first.field j) (starts_local first others j))
-        ∙ sym (phrases_score_by_starts schema s.tokens st first others doc own_ordered keeps)
+    phrase_local : (first : TermState) (others : List PhraseTerm) (slop : ℕ) → phrase_has_positions schema first others ≡ true
+        → phrase_score (scored_by_tokens schema all st) first others slop number ≡ phrase_score (scored_by_tokens schema s.tokens st) first others slop doc
+    phrase_local first others slop keeps =
+        phrases_score_by_starts schema all st first others slop number all_ordered keeps
+        ∙ (λ j. if_occurs (score_local (first ∷ map (λ (o : PhraseTerm). o.term) others) first.field j) (starts_local slop first others j))
+        ∙ sym (phrases_score_by_starts schema s.tokens st first others slop doc own_ordered keeps)
 
     module _ (n : ℕ) (docs : num_docs_of (before ++ s ∷ after) ≤ n) (own : length s.alive ≤ n) where
       mutual
@@ -188,7 +188,7 @@ module _ (schema : List SchemaEntry) (st : Statistics) (before after : List Segm
         tree_local queries.nothing covers keeps = refl
         tree_local (queries.all_below m) covers keeps = ap (λ (b : Bool). if b then Some SCORE_ONE else None) (bound_local schema before after s doc lives all_typed own_typed n m docs own covers)
         tree_local (queries.one_term term) covers keeps = term_local term
-        tree_local (queries.one_phrase first others) covers keeps = phrase_local first others keeps
+        tree_local (queries.one_phrase first others slop) covers keeps = phrase_local first others slop keeps
         tree_local (queries.one_range range) covers keeps = ap (λ (b : Bool). if b then Some SCORE_ONE else None) (range_local schema before after s doc lives all_typed own_typed range)
         tree_local (queries.each_of qs) covers keeps = ap each_of (trees_local qs covers keeps)
         tree_local (queries.any_of qs) covers keeps = ap any_of (trees_local qs covers keeps)

@@ -14,7 +14,7 @@ use Rattle.ii_definitions.specs.Tokens.{IndexToken}
 use Rattle.ii_segments.proofs.OrderLemmas.{Ascend, ascend_from_order, filter_ascends}
 use Rattle.ii_query_parser.specs.declared.query.PhraseTerm.{PhraseTerm}
 use Rattle.ii_query_parser.specs.Queries as queries
-use Rattle.ii_query_parser.specs.Queries.{QueryTree, QueryTrees, all_match, any_matches, follow, has_phrase, has_positions_in, has_tree, hold_for_all, holds_for_all, is_text_key, is_token_in, is_token_of, phrase_has_positions, tree_matches, tree_of}
+use Rattle.ii_query_parser.specs.Queries.{QueryTree, QueryTrees, all_match, any_matches, follow_near, has_phrase_within, has_positions_in, has_tree, hold_for_all, holds_for_all, is_text_key, is_token_in, is_token_of, phrase_has_positions, tree_matches, tree_of}
 use Rattle.ii_ranking.specs.Combinations.{both, each_of, either, unless}
 use Rattle.ii_ranking.specs.Scores.{if_occurs, phrase_score, score_by, scored_by_tokens, term_score, tree_score, tree_scores}
 use Rattle.ii_ranking.specs.TokenCounts.{AreOrdered, MatchesScore, PhrasesScoreByStarts, keeps_counts, num_tokens_of}
@@ -26,10 +26,10 @@ key_ordered : (ts : List IndexToken) → AreOrdered ts → (term : TermState) �
 key_ordered ts ordered term = filter_ascends (is_at term.field term.value) 0 ts (ascend_from_order ts ordered)
 
 pub phrases_score_by_starts : PhrasesScoreByStarts
-phrases_score_by_starts schema ts st first others doc ordered keeps =
+phrases_score_by_starts schema ts st first others slop doc ordered keeps =
     let k = and_parts (has_positions_in schema first) (list_all (λ (o : PhraseTerm). has_positions_in schema o.term) others) keeps in
     ap (if_occurs (score_by (scored_by_tokens schema ts st) (first ∷ map (λ (o : PhraseTerm). o.term) others) first.field doc))
-    (phrase_counted schema ts (key_ordered ts ordered) doc first others k.0 k.1)
+    (phrase_counted schema ts (key_ordered ts ordered) doc slop first others k.0 k.1)
 
 module _ (score_of : ℕ → ℕ) where
   some_occurs : (n : ℕ) → 0 < n → is_some (if_occurs score_of n) ≡ true
@@ -99,18 +99,18 @@ module _ (schema : List SchemaEntry) (ts : List IndexToken) (st : Statistics) (o
       let score_of = score_by (scored_by_tokens schema ts st) (term ∷ []) term.field doc in
       ap is_some (terms_score_by_counts schema ts st term doc ordered) ∙ occurs_once score_of (keeps_counts schema ts term) (num_tokens_of ts term doc) ∙ occurs_any score_of (is_token_of term doc) ts
 
-  phrase_some : (first : TermState) (others : List PhraseTerm) → phrase_has_positions schema first others ≡ true → is_some (phrase_score (scored_by_tokens schema ts st) first others doc) ≡ has_phrase ts doc first others
-  phrase_some first others keeps =
+  phrase_some : (first : TermState) (others : List PhraseTerm) (slop : ℕ) → phrase_has_positions schema first others ≡ true → is_some (phrase_score (scored_by_tokens schema ts st) first others slop doc) ≡ has_phrase_within slop ts doc first others
+  phrase_some first others slop keeps =
       let score_of = score_by (scored_by_tokens schema ts st) (first ∷ map (λ (o : PhraseTerm). o.term) others) first.field doc in
-      let starts : IndexToken → Bool = λ t. is_token_of first doc t && follow ts doc others t.position in
-      ap is_some (phrases_score_by_starts schema ts st first others doc ordered keeps) ∙ occurs_if score_of (is_text_key first ts) (count_by starts ts) (list_any starts ts) (occurs_any score_of starts ts)
+      let starts : IndexToken → Bool = λ t. is_token_of first doc t && follow_near slop ts doc others t.position in
+      ap is_some (phrases_score_by_starts schema ts st first others slop doc ordered keeps) ∙ occurs_if score_of (is_text_key first ts) (count_by starts ts) (list_any starts ts) (occurs_any score_of starts ts)
 
   mutual
     tree_some : (q : QueryTree) → holds_for_all (λ (t : TermState). true) (phrase_has_positions schema) q ≡ true → is_some (tree_score (scored_by_tokens schema ts st) q doc) ≡ tree_matches q ts doc
     tree_some queries.nothing keeps = refl
     tree_some (queries.all_below m) keeps = if_some _
     tree_some (queries.one_term term) keeps = term_some term
-    tree_some (queries.one_phrase first others) keeps = phrase_some first others keeps
+    tree_some (queries.one_phrase first others slop) keeps = phrase_some first others slop keeps
     tree_some (queries.one_range range) keeps = if_some _
     tree_some (queries.each_of qs) keeps = each_some qs keeps
     tree_some (queries.any_of qs) keeps = fold_either None (tree_scores (scored_by_tokens schema ts st) qs doc) ∙ any_some qs keeps

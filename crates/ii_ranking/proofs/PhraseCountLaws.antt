@@ -1,5 +1,6 @@
 -- How often phrases begin in a document, by its tokens.
 use Rattle.std.proofs.Common.{◌≡◌, ◌∙◌, ℕ, suc, ◌+◌, ◌<◌, inl, inr, Bool, true, false, ◌&&◌, ◌||◌, List, [], ◌∷◌, Option, None, Some, filter, if◌then◌else◌, length, map, nat_eq, refl, ap, arith}
+use Rattle.std.specs.Prelude.{count_by}
 use Rattle.std.specs.List.{list_all, list_any}
 use Rattle.std.specs.Option.{option_map}
 use Rattle.std.proofs.Math.Bool.{or-false}
@@ -17,12 +18,15 @@ use Rattle.ii_definitions.specs.Cut.{cut_entry}
 use Rattle.ii_definitions.specs.Fields.{option_of}
 use Rattle.ii_definitions.specs.Postings.{grouped, is_at, key_postings, kind_of, tokens_at}
 use Rattle.ii_definitions.specs.Tokens.{IndexToken}
-use Rattle.ii_query.specs.Phrase.{PhrasePartState, has_position, is_among, stand_from}
+use Rattle.ii_query.specs.Phrase.{PhrasePartState, has_positions, parts_have}
+use Rattle.ii_query.specs.SloppyPhrase.{is_near, is_within, stand_near, ways_back}
+use Rattle.ii_query.proofs.PhraseLemmas.{any_alike}
 use Rattle.ii_segments.proofs.OrderLemmas.{Ascend}
 use Rattle.ii_query_parser.specs.declared.query.PhraseTerm.{PhraseTerm}
-use Rattle.ii_query_parser.specs.Queries.{are_of_texts, follow, has_positions_in, is_token_of, stands_at}
+use Rattle.ii_query_parser.specs.Queries.{are_of_texts, follow_near, has_positions_in, is_text_key, is_token_of, stands_near}
 use Rattle.ii_ranking.specs.Scores.{entry_at, phrase_count}
-use Rattle.ii_ranking.specs.TokenCounts.{phrase_starts}
+use Rattle.ii_query_parser.proofs.SlopLemmas.{follow_zero}
+use Rattle.ii_ranking.specs.TokenCounts.{StartsAreExact, phrase_starts_within}
 use Rattle.ii_ranking.proofs.CountLaws.{cut_at}
 use Rattle.ii_ranking.proofs.EntryTokens.{AscendFrom, grouped_ascend, positions_at, positions_of, token_positions}
 
@@ -35,18 +39,18 @@ abbrev pub parts_by : List SchemaEntry → List IndexToken → List PhraseTerm �
 parts_by schema ts others = map (λ (o : PhraseTerm). record { distance = o.distance; rest = kept_entries schema ts o.term }) others
 
 -- a document below all entries has no position
-no_position : (doc position least : ℕ) (es : List Entry) → AscendFrom least es → doc < least → has_position es doc position ≡ false
-no_position doc position least [] up low = refl
-no_position doc position least (e ∷ es) up low =
+no_position : (doc : ℕ) (holds : ℕ → Bool) (least : ℕ) (es : List Entry) → AscendFrom least es → doc < least → has_positions (list_any holds) es doc ≡ false
+no_position doc holds least [] up low = refl
+no_position doc holds least (e ∷ es) up low =
     let first = up.0 in
-    rw (ne_eqb e.doc doc (λ same. omega (arith, first, same, low))) (no_position doc position (e.doc + 1) es up.1 (omega (arith, first, low)))
+    rw (ne_eqb e.doc doc (λ same. omega (arith, first, same, low))) (no_position doc holds (e.doc + 1) es up.1 (omega (arith, first, low)))
 
 -- the positions of a document are those of its entry
-position_at : (doc position least : ℕ) (es : List Entry) → AscendFrom least es → has_position es doc position ≡ is_among (positions_of (entry_at es doc)) position
-position_at doc position least [] up = refl
-position_at doc position least (e ∷ es) up = elim (eqb_tells e.doc doc) [
-  | inl h ↦ let here = h.1 in rw (h.0, no_position doc position (e.doc + 1) es up.1 (omega (arith, here))) (or-false (is_among e.positions position))
-  | inr h ↦ rw (h.0) (position_at doc position (e.doc + 1) es up.1)
+position_at : (doc : ℕ) (holds : ℕ → Bool) (least : ℕ) (es : List Entry) → AscendFrom least es → has_positions (list_any holds) es doc ≡ list_any holds (positions_of (entry_at es doc))
+position_at doc holds least [] up = refl
+position_at doc holds least (e ∷ es) up = elim (eqb_tells e.doc doc) [
+  | inl h ↦ let here = h.1 in rw (h.0, no_position doc holds (e.doc + 1) es up.1 (omega (arith, here))) (or-false (list_any holds e.positions))
+  | inr h ↦ rw (h.0) (position_at doc holds (e.doc + 1) es up.1)
 ]
 
 cut_ascends : (option : IndexRecordOption) (least : ℕ) (es : List Entry) → AscendFrom least es → AscendFrom least (map (cut_entry option) es)
@@ -123,39 +127,49 @@ if_many true ps holds = refl
 if_many false ps holds = refl
 
 -- the starts of a phrase in its first term's entry
-starts_at : (parts : List PhrasePartState) (doc : ℕ) (es : List Entry) → phrase_count es parts doc ≡ length (filter (stand_from parts doc) (positions_of (entry_at es doc)))
-starts_at parts doc [] = refl
-starts_at parts doc (e ∷ es) = elim (eqb_tells e.doc doc) [
-  | inl h ↦ rw (h.0) (ap (λ (d : ℕ). length (filter (stand_from parts d) e.positions)) (h.1))
-  | inr h ↦ rw (h.0) (starts_at parts doc es)
+starts_at : (slop : ℕ) (parts : List PhrasePartState) (doc : ℕ) (es : List Entry) → phrase_count slop es parts doc ≡ length (filter (stand_near slop parts doc) (positions_of (entry_at es doc)))
+starts_at slop parts doc [] = refl
+starts_at slop parts doc (e ∷ es) = elim (eqb_tells e.doc doc) [
+  | inl h ↦ rw (h.0) (ap (λ (d : ℕ). length (filter (stand_near slop parts d) e.positions)) (h.1))
+  | inr h ↦ rw (h.0) (starts_at slop parts doc es)
 ]
 
 module _ (schema : List SchemaEntry) (ts : List IndexToken) (up : (term : TermState) → Ascend 0 (tokens_at term.field term.value ts)) (doc : ℕ) where
-  stands : (term : TermState) (position : ℕ) → has_positions_in schema term ≡ true → has_position (kept_entries schema ts term) doc position ≡ stands_at ts doc term position
-  stands term position keeps =
+  stands : (term : TermState) (holds : ℕ → Bool) → has_positions_in schema term ≡ true → has_positions (list_any holds) (kept_entries schema ts term) doc ≡ (is_text_key term ts && list_any (λ (t : IndexToken). is_token_of term doc t && holds t.position) ts)
+  stands term holds keeps =
       let us = tokens_at term.field term.value ts in
       let option = downgrade (kind_of (option_of schema term.field) us) WithFreqsAndPositions in
-      position_at doc position 0 (kept_entries schema ts term) (cut_ascends option 0 (grouped us) (grouped_ascend 0 us (up term)))
-      ∙ ap (λ (ps : List ℕ). is_among ps position) (entry_positions schema ts term doc (up term) keeps)
-      ∙ if_any (are_of_texts us) (token_positions doc us) (λ (p : ℕ). nat_eq p position)
-      ∙ ap (λ (b : Bool). are_of_texts us && b) (any_passing term doc (λ (p : ℕ). nat_eq p position) ts)
+      position_at doc holds 0 (kept_entries schema ts term) (cut_ascends option 0 (grouped us) (grouped_ascend 0 us (up term)))
+      ∙ ap (list_any holds) (entry_positions schema ts term doc (up term) keeps)
+      ∙ if_any (are_of_texts us) (token_positions doc us) holds
+      ∙ ap (λ (b : Bool). are_of_texts us && b) (any_passing term doc holds ts)
 
-  all_stand : (others : List PhraseTerm) (start : ℕ) → list_all (λ (o : PhraseTerm). has_positions_in schema o.term) others ≡ true → stand_from (parts_by schema ts others) doc start ≡ follow ts doc others start
-  all_stand [] start keeps = refl
-  all_stand (o ∷ os) start keeps =
+  all_stand : (slop back : ℕ) (others : List PhraseTerm) (start : ℕ) → list_all (λ (o : PhraseTerm). has_positions_in schema o.term) others ≡ true
+      → parts_have (is_near slop back start) (parts_by schema ts others) doc ≡ list_all (λ (o : PhraseTerm). stands_near slop back ts doc o.term (start + o.distance)) others
+  all_stand slop back [] start keeps = refl
+  all_stand slop back (o ∷ os) start keeps =
       let k = and_parts (has_positions_in schema o.term) (list_all (λ (p : PhraseTerm). has_positions_in schema p.term) os) keeps in
-      let first = stands o.term (start + o.distance) k.0 in
-      let later = all_stand os start k.1 in
+      let first = stands o.term (λ (p : ℕ). is_within slop (start + o.distance) (p + back)) k.0 in
+      let later = all_stand slop back os start k.1 in
       λ j. first j && later j
 
-  pub phrase_counted : (first : TermState) (others : List PhraseTerm) → has_positions_in schema first ≡ true → list_all (λ (o : PhraseTerm). has_positions_in schema o.term) others ≡ true
-      → phrase_count (kept_entries schema ts first) (parts_by schema ts others) doc ≡ phrase_starts ts first others doc
-  phrase_counted first others keeps others_keep =
+  all_follow : (slop : ℕ) (others : List PhraseTerm) (start : ℕ) → list_all (λ (o : PhraseTerm). has_positions_in schema o.term) others ≡ true → stand_near slop (parts_by schema ts others) doc start ≡ follow_near slop ts doc others start
+  all_follow slop others start keeps =
+      any_alike (λ (back : ℕ). parts_have (is_near slop back start) (parts_by schema ts others) doc) (λ (back : ℕ). list_all (λ (o : PhraseTerm). stands_near slop back ts doc o.term (start + o.distance)) others) (ways_back slop)
+      (λ back. all_stand slop back others start keeps)
+
+  pub phrase_counted : (slop : ℕ) (first : TermState) (others : List PhraseTerm) → has_positions_in schema first ≡ true → list_all (λ (o : PhraseTerm). has_positions_in schema o.term) others ≡ true
+      → phrase_count slop (kept_entries schema ts first) (parts_by schema ts others) doc ≡ phrase_starts_within slop ts first others doc
+  phrase_counted slop first others keeps others_keep =
       let us = tokens_at first.field first.value ts in
       let parts = parts_by schema ts others in
-      starts_at parts doc (kept_entries schema ts first)
-      ∙ ap (λ (ps : List ℕ). length (filter (stand_from parts doc) ps)) (entry_positions schema ts first doc (up first) keeps)
-      ∙ if_many (are_of_texts us) (token_positions doc us) (stand_from parts doc)
+      starts_at slop parts doc (kept_entries schema ts first)
+      ∙ ap (λ (ps : List ℕ). length (filter (stand_near slop parts doc) ps)) (entry_positions schema ts first doc (up first) keeps)
+      ∙ if_many (are_of_texts us) (token_positions doc us) (stand_near slop parts doc)
       ∙ ap (λ (n : ℕ). if are_of_texts us then n else 0)
-      (ap length (filter_agree (stand_from parts doc) (follow ts doc others) (λ start. all_stand others start others_keep) (token_positions doc us))
-      ∙ passing first doc (follow ts doc others) ts ∙ length-filter (λ (t : IndexToken). is_token_of first doc t && follow ts doc others t.position) ts)
+      (ap length (filter_agree (stand_near slop parts doc) (follow_near slop ts doc others) (λ start. all_follow slop others start others_keep) (token_positions doc us))
+      ∙ passing first doc (follow_near slop ts doc others) ts ∙ length-filter (λ (t : IndexToken). is_token_of first doc t && follow_near slop ts doc others t.position) ts)
+
+-- with slop 0 each other term occurs at its distance
+pub starts_are_exact : StartsAreExact
+starts_are_exact tokens first others doc = ap (λ (test : ℕ → Bool). if is_text_key first tokens then count_by (λ (t : IndexToken). is_token_of first doc t && test t.position) tokens else 0) (λ i start. follow_zero tokens doc others start i)

@@ -122,8 +122,8 @@ and_not_other_fields n query other first second is at fields =
     ap (has_fields n) at ∙ (and_parts (has_fields n first.value) (has_fields n second.value) (sym (and_not_fields n first second) ∙ ap (has_fields n) (sym is) ∙ fields)).1
 
 -- what documents score by a phrase
-pub phrase_query : (s : Scored) (query : Query) (first : TermState) (others : Vec PhraseTerm Global) (terms : List PhraseTerm) → query ≡ Phrase first others → terms ≡ others.items → phrase_score s first terms ≡ query_score s query
-phrase_query s query first others terms is at = ap (phrase_score s first) at ∙ sym (ap (tree_score s) (ap tree_of is ∙ phrase_tree first others))
+pub phrase_query : (s : Scored) (query : Query) (first : TermState) (others : Vec PhraseTerm Global) (terms : List PhraseTerm) (slop : ℕ) → query ≡ Phrase first others slop → terms ≡ others.items → phrase_score s first terms slop ≡ query_score s query
+phrase_query s query first others terms slop is at = ap (λ (os : List PhraseTerm). phrase_score s first os slop) at ∙ sym (ap (tree_score s) (ap tree_of is ∙ phrase_tree first others slop))
 
 -- what they score by a query, unless they match another one
 pub and_not_query : (s : Scored) (query one other : Query) (first second : Box Query Global) → query ≡ AndNot first second → one ≡ first.value → other ≡ second.value → (doc : ℕ) → unless (query_score s one doc) (query_score s other doc) ≡ query_score s query doc

@@ -15,7 +15,8 @@ use Rattle.ii_docset.specs.Cursor.{IsAscending, doc_at, from_doc, positions_at, 
 use Rattle.ii_docset.specs.Intersection.{has_doc}
 use Rattle.ii_docset.proofs.CursorLemmas.{doc_below}
 use Rattle.ii_docset.proofs.IntersectionLemmas.{doc_at-from_doc, has_doc-from_doc, has_doc_below}
-use Rattle.ii_query.specs.Phrase.{PhrasePartState, stand_from}
+use Rattle.ii_query.specs.Phrase.{PhrasePartState}
+use Rattle.ii_query.specs.SloppyPhrase.{stand_near}
 use Rattle.ii_query_parser.specs.declared.query.PhraseTerm.{PhraseTerm}
 use Rattle.ii_query_parser.specs.Queries.{QueryTree, one_phrase, one_term}
 use Rattle.ii_reader.specs.OpenIndex.{OpenIndexState}
@@ -108,32 +109,32 @@ module _ (index : OpenIndexState) (st : Statistics) (term : TermState) (es : Lis
       let freq : count ≡ e.entry.term_freq = count_is ∙ e.freq in
       (λ j. Some (counted (part_is j) (w_is j) (id_is j) (freq j))) ∙ ap of_entry (sym e.found) ∙ of_list
 
-module _ (index : OpenIndexState) (st : Statistics) (first : TermState) (others : List PhraseTerm) (doc : ℕ) where
+module _ (index : OpenIndexState) (st : Statistics) (first : TermState) (others : List PhraseTerm) (slop doc : ℕ) where
   abbrev count_in : ℕ
-  count_in = phrase_count ((scored_in index st).entries WithFreqsAndPositions first) (parts_of (scored_in index st) others) doc
+  count_in = phrase_count slop ((scored_in index st).entries WithFreqsAndPositions first) (parts_of (scored_in index st) others) doc
 
   abbrev of_count : ℕ → Option ShareState
-  of_count count = share_if_occurs (share_by (scored_in index st) (one_phrase first others) (first ∷ map (λ (o : PhraseTerm). o.term) others) first.field doc) count
+  of_count count = share_if_occurs (share_by (scored_in index st) (one_phrase first others slop) (first ∷ map (λ (o : PhraseTerm). o.term) others) first.field doc) count
 
-  pub no_phrase_share : (count : ℕ) → count ≡ count_in → count ≡ 0 → None ≡ phrase_share (scored_in index st) first others doc
+  pub no_phrase_share : (count : ℕ) → count ≡ count_in → count ≡ 0 → None ≡ phrase_share (scored_in index st) first others slop doc
   no_phrase_share count is none = ap of_count (sym none ∙ is)
 
-  pub counted_phrase : (part : QueryTree) (w : Bm25State) (id count : ℕ) → count ≡ count_in → count ≢ 0 → part ≡ one_phrase first others → w ≡ bm25_weight (idfs_of st (first ∷ map (λ (o : PhraseTerm). o.term) others)) st.num_docs (st.num_tokens first.field)
-      → id ≡ norm_id_in (body_of first.field index.fieldnorms) doc → Some (counted part w id count) ≡ phrase_share (scored_in index st) first others doc
+  pub counted_phrase : (part : QueryTree) (w : Bm25State) (id count : ℕ) → count ≡ count_in → count ≢ 0 → part ≡ one_phrase first others slop → w ≡ bm25_weight (idfs_of st (first ∷ map (λ (o : PhraseTerm). o.term) others)) st.num_docs (st.num_tokens first.field)
+      → id ≡ norm_id_in (body_of first.field index.fieldnorms) doc → Some (counted part w id count) ≡ phrase_share (scored_in index st) first others slop doc
   counted_phrase part w id count is some part_is w_is id_is = (λ j. Some (counted (part_is j) (w_is j) (id_is j) count)) ∙ occurs ∙ ap of_count is
     where
-      occurs : Some (share_by (scored_in index st) (one_phrase first others) (first ∷ map (λ (o : PhraseTerm). o.term) others) first.field doc count) ≡ of_count count
+      occurs : Some (share_by (scored_in index st) (one_phrase first others slop) (first ∷ map (λ (o : PhraseTerm). o.term) others) first.field doc count) ≡ of_count count
       occurs = rw (ne_eqb count 0 some) refl
 
   -- how often a phrase begins, given its lists
   module _ (es : List Entry) (parts : List PhrasePartState) (listed : docs_of_term WithFreqsAndPositions index first ≡ Ok es) (parts_are : parts ≡ parts_of (scored_in index st) others) where
-    count_of_list : phrase_count es parts doc ≡ count_in
-    count_of_list = (λ j. phrase_count (opened_or_none (sym listed j)) (parts_are j) doc)
+    count_of_list : phrase_count slop es parts doc ≡ count_in
+    count_of_list = (λ j. phrase_count slop (opened_or_none (sym listed j)) (parts_are j) doc)
 
     pub begins_nowhere : has_doc es doc ≡ false → 0 ≡ count_in
-    begins_nowhere none = ap (λ (found : Option Entry). unwrap_or (option_map (num_starts parts) found) 0) (sym (no_entry doc es none)) ∙ count_of_list
+    begins_nowhere none = ap (λ (found : Option Entry). unwrap_or (option_map (num_starts slop parts) found) 0) (sym (no_entry doc es none)) ∙ count_of_list
 
-    pub begins : (new : List Entry) (count : ℕ) → IsAt doc es new → count ≡ length (filter (stand_from parts doc) (positions_at new)) → count ≡ count_in
+    pub begins : (new : List Entry) (count : ℕ) → IsAt doc es new → count ≡ length (filter (stand_near slop parts (doc_at new)) (positions_at new)) → count ≡ count_in
     begins new count at is =
         let e = entry_of doc es new at in
-        is ∙ (λ j. length (filter (stand_from parts (sym e.doc_is j)) (e.positions j))) ∙ ap (λ (found : Option Entry). unwrap_or (option_map (num_starts parts) found) 0) (sym e.found) ∙ count_of_list
+        is ∙ (λ j. length (filter (stand_near slop parts ((at.current ∙ sym e.doc_is) j)) (e.positions j))) ∙ ap (λ (found : Option Entry). unwrap_or (option_map (num_starts slop parts) found) 0) (sym e.found) ∙ count_of_list

@@ -73,9 +73,9 @@ mutual
   shares_add_up s (queries.all_below n) doc = constant_total (queries.all_below n) (nat_lt doc (min n TERMINATED))
   shares_add_up s (queries.one_term term) doc =
       entry_total (score_by s (term ∷ []) term.field doc) (share_by s (queries.one_term term) (term ∷ []) term.field doc) (λ count. refl) (entry_at (s.entries WithFreqs term) doc)
-  shares_add_up s (queries.one_phrase first others) doc =
+  shares_add_up s (queries.one_phrase first others slop) doc =
       let terms = first ∷ map (λ (o : PhraseTerm). o.term) others in
-      count_total (score_by s terms first.field doc) (share_by s (queries.one_phrase first others) terms first.field doc) (λ count. refl) (phrase_count (s.entries WithFreqsAndPositions first) (parts_of s others) doc)
+      count_total (score_by s terms first.field doc) (share_by s (queries.one_phrase first others slop) terms first.field doc) (λ count. refl) (phrase_count slop (s.entries WithFreqsAndPositions first) (parts_of s others) doc)
   shares_add_up s (queries.one_range range) doc = constant_total (queries.one_range range) (s.has_in range doc)
   shares_add_up s (queries.each_of qs) doc = each_adds_up s qs doc
   shares_add_up s (queries.any_of qs) doc = any_adds_up s qs doc

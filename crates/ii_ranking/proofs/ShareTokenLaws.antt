@@ -35,20 +35,20 @@ module _ (n num_docs : ℕ) (a b : Scored) (alike : AreAlike n num_docs a b) (do
   alike_term : (term : TermState) → term.field < n → term_share a term doc ≡ term_share b term doc
   alike_term term field = λ j. option_map (λ (e : Entry). share_with (alike.statistics j) (queries.one_term term) (term ∷ []) term.field (alike.norm_id term.field doc below j) e.term_freq) (entry_at (alike.entries WithFreqs term field j) doc)
 
-  alike_phrase : (first : TermState) (others : List PhraseTerm) → phrase_is_within n first others ≡ true → phrase_share a first others doc ≡ phrase_share b first others doc
-  alike_phrase first others fields =
+  alike_phrase : (first : TermState) (others : List PhraseTerm) (slop : ℕ) → phrase_is_within n first others ≡ true → phrase_share a first others slop doc ≡ phrase_share b first others slop doc
+  alike_phrase first others slop fields =
       let h = and_parts (nat_lt first.field n) (list_all (λ (o : PhraseTerm). nat_lt o.term.field n) others) fields in
       let field = ltb-true first.field n h.0 in
       let parts = same_parts n num_docs a b alike doc below others h.1 in
-      λ j. share_if_occurs (share_with (alike.statistics j) (queries.one_phrase first others) (first ∷ map (λ (o : PhraseTerm). o.term) others) first.field (alike.norm_id first.field doc below j))
-      (phrase_count (alike.entries WithFreqsAndPositions first field j) (parts j) doc)
+      λ j. share_if_occurs (share_with (alike.statistics j) (queries.one_phrase first others slop) (first ∷ map (λ (o : PhraseTerm). o.term) others) first.field (alike.norm_id first.field doc below j))
+      (phrase_count slop (alike.entries WithFreqsAndPositions first field j) (parts j) doc)
 
   mutual
     alike_tree : (q : QueryTree) → holds_for_all (is_within n) (phrase_is_within n) q ≡ true → tree_shares a q doc ≡ tree_shares b q doc
     alike_tree queries.nothing fields = refl
     alike_tree (queries.all_below m) fields = refl
     alike_tree (queries.one_term term) fields = ap option_to_list (alike_term term (ltb-true term.field n fields))
-    alike_tree (queries.one_phrase first others) fields = ap option_to_list (alike_phrase first others fields)
+    alike_tree (queries.one_phrase first others slop) fields = ap option_to_list (alike_phrase first others slop fields)
     alike_tree (queries.one_range range) fields = ap (λ (has : Bool). option_to_list (constant_share (queries.one_range range) has)) (alike.has_in range doc (ltb-true range.prefix.field n fields))
     alike_tree (queries.each_of qs) fields = λ j. if alike_all qs fields j then alike_trees qs fields j else []
     alike_tree (queries.any_of qs) fields = alike_trees qs fields

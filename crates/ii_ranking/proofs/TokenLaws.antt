@@ -74,19 +74,19 @@ module _ (n num_docs : ℕ) (a b : Scored) (alike : AreAlike n num_docs a b) (do
       part : PhraseTerm → List Entry → PhrasePartState
       part o es = record { distance = o.distance; rest = es }
 
-  same_phrase : (first : TermState) (others : List PhraseTerm) → phrase_is_within n first others ≡ true → phrase_score a first others doc ≡ phrase_score b first others doc
-  same_phrase first others fields =
+  same_phrase : (first : TermState) (others : List PhraseTerm) (slop : ℕ) → phrase_is_within n first others ≡ true → phrase_score a first others slop doc ≡ phrase_score b first others slop doc
+  same_phrase first others slop fields =
       let h = and_parts (nat_lt first.field n) (list_all (λ (o : PhraseTerm). nat_lt o.term.field n) others) fields in
       let field = ltb-true first.field n h.0 in
       let parts = same_parts others h.1 in
-      λ j. if_occurs (score_with (alike.statistics j) (first ∷ map (λ (o : PhraseTerm). o.term) others) first.field (alike.norm_id first.field doc below j)) (phrase_count (alike.entries WithFreqsAndPositions first field j) (parts j) doc)
+      λ j. if_occurs (score_with (alike.statistics j) (first ∷ map (λ (o : PhraseTerm). o.term) others) first.field (alike.norm_id first.field doc below j)) (phrase_count slop (alike.entries WithFreqsAndPositions first field j) (parts j) doc)
 
   mutual
     same_tree : (q : QueryTree) → holds_for_all (is_within n) (phrase_is_within n) q ≡ true → tree_score a q doc ≡ tree_score b q doc
     same_tree queries.nothing fields = refl
     same_tree (queries.all_below m) fields = refl
     same_tree (queries.one_term term) fields = same_term term (ltb-true term.field n fields)
-    same_tree (queries.one_phrase first others) fields = same_phrase first others fields
+    same_tree (queries.one_phrase first others slop) fields = same_phrase first others slop fields
     same_tree (queries.one_range range) fields = ap (λ (has : Bool). if has then Some SCORE_ONE else None) (alike.has_in range doc (ltb-true range.prefix.field n fields))
     same_tree (queries.each_of qs) fields = ap each_of (same_trees qs fields)
     same_tree (queries.any_of qs) fields = ap any_of (same_trees qs fields)
@@ -172,7 +172,7 @@ module _ (schema : List SchemaEntry) (num_docs : ℕ) (index : OpenIndexState) (
       sound_tree queries.nothing fields = refl
       sound_tree (queries.all_below m) fields = refl
       sound_tree (queries.one_term term) fields = sound_term WithFreqs term (norms_damage (body_of term.field index.fieldnorms)) (ltb-true term.field (length schema) fields) (sound_norms term.field)
-      sound_tree (queries.one_phrase first others) fields =
+      sound_tree (queries.one_phrase first others slop) fields =
           let h = and_parts (nat_lt first.field (length schema)) (list_all (λ (o : PhraseTerm). nat_lt o.term.field (length schema)) others) fields in
           let norms = norms_damage (body_of first.field index.fieldnorms) in
           sound_term WithFreqsAndPositions first (first_of (parts_damage index others) norms) (ltb-true first.field (length schema) h.0)

@@ -1,5 +1,5 @@
 -- Computed examples of the scores of tokens. The scores are those of a second program.
-use Rattle.std.proofs.Common.{◌≡◌, ℕ, true, false, List, [], ◌∷◌, None, Some, codes, refl}
+use Rattle.std.proofs.Common.{◌≡◌, ℕ, true, false, List, [], ◌∷◌, None, Some, codes, map, refl}
 use Rattle.std.specs.Int.Count.{count_leading_zeros}
 use Rattle.ii_base.specs.Schema.{SchemaEntry}
 use Rattle.ii_base.specs.Terms.{TermState}
@@ -13,7 +13,7 @@ use Rattle.ii_query_parser.specs.Queries.{no_tree, one_phrase, one_term, tree}
 use Rattle.ii_query_parser.specs.Queries as queries
 use Rattle.ii_ranking.specs.Scores.{scored_by_tokens, tree_score}
 use Rattle.ii_ranking.specs.Shares.{ShareState, tree_shares}
-use Rattle.ii_ranking.specs.TokenCounts.{num_tokens_of, phrase_starts}
+use Rattle.ii_ranking.specs.TokenCounts.{num_tokens_of, phrase_starts, phrase_starts_within}
 
 -- a word of a text in field 0
 abbrev word : ℕ → ℕ → List ℕ → IndexToken
@@ -44,6 +44,20 @@ sea_the = refl
 pub sea_the_later : phrase_starts texts (term (codes "sea")) (record { distance = 1; term = term (codes "the") } ∷ []) 1 ≡ 1
 sea_the_later = refl
 
+-- "the sea" begins within a slop of 1 at the first word of the first text, where "old" is between; "sea the", exchanged, within 3
+abbrev near_starts : ℕ → List ℕ → List ℕ → ℕ → ℕ
+near_starts slop first second doc = phrase_starts_within slop texts (term first) (record { distance = 1; term = term second } ∷ []) doc
+
+pub the_sea_near : map (λ (slop : ℕ). near_starts slop (codes "the") (codes "sea") 0) (0 ∷ 1 ∷ []) ≡ 0 ∷ 1 ∷ []
+the_sea_near = refl
+
+pub sea_the_near : map (λ (slop : ℕ). near_starts slop (codes "sea") (codes "the") 0) (2 ∷ 3 ∷ []) ≡ 0 ∷ 1 ∷ []
+sea_the_near = refl
+
+-- in the second text "the sea" begins at both words "the" within 1
+pub the_sea_twice : map (λ (slop : ℕ). near_starts slop (codes "the") (codes "sea") 1) (0 ∷ 1 ∷ []) ≡ 1 ∷ 2 ∷ []
+the_sea_twice = refl
+
 abbrev schema : List SchemaEntry
 schema = record { name = codes "body"; value_type = Str; option = WithFreqsAndPositions; is_indexed = true; has_fieldnorms = true; expands_dots = false } ∷ []
 
@@ -59,7 +73,7 @@ pub score_of_old : tree_score (scored_by_tokens schema texts numbers) (one_term 
 unfolding log2_fixed count_leading_zeros id_of_norm norm_of_id
 score_of_old = refl
 
-pub score_of_phrase : tree_score (scored_by_tokens schema texts numbers) (one_phrase (term (codes "the")) (record { distance = 1; term = term (codes "sea") } ∷ [])) 1 ≡ Some 90932431040
+pub score_of_phrase : tree_score (scored_by_tokens schema texts numbers) (one_phrase (term (codes "the")) (record { distance = 1; term = term (codes "sea") } ∷ []) 0) 1 ≡ Some 90932431040
 unfolding log2_fixed count_leading_zeros id_of_norm norm_of_id
 score_of_phrase = refl
 
@@ -67,7 +81,7 @@ pub score_of_both : tree_score (scored_by_tokens schema texts numbers) (queries.
 unfolding log2_fixed count_leading_zeros id_of_norm norm_of_id
 score_of_both = refl
 
-pub no_score : tree_score (scored_by_tokens schema texts numbers) (one_phrase (term (codes "the")) (record { distance = 1; term = term (codes "sea") } ∷ [])) 0 ≡ None
+pub no_score : tree_score (scored_by_tokens schema texts numbers) (one_phrase (term (codes "the")) (record { distance = 1; term = term (codes "sea") } ∷ []) 0) 0 ≡ None
 no_score = refl
 
 -- the share of a word, each of which has this weight
@@ -80,18 +94,18 @@ pub shares_of_both : tree_shares (scored_by_tokens schema texts numbers) (querie
 unfolding log2_fixed count_leading_zeros id_of_norm norm_of_id
 shares_of_both = refl
 
-pub no_shares : tree_shares (scored_by_tokens schema texts numbers) (queries.each_of (tree (one_term (term (codes "the"))) (tree (one_phrase (term (codes "the")) (record { distance = 1; term = term (codes "sea") } ∷ [])) no_tree))) 0 ≡ []
+pub no_shares : tree_shares (scored_by_tokens schema texts numbers) (queries.each_of (tree (one_term (term (codes "the"))) (tree (one_phrase (term (codes "the")) (record { distance = 1; term = term (codes "sea") } ∷ []) 0) no_tree))) 0 ≡ []
 unfolding log2_fixed count_leading_zeros id_of_norm norm_of_id
 no_shares = refl
 
 -- a phrase has one share, with the weight of both words
-pub shares_of_any : tree_shares (scored_by_tokens schema texts numbers) (queries.any_of (tree (one_term (term (codes "the"))) (tree (one_phrase (term (codes "the")) (record { distance = 1; term = term (codes "sea") } ∷ [])) no_tree))) 1
-    ≡ word_share (codes "the") 2 5 64382810291 ∷ record { part = one_phrase (term (codes "the")) (record { distance = 1; term = term (codes "sea") } ∷ []); weight = 3364732; count = 1; norm_id = 5; score = 90932431040 } ∷ []
+pub shares_of_any : tree_shares (scored_by_tokens schema texts numbers) (queries.any_of (tree (one_term (term (codes "the"))) (tree (one_phrase (term (codes "the")) (record { distance = 1; term = term (codes "sea") } ∷ []) 0) no_tree))) 1
+    ≡ word_share (codes "the") 2 5 64382810291 ∷ record { part = one_phrase (term (codes "the")) (record { distance = 1; term = term (codes "sea") } ∷ []) 0; weight = 3364732; count = 1; norm_id = 5; score = 90932431040 } ∷ []
 unfolding log2_fixed count_leading_zeros id_of_norm norm_of_id
 shares_of_any = refl
 
 -- what is excluded has no share
-pub shares_without : tree_shares (scored_by_tokens schema texts numbers) (queries.without (one_term (term (codes "old"))) (one_phrase (term (codes "the")) (record { distance = 1; term = term (codes "sea") } ∷ []))) 0
+pub shares_without : tree_shares (scored_by_tokens schema texts numbers) (queries.without (one_term (term (codes "old"))) (one_phrase (term (codes "the")) (record { distance = 1; term = term (codes "sea") } ∷ []) 0)) 0
     ≡ word_share (codes "old") 1 3 55825604729 ∷ []
 unfolding log2_fixed count_leading_zeros id_of_norm norm_of_id
 shares_without = refl

@@ -19,7 +19,8 @@ use Rattle.ii_fieldnorm.specs.Norms.{id_of_norm}
 use Rattle.ii_bm25.specs.Bm25.{bm25_score, bm25_weight}
 use Rattle.ii_bm25.specs.Statistics.{Statistics, idfs_of}
 use Rattle.ii_bm25.specs.declared.bm25.TheConstants.{SCORE_ONE}
-use Rattle.ii_query.specs.Phrase.{PhrasePartState, stand_from}
+use Rattle.ii_query.specs.Phrase.{PhrasePartState}
+use Rattle.ii_query.specs.SloppyPhrase.{stand_near}
 use Rattle.ii_definitions.specs.Fields.{option_of}
 use Rattle.ii_definitions.specs.Norms.{has_norms}
 use Rattle.ii_definitions.specs.Postings.{doc_count, key_postings}
@@ -56,22 +57,22 @@ term_score s term doc = option_map (λ (e : Entry). score_by s (term ∷ []) ter
 abbrev pub parts_of : Scored → List PhraseTerm → List PhrasePartState
 parts_of s others = map (λ (o : PhraseTerm). record { distance = o.distance; rest = s.entries WithFreqsAndPositions o.term }) others
 
--- how many times a phrase begins in a document
-abbrev pub num_starts : List PhrasePartState → Entry → ℕ
-num_starts parts e = length (filter (stand_from parts e.doc) e.positions)
+-- how many times a phrase within a slop begins in a document
+abbrev pub num_starts : ℕ → List PhrasePartState → Entry → ℕ
+num_starts slop parts e = length (filter (stand_near slop parts e.doc) e.positions)
 
--- how many times a phrase occurs in a document of its first term
-abbrev pub phrase_count : List Entry → List PhrasePartState → ℕ → ℕ
-phrase_count es parts doc = unwrap_or (option_map (num_starts parts) (entry_at es doc)) 0
+-- how many times a phrase within a slop begins in a document of its first term
+abbrev pub phrase_count : ℕ → List Entry → List PhrasePartState → ℕ → ℕ
+phrase_count slop es parts doc = unwrap_or (option_map (num_starts slop parts) (entry_at es doc)) 0
 
 -- the score of a count, if something occurs
 abbrev pub if_occurs : (ℕ → ℕ) → ℕ → Option ℕ
 if_occurs score_of count = if count == 0 then None else Some (score_of count)
 
--- what a document scores by a phrase
-abbrev pub phrase_score : Scored → TermState → List PhraseTerm → ℕ → Option ℕ
-phrase_score s first others doc =
-    if_occurs (score_by s (first ∷ map (λ (o : PhraseTerm). o.term) others) first.field doc) (phrase_count (s.entries WithFreqsAndPositions first) (parts_of s others) doc)
+-- what a document scores by a phrase within a slop
+abbrev pub phrase_score : Scored → TermState → List PhraseTerm → ℕ → ℕ → Option ℕ
+phrase_score s first others slop doc =
+    if_occurs (score_by s (first ∷ map (λ (o : PhraseTerm). o.term) others) first.field doc) (phrase_count slop (s.entries WithFreqsAndPositions first) (parts_of s others) doc)
 
 -- What a document scores by a query.
 abbrev mutual
@@ -79,7 +80,7 @@ abbrev mutual
   tree_score s queries.nothing doc = None
   tree_score s (queries.all_below n) doc = if nat_lt doc (min n TERMINATED) then Some SCORE_ONE else None
   tree_score s (queries.one_term term) doc = term_score s term doc
-  tree_score s (queries.one_phrase first others) doc = phrase_score s first others doc
+  tree_score s (queries.one_phrase first others slop) doc = phrase_score s first others slop doc
   tree_score s (queries.one_range range) doc = if s.has_in range doc then Some SCORE_ONE else None
   tree_score s (queries.each_of qs) doc = each_of (tree_scores s qs doc)
   tree_score s (queries.any_of qs) doc = any_of (tree_scores s qs doc)
@@ -156,7 +157,7 @@ abbrev mutual
   tree_damage index queries.nothing = None
   tree_damage index (queries.all_below n) = None
   tree_damage index (queries.one_term term) = term_damage index term
-  tree_damage index (queries.one_phrase first others) = phrase_damage index first others
+  tree_damage index (queries.one_phrase first others slop) = phrase_damage index first others
   tree_damage index (queries.one_range range) = damage_of (tree_found index (queries.one_range range))
   tree_damage index (queries.each_of qs) = trees_damage index qs
   tree_damage index (queries.any_of qs) = trees_damage index qs
@@ -173,14 +174,6 @@ query_damage index query = tree_damage index (tree_of query)
 -- Why there are no scores: an allocation failure, or the first damage.
 abbrev pub IsScoreFault : Option Part → Fault → Type 0
 IsScoreFault damage fault = (fault ≡ OutOfMemory) ⊎ ((part : Part) × (fault ≡ Damaged part) × (damage ≡ Some part))
-
--- a term of a phrase at its first document from one on
-abbrev pub from_part : ℕ → PhrasePartState → PhrasePartState
-from_part doc p = record { distance = p.distance; rest = from_doc doc p.rest }
-
--- The terms of a phrase are at their first documents from this one on.
-abbrev pub AreFrom : ℕ → List PhrasePartState → List PhrasePartState → Type 0
-AreFrom doc old new = new ≡ map (from_part doc) old
 
 -- A cursor dropped the documents below this one, which is now its current document.
 pub record IsAt (doc : ℕ) (old new : List Entry) : Type 0 where

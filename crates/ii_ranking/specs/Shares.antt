@@ -53,10 +53,10 @@ term_share s term doc = option_map (λ (e : Entry). share_by s (queries.one_term
 abbrev pub share_if_occurs : (ℕ → ShareState) → ℕ → Option ShareState
 share_if_occurs share_of_count count = if count == 0 then None else Some (share_of_count count)
 
--- the share of a phrase
-abbrev pub phrase_share : Scored → TermState → List PhraseTerm → ℕ → Option ShareState
-phrase_share s first others doc =
-    share_if_occurs (share_by s (queries.one_phrase first others) (first ∷ map (λ (o : PhraseTerm). o.term) others) first.field doc) (phrase_count (s.entries WithFreqsAndPositions first) (parts_of s others) doc)
+-- the share of a phrase within a slop
+abbrev pub phrase_share : Scored → TermState → List PhraseTerm → ℕ → ℕ → Option ShareState
+phrase_share s first others slop doc =
+    share_if_occurs (share_by s (queries.one_phrase first others slop) (first ∷ map (λ (o : PhraseTerm). o.term) others) first.field doc) (phrase_count slop (s.entries WithFreqsAndPositions first) (parts_of s others) doc)
 
 -- whether there are shares
 abbrev pub has_shares : List ShareState → Bool
@@ -69,7 +69,7 @@ abbrev mutual
   tree_shares s queries.nothing doc = []
   tree_shares s (queries.all_below n) doc = option_to_list (constant_share (queries.all_below n) (nat_lt doc (min n TERMINATED)))
   tree_shares s (queries.one_term term) doc = option_to_list (term_share s term doc)
-  tree_shares s (queries.one_phrase first others) doc = option_to_list (phrase_share s first others doc)
+  tree_shares s (queries.one_phrase first others slop) doc = option_to_list (phrase_share s first others slop doc)
   tree_shares s (queries.one_range range) doc = option_to_list (constant_share (queries.one_range range) (s.has_in range doc))
   tree_shares s (queries.each_of qs) doc = if all_have_shares s qs doc then trees_shares s qs doc else []
   tree_shares s (queries.any_of qs) doc = trees_shares s qs doc

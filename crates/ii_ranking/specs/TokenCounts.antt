@@ -9,7 +9,7 @@ use Rattle.ii_definitions.specs.Fields.{option_of}
 use Rattle.ii_definitions.specs.Tokens.{IndexToken}
 use Rattle.ii_query_parser.specs.declared.query.PhraseTerm.{PhraseTerm}
 use Rattle.ii_query_parser.specs.declared.query.Query.{Query}
-use Rattle.ii_query_parser.specs.Queries.{follow, is_text_key, is_token_of, keeps_positions, matches, phrase_has_positions}
+use Rattle.ii_query_parser.specs.Queries.{follow, follow_near, is_text_key, is_token_of, keeps_positions, matches, phrase_has_positions}
 use Rattle.ii_ranking.specs.Scores.{if_occurs, phrase_score, score_by, scored_by_tokens, term_score}
 use Rattle.ii_ranking.specs.TokenScores.{token_score}
 
@@ -29,6 +29,10 @@ term_count schema ts term doc = if keeps_counts schema ts term then num_tokens_o
 abbrev pub phrase_starts : List IndexToken → TermState → List PhraseTerm → ℕ → ℕ
 phrase_starts ts first others doc = if is_text_key first ts then count_by (λ (t : IndexToken). is_token_of first doc t && follow ts doc others t.position) ts else 0
 
+-- how often a phrase within a slop begins in a document: the number of tokens of its first term from which each other term occurs near its distance
+abbrev pub phrase_starts_within : ℕ → List IndexToken → TermState → List PhraseTerm → ℕ → ℕ
+phrase_starts_within slop ts first others doc = if is_text_key first ts then count_by (λ (t : IndexToken). is_token_of first doc t && follow_near slop ts doc others t.position) ts else 0
+
 -- Tokens are in the order of their documents.
 abbrev pub AreOrdered : List IndexToken → Type 0
 AreOrdered tokens = IsNonDecreasingBy (λ (t : IndexToken). t.doc) tokens
@@ -38,11 +42,15 @@ abbrev pub TermsScoreByCounts : Type 0
 TermsScoreByCounts = (schema : List SchemaEntry) (tokens : List IndexToken) (statistics : Statistics) (term : TermState) (doc : ℕ) → AreOrdered tokens
     → term_score (scored_by_tokens schema tokens statistics) term doc ≡ if_occurs (score_by (scored_by_tokens schema tokens statistics) (term ∷ []) term.field doc) (term_count schema tokens term doc)
 
--- A document scores by a phrase as often as the phrase begins in it. Its fields keep positions.
+-- A document scores by a phrase as often as the phrase begins in it within its slop. Its fields keep positions.
 abbrev pub PhrasesScoreByStarts : Type 0
-PhrasesScoreByStarts = (schema : List SchemaEntry) (tokens : List IndexToken) (statistics : Statistics) (first : TermState) (others : List PhraseTerm) (doc : ℕ) → AreOrdered tokens → phrase_has_positions schema first others ≡ true
-    → phrase_score (scored_by_tokens schema tokens statistics) first others doc
-    ≡ if_occurs (score_by (scored_by_tokens schema tokens statistics) (first ∷ map (λ (o : PhraseTerm). o.term) others) first.field doc) (phrase_starts tokens first others doc)
+PhrasesScoreByStarts = (schema : List SchemaEntry) (tokens : List IndexToken) (statistics : Statistics) (first : TermState) (others : List PhraseTerm) (slop doc : ℕ) → AreOrdered tokens → phrase_has_positions schema first others ≡ true
+    → phrase_score (scored_by_tokens schema tokens statistics) first others slop doc
+    ≡ if_occurs (score_by (scored_by_tokens schema tokens statistics) (first ∷ map (λ (o : PhraseTerm). o.term) others) first.field doc) (phrase_starts_within slop tokens first others doc)
+
+-- With slop 0 a phrase begins where each other term occurs at its distance.
+abbrev pub StartsAreExact : Type 0
+StartsAreExact = (tokens : List IndexToken) (first : TermState) (others : List PhraseTerm) (doc : ℕ) → phrase_starts_within 0 tokens first others doc ≡ phrase_starts tokens first others doc
 
 -- A document has a score exactly if it matches.
 abbrev pub MatchesScore : Type 0

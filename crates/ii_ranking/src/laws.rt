@@ -1,7 +1,7 @@
 //! Laws of all indexes and queries.
 ghost use Rattle.ii_ranking.specs.OneIndex.{ScoresAreLocal, SegmentsScoreAsOne};
 ghost use Rattle.ii_ranking.specs.Shares.{ScoredHaveShares, SharesAddUp};
-ghost use Rattle.ii_ranking.specs.TokenCounts.{MatchesScore, PhrasesScoreByStarts, TermsScoreByCounts};
+ghost use Rattle.ii_ranking.specs.TokenCounts.{MatchesScore, PhrasesScoreByStarts, StartsAreExact, TermsScoreByCounts};
 ghost use Rattle.ii_ranking.specs.TokenScores.{ScoresAreOfTokens};
 
 /// Law of scores: in an index that holds tokens, each document scores what the tokens alone say: for a term or a
@@ -11,10 +11,12 @@ pub fn scores_are_of_tokens()
 {}
 
 /// Law of counts, for tokens in the order of their documents: a document scores by a term as often as it has the
-/// term's tokens, and by a phrase as often as the phrase begins in it; and it has a score if and only if it matches.
+/// term's tokens, and by a phrase as often as the phrase begins in it within its slop; and it has a score if and only
+/// if it matches. With slop 0 a phrase begins where each other term occurs at its distance.
 pub fn scores_count_tokens()
     ensures terms { TermsScoreByCounts }
     ensures phrases { PhrasesScoreByStarts }
+    ensures exact { StartsAreExact }
     ensures matches { MatchesScore }
 {}
 

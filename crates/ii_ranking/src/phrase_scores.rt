@@ -1,106 +1,28 @@
 //! The scores of the documents that have a phrase.
-ghost use Rattle.std.specs.Prelude.{◌≡◌, ◌<◌, ◌≤◌, ◌+◌, ◌∷◌, ◌++◌, [], ℕ, List, Option, Some, None, IfOk, IfErr, OnOk, filter, length, map, true, nat_lt};
-ghost use Rattle.std.specs.List.{list_all};
-ghost use Rattle.std.specs.List.Sorted.{IsNonDecreasing};
+ghost use Rattle.std.specs.Prelude.{◌≡◌, ◌<◌, ◌∷◌, ℕ, List, Option, None, IfOk, IfErr, OnOk, length, map, true, nat_lt};
+ghost use Rattle.std.specs.List.{AllByRecursion, list_all};
 ghost use Rattle.std.specs.Option.{option_map};
-ghost use Rattle.ii_io.specs.Faults.{OnlyMemory};
 ghost use Rattle.ii_io.specs.Composite.{body_of};
 ghost use Rattle.ii_base.specs.declared.schema.index_record_option.IndexRecordOption.TheVariants.{WithFreqsAndPositions};
-ghost use Rattle.ii_docset.specs.Cursor.{IsCurrent, IsSound, doc_at, from_doc, positions_at};
 ghost use Rattle.ii_bm25.specs.Bm25.{bm25_score, bm25_weight};
 ghost use Rattle.ii_bm25.specs.Statistics.{Statistics, idfs_of};
 ghost use Rattle.ii_fieldnorm.specs.Readers.{norms_of_ids};
-ghost use Rattle.ii_query.specs.Phrase.{has_position, is_among, stand_from};
-ghost use Rattle.ii_search.specs.Found.{docs_of_term};
+ghost use Rattle.ii_query.specs.Phrase.{IsUnread, parts_in};
 ghost use Rattle.ii_ranking.specs.Combinations.{Adds};
-ghost use Rattle.ii_ranking.specs.Scores.{AreFrom, IsScoreFault, damage_of, if_occurs, norm_id_in, norms_damage, num_starts, parts_damage, parts_of, phrase_count, phrase_damage, phrase_score, scored_in};
+ghost use Rattle.ii_ranking.specs.Scores.{IsScoreFault, if_occurs, norm_id_in, norms_damage, parts_damage, parts_of, phrase_count, phrase_damage, phrase_score, scored_in};
 
 use crate::combination::add_at;
 use crate::term_scores::{goes_to, norm_id, norms_of};
 use ii_base::{DocId, Fault, IndexRecordOption, TERMINATED, Term};
 use ii_bm25::{Bm25StatisticsProvider, Bm25Weight, Score, idf};
-use ii_docset::{DocSet, Postings};
 use ii_fieldnorm::FieldNormReader;
+use ii_query::{PhrasePart, count_starts};
 use ii_query_parser::PhraseTerm;
 use ii_reader::{OpenIndex, SegmentPostings};
 use ii_search::postings_of;
 use std::alloc::Global;
-use std::marker::Model;
 
-// Another term of a phrase: a cursor over its postings, and how many positions after the first term it occurs.
-#[derive(Drop)]
-struct PhraseCursor {
-    distance: u32,
-    postings: SegmentPostings,
-}
-
-impl Model for PhraseCursor {
-    ghost use Rattle.ii_query.specs.Phrase.{PhrasePartState};
-
-    ghost Value = { PhrasePartState };
-
-    ghost view = { λ c. record { distance = c.distance; rest = c.postings.rest } };
-}
-
-impl PhraseCursor {
-    // Goes to a document, and keeps the starts from which the term occurs there at its distance.
-    fn keep_starts(
-        &mut self,
-        doc: DocId,
-        starts: &mut Vec<u32>,
-        positions: &mut Vec<u32>,
-    ) -> Result<(), Fault>
-        requires { doc < TERMINATED }
-        ensures kept { OnOk result (starts.new.items ≡ filter (λ start. has_position self.old.rest doc (start + self.old.distance)) starts.old.items) }
-        ensures rest { self.new.rest ≡ from_doc doc self.old.rest }
-        ensures distance { self.new.distance ≡ self.old.distance }
-        ensures only { OnlyMemory result }
-    {
-        if self.go_to(doc) != doc {
-            starts.clear();
-            return Ok(());
-        }
-        self.postings.positions(positions)?;
-        keep(starts, positions.as_slice(), self.distance);
-        Ok(())
-    }
-
-    // Drops the documents below a target.
-    #[tactic(auto, using(ii_docset::proofs::CursorLemmas::from_doc_here))]
-    fn go_to(&mut self, target: DocId) -> DocId
-        requires { target ≤ TERMINATED }
-        ensures doc { result ≡ doc_at self.new.rest }
-        ensures rest { self.new.rest ≡ from_doc target self.old.rest }
-        ensures sound { IsSound self.new.rest }
-        ensures distance { self.new.distance ≡ self.old.distance }
-    {
-        let doc = self.postings.doc();
-        if doc >= target {
-            return doc;
-        }
-        self.postings.seek(target)
-    }
-}
-
-// Keeps the starts that have a position at a distance. Positions don't decrease.
-fn keep(starts: &mut Vec<u32>, positions: &[u32], distance: u32)
-    requires { IsNonDecreasing positions.now }
-    ensures { starts.new.items ≡ filter (λ start. is_among positions.now (start + distance)) starts.old.items }
-{
-    starts.retain(|start| has_position(positions, *start, distance));
-}
-
-// Returns whether there is a position at a distance from a start. Positions don't decrease.
-fn has_position(positions: &[u32], start: u32, distance: u32) -> bool
-    ensures { IsNonDecreasing positions.now → result ≡ is_among positions.now (start + distance) }
-{
-    match start.checked_add(distance) {
-        Some(position) => positions.binary_search(&position).is_ok(),
-        None => false,
-    }
-}
-
-// Adds what documents score by a phrase.
+// Adds what documents score by a phrase within a slop.
 #[inline(never)]
 pub(crate) fn add_phrase<S: Bm25StatisticsProvider>(
     alloc: Global,
@@ -108,43 +30,45 @@ pub(crate) fn add_phrase<S: Bm25StatisticsProvider>(
     statistics: &S,
     first: &Term,
     others: &[PhraseTerm],
+    slop: u32,
     scores: &mut Vec<Option<Score>>,
 ) -> Result<(), Fault>
     requires first { first.now.field < length index.now.readers }
     requires others { list_all (λ o. nat_lt o.term.field (length index.now.readers)) others.now ≡ true }
-    ensures added { OnOk result (Adds (phrase_score (scored_in index.now (S.statistics statistics.now)) first.now others.now) scores.old.items scores.new.items) }
+    ensures added { OnOk result (Adds (phrase_score (scored_in index.now (S.statistics statistics.now)) first.now others.now slop) scores.old.items scores.new.items) }
     ensures sound { OnOk result (phrase_damage index.now first.now others.now ≡ None) }
     ensures fault { IfErr result (IsScoreFault (phrase_damage index.now first.now others.now)) }
 {
-    let mut cursor = postings_of(index, first, IndexRecordOption::WithFreqsAndPositions)?;
-    let mut parts = phrase_cursors(alloc, index, others)?;
+    let cursor = postings_of(index, first, IndexRecordOption::WithFreqsAndPositions)?;
+    let mut parts = phrase_parts(alloc, index, others)?;
     let (norms, weight) = phrase_norms(alloc, index, statistics, first, others)?;
-    add_starts(alloc, &mut cursor, &mut parts, &norms, &weight, scores)
+    let mut first = PhrasePart::new(0, cursor);
+    add_starts(&mut first, &mut parts, slop, &norms, &weight, scores);
+    Ok(())
 }
 
-// Returns how many times a phrase begins in a document.
+// Returns how many times a phrase within a slop begins in a document.
 pub(crate) fn count_phrase(
     alloc: Global,
     index: &OpenIndex,
     first: &Term,
     others: &[PhraseTerm],
+    slop: u32,
     doc: DocId,
 ) -> Result<u32, Fault>
     requires first { first.now.field < length index.now.readers }
     requires others { list_all (λ o. nat_lt o.term.field (length index.now.readers)) others.now ≡ true }
-    ensures count { (S : Statistics) → IfOk result (λ count. count ≡ phrase_count ((scored_in index.now S).entries WithFreqsAndPositions first.now) (parts_of (scored_in index.now S) others.now) doc) }
+    ensures count { (S : Statistics) → IfOk result (λ count. count ≡ phrase_count slop ((scored_in index.now S).entries WithFreqsAndPositions first.now) (parts_of (scored_in index.now S) others.now) doc) }
     ensures sound { OnOk result (phrase_damage index.now first.now others.now ≡ norms_damage (body_of first.now.field index.now.fieldnorms)) }
     ensures fault { IfErr result (IsScoreFault (phrase_damage index.now first.now others.now)) }
 {
     let mut cursor = postings_of(index, first, IndexRecordOption::WithFreqsAndPositions)?;
-    let mut parts = phrase_cursors(alloc, index, others)?;
+    let mut parts = phrase_parts(alloc, index, others)?;
     if !goes_to(&mut cursor, doc) {
         return Ok(0);
     }
-    let mut starts = Vec::new(alloc);
-    let mut positions = Vec::new(alloc);
-    let count = count_starts(&mut cursor, &mut parts, doc, &mut starts, &mut positions)?;
-    Ok(count)
+    let mut first = PhrasePart::new(0, cursor);
+    Ok(count_starts(&mut first, &mut parts, slop))
 }
 
 // Returns the norms of a phrase's field, and the phrase's weight.
@@ -186,52 +110,52 @@ fn sum_of_idfs<S: Bm25StatisticsProvider>(
 }
 
 // Returns cursors over the other terms of a phrase.
-fn phrase_cursors(
+fn phrase_parts(
     alloc: Global,
     index: &OpenIndex,
     others: &[PhraseTerm],
-) -> Result<Vec<PhraseCursor>, Fault>
+) -> Result<Vec<PhrasePart<SegmentPostings>>, Fault>
     requires { list_all (λ o. nat_lt o.term.field (length index.now.readers)) others.now ≡ true }
-    ensures listed { (S : Statistics) → IfOk result (λ parts. parts.items ≡ parts_of (scored_in index.now S) others.now) }
+    ensures listed { (S : Statistics) → IfOk result (λ parts. parts_in parts.items ≡ parts_of (scored_in index.now S) others.now) }
+    ensures unread { IfOk result (λ parts. AllByRecursion IsUnread parts.items) }
     ensures sound { OnOk result (parts_damage index.now others.now ≡ None) }
     ensures fault { IfErr result (IsScoreFault (parts_damage index.now others.now)) }
 {
     let mut parts = Vec::new(alloc);
     for other in others {
-        let cursor = postings_of(index, &other.term, IndexRecordOption::WithFreqsAndPositions);
-        match cursor {
-            Ok(postings) => parts.push(PhraseCursor {
-                distance: other.distance,
-                postings,
-            })?,
+        let cursor = match postings_of(
+            index,
+            &other.term,
+            IndexRecordOption::WithFreqsAndPositions,
+        ) {
+            Ok(cursor) => cursor,
             Err(fault) => return Err(fault),
-        }
+        };
+        parts.push(PhrasePart::new(other.distance, cursor))?;
     }
     Ok(parts)
 }
 
 // Adds what the documents of a phrase's first term score.
 fn add_starts(
-    alloc: Global,
-    cursor: &mut SegmentPostings,
-    parts: &mut Vec<PhraseCursor>,
+    first: &mut PhrasePart<SegmentPostings>,
+    others: &mut Vec<PhrasePart<SegmentPostings>>,
+    slop: u32,
     norms: &Option<FieldNormReader>,
     weight: &Bm25Weight,
     scores: &mut Vec<Option<Score>>,
-) -> Result<(), Fault>
-    ensures added { (ids : Option (List ℕ)) → norms.now ≡ option_map norms_of_ids ids
-        → OnOk result (Adds (λ doc. if_occurs (bm25_score weight.now (norm_id_in ids doc)) (phrase_count cursor.old.rest parts.old.items doc)) scores.old.items scores.new.items) }
-    ensures only { OnlyMemory result }
+)
+    requires first { IsUnread first.old }
+    requires others { AllByRecursion IsUnread others.old.items }
+    ensures { (ids : Option (List ℕ)) → norms.now ≡ option_map norms_of_ids ids
+        → Adds (λ doc. if_occurs (bm25_score weight.now (norm_id_in ids doc)) (phrase_count slop first.old.part.rest (parts_in others.old.items) doc)) scores.old.items scores.new.items }
 {
-    let mut starts = Vec::new(alloc);
-    let mut positions = Vec::new(alloc);
-    let mut doc = cursor.doc();
+    let mut doc = first.doc();
     while doc < TERMINATED {
-        let count = count_starts(cursor, parts, doc, &mut starts, &mut positions)?;
+        let count = count_starts(first, others, slop);
         add_at(scores, doc, score_of(weight, norms, doc, count));
-        doc = cursor.advance();
+        doc = first.advance();
     }
-    Ok(())
 }
 
 // Returns what a document scores in which a phrase begins so many times.
@@ -247,28 +171,4 @@ fn score_of(
         return None;
     }
     Some(weight.score(norm_id(norms, doc), count))
-}
-
-// Returns how many times a phrase begins in the current document of its first term.
-fn count_starts(
-    cursor: &mut SegmentPostings,
-    parts: &mut Vec<PhraseCursor>,
-    doc: DocId,
-    starts: &mut Vec<u32>,
-    positions: &mut Vec<u32>,
-) -> Result<u32, Fault>
-    requires current { IsCurrent cursor.old.rest }
-    requires doc { doc ≡ doc_at cursor.old.rest }
-    ensures count { IfOk result (λ count. count ≡ length (filter (stand_from parts.old.items doc) (positions_at cursor.old.rest))) }
-    ensures cursor { cursor.new.rest ≡ cursor.old.rest }
-    ensures parts { OnOk result (AreFrom doc parts.old.items parts.new.items) }
-    ensures only { OnlyMemory result }
-{
-    // that there are fewer than 2^32 positions, for the proof
-    let _most = cursor.term_freq();
-    cursor.positions(starts)?;
-    for place in 0..parts.len() {
-        parts[place].keep_starts(doc, starts, positions)?;
-    }
-    Ok(starts.len() as u32)
 }

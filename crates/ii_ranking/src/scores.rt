@@ -93,8 +93,8 @@ fn add_scores<S: Bm25StatisticsProvider>(
             Ok(())
         }
         Query::Term(term) => add_term(alloc, index, statistics, term, scores),
-        Query::Phrase(first, others) => {
-            add_phrase(alloc, index, statistics, first, others, scores)
+        Query::Phrase(first, others, slop) => {
+            add_phrase(alloc, index, statistics, first, others, *slop, scores)
         }
         Query::Range(_) => add_found(alloc, index, query, scores),
         Query::And(queries) => add_each(alloc, index, statistics, queries, scores),

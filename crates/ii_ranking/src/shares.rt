@@ -91,8 +91,8 @@ fn add_shares<'q, S: Bm25StatisticsProvider>(
             push_share(shares, share)?;
             Ok(())
         }
-        Query::Phrase(first, others) => {
-            let share = phrase_share(alloc, index, statistics, query, first, others, doc)?;
+        Query::Phrase(first, others, slop) => {
+            let share = phrase_share(alloc, index, statistics, query, first, others, *slop, doc)?;
             push_share(shares, share)?;
             Ok(())
         }
@@ -271,7 +271,7 @@ fn term_share<'q, S: Bm25StatisticsProvider>(
     Ok(Some(share_of_count(part, &weight, norm_id(&norms, doc), cursor.term_freq())))
 }
 
-// Returns the share of a phrase, if a document has it.
+// Returns the share of a phrase within a slop, if a document has it.
 #[inline(never)]
 fn phrase_share<'q, S: Bm25StatisticsProvider>(
     alloc: Global,
@@ -280,16 +280,17 @@ fn phrase_share<'q, S: Bm25StatisticsProvider>(
     part: &'q Query,
     first: &Term,
     others: &[PhraseTerm],
+    slop: u32,
     doc: DocId,
 ) -> Result<Option<Share<'q>>, Fault>
     requires first { first.now.field < length index.now.readers }
     requires others { list_all (λ o. nat_lt o.term.field (length index.now.readers)) others.now ≡ true }
-    requires part { tree_of part.now ≡ one_phrase first.now others.now }
-    ensures found { IfOk result (λ share. option_map share_of share ≡ phrase_share (scored_in index.now (S.statistics statistics.now)) first.now others.now doc) }
+    requires part { tree_of part.now ≡ one_phrase first.now others.now slop }
+    ensures found { IfOk result (λ share. option_map share_of share ≡ phrase_share (scored_in index.now (S.statistics statistics.now)) first.now others.now slop doc) }
     ensures sound { OnOk result (phrase_damage index.now first.now others.now ≡ None) }
     ensures fault { IfErr result (IsScoreFault (phrase_damage index.now first.now others.now)) }
 {
-    let count = count_phrase(alloc, index, first, others, doc)?;
+    let count = count_phrase(alloc, index, first, others, slop, doc)?;
     let (norms, weight) = phrase_norms(alloc, index, statistics, first, others)?;
     if count == 0 {
         return Ok(None);

@@ -54,7 +54,7 @@ all_spent xs ys spent all = all_kept (Spent SpentLazily) DecodesFew few_spent xs
 
 each_went : (a b : TermOrPhrase SegmentPostingsState) → WentOn WentLazily SpentLazily a b → EachDecodesFew a → EachDecodesFew b
 each_went (Term a) (Term b) went few = few_went a b went few
-each_went (Phrase a) (Phrase b) went few = all_spent a.cursors b.cursors went.0 few
+each_went (Phrase a) (Phrase b) went few = all_spent a.phrase.cursors b.phrase.cursors went.0 few
 each_went (Term a) (Phrase b) went few = elim went [ ]
 each_went (Phrase a) (Term b) went few = elim went [ ]
 

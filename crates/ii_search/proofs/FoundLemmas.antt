@@ -19,10 +19,12 @@ use Rattle.ii_docset.specs.Cursor.{IsSound}
 use Rattle.ii_base.specs.Entries.{Entry}
 use Rattle.ii_docset.specs.Intersection.{has_doc}
 use Rattle.ii_query.specs.Combined.{all_from, all_have, intersection_of, union_of, without}
-use Rattle.ii_query.specs.Phrase.{PhrasePartState, phrase_docs, stand_from}
+use Rattle.ii_query.specs.Phrase.{PhrasePartState, parts_have}
+use Rattle.ii_query.specs.SloppyPhrase as sloppy
+use Rattle.ii_query.specs.SloppyPhrase.{is_near, sloppy_docs, stand_near, ways_back}
 use Rattle.ii_query.proofs.AllLemmas.{all_has}
 use Rattle.ii_query.proofs.MatchLaws.{intersection_has, union_has, without_has}
-use Rattle.ii_query.proofs.PhraseLemmas.{phrase_has}
+use Rattle.ii_query.proofs.SloppyLemmas.{sloppy_has}
 use Rattle.ii_termdict.specs.Dictionary.{entry_keys, info_under}
 use Rattle.ii_termstore.specs.declared.term_info.TermInfo.{TermInfo}
 use Rattle.ii_definitions.specs.Cut.{cut_entry}
@@ -40,7 +42,7 @@ use Rattle.ii_query_parser.specs.Ranges.{in_range}
 use Rattle.ii_search.proofs.RangeMatches.{key_there, range_has}
 use Rattle.ii_search.specs.Found.{AreMatches, combined, combined_lists, docs_kept, docs_under, found_in, lists_found, phrase_of, phrase_parts_of, range_lists, tree_found, with_list, with_part}
 use Rattle.ii_query_parser.specs.Queries as queries
-use Rattle.ii_query_parser.specs.Queries.{QueryTree, QueryTrees, all_match, any_matches, are_of_texts, follow, has_fields, has_phrase, has_positions_in, has_tree, hold_for_all, holds_for_all, is_text_key, is_token_in, is_token_of, is_within, keeps_positions, matches, phrase_has_positions, phrase_is_within, tree_matches, tree_of}
+use Rattle.ii_query_parser.specs.Queries.{QueryTree, QueryTrees, all_match, any_matches, are_of_texts, follow_near, has_fields, has_phrase_within, has_positions_in, has_tree, hold_for_all, holds_for_all, is_text_key, is_token_in, is_token_of, is_within, keeps_positions, matches, phrase_has_positions, phrase_is_within, stands_near, tree_matches, tree_of}
 
 -- a token in front of entries
 with_has : (t : IndexToken) (es : List Entry) (doc : ℕ) → has_doc (with_token t es) doc ≡ (nat_eq t.doc doc || has_doc es doc)
@@ -228,32 +230,37 @@ positions_under entries term ts (Some r) keeps h = positions_kept r term ts (inf
 pub record GivesParts (ts : List IndexToken) (others : List PhraseTerm) (found : Result (List PhrasePartState) Part) : Type 0 where
   pub parts : List PhrasePartState
   pub is : found ≡ Ok parts
-  pub exact : (doc start : ℕ) → stand_from parts doc start ≡ follow ts doc others start
+  pub exact : (slop back doc start : ℕ) → parts_have (is_near slop back start) parts doc ≡ list_all (λ (o : PhraseTerm). stands_near slop back ts doc o.term (start + o.distance)) others
 
 gives_part : (ts : List IndexToken) (o : PhraseTerm) (others : List PhraseTerm) (first : Result (List Entry) Part) (found : Result (List PhrasePartState) Part) → GivesPositions ts o.term first → GivesParts ts others found
     → GivesParts ts (o ∷ others) (with_part o.distance first found)
 gives_part ts o others first found f g = rw (f.is, g.is) (record {
   parts = record { distance = o.distance; rest = f.es } ∷ g.parts;
   is = refl;
-  exact = λ doc start. rw (f.exact doc (λ (p : ℕ). nat_eq p (start + o.distance)), g.exact doc start) refl;
+  exact = λ slop back doc start. rw (f.exact doc (λ (p : ℕ). sloppy.is_within slop (start + o.distance) (p + back)), g.exact slop back doc start) refl;
 })
 
 gives_parts : (entries : List SchemaEntry) (n : ℕ) (index : OpenIndexState) (ts : List IndexToken) (others : List PhraseTerm) → IndexHolds entries n index ts
     → list_all (λ (o : PhraseTerm). nat_lt o.term.field (length entries)) others ≡ true → list_all (λ (o : PhraseTerm). has_positions_in entries o.term) others ≡ true → GivesParts ts others (phrase_parts_of index others)
-gives_parts entries n index ts [] holds fields keeps = record { parts = []; is = refl; exact = λ doc start. refl }
+gives_parts entries n index ts [] holds fields keeps = record { parts = []; is = refl; exact = λ slop back doc start. refl }
 gives_parts entries n index ts (o ∷ os) holds fields keeps =
     let h = and_parts (nat_lt o.term.field (length entries)) (list_all (λ (p : PhraseTerm). nat_lt p.term.field (length entries)) os) fields in
     let k = and_parts (has_positions_in entries o.term) (list_all (λ (p : PhraseTerm). has_positions_in entries p.term) os) keeps in
     gives_part ts o os _ _ (positions_under entries o.term ts (slice_get index.readers o.term.field) k.0 (holds.readers o.term.field (ltb-true o.term.field (length entries) h.0)))
     (gives_parts entries n index ts os holds h.1 k.1)
 
-gives_phrase : (ts : List IndexToken) (first : TermState) (others : List PhraseTerm) (a : Result (List Entry) Part) (b : Result (List PhrasePartState) Part) → GivesPositions ts first a → GivesParts ts others b
-    → Gives (phrase_of a b) (λ (doc : ℕ). has_phrase ts doc first others)
-gives_phrase ts first others a b f g = rw (f.is, g.is) (record {
-  es = phrase_docs f.es g.parts;
+-- the other terms are near where their tokens are
+follow_parts : (ts : List IndexToken) (others : List PhraseTerm) (found : Result (List PhrasePartState) Part) (g : GivesParts ts others found) (slop doc start : ℕ) → stand_near slop g.parts doc start ≡ follow_near slop ts doc others start
+follow_parts ts others found g slop doc start =
+    any_alike (λ (back : ℕ). parts_have (is_near slop back start) g.parts doc) (λ (back : ℕ). list_all (λ (o : PhraseTerm). stands_near slop back ts doc o.term (start + o.distance)) others) (ways_back slop) (λ back. g.exact slop back doc start)
+
+gives_phrase : (slop : ℕ) (ts : List IndexToken) (first : TermState) (others : List PhraseTerm) (a : Result (List Entry) Part) (b : Result (List PhrasePartState) Part) → GivesPositions ts first a → GivesParts ts others b
+    → Gives (phrase_of slop a b) (λ (doc : ℕ). has_phrase_within slop ts doc first others)
+gives_phrase slop ts first others a b f g = rw (f.is, g.is) (record {
+  es = sloppy_docs slop f.es g.parts;
   is = refl;
-  exact = λ doc. phrase_has doc f.es g.parts ∙ f.exact doc (stand_from g.parts doc)
-      ∙ ap (λ (b : Bool). is_text_key first ts && b) (any_alike _ _ ts (λ t. ap (λ (c : Bool). is_token_of first doc t && c) (g.exact doc t.position)));
+  exact = λ doc. sloppy_has slop doc f.es g.parts ∙ f.exact doc (stand_near slop g.parts doc)
+      ∙ ap (λ (b : Bool). is_text_key first ts && b) (any_alike _ _ ts (λ t. ap (λ (c : Bool). is_token_of first doc t && c) (follow_parts ts others b g slop doc t.position)));
 })
 
 -- all documents below a number
@@ -293,10 +300,10 @@ mutual
   gives_tree entries n index ts (queries.all_below m) holds fields keeps = record { es = all_from 0 (min m TERMINATED); is = refl; exact = λ doc. all_below (min m TERMINATED) doc }
   gives_tree entries n index ts (queries.one_term term) holds fields keeps =
       gives_under entries term.field term.value ts (slice_get index.readers term.field) (holds.readers term.field (ltb-true term.field (length entries) fields))
-  gives_tree entries n index ts (queries.one_phrase first others) holds fields keeps =
+  gives_tree entries n index ts (queries.one_phrase first others slop) holds fields keeps =
       let h = and_parts (nat_lt first.field (length entries)) _ fields in
       let k = and_parts (has_positions_in entries first) _ keeps in
-      gives_phrase ts first others _ _ (positions_under entries first ts (slice_get index.readers first.field) k.0 (holds.readers first.field (ltb-true first.field (length entries) h.0)))
+      gives_phrase slop ts first others _ _ (positions_under entries first ts (slice_get index.readers first.field) k.0 (holds.readers first.field (ltb-true first.field (length entries) h.0)))
       (gives_parts entries n index ts others holds h.1 k.1)
   gives_tree entries n index ts (queries.one_range range) holds fields keeps =
       gives_range entries range ts (slice_get index.readers range.prefix.field) (holds.readers range.prefix.field (ltb-true range.prefix.field (length entries) fields))

@@ -16,4 +16,4 @@ pub record DecodesFew (s : SegmentPostingsState) : Type 0 where
 -- So it is of the cursor of a term, and of each one of a phrase.
 abbrev pub EachDecodesFew : TermOrPhrase SegmentPostingsState → Type 0
 EachDecodesFew (Term cursor) = DecodesFew cursor
-EachDecodesFew (Phrase cursor) = AllByRecursion DecodesFew cursor.cursors
+EachDecodesFew (Phrase cursor) = AllByRecursion DecodesFew cursor.phrase.cursors

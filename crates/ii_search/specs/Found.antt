@@ -11,7 +11,8 @@ use Rattle.ii_docset.specs.Cursor.{IsAscending}
 use Rattle.ii_base.specs.Entries.{Entry}
 use Rattle.ii_docset.specs.Intersection.{has_doc}
 use Rattle.ii_query.specs.Combined.{QueryCursorState, all_from, intersection_of, union_of, without}
-use Rattle.ii_query.specs.Phrase.{PhrasePartState, phrase_docs}
+use Rattle.ii_query.specs.Phrase.{PhrasePartState}
+use Rattle.ii_query.specs.SloppyPhrase.{sloppy_docs}
 use Rattle.ii_termdict.specs.Dictionary.{entry_keys, info_under}
 use Rattle.ii_termstore.specs.declared.term_info.TermInfo.{TermInfo}
 use Rattle.ii_definitions.specs.Tokens.{IndexToken}
@@ -58,11 +59,11 @@ abbrev pub phrase_parts_of : OpenIndexState → List PhraseTerm → Result (List
 phrase_parts_of index [] = Ok []
 phrase_parts_of index (o ∷ os) = with_part o.distance (docs_of_term WithFreqsAndPositions index o.term) (phrase_parts_of index os)
 
--- the documents of a phrase, or the first corrupt part
-abbrev pub phrase_of : Result (List Entry) Part → Result (List PhrasePartState) Part → Result (List Entry) Part
-phrase_of (Err part) others = Err part
-phrase_of (Ok es) (Err part) = Err part
-phrase_of (Ok es) (Ok others) = Ok (phrase_docs es others)
+-- the documents of a phrase within a slop, or the first corrupt part
+abbrev pub phrase_of : ℕ → Result (List Entry) Part → Result (List PhrasePartState) Part → Result (List Entry) Part
+phrase_of slop (Err part) others = Err part
+phrase_of slop (Ok es) (Err part) = Err part
+phrase_of slop (Ok es) (Ok others) = Ok (sloppy_docs slop es others)
 
 -- two lists combined, or the first corrupt part
 abbrev pub combined : (List Entry → List Entry → List Entry) → Result (List Entry) Part → Result (List Entry) Part → Result (List Entry) Part
@@ -87,7 +88,7 @@ abbrev mutual
   tree_found index queries.nothing = Ok []
   tree_found index (queries.all_below n) = Ok (all_from 0 (min n TERMINATED))
   tree_found index (queries.one_term term) = docs_of_term Basic index term
-  tree_found index (queries.one_phrase first others) = phrase_of (docs_of_term WithFreqsAndPositions index first) (phrase_parts_of index others)
+  tree_found index (queries.one_phrase first others slop) = phrase_of slop (docs_of_term WithFreqsAndPositions index first) (phrase_parts_of index others)
   tree_found index (queries.one_range range) = combined_lists union_of (range_lists range (slice_get index.readers range.prefix.field))
   tree_found index (queries.each_of qs) = combined_lists intersection_of (lists_found index qs)
   tree_found index (queries.any_of qs) = combined_lists union_of (lists_found index qs)

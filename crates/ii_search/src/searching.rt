@@ -18,7 +18,7 @@ ghost use Rattle.ii_query_parser.specs.Queries.{has_fields, keeps_positions, tre
 use crate::ranges::docs_in_range;
 use ii_base::{Fault, IndexRecordOption, Term};
 use ii_docset::DocSet;
-use ii_query::{PhraseMatch, PhrasePart, QueryCursor, TermOrPhrase};
+use ii_query::{PhrasePart, QueryCursor, SloppyPhraseMatch, TermOrPhrase};
 use ii_query_parser::{PhraseTerm, Query, TermRange};
 use ii_reader::{OpenIndex, SegmentPostings};
 use std::alloc::Global;
@@ -89,7 +89,7 @@ fn find(
         Query::Empty => Ok(QueryCursor::nothing()),
         Query::All(num_docs) => Ok(QueryCursor::all(*num_docs)),
         Query::Term(term) => find_term(index, term),
-        Query::Phrase(first, others) => find_phrase(alloc, index, first, others),
+        Query::Phrase(first, others, slop) => find_phrase(alloc, index, first, others, *slop),
         Query::Range(range) => find_range(alloc, index, range),
         Query::And(queries) => find_all(alloc, index, queries),
         Query::Or(queries) => find_any(alloc, index, queries),
@@ -237,26 +237,29 @@ fn find_term(
     }
 }
 
-// Returns a cursor over the documents of a phrase.
+// Returns a cursor over the documents of a phrase within a slop.
 #[inline(never)]
 fn find_phrase(
     alloc: Global,
     index: &OpenIndex,
     first: &Term,
     others: &[PhraseTerm],
+    slop: u32,
 ) -> Result<QueryCursor<TermOrPhrase<SegmentPostings>>, Fault>
     requires first { first.now.field < length index.now.readers }
     requires others { list_all (λ o. nat_lt o.term.field (length index.now.readers)) others.now ≡ true }
-    ensures listed { IfOk result (λ cursor. phrase_of (docs_of_term WithFreqsAndPositions index.now first.now) (phrase_parts_of index.now others.now) ≡ Ok cursor.rest) }
+    ensures listed { IfOk result (λ cursor. phrase_of slop (docs_of_term WithFreqsAndPositions index.now first.now) (phrase_parts_of index.now others.now) ≡ Ok cursor.rest) }
     ensures lazy { IfOk result (λ cursor. AllByRecursion EachDecodesFew cursor.cursors) }
-    ensures refused { IfErr result (IsRefusal (phrase_of (docs_of_term WithFreqsAndPositions index.now first.now) (phrase_parts_of index.now others.now))) }
+    ensures refused { IfErr result (IsRefusal (phrase_of slop (docs_of_term WithFreqsAndPositions index.now first.now) (phrase_parts_of index.now others.now))) }
 {
     let first = match postings_of(index, first, IndexRecordOption::WithFreqsAndPositions) {
         Ok(first) => first,
         Err(fault) => return Err(fault),
     };
     match phrase_parts(alloc, index, others) {
-        Ok(others) => Ok(QueryCursor::one(TermOrPhrase::Phrase(PhraseMatch::new(first, others)))),
+        Ok(others) => Ok(QueryCursor::one(TermOrPhrase::Phrase(SloppyPhraseMatch::new(
+            first, others, slop,
+        )))),
         Err(fault) => {
             drop(first);
             Err(fault)

@@ -1,7 +1,7 @@
 -- A query matches a document of an index of segments as it matches it in its segment.
 use Rattle.std.proofs.Common.{◌≡◌, ℕ, ◌+◌, ◌<◌, ◌≤◌, ◌≢◌, ◌==◌, ◌&&◌, ◌||◌, Bool, true, false, not, List, [], ◌∷◌, ◌++◌, length, map, min, nat_eq, nat_le, nat_lt, refl, sym, ap, ◌∙◌, arith}
 use Rattle.std.specs.Prelude.{filter}
-use Rattle.std.specs.List.{AllByRecursion, list_all, list_any}
+use Rattle.std.specs.List.{AllByRecursion, list_all, list_any, range_with_len}
 use Rattle.std.proofs.lemmas.Bool.{and_parts, eqb-true, leb-true, lt-ltb, ne_eqb}
 use Rattle.std.proofs.lemmas.List.Folds.{list_any-append}
 use Rattle.std.specs.Cmp.Lexicographic.{bytes_decides}
@@ -16,7 +16,7 @@ use Rattle.ii_definitions.specs.Tokens.{IndexToken}
 use Rattle.ii_query_parser.specs.declared.query.PhraseTerm.{PhraseTerm}
 use Rattle.ii_query_parser.specs.declared.term_range.TermRange.{TermRange}
 use Rattle.ii_query_parser.specs.Ranges.{in_range}
-use Rattle.ii_query_parser.specs.Queries.{QueryTree, QueryTrees, all_below, all_match, any_matches, any_of, are_of_texts, each_of, follow, has_phrase, has_tree, is_text_key, is_token_in, is_token_of, no_tree, nothing, one_phrase, one_range, one_term, stands_at, tree, tree_covers, tree_matches, tree_of, trees_cover, without}
+use Rattle.ii_query_parser.specs.Queries.{QueryTree, QueryTrees, all_below, all_match, any_matches, any_of, are_of_texts, each_of, follow_near, has_phrase_within, has_tree, is_in_slop, is_text_key, is_token_in, is_token_of, no_tree, nothing, one_phrase, one_range, one_term, stands_near, tree, tree_covers, tree_matches, tree_of, trees_cover, without}
 use Rattle.ii_segments.specs.Segments.{AreSegmentTokens, Segment, at_rank, index_tokens, is_key_of_text_in, is_living, living_tokens, num_docs_of, tokens_from}
 use Rattle.ii_segments.proofs.CountLaws.{all_weaker, living_within, test_by_rank, tokens_after}
 use Rattle.ii_segments.proofs.MergedLaws.{IsTyped, index_typed}
@@ -134,32 +134,32 @@ module _ (entries : List SchemaEntry) (before after : List Segment) (s : Segment
     pub range_local : (range : TermRange) → list_any (is_token_in range number) all ≡ list_any (is_token_in range doc) s.tokens
     range_local range = any_local (λ b t. b && (t.field == range.prefix.field) && in_range range t.key) (λ t. refl) (λ b t d. refl) before after s doc lives
 
-    pub position_local : (term : TermState) (position : ℕ) → stands_at all number term position ≡ stands_at s.tokens doc term position
-    position_local term position =
-        let test : Bool → IndexToken → Bool = λ b t. b && is_at term.field term.value t && (t.position == position) in
-        let at : (d : ℕ) (t : IndexToken) → (is_token_of term d t && (t.position == position)) ≡ true → is_at term.field term.value t ≡ true =
-        λ d t is. (and_parts (t.doc == d) (is_at term.field term.value t) (and_parts (is_token_of term d t) (t.position == position) is).0).1 in
-        text_any entries term.field term.value (λ t. is_token_of term number t && (t.position == position)) (at number) all all_typed
+    -- the tokens of a term at a position for which something holds
+    placed_local : (term : TermState) (holds : ℕ → Bool) → (is_text_key term all && list_any (λ (t : IndexToken). is_token_of term number t && holds t.position) all) ≡ (is_text_key term s.tokens && list_any (λ (t : IndexToken). is_token_of term doc t && holds t.position) s.tokens)
+    placed_local term holds =
+        let test : Bool → IndexToken → Bool = λ b t. b && is_at term.field term.value t && holds t.position in
+        let at : (d : ℕ) (t : IndexToken) → (is_token_of term d t && holds t.position) ≡ true → is_at term.field term.value t ≡ true =
+        λ d t is. (and_parts (t.doc == d) (is_at term.field term.value t) (and_parts (is_token_of term d t) (holds t.position) is).0).1 in
+        text_any entries term.field term.value (λ t. is_token_of term number t && holds t.position) (at number) all all_typed
         ∙ ap (λ (b : Bool). is_key_of_text_in entries term.field term.value && b) (any_local test (λ t. refl) (λ b t d. refl) before after s doc lives)
-        ∙ sym (text_any entries term.field term.value (λ t. is_token_of term doc t && (t.position == position)) (at doc) s.tokens own_typed)
+        ∙ sym (text_any entries term.field term.value (λ t. is_token_of term doc t && holds t.position) (at doc) s.tokens own_typed)
 
-    pub follow_local : (others : List PhraseTerm) (start : ℕ) → follow all number others start ≡ follow s.tokens doc others start
-    follow_local others start =
-        all_same (λ (o : PhraseTerm). stands_at all number o.term (start + o.distance)) (λ (o : PhraseTerm). stands_at s.tokens doc o.term (start + o.distance)) others
-        (λ o. position_local o.term (start + o.distance))
+    near_local : (slop back : ℕ) (term : TermState) (place : ℕ) → stands_near slop back all number term place ≡ stands_near slop back s.tokens doc term place
+    near_local slop back term place = placed_local term (λ (p : ℕ). is_in_slop slop place (p + back))
 
-    phrase_local : (first : TermState) (others : List PhraseTerm) → has_phrase all number first others ≡ has_phrase s.tokens doc first others
-    phrase_local first others =
-        let rest : IndexToken → Bool = λ t. follow s.tokens doc others t.position in
-        let test : Bool → IndexToken → Bool = λ b t. b && is_at first.field first.value t && follow s.tokens doc others t.position in
-        let at : (d : ℕ) (t : IndexToken) → (is_token_of first d t && rest t) ≡ true → is_at first.field first.value t ≡ true =
-        λ d t is. (and_parts (t.doc == d) (is_at first.field first.value t) (and_parts (is_token_of first d t) (rest t) is).0).1 in
+    pub follow_local : (slop : ℕ) (others : List PhraseTerm) (start : ℕ) → follow_near slop all number others start ≡ follow_near slop s.tokens doc others start
+    follow_local slop others start =
+        any_alike (λ (back : ℕ). list_all (λ (o : PhraseTerm). stands_near slop back all number o.term (start + o.distance)) others) (λ (back : ℕ). list_all (λ (o : PhraseTerm). stands_near slop back s.tokens doc o.term (start + o.distance)) others)
+        (range_with_len 0 (slop + 1))
+        (λ back. all_same (λ (o : PhraseTerm). stands_near slop back all number o.term (start + o.distance)) (λ (o : PhraseTerm). stands_near slop back s.tokens doc o.term (start + o.distance)) others
+        (λ o. near_local slop back o.term (start + o.distance)))
+
+    phrase_local : (slop : ℕ) (first : TermState) (others : List PhraseTerm) → has_phrase_within slop all number first others ≡ has_phrase_within slop s.tokens doc first others
+    phrase_local slop first others =
         ap (λ (b : Bool). is_text_key first all && b)
-        (any_alike (λ (t : IndexToken). is_token_of first number t && follow all number others t.position) (λ (t : IndexToken). is_token_of first number t && follow s.tokens doc others t.position) all
-        (λ t. ap (λ (b : Bool). is_token_of first number t && b) (follow_local others t.position)))
-        ∙ text_any entries first.field first.value (λ t. is_token_of first number t && follow s.tokens doc others t.position) (at number) all all_typed
-        ∙ ap (λ (b : Bool). is_key_of_text_in entries first.field first.value && b) (any_local test (λ t. refl) (λ b t d. refl) before after s doc lives)
-        ∙ sym (text_any entries first.field first.value (λ t. is_token_of first doc t && follow s.tokens doc others t.position) (at doc) s.tokens own_typed)
+        (any_alike (λ (t : IndexToken). is_token_of first number t && follow_near slop all number others t.position) (λ (t : IndexToken). is_token_of first number t && follow_near slop s.tokens doc others t.position) all
+        (λ t. ap (λ (b : Bool). is_token_of first number t && b) (follow_local slop others t.position)))
+        ∙ placed_local first (follow_near slop s.tokens doc others)
 
     pub bound_local : (n m : ℕ) → num_docs_of (before ++ s ∷ after) ≤ n → length s.alive ≤ n → nat_le n (min m TERMINATED) ≡ true → nat_lt number (min m TERMINATED) ≡ nat_lt doc (min m TERMINATED)
     bound_local n m docs own covers =
@@ -173,7 +173,7 @@ module _ (entries : List SchemaEntry) (before after : List Segment) (s : Segment
       tree_local n nothing docs own covers = refl
       tree_local n (all_below m) docs own covers = bound_local n m docs own covers
       tree_local n (one_term term) docs own covers = term_local term
-      tree_local n (one_phrase first others) docs own covers = phrase_local first others
+      tree_local n (one_phrase first others slop) docs own covers = phrase_local slop first others
       tree_local n (one_range range) docs own covers = range_local range
       tree_local n (each_of qs) docs own covers = ap (λ (b : Bool). has_tree qs && b) (all_local n qs docs own covers)
       tree_local n (any_of qs) docs own covers = some_local n qs docs own covers

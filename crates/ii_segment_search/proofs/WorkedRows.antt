@@ -23,14 +23,24 @@ first_deleted = record { alive = false ∷ []; tokens = texts } ∷ record { ali
 abbrev docs_of : QueryTree → List Segment → List ℕ
 docs_of query ss = filter (tree_matches query (index_tokens ss)) (range_with_len 0 (num_docs_of ss))
 
+abbrev phrase_within : ℕ → QueryTree
+phrase_within slop = one_phrase (term (codes "b")) (record { distance = 1; term = term (codes "a") } ∷ []) slop
+
 abbrev phrase : QueryTree
-phrase = one_phrase (term (codes "a")) (record { distance = 1; term = term (codes "b") } ∷ [])
+phrase = one_phrase (term (codes "a")) (record { distance = 1; term = term (codes "b") } ∷ []) 0
 
 pub phrase_of_second : docs_of phrase first_deleted ≡ 0 ∷ []
 phrase_of_second = refl
 
 pub phrase_in_merged : docs_of phrase (merged first_deleted ∷ []) ≡ 0 ∷ []
 phrase_in_merged = refl
+
+-- exchanged words are within a slop of 2
+pub within_one : docs_of (phrase_within 1) first_deleted ≡ []
+within_one = refl
+
+pub within_two : docs_of (phrase_within 2) first_deleted ≡ 0 ∷ []
+within_two = refl
 
 -- all documents without a word that none has
 pub all_but_none : docs_of (without (all_below 1) (one_term (term (codes "x")))) first_deleted ≡ 0 ∷ []

@@ -3,12 +3,12 @@
 ghost use Rattle.std.specs.Prelude.{◌≡◌, ◌<◌, length, IfOk};
 
 use ii_alive::AliveBits;
-use ii_ranking::{
-    GatheredStatistics, RankedSegment, Score, TopDocs, explain, score_docs, search, search_segments,
-};
-use nequllpa::{
+use ii_ram::{
     AsciiTokenizer, DocId, Fault, Field, FieldEntry, IndexCall, IndexRecordOption, OpenIndex,
     Query, Schema, Term, index_in_ram, parse_query,
+};
+use ii_ranking::{
+    GatheredStatistics, RankedSegment, Score, TopDocs, explain, score_docs, search, search_segments,
 };
 use std::alloc::Global;
 use std::test::Fail;
@@ -142,7 +142,7 @@ const LONG: &str = "the sea, the old sea";
 // A text, how many of the best are wanted, how many are passed, and the best.
 type Row = (&'static str, usize, usize, &'static str);
 
-static SEA_ROWS: [Row; 11] = [
+static SEA_ROWS: [Row; 13] = [
     ("old", 1, 0, "0:55825604729,"),
     ("the", 2, 0, "1:64382810291,0:55825604729,"),
     ("the OR old", 2, 0, "0:111651209458,1:109849025811,"),
@@ -150,6 +150,9 @@ static SEA_ROWS: [Row; 11] = [
     ("the OR old", 1, 1, "1:109849025811,"),
     ("\"the sea\"", 2, 0, "1:90932431040,"),
     ("\"old sea\"", 2, 0, "0:111651209458,1:90932431040,"),
+    // a word between, twice in the second text, and words that are exchanged
+    ("\"the sea\"~1", 2, 0, "1:128765620583,0:111651209458,"),
+    ("\"sea the\"~2", 2, 0, "1:90932431040,"),
     ("old NOT \"the sea\"", 5, 0, "0:55825604729,"),
     ("o*", usize::MAX, 0, "0:274877906944,1:274877906944,"),
     ("old", 0, 0, ""),
@@ -261,11 +264,12 @@ fn explained(alloc: Global, text: &str, doc: DocId) -> Result<String, Fault> {
 }
 
 // A text, a document, and the shares of its score: they sum to those of `SEA_ROWS`.
-static SHARE_ROWS: [(&str, DocId, &str); 7] = [
+static SHARE_ROWS: [(&str, DocId, &str); 8] = [
     ("the OR old", 1, "2:64382810291,1:45466215520,"),
     ("the AND old", 0, "1:55825604729,1:55825604729,"),
     ("the AND red", 0, ""),
     ("\"old sea\"", 1, "1:90932431040,"),
+    ("\"the sea\"~1", 1, "2:128765620583,"),
     ("old NOT \"the sea\"", 0, "1:55825604729,"),
     ("old NOT \"the sea\"", 1, ""),
     ("o*", 1, "1:274877906944,"),

@@ -2,11 +2,11 @@
 ghost use Rattle.std.specs.Prelude.{◌≡◌, length, IfOk};
 
 use ii_alive::AliveBits;
-use ii_segment_search::{OpenSegment, Searcher};
-use nequllpa::{
+use ii_ram::{
     AsciiTokenizer, DocId, DocSet, Fault, Field, FieldEntry, IndexCall, IndexRecordOption, Schema,
     TERMINATED, index_in_ram, parse_query,
 };
+use ii_segment_search::{OpenSegment, Searcher};
 use std::alloc::Global;
 use std::test::Fail;
 

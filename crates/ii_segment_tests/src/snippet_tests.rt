@@ -1,11 +1,11 @@
 // Snippets of texts for queries. What is expected was worked out by hand.
 ghost use Rattle.std.specs.Prelude.{◌≡◌, length, IfOk};
 
-use ii_snippet::{MarkStyle, Snippet, snippet_tokens, wanted_words};
-use ii_tokenizers::Analyzer;
-use nequllpa::{
+use ii_ram::{
     Fault, Field, FieldEntry, IndexRecordOption, Query, Schema, TextAnalyzer, parse_query,
 };
+use ii_snippet::{MarkStyle, Snippet, snippet_tokens, wanted_words};
+use ii_tokenizers::Analyzer;
 use std::alloc::Global;
 use std::test::Fail;
 

@@ -22,8 +22,8 @@ wanted_by_all n = ap tree_wants (all_tree n)
 pub wanted_by_term : (term : TermState) → query_wants (Term term) ≡ one_word term ∷ []
 wanted_by_term term = ap tree_wants (term_tree term)
 
-pub wanted_by_phrase : (first : TermState) (others : Vec PhraseTerm Global) → query_wants (Phrase first others) ≡ one_word first ∷ map (λ (o : PhraseTerm). one_word o.term) others.items
-wanted_by_phrase first others = ap tree_wants (phrase_tree first others)
+pub wanted_by_phrase : (first : TermState) (others : Vec PhraseTerm Global) (slop : ℕ) → query_wants (Phrase first others slop) ≡ one_word first ∷ map (λ (o : PhraseTerm). one_word o.term) others.items
+wanted_by_phrase first others slop = ap tree_wants (phrase_tree first others slop)
 
 pub wanted_by_range : (range : TermRange) → query_wants (Range range) ≡ words_of_range range ∷ []
 wanted_by_range range = ap tree_wants (range_tree range)

@@ -28,7 +28,7 @@ abbrev mutual
   tree_wants nothing = []
   tree_wants (all_below n) = []
   tree_wants (one_term term) = one_word term ∷ []
-  tree_wants (one_phrase first others) = one_word first ∷ map (λ (o : PhraseTerm). one_word o.term) others
+  tree_wants (one_phrase first others slop) = one_word first ∷ map (λ (o : PhraseTerm). one_word o.term) others
   tree_wants (one_range range) = words_of_range range ∷ []
   tree_wants (each_of qs) = trees_want qs
   tree_wants (any_of qs) = trees_want qs

@@ -63,7 +63,7 @@ fn push_words<'q>(query: &'q Query, words: &mut Vec<WantedWord<'q>>) -> Result<(
         Query::Empty => Ok(()),
         Query::All(_) => Ok(()),
         Query::Term(term) => Ok(words.push(WantedWord::Term(term))?),
-        Query::Phrase(first, others) => {
+        Query::Phrase(first, others, _) => {
             words.push(WantedWord::Term(first))?;
             push_others(others, words)
         }

@@ -78,9 +78,9 @@ fn digest_of_blocks(file: &[u8]) -> [u8; 32]
     checksums.finalize()
 }
 
-// Returns the checksum of a block.
+/// Returns the checksum of a block: its SipHash-1-3 with both keys 0.
 #[tactic(auto, unfolding(crate::specs::FileDigest::block_checksum))]
-fn checksum_of(block: &[u8]) -> u64
+pub fn checksum_of(block: &[u8]) -> u64
     ensures { result ≡ block_checksum block.now }
 {
     let mut hasher = DefaultHasher::new();

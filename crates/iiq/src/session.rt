@@ -15,8 +15,8 @@ use ii_base::{
 };
 use ii_docset::DocId;
 use ii_indexing::IndexCall;
+use ii_ram::{QueryParserError, index_in_ram, parse_query, search};
 use ii_reader::OpenIndex;
-use nequllpa::{QueryParserError, index_in_ram, parse_query, search};
 use std::alloc::{AllocError, Global};
 use std::mem;
 
@@ -78,7 +78,7 @@ impl Session {
 
     /// Searches: returns the documents that match a query, or `none`. If indexing failed, returns
     /// `error` and the fault's number.
-    pub fn search(&mut self, alloc: Global, query: nequllpa::Query) -> Result<String, AllocError>
+    pub fn search(&mut self, alloc: Global, query: ii_ram::Query) -> Result<String, AllocError>
         requires session { IsSession self.old }
         requires fields { has_fields (length fields) query ≡ true }
         requires positions { keeps_positions fields query ≡ true }
@@ -177,7 +177,7 @@ fn list_text(
 fn found_text(
     alloc: Global,
     index: &OpenIndex,
-    query: nequllpa::Query,
+    query: ii_ram::Query,
     num_docs: DocId,
 ) -> Result<String, AllocError>
     requires many { length index.now.readers ≡ length fields }
@@ -195,7 +195,7 @@ fn found_text(
 fn found_below(
     alloc: Global,
     index: &OpenIndex,
-    query: nequllpa::Query,
+    query: ii_ram::Query,
     num_docs: DocId,
 ) -> Result<String, AllocError>
     requires many { length index.now.readers ≡ length fields }
@@ -204,8 +204,8 @@ fn found_below(
     ensures { (ts : List IndexToken) → IsOpen index.now ts → num_docs ≤ TERMINATED
         → IfOk result (λ text. FindsBelow num_docs ts query (string_bytes text)) }
 {
-    let all = nequllpa::Query::All(num_docs);
-    let Ok(bounded) = nequllpa::Query::and(alloc, query, all) else {
+    let all = ii_ram::Query::All(num_docs);
+    let Ok(bounded) = ii_ram::Query::and(alloc, query, all) else {
         return Err(AllocError);
     };
     match search(alloc, index, &bounded) {
@@ -219,7 +219,7 @@ fn found_below(
 }
 
 /// Parses a text as a query, if it is one.
-pub fn query_of_text(alloc: Global, text: &str) -> Result<Option<nequllpa::Query>, AllocError>
+pub fn query_of_text(alloc: Global, text: &str) -> Result<Option<ii_ram::Query>, AllocError>
     ensures { IfOk result (IsQuery text.now) }
 {
     let Ok(schema) = schema(alloc) else {
@@ -233,7 +233,7 @@ pub fn query_of_text(alloc: Global, text: &str) -> Result<Option<nequllpa::Query
 }
 
 // Returns no query, or an error if an allocation failed.
-fn no_query(error: QueryParserError) -> Result<Option<nequllpa::Query>, AllocError>
+fn no_query(error: QueryParserError) -> Result<Option<ii_ram::Query>, AllocError>
     ensures none { IfOk result (λ query. is_none query ≡ true) }
     ensures ok { (fault : Fault) → error ≡ QueryParserError.Fault fault → IsErr result }
 {

@@ -1,53 +1,50 @@
-//! Nequllpa, an inverted index: from index calls to files, and from files to cursors over the
-//! postings of a term. Each item is exported here once; the crates below say how it is kept.
+//! Nequllpa, a search library. `Index` is an index of JSON documents in a folder or in memory. Below it, each by a
+//! call: from index calls to files, and from files to cursors over the postings of a term. Each item is exported here
+//! once, under tantivy's name; the crates below say how it is kept.
 #![tactic(auto)]
 
-pub mod bounds;
-pub mod ram;
+// an index of JSON documents, in a folder or in memory
+pub use ii_index::{
+    Directory, DirectoryFault, Folder, Index, IndexError, IndexReader, IndexWriter, Locked,
+    LockedFolder, MemoryDirectory, SCORE_ONE, Score, Searcher, TopDocs, WritableDirectory,
+};
 
 // fields, and the values that are indexed
-pub use ii_base::{
-    DateTime, Field, FieldEntry, IndexRecordOption, JsonValue, Schema, SchemaFields, Term,
-    ValueType,
+pub use ii_ram::{
+    DateTime, Field, FieldEntry, IndexCall, IndexRecordOption, JsonValue, Schema, SchemaFields,
+    Term, ValueType,
 };
-pub use ii_indexing::IndexCall;
 
 // how texts become tokens
-pub use ii_base::{
+pub use ii_ram::{
     AsciiTokenizer, AsciiTokens, TextAnalyzer, TextTokens, Token, TokenList, TokenStream, TokenView,
 };
 
-// how an index is written and opened
-pub use crate::ram::{index_in_ram, open_in_ram};
-pub use ii_base::{CountingWriter, HasLen};
-pub use ii_indexing::{IndexWriters, Indexer, write_index};
-pub use ii_reader::{
-    DamagedTerm, InvertedIndexFieldSpace, InvertedIndexReader, OpenIndex, open_index,
-    open_index_with_norms,
+// how index calls become files, and how these are opened
+pub use ii_ram::{
+    CountingWriter, DamagedTerm, HasLen, IndexWriters, Indexer, InvertedIndexFieldSpace,
+    InvertedIndexReader, OpenIndex, index_in_ram, open_in_ram, open_index, open_index_with_norms,
+    write_index,
 };
 
 // cursors over documents and postings
-pub use ii_base::AliveBitSet;
-pub use ii_docset::{
-    COLLECT_BLOCK_BUFFER_LEN, CursorAnswer, CursorCall, DocId, DocSet, Lent, Postings,
-    SeekDangerResult, SeekOnce, TERMINATED, Walk, intersect, walk,
+pub use ii_ram::{
+    AliveBitSet, AllDocs, BlockSegmentPostings, COLLECT_BLOCK_BUFFER_LEN, CursorAnswer, CursorCall,
+    DocId, DocSet, Exclude, FreqReadingOption, Intersection, Lent, LoadedPostings, PhraseMatch,
+    PhrasePart, Postings, SeekDangerResult, SeekOnce, SegmentPostings, SloppyPhraseMatch,
+    TERMINATED, Union, Walk, count_starts, intersect, walk,
 };
-pub use ii_query::{
-    AllDocs, Exclude, Intersection, PhraseMatch, PhrasePart, SloppyPhraseMatch, Union,
-};
-pub use ii_reader::{BlockSegmentPostings, FreqReadingOption, LoadedPostings, SegmentPostings};
 
 // how an index is searched
-pub use ii_query_parser::{
+pub use ii_ram::{
     Delimiter, Expected, Feature, KeyBound, MAX_NESTING, MAX_SET_VALUES, ParseError, PhraseTerm,
-    Query, QueryParserError, TermRange, UserInputAst, UserInputBound, UserInputLiteral,
-    UserInputRange, UserInputSet, can_name, parse, parse_query, query_of, spell_name,
-    unknown_field_name,
+    Query, QueryCursor, QueryParserError, TermOrPhrase, TermRange, UserInputAst, UserInputBound,
+    UserInputLiteral, UserInputRange, UserInputSet, can_name, count, parse, parse_query, query_of,
+    search, spell_name, top_by_count, unknown_field_name,
 };
-pub use ii_search::{QueryCursor, TermOrPhrase, count, search, top_by_count};
 
 // the norms of documents
-pub use ii_fieldnorm::{FieldNormReader, FieldNormReaders, fieldnorm_to_id, id_to_fieldnorm};
+pub use ii_ram::{FieldNormReader, FieldNormReaders, fieldnorm_to_id, id_to_fieldnorm};
 
 // errors
-pub use ii_base::{Fault, LayoutFault, LeafKind, LimitName, Part};
+pub use ii_ram::{Fault, LayoutFault, LeafKind, LimitName, Part};

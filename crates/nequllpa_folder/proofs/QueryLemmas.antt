@@ -71,7 +71,7 @@ mutual
   tree_fields n nothing fields = refl
   tree_fields n (all_below m) fields = refl
   tree_fields n (one_term term) fields = rw fields refl
-  tree_fields n (one_phrase first others) fields = rw (← fields_of n others) fields
+  tree_fields n (one_phrase first others slop) fields = rw (← fields_of n others) fields
   tree_fields n (one_range range) fields = refl
   tree_fields n (each_of qs) fields = trees_fields n qs fields
   tree_fields n (any_of qs) fields = trees_fields n qs fields

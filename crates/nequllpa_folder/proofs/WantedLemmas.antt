@@ -22,8 +22,8 @@ wanted_of_all n = ap tree_terms (all_tree n)
 pub wanted_of_term : (term : TermState) → wanted_terms (Term term) ≡ term ∷ []
 wanted_of_term term = ap tree_terms (term_tree term)
 
-pub wanted_of_phrase : (first : TermState) (others : Vec PhraseTerm Global) → wanted_terms (Phrase first others) ≡ first ∷ map (λ (o : PhraseTerm). o.term) others.items
-wanted_of_phrase first others = ap tree_terms (phrase_tree first others)
+pub wanted_of_phrase : (first : TermState) (others : Vec PhraseTerm Global) (slop : ℕ) → wanted_terms (Phrase first others slop) ≡ first ∷ map (λ (o : PhraseTerm). o.term) others.items
+wanted_of_phrase first others slop = ap tree_terms (phrase_tree first others slop)
 
 pub wanted_of_range : (range : TermRange) → wanted_terms (Range range) ≡ []
 wanted_of_range range = ap tree_terms (range_tree range)

@@ -157,7 +157,7 @@ fn push_terms<'q>(query: &'q Query, terms: &mut Vec<&'q Term>) -> Result<(), Fau
         Query::Empty => Ok(()),
         Query::All(_) => Ok(()),
         Query::Term(term) => Ok(terms.push(term)?),
-        Query::Phrase(first, others) => {
+        Query::Phrase(first, others, _) => {
             terms.push(first)?;
             push_others(others, terms)
         }

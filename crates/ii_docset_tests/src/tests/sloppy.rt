@@ -2,7 +2,7 @@ use super::list_postings::{ListPostings, Place};
 use super::three;
 use ii_base::Fault;
 use ii_docset::{DocId, DocSet, TERMINATED};
-use ii_query::{PhrasePart, SloppyPhraseMatch};
+use ii_query::{PhrasePart, SloppyPhraseMatch, count_starts};
 use std::alloc::Global;
 
 // `old wide sea` and `sea old`.
@@ -178,4 +178,54 @@ fn a_slop_is_shared_by_all_words(rt: HostRuntime) {
         three_words(alloc, 2),
     ];
     assert!(rt; found == [Ok((end, end)), Ok((end, end)), Ok((0, end))]);
+}
+
+// Returns how many positions of the leading term in a document have the other one next to them within a slop.
+fn starts_in(alloc: Global, doc: DocId, slop: u32) -> Result<u32, Fault> {
+    let mut first = leading();
+    if doc >= TERMINATED || first.doc() > doc || first.seek(doc) != doc {
+        return Ok(0);
+    }
+    let mut first = PhrasePart::new(0, first);
+    let mut others = Vec::new(alloc);
+    others.push(PhrasePart::new(1, following()))?;
+    Ok(count_starts(&mut first, &mut others, slop))
+}
+
+fn starts(alloc: Global, slop: u32) -> Result<[u32; 3], Fault> {
+    let third = starts_in(alloc, 3, slop)?;
+    let seventh = starts_in(alloc, 7, slop)?;
+    Ok([third, seventh, starts_in(alloc, 9, slop)?])
+}
+
+// The distances of the positions 5, 40 and 90 from the nearest one of the other term, moved back by 1, are 2, 19
+// and 30 in document 3, 14, 2 and 21 in document 7, and 6, 21 and 4 in document 9.
+#[test]
+fn starts_are_counted(rt: HostRuntime) {
+    let alloc = rt.alloc();
+    let few = [starts(alloc, 0), starts(alloc, 2), starts(alloc, 5)];
+    let more = [starts(alloc, 6), starts(alloc, 19), starts(alloc, 21)];
+    assert!(rt; few == [Ok([0, 0, 0]), Ok([1, 1, 0]), Ok([1, 1, 1])]);
+    assert!(rt; more == [Ok([1, 1, 2]), Ok([2, 2, 2]), Ok([2, 3, 3])]);
+    assert!(rt; starts(alloc, u32::MAX) == Ok([3, 3, 3]));
+}
+
+// Returns how often `a b c` begins in `a x b y c` within a slop.
+fn three_starts(alloc: Global, slop: u32) -> Result<u32, Fault> {
+    let first = ListPostings::new(&A);
+    if first.doc() == TERMINATED {
+        return Ok(0);
+    }
+    let mut first = PhrasePart::new(0, first);
+    let mut others = Vec::new(alloc);
+    others.push(PhrasePart::new(1, ListPostings::new(&B)))?;
+    others.push(PhrasePart::new(2, ListPostings::new(&C)))?;
+    Ok(count_starts(&mut first, &mut others, slop))
+}
+
+#[test]
+fn starts_share_a_slop(rt: HostRuntime) {
+    let alloc = rt.alloc();
+    let counts = [three_starts(alloc, 1), three_starts(alloc, 2)];
+    assert!(rt; counts == [Ok(0), Ok(1)]);
 }

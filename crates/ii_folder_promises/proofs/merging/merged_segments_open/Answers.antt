@@ -5,7 +5,7 @@ use Rattle.ii_segments.specs.Segments.{Segment, index_tokens, num_docs_of}
 use Rattle.ii_indexing.specs.IndexFiles.{WroteIndex}
 use Rattle.ii_merger.specs.MergedFiles.{num_tokens_by_field}
 use Rattle.ii_merger.specs.MergedIndex.{MergeSourcesHold, opened_segment}
-use Rattle.nequllpa.proofs.RamLaws.{GivesAll, in_ram}
+use Rattle.ii_ram.proofs.RamLaws.{GivesAll, in_ram}
 use Rattle.ii_folder_promises.proofs.MergingLaws.{opened_holds, opened_undamaged}
 use Rattle.ii_folder_promises.proofs.merging.merged_segments_open.Goals as goal
 

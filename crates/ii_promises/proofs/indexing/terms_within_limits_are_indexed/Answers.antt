@@ -1,7 +1,7 @@
 use Rattle.std.proofs.Common.{◌<◌, ◌^◌, ℕ, map, subst}
 use Rattle.ii_definitions.specs.Tokens.{tokens_of}
 use Rattle.ii_definitions.specs.IndexCalls.{call_of}
-use Rattle.nequllpa.proofs.WithinLimits.{memory_within}
+use Rattle.ii_ram.proofs.WithinLimits.{memory_within}
 use Rattle.ii_promises.proofs.indexing.terms_within_limits_are_indexed.Goals as goal
 
 pub returns : goal.returns

@@ -62,7 +62,7 @@ pub add_scores-returns-in-Phrase-clause-added : goal.add_scores-returns-in-Phras
 add_scores-returns-in-Phrase-clause-added g t c =
     let s = scored_in c.args.index.now (g.S.Bm25StatisticsProvider.statistics c.args.statistics.now) in
     subst (λ (f : ℕ → Option ℕ). OnOk c.add_phrase.result (Adds f c.args.scores.now.items c.add_phrase.new.scores.items))
-    (phrase_query s c.args.query.now c.in-Phrase.first c.in-Phrase.others c.deref.result.now c.in-Phrase.is c.deref.ensures.value) c.add_phrase.ensures.added
+    (phrase_query s c.args.query.now c.in-Phrase.first c.in-Phrase.others c.deref.result.now c.in-Phrase.slop c.in-Phrase.is c.deref.ensures.value) c.add_phrase.ensures.added
 
 pub add_scores-returns-in_ok-part-in-AndNot-clause-added : goal.add_scores-returns-in_ok-part-in-AndNot-clause-added
 add_scores-returns-in_ok-part-in-AndNot-clause-added g t c =

@@ -1,0 +1,3 @@
+pub mod RangeLaws
+pub mod TableLaws
+mod WorkedRows

@@ -1,0 +1,124 @@
+//! The checksums of a file's blocks, in a table that has the file's digest.
+ghost use Rattle.std.specs.Prelude.{◌≡◌, ◌<◌, ◌≤◌, ◌+◌, ◌-◌, ◌*◌, IfOk, IfSome, None, false, length, true};
+ghost use Rattle.ii_block_file.specs.BlockTable.{AreListed, file_block, lists_checksum, is_table, num_file_blocks, block_table_of};
+
+use ii_store::FileDigest;
+use ii_store::file_digest::{BLOCK_LEN, checksum_of};
+use sha2::{Digest, Sha256};
+use std::alloc::{AllocError, Global};
+use std::marker::Model;
+
+/// The length of a file, and the checksum of each of its blocks of `BLOCK_LEN` bytes, the last of which may be shorter.
+#[derive(Drop)]
+pub struct BlockTable {
+    len: u64,
+    bytes: Vec<u8>,
+}
+
+impl Model for BlockTable {
+    ghost use Rattle.std.specs.Prelude.{◌≡◌, ◌*◌, length};
+    ghost use Rattle.ii_block_file.specs.BlockTable.{BlockTableState, num_file_blocks};
+
+    ghost Value = { BlockTableState };
+
+    ghost view = { λ t. record { len = t.len; bytes = t.bytes.items } };
+
+    ghost invariant = { λ t. length t.bytes.items ≡ 8 * num_file_blocks t.len };
+}
+
+impl BlockTable {
+    /// Returns the table of a file with these bytes.
+    pub fn of(alloc: Global, file: &[u8]) -> Result<BlockTable, AllocError>
+        ensures { IfOk result (λ t. t ≡ block_table_of file.now) }
+    {
+        let mut bytes = Vec::new(alloc);
+        for place in 0..file.len().div_ceil(BLOCK_LEN) {
+            let checksum = checksum_of(file_block(file, place)).to_le_bytes();
+            bytes.extend_from_slice(&checksum)?;
+        }
+        Ok(BlockTable {
+            len: file.len() as u64,
+            bytes,
+        })
+    }
+
+    /// Takes the table of a file, given the file's length and its digest in `meta`. Returns `None` if these bytes aren't
+    /// the table of a file of this length with this digest, or the digest isn't one of blocks: a digest of blocks is the
+    /// SHA-256 of the table.
+    pub fn open(len: u64, digest: &FileDigest, bytes: Vec<u8>) -> Option<BlockTable>
+        ensures table { IfSome result (λ t. t ≡ record { len = len; bytes = bytes.items }) }
+        ensures some { IfSome result (λ t. is_table len digest.now bytes.items ≡ true) }
+        ensures none { result ≡ None → is_table len digest.now bytes.items ≡ false }
+    {
+        if !is_table(len, digest, bytes.as_slice()) {
+            return None;
+        }
+        Some(BlockTable { len, bytes })
+    }
+
+    /// Returns the length of the file, in bytes.
+    pub fn len(&self) -> u64
+        ensures { result ≡ self.now.len }
+    {
+        self.len
+    }
+
+    /// Returns the bytes of the table: eight for each checksum, the lowest first.
+    pub fn as_bytes(&self) -> &[u8]
+        ensures { result.now ≡ self.now.bytes }
+    {
+        self.bytes.as_slice()
+    }
+
+    // Returns the first block, of these from one on, that has another checksum than the table lists.
+    pub(crate) fn first_damage(&self, first: u64, bytes: &[u8]) -> Option<u64>
+        requires { first + num_file_blocks (length bytes.now) ≤ num_file_blocks self.now.len }
+        ensures none { result ≡ None → AreListed self.now first bytes.now }
+        ensures some { IfSome result (λ k. (first ≤ k) × (k < first + num_file_blocks (length bytes.now)) × (lists_checksum self.now k (file_block (k - first) bytes.now) ≡ false)) }
+    {
+        // that there are fewer than 2^64 blocks, for the proof
+        let _table = self.bytes.len();
+        for place in 0..bytes.len().div_ceil(BLOCK_LEN) {
+            let block_id = first + place as u64;
+            if !self.lists(block_id, file_block(bytes, place)) {
+                return Some(block_id);
+            }
+        }
+        None
+    }
+
+    // Returns whether the table lists the checksum of a block.
+    fn lists(&self, block_id: u64, block: &[u8]) -> bool
+        requires { block_id < num_file_blocks self.now.len }
+        ensures { result ≡ lists_checksum self.now block_id block.now }
+    {
+        let table = self.bytes.as_slice();
+        let from = 8 * block_id as usize;
+        &table[from..from + 8] == checksum_of(block).to_le_bytes().as_slice()
+    }
+}
+
+// Returns whether bytes are the table of a file with this length and this digest.
+fn is_table(len: u64, digest: &FileDigest, bytes: &[u8]) -> bool
+    ensures { result ≡ is_table len digest.now bytes.now }
+{
+    if !bytes.len().is_multiple_of(8)
+        || (bytes.len() / 8) as u64 != len.div_ceil(BLOCK_LEN as u64)
+    {
+        return false;
+    }
+    match digest {
+        FileDigest::Sha256(_) => false,
+        FileDigest::Blocks(digest) => digest.as_slice() == Sha256::digest(bytes).as_slice(),
+    }
+}
+
+// Returns a block of a file.
+fn file_block(file: &[u8], place: usize) -> &[u8]
+    requires { place < num_file_blocks (length file.now) }
+    ensures { result.now ≡ file_block place file.now }
+{
+    let from = place * BLOCK_LEN;
+    let len = BLOCK_LEN.min(file.len() - from);
+    &file[from..from + len]
+}

@@ -1,0 +1,12 @@
+//! A file that is read by ranges, of which each block is compared with its checksum before a byte of it is handed on.
+#![tactic(auto)]
+
+pub mod block_file;
+pub mod block_table;
+pub mod faults;
+pub mod read_at;
+
+pub use block_file::BlockFile;
+pub use block_table::BlockTable;
+pub use faults::ReadFault;
+pub use read_at::{MemoryFile, ReadAt, SystemFile};

@@ -1,0 +1,106 @@
+// Ranges of files that are checked block by block.
+use bytes::Bytes;
+use ii_block_file::{BlockFile, BlockTable, MemoryFile, ReadFault, SystemFile};
+use ii_store::FileDigest;
+use std::alloc::{AllocError, Global};
+use std::fs;
+use std::io::ErrorKind;
+use std::test::Fail;
+
+// Returns 200,000 bytes, which are four blocks.
+fn file_of(alloc: Global) -> Result<Vec<u8>, AllocError> {
+    let mut file = Vec::new(alloc);
+    for k in 0..200_000u32 {
+        file.push((k % 251) as u8)?;
+    }
+    Ok(file)
+}
+
+// Returns a copy of a file's table, taken by the file's digest.
+fn table_of(alloc: Global, file: &[u8]) -> Result<BlockTable, Fail> {
+    let made = BlockTable::of(alloc, file)?;
+    let bytes = Vec::from_slice(alloc, made.as_bytes())?;
+    let table = BlockTable::open(file.len() as u64, &FileDigest::new(file), bytes);
+    Ok(table.ok_or("no table")?)
+}
+
+// Where ranges begin, and their lengths.
+static RANGES: [(u64, usize); 7] = [
+    (0, 200_000),
+    (0, 1),
+    (65_535, 2),
+    (65_536, 65_536),
+    (131_071, 65_538),
+    (199_999, 1),
+    (200_000, 0),
+];
+
+#[test]
+fn ranges_are_read(rt: HostRuntime) -> Result<(), Fail> {
+    let file = file_of(rt.alloc())?;
+    let table = table_of(rt.alloc(), file.as_slice())?;
+    assert!(rt; table.as_bytes().len() == 32);
+    let source = MemoryFile::new(Bytes::copy_from_slice(rt.alloc(), file.as_slice())?);
+    let blocks = BlockFile::new(source, table);
+    assert!(rt; blocks.len() == 200_000);
+    for (from, len) in RANGES {
+        let read = blocks.read(rt.alloc(), from, len).ok().ok_or("refused")?;
+        let from = from as usize;
+        assert!(rt;
+            read.as_slice() == &file.as_slice()[from..from + len],
+            "{from} {len}"
+        );
+    }
+    for (from, len) in [
+        (200_000u64, 1usize),
+        (199_999, 2),
+        (u64::MAX, 1),
+        (u64::MAX, 0),
+    ] {
+        assert!(rt; blocks.read(rt.alloc(), from, len).err() == Some(ReadFault::Range));
+    }
+    Ok(())
+}
+
+#[test]
+fn other_tables_are_not_taken(rt: HostRuntime) -> Result<(), Fail> {
+    let file = file_of(rt.alloc())?;
+    let made = BlockTable::of(rt.alloc(), file.as_slice())?;
+    let digest = FileDigest::new(file.as_slice());
+    let short = Vec::from_slice(rt.alloc(), &made.as_bytes()[..24])?;
+    assert!(rt; BlockTable::open(200_000, &digest, short).is_none());
+    let mut changed = Vec::from_slice(rt.alloc(), made.as_bytes())?;
+    changed[31] ^= 1;
+    assert!(rt; BlockTable::open(200_000, &digest, changed).is_none());
+    let same = Vec::from_slice(rt.alloc(), made.as_bytes())?;
+    assert!(rt; BlockTable::open(196_608, &digest, same).is_none());
+    let same = Vec::from_slice(rt.alloc(), made.as_bytes())?;
+    let FileDigest::Blocks(digest) = digest else {
+        return Err("no digest of blocks".into());
+    };
+    assert!(rt; BlockTable::open(200_000, &FileDigest::Sha256(digest), same).is_none());
+    Ok(())
+}
+
+#[test]
+fn a_changed_block_is_told(rt: HostRuntime) -> Result<(), Fail> {
+    let path = "/tmp/ii_block_file_changed";
+    let mut file = file_of(rt.alloc())?;
+    let table = table_of(rt.alloc(), file.as_slice())?;
+    file[70_000] ^= 16;
+    fs::write(&rt, path, file.as_slice())?;
+    let blocks = BlockFile::new(SystemFile::new(fs::open(&rt, path)?), table);
+    let sound = blocks.read(rt.alloc(), 65_000, 536).ok().ok_or("refused")?;
+    assert!(rt; sound.as_slice() == &file.as_slice()[65_000..65_536]);
+    let damaged = blocks.read(rt.alloc(), 65_000, 537).err();
+    assert!(rt; damaged == Some(ReadFault::Damaged(1)));
+    let later = blocks.read(rt.alloc(), 131_072, 68_928).is_ok();
+    assert!(rt; later);
+    fs::write(&rt, path, &file.as_slice()[..140_000])?;
+    let cut = blocks.read(rt.alloc(), 131_072, 10).err();
+    assert!(rt; cut == Some(ReadFault::Refused(ErrorKind::UnexpectedEof)));
+    let whole = blocks.read(rt.alloc(), 10, 10).is_ok();
+    fs::remove_file(&rt, path)?;
+    assert!(rt; whole);
+    Ok(())
+}
