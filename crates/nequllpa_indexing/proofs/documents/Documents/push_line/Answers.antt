@@ -4,8 +4,8 @@ use Rattle.ii_base.specs.declared.doc_id.TheConstants.{TERMINATED}
 use Rattle.ii_definitions.specs.IndexCalls.{MayAllBeIndexed, call_of}
 use Rattle.ii_documents.specs.Floats.{counted, skipped_in_line}
 use Rattle.nequllpa_indexing.specs.Documents.{AddsRecord, may_be_stored}
-use Rattle.nequllpa_indexing.specs.StoredLines.{lines_view}
-use Rattle.nequllpa_indexing.proofs.DocumentLemmas.{adds_line, lines_more, may_more}
+use Rattle.nequllpa_indexing.specs.StoredLines.{AreLinesOf, lines_view}
+use Rattle.nequllpa_indexing.proofs.DocumentLemmas.{adds_line, lines_more, may_more, one_more}
 use Rattle.nequllpa_indexing.proofs.documents.Documents.push_line.Goals as goal
 
 pub invariant_of-self-2 : goal.invariant_of-self-2
@@ -33,3 +33,20 @@ returns-clause-ok c =
       rw (← c.self.view_is) records,
       rw (← c.self.view_is, calls, skipped, map-append) refl,
     )
+
+pub invariant_of-self-then-is_err : goal.invariant_of-self-then-is_err
+invariant_of-self-then-is_err c =
+    let s = c.self.inside in
+    let calls : c.append.new.self.items ≡ s.calls.items = search rules in
+    let back : lines_view c.pop_record.new.records ≡ lines_view s.lines = c.pop_record.ensures (lines_view s.lines) (one_more s.stored s.schema c.args.line.now (lines_view s.lines) (lines_view c.push_record.new.records) c.in_ok-push_record.ensures.ok) in (
+      c.self.invariant.0,
+      subst (MayAllBeIndexed s.schema s.num_docs) (sym calls) c.self.invariant.1,
+      subst (AreLinesOf s.num_docs) (sym back) c.self.invariant.2,
+    )
+
+pub returns-then-is_err-clause-err : goal.returns-then-is_err-clause-err
+returns-then-is_err-clause-err c =
+    let s = c.self.inside in
+    let calls : c.append.new.self.items ≡ s.calls.items = search rules in
+    let back : lines_view c.pop_record.new.records ≡ lines_view s.lines = c.pop_record.ensures (lines_view s.lines) (one_more s.stored s.schema c.args.line.now (lines_view s.lines) (lines_view c.push_record.new.records) c.in_ok-push_record.ensures.ok) in
+    rw (← c.self.view_is, calls, back) refl
