@@ -1,6 +1,4 @@
 pub mod Floats
 pub mod JsonLines
 pub mod JsonValues
-pub mod LineFields
-pub mod Records
 pub mod Steps

@@ -1,4 +1,3 @@
 pub mod SchemaText
 pub mod Settings
 pub mod Steps
-pub mod Stored

@@ -85,8 +85,5 @@ fn is_field_key(key: &str) -> bool
     if key == "tokenizer" {
         return true;
     }
-    if key == "stop_words" {
-        return true;
-    }
-    key == "stored"
+    key == "stop_words"
 }

@@ -6,3 +6,4 @@ mod WantedLemmas
 mod OpenLemmas
 mod RankingLemmas
 mod ShareTextLemmas
+mod LineFieldsLemmas
