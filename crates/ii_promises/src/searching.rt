@@ -162,7 +162,7 @@ pub fn phrases_find_what_is_near(
     ensures ascending { IfOk result (λ cursor. IsAscending cursor.rest) }
     ensures found { (schema : List SchemaEntry) (num_docs : ℕ) (tokens : List IndexToken) → IndexHolds schema num_docs index.now tokens → KeepPositions schema first second → AreTexts tokens first second
         → IfOk result (λ cursor. (doc : ℕ) → has_doc cursor.rest doc
-        ≡ list_any (λ t. is_token_of first doc t && list_any (λ u. is_token_of second doc u && nat_le (t.position + 1) (u.position + slop) && nat_le u.position (t.position + 1 + slop)) tokens) tokens) }
+        ≡ list_any (λ t. is_token_of first doc t && list_any (λ u. is_token_of second doc u && (nat_le (t.position + 1) (u.position + slop) && nat_le u.position (t.position + 1 + slop))) tokens) tokens) }
     ensures memory { (schema : List SchemaEntry) (num_docs : ℕ) (tokens : List IndexToken) → IndexHolds schema num_docs index.now tokens → KeepPositions schema first second
         → IfErr result (λ fault. fault ≡ Fault.OutOfMemory) }
 {
