@@ -24,6 +24,21 @@ fn table_of(alloc: Global, file: &[u8]) -> Result<BlockTable, Fail> {
     Ok(table.ok_or("no table")?)
 }
 
+// Returns a part of a file, an empty one if it doesn't end within the file.
+fn part(file: &[u8], from: usize, len: usize) -> &[u8] {
+    if from > file.len() || len > file.len() - from {
+        return &[];
+    }
+    &file[from..from + len]
+}
+
+// Changes a byte, if there is one.
+fn change(bytes: &mut Vec<u8>, place: usize) {
+    if place < bytes.len() {
+        bytes[place] ^= 16;
+    }
+}
+
 // Where ranges begin, and their lengths.
 static RANGES: [(u64, usize); 7] = [
     (0, 200_000),
@@ -45,11 +60,8 @@ fn ranges_are_read(rt: HostRuntime) -> Result<(), Fail> {
     assert!(rt; blocks.len() == 200_000);
     for (from, len) in RANGES {
         let read = blocks.read(rt.alloc(), from, len).ok().ok_or("refused")?;
-        let from = from as usize;
-        assert!(rt;
-            read.as_slice() == &file.as_slice()[from..from + len],
-            "{from} {len}"
-        );
+        let expected = part(file.as_slice(), from as usize, len);
+        assert!(rt; read.as_slice() == expected, "{from} {len}");
     }
     for (from, len) in [
         (200_000u64, 1usize),
@@ -67,10 +79,10 @@ fn other_tables_are_not_taken(rt: HostRuntime) -> Result<(), Fail> {
     let file = file_of(rt.alloc())?;
     let made = BlockTable::of(rt.alloc(), file.as_slice())?;
     let digest = FileDigest::new(file.as_slice());
-    let short = Vec::from_slice(rt.alloc(), &made.as_bytes()[..24])?;
+    let short = Vec::from_slice(rt.alloc(), part(made.as_bytes(), 0, 24))?;
     assert!(rt; BlockTable::open(200_000, &digest, short).is_none());
     let mut changed = Vec::from_slice(rt.alloc(), made.as_bytes())?;
-    changed[31] ^= 1;
+    change(&mut changed, 31);
     assert!(rt; BlockTable::open(200_000, &digest, changed).is_none());
     let same = Vec::from_slice(rt.alloc(), made.as_bytes())?;
     assert!(rt; BlockTable::open(196_608, &digest, same).is_none());
@@ -87,16 +99,16 @@ fn a_changed_block_is_told(rt: HostRuntime) -> Result<(), Fail> {
     let path = "/tmp/ii_block_file_changed";
     let mut file = file_of(rt.alloc())?;
     let table = table_of(rt.alloc(), file.as_slice())?;
-    file[70_000] ^= 16;
+    change(&mut file, 70_000);
     fs::write(&rt, path, file.as_slice())?;
     let blocks = BlockFile::new(SystemFile::new(fs::open(&rt, path)?), table);
     let sound = blocks.read(rt.alloc(), 65_000, 536).ok().ok_or("refused")?;
-    assert!(rt; sound.as_slice() == &file.as_slice()[65_000..65_536]);
+    assert!(rt; sound.as_slice() == part(file.as_slice(), 65_000, 536));
     let damaged = blocks.read(rt.alloc(), 65_000, 537).err();
     assert!(rt; damaged == Some(ReadFault::Damaged(1)));
     let later = blocks.read(rt.alloc(), 131_072, 68_928).is_ok();
     assert!(rt; later);
-    fs::write(&rt, path, &file.as_slice()[..140_000])?;
+    fs::write(&rt, path, part(file.as_slice(), 0, 140_000))?;
     let cut = blocks.read(rt.alloc(), 131_072, 10).err();
     assert!(rt; cut == Some(ReadFault::Refused(ErrorKind::UnexpectedEof)));
     let whole = blocks.read(rt.alloc(), 10, 10).is_ok();

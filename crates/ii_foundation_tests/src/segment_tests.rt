@@ -288,7 +288,9 @@ fn a_list_with_both_kinds_of_digest_is_read_and_written(rt: HostRuntime) -> Resu
     let written = encoded(rt.alloc(), &MIXED_LIST).ok().ok_or("refused")?;
     assert!(rt; written.as_slice() == MIXED_LIST.as_slice());
     let list = decode(rt.alloc(), &MIXED_LIST).ok().ok_or("refused")?;
+    assert!(rt; list.segments.len() == 1);
     let files = list.segments[0].files.as_slice();
+    assert!(rt; files.len() == 2);
     assert!(rt; is_of_sha256(&files[0], SegmentComponent::Terms, &[1]));
     assert!(rt; files[1] == FileMeta::new(SegmentComponent::Alive(1), &[9]));
     Ok(())
