@@ -28,6 +28,9 @@ PLACES = {
     'ii_block_file/src/faults.rt': {'from'},
     'ii_doc_store/src/faults.rt': {'from'},
     'ii_documents/src/faults.rt': {'of_json', 'of_hex', 'from'},  # errors of the kit's crates become faults
+    'ii_documents/src/line_fields.rt': {
+        'read_line',  # the kit's reader of JSON was refused memory
+        'value_text', 'quoted'},  # the text of a JSON value couldn't grow
     'ii_schema_text/src/faults.rt': {'of_toml', 'from'},
     'ii_query_grammar/src/parse_error.rt': {'from'},
     'ii_query_parser/src/query_parser_error.rt': {'from'},
@@ -41,15 +44,13 @@ PLACES = {
     'ii_folder_promises/src/stored_lines.rt': {'stored_lines_come_back', 'merged_lines_come_back', 'line_of', 'copied'},  # a store, or a copy of a line
     'ii_index/src/faults.rt': {'from'},
     'nequllpa_folder/src/faults.rt': {'is_memory', 'from'},
-    'nequllpa_folder/src/line_fields.rt': {
-        'read_line',  # the kit's reader of JSON was refused memory
-        'value_text', 'quoted'},  # the text of a JSON value couldn't grow
     'nequllpa_folder/src/opened.rt': {'documents_fault'},  # stored documents couldn't be opened for it
     'nequllpa_folder/src/stored_lines.rt': {
         'from', 'memory',
         'store_of', 'store_damages'},  # the same
     'nequllpa_indexing/src/documents.rt': {'push_line'},  # the list of calls couldn't grow
     'nequllpa_indexing/src/faults.rt': {'is_memory'},
+    'nequllpa_indexing/src/lines.rt': {'push_record'},  # the record of a line couldn't be built
     'nequllpa_merging/src/faults.rt': {'from'},
     'nequllpa_merging/src/stores.rt': {'store_fault'},  # stores couldn't be opened or merged for it
     'nequllpa_writing/src/keyed_lines.rt': {

@@ -1,7 +1,8 @@
 #!/usr/bin/env python3
 """Indexes lines that are stored, and compares `search --source`, `search --fields` and `get` with a plain reading of the lines: after adding,
-replacing, deleting and merging, in random folders, and where bytes of the file of stored lines are changed. An index
-without stored lines answers as before, and says that they aren't stored."""
+replacing, deleting and merging, in random folders, and where bytes of the file of stored lines are changed. The same for
+records: objects of the members whose fields are stored. An index without stored lines answers as before, and says that
+they aren't stored."""
 import json
 import os
 import random
@@ -19,6 +20,7 @@ SEED = 20261128
 FOLDERS = 200
 CHANGES = 300
 FIELD_LINES = 120
+RECORD_FOLDERS = 60
 NOT_STORED = 'the lines of this index are not stored'
 SCHEMA = 'store_source = true\n[[field]]\nname = "id"\ntype = "u64"\n[[field]]\nname = "body"\ntype = "text"\n'
 PIECES = ['sea', 'old', 'man', 'boat', 'line', 'fish', 'na\u00efve', '\u8001\u4eba', '\\u00e9', '\\"', '\\\\', 'x' * 300]
@@ -231,6 +233,63 @@ def fields_are_chosen(user):
     user.wants(['search', 'two', 'sea', '--fields', 'body'], 2, b'', NOT_STORED)
 
 
+def record_of(stored, pairs):
+    """Returns what is stored of a line: the last value of each stored key that has one, in the order of the schema."""
+    return picked([name for name in TYPES if name in stored], [(name, value) for name, value in dict(pairs).items() if value is not None])
+
+
+def records_of(user, chosen, stored):
+    """Compares what is printed of records in a random folder with a plain reading."""
+    tables = ''.join(f'[[field]]\nname = "{name}"\ntype = "{kind}"\n' + ('indexed = false\n' if name == 'other' else '')
+                     + ('stored = true\n' if name in stored else chosen.choice(['', 'stored = false\n'])) for name, kind in TYPES.items())
+    user.write('records.toml', tables)
+    shutil.rmtree(user.path('records'), ignore_errors=True)
+    rows = []
+    for turn in range(chosen.randrange(1, 4)):
+        lines = [chosen_members(chosen) for _ in range(chosen.randrange(1, 12))]
+        rows += [record_of(stored, pairs) for pairs in lines]
+        words = ['index', 'records', '--schema', 'records.toml'] if turn == 0 else ['add', 'records', *chosen.choice([[], ['--no-merge']])]
+        user.wants(words, 0, given='\n'.join(written(chosen, pairs) for pairs in lines).encode())
+    if chosen.randrange(3) == 0:
+        user.wants(['merge', 'records'], 0)
+    user.wants(['get', 'records', *range(len(rows))], 0, ''.join(row + '\n' for row in rows).encode())
+    user.wants(['search', 'records', 'all:x', '--source'], 0, ''.join(row + '\n' for row in rows).encode())
+    user.wants(['search', 'records', 'all:x', '--source', '--json'], 0, ''.join(f'{{"doc":{number},"source":{row}}}\n' for number, row in enumerate(rows)).encode())
+    names = chosen.sample(sorted(stored), chosen.randrange(1, len(stored) + 1))
+    kept = [picked(names, list(json.loads(row).items())) for row in rows]
+    user.wants(['search', 'records', 'all:x', '--fields', ','.join(names)], 0, ''.join(row + '\n' for row in kept).encode())
+    for name in sorted(set(TYPES) - set(stored)):
+        user.wants(['search', 'records', 'all:x', '--fields', f'{names[0]},{name}'], 2, b'', f'the field {name} is not stored')
+        user.wants(['search', 'records', 'all:x', '--field', name, '--snippet'], 2, b'', f'the field {name} is not stored')
+    user.wants(['check', 'records'], 0)
+
+
+def records_are_kept(user):
+    """Looks at the records of random folders, at records with numbers that have a fraction, and at schemas that say both."""
+    chosen = random.Random(SEED + 4)
+    for _ in range(RECORD_FOLDERS):
+        records_of(user, chosen, chosen.sample(sorted(TYPES), chosen.randrange(1, len(TYPES))))
+    fields = '[[field]]\nname = "body"\ntype = "text"\n[[field]]\nname = "tree"\ntype = "json"\nstored = true\n'
+    user.write('records.toml', 'unknown = "ignore"\n' + fields)
+    line = b'{"tree":{"a":1.10,"b":"sea"},"body":"old sea","more":1}'
+    user.wants(['index', 'tree', '--schema', 'records.toml', '--skip-floats'], 0, given=line)
+    user.wants(['get', 'tree', 0], 0, b'{"tree":{"a":1.1,"b":"sea"}}\n')
+    user.wants(['search', 'tree', 'old', '--source'], 0, b'{"tree":{"a":1.1,"b":"sea"}}\n')
+    user.wants(['search', 'tree', 'old', '--snippet'], 0, b'0\t\n')
+    user.wants(['index', 'tree', '--schema', 'records.toml'], 1, b'', 'a floating-point number', given=line)
+    user.write('records.toml', fields + '[[field]]\nname = "title"\ntype = "text"\nstored = true\n')
+    user.wants(['index', 'titles', '--schema', 'records.toml'], 0, given=b'{"body":"old sea","title":"The Sea"}\n')
+    user.wants(['search', 'titles', 'sea', '--snippet'], 0, b'0\tThe Sea\n')
+    user.wants(['search', 'titles', 'sea', '--snippet', '--json'], 0, b'{"doc":0,"snippet":"The <b>Sea</b>"}\n')
+    user.write('both.toml', 'store_source = true\n' + fields)
+    user.wants(['index', 'both', '--schema', 'both.toml'], 0, given=b' {"tree": null, "body":"old sea"} \n')
+    user.wants(['get', 'both', 0], 0, b'{"tree": null, "body":"old sea"}\n')
+    user.wants(['search', 'both', 'old', '--fields', 'body'], 0, b'{"body":"old sea"}\n')
+    for value in ('1', '"true"', '["a"]'):
+        user.write('wrong.toml', '[[field]]\nname = "a"\ntype = "text"\nstored = ' + value + '\n')
+        user.wants(['index', 'wrong', '--schema', 'wrong.toml'], 2, b'', 'field 0: stored: true or false (the field a)', given=b'')
+
+
 def store_of(user, folder):
     """Returns the path of the one file of stored lines, and where each block ends in it, with its documents."""
     names = [name for name in os.listdir(user.path(folder)) if name.endswith('.store')]
@@ -314,8 +373,9 @@ def stored_lines(user):
     other_indexes_answer(user)
     random_folders(user)
     fields_are_chosen(user)
+    records_are_kept(user)
     damage_is_named(user)
-    return f'stored lines come back, in {FOLDERS} folders, and damage is named at {CHANGES} places'
+    return f'stored lines come back, in {FOLDERS} folders, and records in {RECORD_FOLDERS}, and damage is named at {CHANGES} places'
 
 
 sys.exit(users.judged(stored_lines))

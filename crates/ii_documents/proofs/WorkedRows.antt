@@ -1,5 +1,5 @@
 -- What members give, by hand.
-use Rattle.std.proofs.Common.{◌≡◌, ℕ, true, false, [], ◌∷◌, Ok, Err, codes, refl}
+use Rattle.std.proofs.Common.{◌≡◌, ℕ, List, true, false, [], ◌∷◌, Ok, Err, codes, refl}
 use Rattle.std.specs.Prelude.{Float, negsuc}
 use Rattle.serde_json.specs.Data.{Members, array, boolean, float, item, member, negative, no_items, no_members, null, number, object, string, unsigned}
 use Rattle.ii_base.specs.Schema.{SchemaEntry}
@@ -13,6 +13,9 @@ use Rattle.ii_dates.proofs.OnLiterals.{dates_on_literals}
 use Rattle.ii_documents.specs.declared.floats.FloatNumbers.TheVariants as floats
 use Rattle.ii_documents.specs.Floats.{skipped_in_members}
 use Rattle.ii_documents.specs.JsonLines.{members_calls, read_members, unknown_key, wrong_value}
+use Rattle.ii_documents.specs.declared.line_fields.NullMembers.TheVariants.{Keep, LeaveOut}
+use Rattle.ii_documents.specs.LineFields.{chosen}
+use Rattle.ii_schema_text.specs.Stored.{stored_names}
 
 abbrev entry : ValueType → SchemaEntry
 entry t = record { name = codes "a"; value_type = t; option = Basic; is_indexed = true; has_fieldnorms = false; expands_dots = false }
@@ -99,3 +102,29 @@ counted_float x = refl
 fraction : (x : Float) → members_calls floats.Skip (entry types.U64 ∷ []) 2 (member (codes "a") (number (float x)) no_members) ≡ Err (wrong_value 0 faults.OutOfRange)
 unfolding members_calls
 fraction x = refl
+
+-- the names of the fields that are stored, in the order of the schema
+abbrev named : List ℕ → SchemaEntry
+named name = record { name = name; value_type = types.Str; option = Basic; is_indexed = true; has_fieldnorms = false; expands_dots = false }
+
+names_stored : stored_names (false ∷ true ∷ true ∷ []) (named (codes "a") ∷ named (codes "c") ∷ named (codes "b") ∷ []) ≡ codes "c" ∷ codes "b" ∷ []
+names_stored = refl
+
+-- fields of which nothing is said aren't stored
+none_stored : stored_names (true ∷ []) (named (codes "a") ∷ named (codes "b") ∷ []) ≡ codes "a" ∷ []
+none_stored = refl
+
+-- the members of a record: in the order of the names, without those that are null or missing
+abbrev line_members : Members
+line_members = member (codes "a") (number (unsigned 1)) (member (codes "b") null (member (codes "c") (string (codes "x")) no_members))
+
+members_stored : chosen LeaveOut (codes "c" ∷ codes "b" ∷ codes "d" ∷ codes "a" ∷ []) (object line_members) ≡ member (codes "c") (string (codes "x")) (member (codes "a") (number (unsigned 1)) no_members)
+members_stored = refl
+
+-- what is printed of a line has its null
+members_printed : chosen Keep (codes "b" ∷ codes "a" ∷ []) (object line_members) ≡ member (codes "b") null (member (codes "a") (number (unsigned 1)) no_members)
+members_printed = refl
+
+-- a line that is no object has no members
+members_of_a_list : chosen LeaveOut (codes "a" ∷ []) (array (item (number (unsigned 1)) no_items)) ≡ no_members
+members_of_a_list = refl

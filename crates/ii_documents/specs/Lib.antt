@@ -1,4 +1,6 @@
 pub mod Floats
 pub mod JsonLines
 pub mod JsonValues
+pub mod LineFields
+pub mod Records
 pub mod Steps

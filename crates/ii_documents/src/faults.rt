@@ -57,7 +57,7 @@ pub enum LineFault {
     /// There are 2^31 - 1 documents already.
     #[error("too many documents")]
     TooManyDocuments,
-    /// The line has 2^31 bytes or more, and lines are stored.
+    /// The line has 2^31 bytes or more, and lines are stored, or what is stored of it has.
     #[error("too long to be stored: 2^31 bytes or more")]
     TooLong,
     /// The line isn't JSON.

@@ -6,8 +6,12 @@ pub mod faults;
 pub mod floats;
 pub mod json_lines;
 mod json_values;
+pub mod line_fields;
+pub mod records;
 mod values;
 
 pub use faults::{LineFault, ValueFault};
 pub use floats::FloatNumbers;
 pub use json_lines::{LineCalls, line_calls, line_calls_by};
+pub use line_fields::{fields_of_line, quoted, read_line};
+pub use records::record_of;

@@ -3,7 +3,7 @@ use Rattle.std.proofs.Common.{◌≡◌, ◌∙◌, ℕ, zero, suc, ◌+◌, Boo
 use Rattle.std.specs.Prelude.{◌<◌, ◌⊎◌, IsSome, Vec, if◌then◌else◌, is_some, nat_lt, not, replicate}
 use Rattle.std.specs.Option.{option_map}
 use Rattle.std.specs.declared.alloc.Global.{Global}
-use Rattle.std.proofs.lemmas.List.{length-replicate, map-append}
+use Rattle.std.proofs.lemmas.List.{length-append, length-replicate, map-append}
 use Rattle.ii_tokenizers.specs.declared.field_tokenizer.FieldTokenizer.{FieldTokenizer}
 use Rattle.ii_segment_store.specs.declared.stored_segments.SegmentFiles.{SegmentFiles}
 use Rattle.ii_segment_store.specs.Commits.{HoldsOldOr}
@@ -22,7 +22,7 @@ use Rattle.ii_documents.specs.declared.floats.FloatNumbers.TheVariants as floats
 use Rattle.ii_documents.proofs.NumberLaws.{all_of_doc, of_doc, renumbered}
 use Rattle.ii_index.specs.Index.{AreReadBy, FlushedState}
 use Rattle.ii_index.specs.Pending.{ArePending, AreWritten, HoldsFlushed, HoldsFlushedIf, IsWrittenSegment, document_tokens, tokens_if, with_segments}
-use Rattle.ii_index.specs.Segments.{HaveTokens, HoldsIndexOf, after, segment_of, with_tokens}
+use Rattle.ii_index.specs.Segments.{HaveLines, HaveTokens, HoldsIndexOf, after, segment_of, with_tokens}
 use Rattle.ii_index.proofs.IndexLemmas.{same_holds, zip_more}
 use Rattle.ii_segment_search.proofs.LocalLaws.{docs_of_both}
 use Rattle.ii_segment_store.specs.Changes.{segments_without}
@@ -35,7 +35,7 @@ use Rattle.ii_store.specs.declared.faults.IndexFault.{IndexFault}
 use Rattle.ii_store.specs.Index.{◌>>=◌}
 use Rattle.ii_store.specs.IndexMeta.{MetaState, SegmentState}
 use Rattle.ii_tokenizers.specs.Tokenizers.{analyzed_in}
-use Rattle.nequllpa_indexing.specs.Documents.{AddsLine, DocumentsState, WereCalls, may_be_stored, next_calls, with_document}
+use Rattle.nequllpa_indexing.specs.Documents.{AddsLine, AddsRecord, DocumentsState, WereCalls, may_be_stored, next_calls, with_document}
 use Rattle.nequllpa_indexing.specs.FieldTokens.{tokens_by}
 use Rattle.nequllpa_indexing.proofs.LineTokens.{doc_after, doc_with, docs_hold, docs_with}
 use Rattle.nequllpa_merging.specs.HeldSegments.{HoldSegments, HoldsSegment}
@@ -233,7 +233,7 @@ abbrev calls_in : Result (List Call) Refusal → List Call
 calls_in (Ok cs) = cs
 calls_in (Err refusal) = []
 
-module _ (s : TextSchemaState) (d : DocumentsState) (cs : List Call) (line : List ℕ) (below : AllByRecursion (λ (c : Call). c.doc < d.num_docs) d.calls)
+module _ (s : TextSchemaState) (d : DocumentsState) (cs : List Call) (line : List ℕ) (lines : Option (List (List ℕ))) (below : AllByRecursion (λ (c : Call). c.doc < d.num_docs) d.calls)
     (are : line_calls_by s.unknown_keys floats.Refuse s.schema d.num_docs line ≡ Ok cs) where
   abbrev words : ℕ → List ℕ → List Word
   words = analyzed_in s.tokenizers
@@ -249,7 +249,7 @@ module _ (s : TextSchemaState) (d : DocumentsState) (cs : List Call) (line : Lis
   tokens_under k = ap (tokens_if words) (renumbered floats.Refuse k d.num_docs s.unknown_keys s.schema line ∙ ap (all_of_doc k) are)
 
   abbrev grown : DocumentsState
-  grown = with_document d cs line
+  grown = with_document d cs line lines
 
   all_below : AllByRecursion (λ (c : Call). c.doc < grown.num_docs) grown.calls
   all_below = subst (λ (xs : List Call). AllByRecursion (λ (c : Call). c.doc < d.num_docs + 1) (d.calls ++ xs)) own_calls (docs_with d.num_docs d.calls cs below)
@@ -292,7 +292,7 @@ calls_below entries n calls were = subst (AllByRecursion (λ (c : Call). c.doc <
 
 -- the calls of a line that was added, as the schema's text says
 line_calls : (s : TextSchemaState) (d : DocumentsState) (line : List ℕ) (cs : List Call) → AreReadBy s d → next_calls d line ≡ Ok cs → line_calls_by s.unknown_keys floats.Refuse s.schema d.num_docs line ≡ Ok cs
-line_calls s d line cs read is = rw (read.unknown_keys, read.floats, read.schema) at (taken (nat_lt d.num_docs TERMINATED) (may_be_stored d.lines line) (line_calls_by d.unknown_keys d.floats d.schema d.num_docs line) is)
+line_calls s d line cs read is = rw (read.unknown_keys, read.floats, read.schema) at (taken (nat_lt d.num_docs TERMINATED) (may_be_stored d.stored line) (line_calls_by d.unknown_keys d.floats d.schema d.num_docs line) is)
   where
     taken : (fits stored : Bool) (r : Result (List Call) Refusal) → (if fits then (if stored then r else Err too_long) else Err too_many_documents) ≡ Ok cs → r ≡ Ok cs
     taken true true r is = is
@@ -303,8 +303,20 @@ line_calls s d line cs read is = rw (read.unknown_keys, read.floats, read.schema
 pub adds_line : (s : TextSchemaState) (d e : DocumentsState) (line : List ℕ) → AreReadBy s d → WereCalls d.schema d.num_docs d.calls → AddsLine d e line
     → (files : Files) (flushed : Option FlushedState) (k : ℕ) (us : List IndexToken) → ArePending s files flushed d k us → ArePending s files flushed e (k + 1) (us ++ document_tokens s k line)
 adds_line s d e line read were adds files flushed k us h =
-    subst (λ (x : DocumentsState). ArePending s files flushed x (k + 1) (us ++ document_tokens s k line)) (sym adds.2)
-    (pending_more s d adds.0 line (calls_below d.schema d.num_docs d.calls were) (line_calls s d line adds.0 read adds.1) files flushed k us h)
+    subst (λ (x : DocumentsState). ArePending s files flushed x (k + 1) (us ++ document_tokens s k line)) (sym adds.4)
+    (pending_more s d adds.0 line adds.1 (calls_below d.schema d.num_docs d.calls were) (line_calls s d line adds.0 read adds.2) files flushed k us h)
+
+-- what is stored of documents, with what is stored of one more
+pub have_more : (d e : DocumentsState) (line : List ℕ) → HaveLines d.num_docs d.lines → AddsLine d e line → HaveLines e.num_docs e.lines
+have_more d e line have adds = subst (λ (x : DocumentsState). HaveLines x.num_docs x.lines) (sym adds.4) (more d.lines adds.1 have adds.3)
+  where
+    more : (old new : Option (List (List ℕ))) → HaveLines d.num_docs old → AddsRecord d.stored d.schema line old new → HaveLines (d.num_docs + 1) new
+    more None new have records = subst (HaveLines (d.num_docs + 1)) (sym records) tt
+    more (Some rs) new have records = subst (HaveLines (d.num_docs + 1)) (sym records.3) (omega (arith, length-append rs (records.0 ∷ []), have))
+
+-- they are still read by the schema
+pub read_more : (s : TextSchemaState) (d e : DocumentsState) (line : List ℕ) → AreReadBy s d → AddsLine d e line → AreReadBy s e
+read_more s d e line read adds = subst (AreReadBy s) (sym adds.4) (record { schema = read.schema; stored = read.stored; unknown_keys = read.unknown_keys; floats = read.floats })
 
 -- segments that were written hold what they hold
 pub written_hold : (entries : List SchemaEntry) (cs : List SegmentContents) (ss : List Segment) → AllZip (IsWrittenSegment entries) cs ss → HoldSegments entries cs ss

@@ -21,13 +21,14 @@ use Rattle.ii_store.specs.Index.{Fails}
 use Rattle.ii_store.specs.IndexMeta.{MetaState}
 use Rattle.ii_segment_store.specs.declared.faults.CommitFault.{CommitFault}
 use Rattle.ii_segments.specs.Segments.{Segment}
+use Rattle.ii_documents.specs.declared.faults.LineFault.TheVariants.{TooLong}
 use Rattle.ii_documents.specs.JsonLines.{TellsOfLine, told_of_line}
 use Rattle.ii_store.specs.Segments.{list_in}
 use Rattle.ii_store.specs.declared.faults.StoreFault.{StoreFault}
 use Rattle.ii_store.specs.declared.faults.StoreFault.TheVariants as store
 use Rattle.ii_tokenizers.specs.Tokenizers.{analyzed_in}
 use Rattle.nequllpa_indexing.specs.Counted.{IsSegmentFault}
-use Rattle.nequllpa_indexing.specs.Documents.{AddsLine, DocumentsState}
+use Rattle.nequllpa_indexing.specs.Documents.{AddsLine, DocumentsState, IsTooLong}
 use Rattle.nequllpa_indexing.specs.FieldTokens.{calls_fault_by, tokens_by}
 use Rattle.nequllpa_indexing.specs.StoredLines.{IsLinesFault}
 use Rattle.nequllpa_merging.specs.HeldSegments.{HoldsSegment}
@@ -83,7 +84,7 @@ IsAddError _ s flushed d files = ⊥
 
 -- Why a document isn't added to a writer: its line is none, or the documents in memory are to be written with it, and aren't.
 abbrev pub IsDocumentError : {D : Type 0} → IndexError → IndexWriterState D → List ℕ → Files → Type 0
-IsDocumentError (faults.Document fault) w line files = TellsOfLine (told_of_line fault) (calls_to_add w line)
+IsDocumentError (faults.Document fault) w line files = TellsOfLine (told_of_line fault) (calls_to_add w line) ⊎ ((fault ≡ TooLong) × IsTooLong w.documents line)
 IsDocumentError (faults.Documents fault) w line files = (fault ≡ OutOfMemory) ⊎ ((d : DocumentsState) × AddsLine w.documents d line × IsAddError (faults.Documents fault) w.index.schema w.flushed d files)
 IsDocumentError (faults.Commit fault) w line files = (d : DocumentsState) × AddsLine w.documents d line × IsAddError (faults.Commit fault) w.index.schema w.flushed d files
 IsDocumentError _ w line files = ⊥

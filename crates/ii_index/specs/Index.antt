@@ -39,9 +39,10 @@ pub record IndexWriterState (D : Type 0) : Type 0 where
   pub max_bytes : ℕ
   pub deletes : List DeleteState
 
--- Documents have the fields of a schema, and lines are read as its text says.
+-- Documents have the fields of a schema, and lines are read and stored as its text says.
 pub record AreReadBy (s : TextSchemaState) (d : DocumentsState) : Type 0 where
   pub schema : d.schema ≡ s.schema
+  pub stored : d.stored ≡ s.stored
   pub unknown_keys : d.unknown_keys ≡ s.unknown_keys
   pub floats : d.floats ≡ float_numbers.Refuse
 

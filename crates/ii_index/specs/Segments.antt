@@ -7,13 +7,13 @@ use Rattle.ii_directory.specs.Directory.{Files}
 use Rattle.ii_schema_text.specs.SchemaText.{TextSchemaState}
 use Rattle.ii_segments.specs.Segments.{Segment, index_tokens, num_docs_of}
 use Rattle.ii_documents.specs.declared.floats.FloatNumbers.TheVariants as floats
-use Rattle.nequllpa_indexing.specs.Documents.{DocumentsState}
+use Rattle.nequllpa_indexing.specs.Documents.{DocumentsState, no_records}
 use Rattle.nequllpa_indexing.specs.FieldTokens.{tokens_by}
 use Rattle.nequllpa_merging.specs.Joins.{HoldsIndex}
 
 -- no documents, of the fields of a schema, with their lines if it stores them, and with unknown keys as it says
 abbrev pub no_documents : TextSchemaState → DocumentsState
-no_documents s = record { schema = s.schema; num_docs = 0; calls = []; lines = if s.stores_source then Some [] else None; unknown_keys = s.unknown_keys; floats = floats.Refuse; skipped_floats = 0 }
+no_documents s = record { schema = s.schema; num_docs = 0; calls = []; stored = s.stored; lines = no_records s.stored; unknown_keys = s.unknown_keys; floats = floats.Refuse; skipped_floats = 0 }
 
 -- If lines are stored, there is one for each document.
 abbrev pub HaveLines : ℕ → Option (List (List ℕ)) → Type 0

@@ -133,8 +133,8 @@ impl<D: Directory + Drop> IndexWriter<D> {
     /// # Errors
     ///
     /// `Document` with why the text is no document (`line_calls` of `ii_documents`); `TooManyDocuments` in it if
-    /// 2^31 - 1 documents are pending; `TooLong` for 2^31 bytes or more, if lines are stored; `OutOfMemory`. The writer
-    /// is then unchanged.
+    /// 2^31 - 1 documents are pending; `TooLong` for 2^31 bytes or more, of the text if complete lines are stored, else
+    /// of what is stored of it; `OutOfMemory`. The writer is then unchanged.
     ///
     /// If documents are to be written, also `Documents` with why they can't be indexed (`Documents::into_segment`), or
     /// if an allocation failed, and `Commit` with why the segment can't be written (`PendingSegments::begin` and

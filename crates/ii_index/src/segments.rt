@@ -15,8 +15,8 @@ use ii_tokenizers::FieldTokenizers;
 use nequllpa_indexing::Documents;
 use std::alloc::Global;
 
-// Returns an empty list of documents, of the fields of a schema. Their lines are stored, and unknown keys ignored, if
-// the schema says so.
+// Returns an empty list of documents, of the fields of a schema. What is stored of them, and whether unknown keys are
+// ignored, is as the schema says.
 pub(crate) fn documents_for(alloc: Global, schema: &TextSchema) -> Result<Documents, Fault>
     ensures none { IfOk result (λ d. d ≡ no_documents schema.now) }
     ensures only { OnlyMemory result }
@@ -25,11 +25,11 @@ pub(crate) fn documents_for(alloc: Global, schema: &TextSchema) -> Result<Docume
         Ok(fields) => fields,
         Err(fault) => return Err(fault),
     };
-    let unknown = schema.unknown_keys();
-    if schema.stores_source() {
-        return Ok(Documents::storing(alloc, fields).with_unknown_keys(unknown));
-    }
-    Ok(Documents::new(alloc, fields).with_unknown_keys(unknown))
+    let stored = match schema.stored().clone() {
+        Ok(stored) => stored,
+        Err(fault) => return Err(fault),
+    };
+    Ok(Documents::storing(alloc, fields, stored).with_unknown_keys(schema.unknown_keys()))
 }
 
 // Builds the files of a segment of documents.

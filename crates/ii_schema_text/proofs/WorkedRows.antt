@@ -10,6 +10,7 @@ use Rattle.ii_tokenizers.specs.Tokenizers.{analyzer_named, plain_tokenizer}
 use Rattle.ii_schema_text.specs.declared.faults.FieldKey.TheVariants as keys
 use Rattle.ii_schema_text.specs.declared.unknown_keys.UnknownKeys.TheVariants.{Ignore, Refuse}
 use Rattle.ii_schema_text.specs.Settings.{option_named, settings_in, type_named}
+use Rattle.ii_schema_text.specs.Stored.{has_field, is_any}
 use Rattle.ii_schema_text.specs.SchemaText.{default_in, entry_in, field_in, is_known_key, no_fields, other_unicode, stop_words_in, stores_source_in, table_schema, tokenizer_in, unicode_in, unknown_field_key, unknown_field_tokenizer, unknown_key, unknown_keys_in, unknown_keys_named, unknown_tokenizer, wrong_key, wrong_store_source, wrong_unknown}
 
 -- a field of texts alone has positions and norms
@@ -24,7 +25,7 @@ text_field : table_schema (member (codes "field") (array (item (table (member (c
         expands_dots = false;
       } ∷ [];
       tokenizers = plain_tokenizer Ascii ∷ [];
-      stores_source = false;
+      stored = record { is_line = false; fields = false ∷ [] };
       unknown_keys = Refuse;
     })
 unfolding table_schema field_in entry_in settings_in type_named option_named is_known_key
@@ -33,12 +34,15 @@ text_field = refl
 -- a field of numbers has neither
 number_field : entry_in [] (table (member (codes "name") (string (codes "n")) (member (codes "type") (string (codes "u64")) no_members)))
     ≡ Ok (record {
-      name = codes "n";
-      value_type = values.U64;
-      option = Basic;
-      is_indexed = true;
-      has_fieldnorms = false;
-      expands_dots = false;
+      entry = record {
+        name = codes "n";
+        value_type = values.U64;
+        option = Basic;
+        is_indexed = true;
+        has_fieldnorms = false;
+        expands_dots = false;
+      };
+      is_stored = false;
     })
 unfolding entry_in settings_in type_named option_named is_known_key
 number_field = refl
@@ -56,7 +60,7 @@ unfolding table_schema field_in entry_in settings_in type_named option_named is_
 same_name = refl
 
 -- a key that isn't known, and no field
-strangers : table_schema (member (codes "field") (array (item (table (member (codes "stored") (boolean true) no_members)) no_items)) no_members) ≡ Err (unknown_field_key 0 (codes "stored"))
+strangers : table_schema (member (codes "field") (array (item (table (member (codes "store") (boolean true) no_members)) no_items)) no_members) ≡ Err (unknown_field_key 0 (codes "store"))
 unfolding table_schema field_in entry_in settings_in type_named option_named is_known_key
 strangers = refl
 
@@ -89,11 +93,61 @@ stored_field : table_schema (member (codes "field") (array (item (table (member 
         expands_dots = false;
       } ∷ [];
       tokenizers = plain_tokenizer Ascii ∷ [];
-      stores_source = true;
+      stored = record { is_line = true; fields = false ∷ [] };
       unknown_keys = Refuse;
     })
 unfolding table_schema field_in entry_in settings_in type_named option_named is_known_key
 stored_field = refl
+
+-- a field that isn't indexed and whose member is stored, and one of neither
+two_fields : table_schema (member (codes "field") (array (item (table (member (codes "indexed") (boolean false) (member (codes "name") (string (codes "a")) (member (codes "stored") (boolean true) (member (codes "type") (string (codes "u64")) no_members)))))
+    (item (table (member (codes "indexed") (boolean false) (member (codes "name") (string (codes "b")) (member (codes "type") (string (codes "u64")) no_members)))) no_items))) no_members)
+    ≡ Ok (record {
+      schema = record {
+        name = codes "a";
+        value_type = values.U64;
+        option = Basic;
+        is_indexed = false;
+        has_fieldnorms = false;
+        expands_dots = false;
+      } ∷ record {
+        name = codes "b";
+        value_type = values.U64;
+        option = Basic;
+        is_indexed = false;
+        has_fieldnorms = false;
+        expands_dots = false;
+      } ∷ [];
+      tokenizers = plain_tokenizer Ascii ∷ plain_tokenizer Ascii ∷ [];
+      stored = record { is_line = false; fields = true ∷ false ∷ [] };
+      unknown_keys = Refuse;
+    })
+unfolding table_schema field_in entry_in settings_in type_named option_named is_known_key
+two_fields = refl
+
+stored_by_a_text : entry_in [] (table (member (codes "name") (string (codes "a")) (member (codes "stored") (string (codes "true")) (member (codes "type") (string (codes "text")) no_members))))
+    ≡ Err (wrong_key 0 keys.Stored)
+unfolding entry_in settings_in type_named option_named is_known_key
+stored_by_a_text = refl
+
+-- what is stored: nothing, the field 1 of two, or the line, of which each field can be printed
+nothing_stored : is_any (record { is_line = false; fields = false ∷ false ∷ [] }) ≡ false
+nothing_stored = refl
+
+one_stored : is_any (record { is_line = false; fields = false ∷ true ∷ [] }) ≡ true
+one_stored = refl
+
+second_stored : has_field (record { is_line = false; fields = false ∷ true ∷ [] }) 1 ≡ true
+second_stored = refl
+
+first_not_stored : has_field (record { is_line = false; fields = false ∷ true ∷ [] }) 0 ≡ false
+first_not_stored = refl
+
+third_not_stored : has_field (record { is_line = false; fields = false ∷ true ∷ [] }) 2 ≡ false
+third_not_stored = refl
+
+all_in_the_line : has_field (record { is_line = true; fields = false ∷ [] }) 7 ≡ true
+all_in_the_line = refl
 
 -- the key is told before the fields
 stored_first : table_schema (member (codes "store_source") (integer (pos 1)) no_members) ≡ Err wrong_store_source
@@ -131,7 +185,7 @@ ignoring_field : table_schema (member (codes "field") (array (item (table (membe
         expands_dots = false;
       } ∷ [];
       tokenizers = plain_tokenizer Ascii ∷ [];
-      stores_source = false;
+      stored = record { is_line = false; fields = false ∷ [] };
       unknown_keys = Ignore;
     })
 unfolding table_schema field_in entry_in settings_in type_named option_named is_known_key unknown_keys_named
@@ -206,7 +260,7 @@ english_field : table_schema (member (codes "field") (array (item (table (member
         expands_dots = false;
       } ∷ [];
       tokenizers = record { analyzer = English; stop_words = with_stop_word [] (codes "The") } ∷ [];
-      stores_source = false;
+      stored = record { is_line = false; fields = false ∷ [] };
       unknown_keys = Refuse;
     })
 unfolding table_schema field_in entry_in settings_in type_named option_named is_known_key analyzer_named

@@ -1,3 +1,4 @@
 pub mod SchemaText
 pub mod Settings
 pub mod Steps
+pub mod Stored

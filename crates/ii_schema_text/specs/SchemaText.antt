@@ -12,6 +12,7 @@ use Rattle.ii_tokenizers.specs.declared.analyzer.Analyzer.TheVariants.{Ascii, De
 use Rattle.ii_tokenizers.specs.declared.field_tokenizer.FieldTokenizer.{FieldTokenizer}
 use Rattle.ii_tokenizers.specs.Analyzers.{with_stop_word}
 use Rattle.ii_tokenizers.specs.Tokenizers.{analyzer_named, unicode_version, uses_unicode}
+use Rattle.ii_schema_text.specs.declared.entry_table.ReadField.{ReadField}
 use Rattle.ii_schema_text.specs.declared.faults.FieldKey.{FieldKey}
 use Rattle.ii_schema_text.specs.declared.faults.FieldKey.TheVariants as keys
 use Rattle.ii_schema_text.specs.declared.faults.SchemaFault.{SchemaFault}
@@ -25,12 +26,13 @@ use Rattle.ii_schema_text.specs.declared.unknown_keys.UnknownKeys.{UnknownKeys}
 use Rattle.ii_schema_text.specs.declared.unknown_keys.UnknownKeys.TheVariants.{Ignore, Refuse}
 use Rattle.ii_schema_text.specs.Settings.{has_texts, is_json_type, named, settings_in}
 use Rattle.ii_schema_text.specs.Steps.{◌>>=◌}
+use Rattle.ii_schema_text.specs.Stored.{StoredState}
 
--- A schema, the tokenizer of each of its fields, whether the lines of documents are stored, and what happens to their unknown keys.
+-- A schema, the tokenizer of each of its fields, what is stored of documents, and what happens to their unknown keys.
 pub record TextSchemaState : Type 0 where
   pub schema : List SchemaEntry
   pub tokenizers : List FieldTokenizer
-  pub stores_source : Bool
+  pub stored : StoredState
   pub unknown_keys : UnknownKeys
 
 -- Why a text is not a valid schema.
@@ -81,7 +83,7 @@ unfoldable pub is_known_key : KnownKeys → List ℕ → Bool
 is_known_key OfText key = bytes_eq key (codes "field") || (bytes_eq key (codes "tokenizer") || (bytes_eq key (codes "unicode") || (bytes_eq key (codes "store_source") || bytes_eq key (codes "unknown"))))
 is_known_key OfField key =
     bytes_eq key (codes "name") || (bytes_eq key (codes "type") || (bytes_eq key (codes "indexed")
-    || (bytes_eq key (codes "record") || (bytes_eq key (codes "fieldnorms") || (bytes_eq key (codes "expand_dots") || (bytes_eq key (codes "tokenizer") || bytes_eq key (codes "stop_words")))))))
+    || (bytes_eq key (codes "record") || (bytes_eq key (codes "fieldnorms") || (bytes_eq key (codes "expand_dots") || (bytes_eq key (codes "tokenizer") || (bytes_eq key (codes "stop_words") || bytes_eq key (codes "stored"))))))))
 
 -- the first unknown key
 abbrev pub unknown_key_in : KnownKeys → Members → Option (List ℕ)
@@ -135,13 +137,26 @@ abbrev pub right : {A : Type 0} → ℕ → Result A FieldKey → Result A Refus
 right place (Ok x) = Ok x
 right place (Err key) = Err (wrong_key place key)
 
--- the entry of a field after others
-unfoldable pub entry_in : List SchemaEntry → Data → Result SchemaEntry Refusal
+-- A field: its entry, and whether its member is stored.
+pub record FieldState : Type 0 where
+  pub entry : SchemaEntry
+  pub is_stored : Bool
+
+-- the model of a field that was read
+abbrev pub read_field : ReadField → FieldState
+read_field f = record { entry = f.entry; is_stored = f.is_stored }
+
+-- a field with this name and these settings
+abbrev pub field_with : List ℕ → Settings → FieldState
+field_with name s = record { entry = entry_with name s; is_stored = s.is_stored }
+
+-- the field of a table after others
+unfoldable pub entry_in : List SchemaEntry → Data → Result FieldState Refusal
 entry_in before d = do
   _ ← knows_keys (unknown_field_key (length before)) (unknown_key_in OfField (members_in d))
   name ← ok_or (name_in before (get (codes "name") d)) (wrong_key (length before) keys.Name)
   settings ← right (length before) (settings_in d)
-  Ok (entry_with name settings)
+  Ok (field_with name settings)
 
 -- whether values of a type are or contain texts
 abbrev pub are_or_have_texts : ValueType → Bool
@@ -192,25 +207,25 @@ stop_words_in tokenizer None = Some []
 stop_words_in tokenizer (Some d) = if takes_stop_words tokenizer then stop_words_listed (as_array d) else None
 
 -- the fields, and one more
-abbrev pub with_field : TextSchemaState → SchemaEntry → FieldTokenizer → TextSchemaState
-with_field s e tokenizer = record s { schema = s.schema ++ e ∷ []; tokenizers = s.tokenizers ++ tokenizer ∷ [] }
+abbrev pub with_field : TextSchemaState → FieldState → FieldTokenizer → TextSchemaState
+with_field s f tokenizer = record s { schema = s.schema ++ f.entry ∷ []; tokenizers = s.tokenizers ++ tokenizer ∷ []; stored = record s.stored { fields = s.stored.fields ++ f.is_stored ∷ [] } }
 
 -- fields and the one that a table describes
 unfoldable pub field_in : Analyzer → TextSchemaState → Data → Result TextSchemaState Refusal
 field_in otherwise before d = do
-  e ← entry_in before.schema d
-  tokenizer ← tokenizer_in (length before.schema) otherwise (takes_texts e) (get (codes "tokenizer") d)
+  f ← entry_in before.schema d
+  tokenizer ← tokenizer_in (length before.schema) otherwise (takes_texts f.entry) (get (codes "tokenizer") d)
   stops ← ok_or (stop_words_in tokenizer (get (codes "stop_words") d)) (wrong_key (length before.schema) keys.StopWords)
-  Ok (with_field before e (record { analyzer = tokenizer; stop_words = stops }))
+  Ok (with_field before f (record { analyzer = tokenizer; stop_words = stops }))
 
 -- fields and those of more tables
 abbrev pub fields_from : Analyzer → TextSchemaState → Items → Result TextSchemaState Refusal
 fields_from otherwise before no_items = Ok before
 fields_from otherwise before (item d ds) = field_in otherwise before d >>= λ s. fields_from otherwise s ds
 
--- no fields, of a text that stores lines or doesn't, and says what happens to unknown keys
+-- no fields, of a text that stores complete lines or doesn't, and says what happens to unknown keys
 abbrev pub without_fields : Bool → UnknownKeys → TextSchemaState
-without_fields stores unknown = record { schema = []; tokenizers = []; stores_source = stores; unknown_keys = unknown }
+without_fields stores unknown = record { schema = []; tokenizers = []; stored = record { is_line = stores; fields = [] }; unknown_keys = unknown }
 
 -- fails if there are 2^32 fields or more
 abbrev pub few : TextSchemaState → Result TextSchemaState Refusal
@@ -231,7 +246,7 @@ abbrev pub default_in : Option Data → Result Analyzer Refusal
 default_in None = Ok Ascii
 default_in (Some d) = default_named (as_str d)
 
--- whether the lines of documents are stored: as a text says, or they aren't
+-- whether complete lines are stored: as a text says, or they aren't
 abbrev pub stores_source_in : Option Data → Result Bool Refusal
 stores_source_in None = Ok false
 stores_source_in (Some d) = ok_or (as_bool d) wrong_store_source
@@ -258,7 +273,7 @@ abbrev pub unicode_in : List FieldTokenizer → Option Data → Result (Unit {0}
 unicode_in tokenizers None = Ok tt
 unicode_in tokenizers (Some d) = same_unicode tokenizers (as_str d)
 
--- the schema that a table describes, with its tokenizers, whether lines are stored, and what happens to unknown keys
+-- the schema that a table describes, with its tokenizers, what is stored, and what happens to unknown keys
 unfoldable pub table_schema : Members → Result TextSchemaState Refusal
 table_schema ms = do
   _ ← knows_keys unknown_key (unknown_key_in OfText ms)
@@ -275,7 +290,7 @@ table_schema ms = do
 abbrev pub text_table : List ℕ → Result Members Refusal
 text_table text = ok_or (parse_document text) not_toml
 
--- the schema that a text describes, with its tokenizers, whether lines are stored, and what happens to unknown keys
+-- the schema that a text describes, with its tokenizers, what is stored, and what happens to unknown keys
 unfoldable pub tokenized_schema : List ℕ → Result TextSchemaState Refusal
 tokenized_schema text = text_table text >>= table_schema
 

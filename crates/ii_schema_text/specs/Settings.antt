@@ -105,4 +105,5 @@ settings_in d = do
   option ← ok_or (option_in (is_indexed && has_texts value_type) (get (codes "record") d)) keys.Record
   norms ← ok_or (flag_in (is_indexed && not (is_json_type value_type)) (is_text value_type) (get (codes "fieldnorms") d)) keys.FieldNorms
   dots ← ok_or (flag_in (is_indexed && is_json_type value_type) false (get (codes "expand_dots") d)) keys.ExpandDots
-  Ok (record { value_type = value_type; is_indexed = is_indexed; option = option; has_fieldnorms = norms; expands_dots = dots })
+  stored ← ok_or (flag_in true false (get (codes "stored") d)) keys.Stored
+  Ok (record { value_type = value_type; is_indexed = is_indexed; option = option; has_fieldnorms = norms; expands_dots = dots; is_stored = stored })

@@ -2,7 +2,7 @@ ghost use Rattle.std.specs.Prelude.{◌≡◌, ◌&&◌, not, bytes_eq, option_m
 ghost use Rattle.std.specs.List.{list_any};
 ghost use Rattle.ii_base.specs.Schema.{SchemaEntry};
 ghost use Rattle.toml.specs.View.{view};
-ghost use Rattle.ii_schema_text.specs.SchemaText.{AnswersFromText, entry_in, entry_with, members_in, name_in, unknown_key_in};
+ghost use Rattle.ii_schema_text.specs.SchemaText.{AnswersFromText, entry_in, entry_with, field_with, members_in, name_in, read_field, unknown_key_in};
 ghost use Rattle.ii_schema_text.specs.declared.keys.KnownKeys.TheVariants.{OfField};
 
 use crate::faults::{FieldKey, SchemaFault};
@@ -74,14 +74,33 @@ fn entry_with(name: String, settings: Settings) -> FieldEntry
     }
 }
 
-// Reads the entry of a field after others from its table.
+// A field of a schema's text.
+#[derive(Drop)]
+pub(crate) struct ReadField {
+    // its entry in the schema
+    pub(crate) entry: FieldEntry,
+    // whether its member of a document is stored
+    pub(crate) is_stored: bool,
+}
+
+// Creates a field.
+fn field_with(name: String, settings: Settings) -> ReadField
+    ensures { read_field result ≡ field_with (string_bytes name) settings }
+{
+    ReadField {
+        entry: entry_with(name, settings),
+        is_stored: settings.is_stored,
+    }
+}
+
+// Reads a field after others from its table.
 #[tactic(auto, unfolding(crate::specs::SchemaText::entry_in))]
 pub(crate) fn entry_of(
     alloc: Global,
     before: &[FieldEntry],
     field: &Value,
-) -> Result<FieldEntry, SchemaFault>
-    ensures { AnswersFromText (λ (e : SchemaEntry). e) result (entry_in before.now (view field.now)) }
+) -> Result<ReadField, SchemaFault>
+    ensures { AnswersFromText read_field result (entry_in before.now (view field.now)) }
 {
     let place = before.len();
     if let Some(key) = unknown_key(field) {
@@ -96,5 +115,5 @@ pub(crate) fn entry_of(
         Err(key) => return Err(SchemaFault::WrongKey(place, key)),
     };
     let name = String::from_str(alloc, name)?;
-    Ok(entry_with(name, settings))
+    Ok(field_with(name, settings))
 }

@@ -26,6 +26,8 @@ pub enum FieldKey {
     FieldNorms,
     /// Whether dots in the keys of its JSON values are expanded.
     ExpandDots,
+    /// Whether its member of a document is stored.
+    Stored,
     /// How its texts are cut into words.
     Tokenizer,
     /// Which words of its texts are left out.
@@ -45,6 +47,7 @@ impl FieldKey {
                 "fieldnorms: true or false, where an indexed field has no JSON values",
             FieldKey::ExpandDots =>
                 "expand_dots: true or false, where an indexed field has JSON values",
+            FieldKey::Stored => "stored: true or false",
             FieldKey::Tokenizer =>
                 "tokenizer: one of default, raw, whitespace, ascii, en, where an indexed field has texts or JSON values",
             FieldKey::StopWords =>

@@ -85,5 +85,8 @@ fn is_field_key(key: &str) -> bool
     if key == "tokenizer" {
         return true;
     }
-    key == "stop_words"
+    if key == "stop_words" {
+        return true;
+    }
+    key == "stored"
 }

@@ -15,7 +15,7 @@ use ii_tokenizers::Analyzer;
 use std::alloc::Global;
 use toml::{Table, Value};
 
-/// Reads a schema, its tokenizers, whether lines are stored, and what happens to unknown keys, from TOML: a table `[[field]]` for each field, in order, with these keys:
+/// Reads a schema, its tokenizers, what is stored, and what happens to unknown keys, from TOML: a table `[[field]]` for each field, in order, with these keys:
 /// - `name`: a text that isn't empty and differs from the names before it,
 /// - `type`: `text`, `u64`, `i64`, `bool`, `bytes`, `ip_addr`, `date` or `json`,
 /// - `indexed`: whether it is indexed; the default is `true`,
@@ -25,11 +25,12 @@ use toml::{Table, Value};
 ///   `true` for texts, else `false`,
 /// - `expand_dots`, for an indexed JSON field: whether dots in keys are expanded; the default is `false`,
 /// - `tokenizer`, for an indexed text or JSON field: `default`, `raw`, `whitespace`, `ascii` or `en` (`Analyzer`),
-/// - `stop_words`, for a field with the tokenizer `en`: a list of words that are left out (`StopWordFilter`).
+/// - `stop_words`, for a field with the tokenizer `en`: a list of words that are left out (`StopWordFilter`),
+/// - `stored`: whether its member of each document is stored; the default is `false`.
 ///
 /// Before the tables, `tokenizer` names the tokenizer of fields that name none, `ascii` if it is missing;
-/// `unicode` names the version of Unicode that the words of an index follow; `store_source` says whether the lines
-/// of documents are stored, `false` if it is missing; `unknown` says whether a document with a key that is no field's
+/// `unicode` names the version of Unicode that the words of an index follow; `store_source` says whether the
+/// complete lines of documents are stored, and nothing else then, `false` if it is missing; `unknown` says whether a document with a key that is no field's
 /// name is refused (`refuse`, also if it is missing), or read without its member (`ignore`).
 ///
 /// # Errors
@@ -147,7 +148,7 @@ fn schema_of(alloc: Global, table: &Table) -> Result<TextSchema, SchemaFault>
     Ok(schema)
 }
 
-// Returns whether the lines of documents are stored, given the value of the key of the text.
+// Returns whether complete lines are stored, given the value of the key of the text.
 fn stores_source_of(value: Option<&Value>) -> Result<bool, SchemaFault>
     ensures { AnswersFromText (λ (stores : Bool). stores) result (stores_source_in (option_map (λ v. view v.now) value.entry)) }
 {

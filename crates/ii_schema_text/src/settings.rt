@@ -15,6 +15,7 @@ pub struct Settings {
     pub option: IndexRecordOption,
     pub has_fieldnorms: bool,
     pub expands_dots: bool,
+    pub is_stored: bool,
 }
 
 // Returns the boolean at a key. If it is missing, returns `default` if allowed, else false. Returns `None`
@@ -121,11 +122,15 @@ pub(crate) fn settings_of(field: &Value) -> Result<Settings, FieldKey>
     let Some(expands_dots) = flag_of(field.get("expand_dots"), allowed, false) else {
         return Err(FieldKey::ExpandDots);
     };
+    let Some(is_stored) = flag_of(field.get("stored"), true, false) else {
+        return Err(FieldKey::Stored);
+    };
     Ok(Settings {
         value_type,
         is_indexed,
         option,
         has_fieldnorms,
         expands_dots,
+        is_stored,
     })
 }

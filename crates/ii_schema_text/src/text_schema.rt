@@ -1,11 +1,12 @@
-//! The schema of a text, with its tokenizers.
+//! The schema of a text, with its tokenizers, and what is stored.
 ghost use Rattle.std.specs.Prelude.{◌≡◌, codes};
 ghost use Rattle.toml.specs.View.{view};
 ghost use Rattle.ii_schema_text.specs.SchemaText.{AnswersFromText, TextSchemaState, field_in, few, without_fields};
 
-use crate::entry_table::entry_of;
+use crate::entry_table::{ReadField, entry_of};
 use crate::faults::SchemaFault;
 use crate::stop_words::stop_words_of;
+use crate::stored::Stored;
 use crate::tokenizers::{takes_texts, tokenizer_of};
 use crate::unknown_keys::UnknownKeys;
 use ii_base::{FieldEntry, Schema};
@@ -14,14 +15,13 @@ use std::alloc::Global;
 use std::marker::Model;
 use toml::Value;
 
-/// A schema, the tokenizer of each of its fields, whether the lines of documents are stored, and what happens to
-/// their unknown keys.
+/// A schema, the tokenizer of each of its fields, what is stored of documents, and what happens to their unknown keys.
 ///
 /// Its model is the entries of the schema, the tokenizers, and these two.
 pub struct TextSchema {
     schema: Schema,
     tokenizers: FieldTokenizers,
-    stores_source: bool,
+    stored: Stored,
     unknown_keys: UnknownKeys,
 }
 
@@ -31,7 +31,7 @@ impl Drop for TextSchema {
         let TextSchema {
             schema: _,
             tokenizers: _,
-            stores_source: _,
+            stored: _,
             unknown_keys: _,
         } = self;
     }
@@ -42,7 +42,7 @@ impl Model for TextSchema {
 
     ghost Value = { TextSchemaState };
 
-    ghost view = { λ s. record { schema = s.schema; tokenizers = s.tokenizers; stores_source = s.stores_source; unknown_keys = s.unknown_keys } };
+    ghost view = { λ s. record { schema = s.schema; tokenizers = s.tokenizers; stored = s.stored; unknown_keys = s.unknown_keys } };
 }
 
 impl TextSchema {
@@ -60,11 +60,11 @@ impl TextSchema {
         &self.tokenizers
     }
 
-    /// Returns whether the lines of documents are stored.
-    pub fn stores_source(&self) -> bool
-        ensures { result ≡ self.now.stores_source }
+    /// Returns what is stored of documents.
+    pub fn stored(&self) -> &Stored
+        ensures { result.now ≡ self.now.stored }
     {
-        self.stores_source
+        &self.stored
     }
 
     /// Returns what happens to members of documents whose keys are no names of fields.
@@ -74,18 +74,19 @@ impl TextSchema {
         self.unknown_keys
     }
 
-    /// Returns the schema and the tokenizers of its fields.
-    pub fn into_parts(self) -> (Schema, FieldTokenizers)
+    /// Returns the schema, the tokenizers of its fields, and what is stored of documents.
+    pub fn into_parts(self) -> (Schema, FieldTokenizers, Stored)
         ensures schema { result.0 ≡ self.schema }
         ensures tokenizers { result.1 ≡ self.tokenizers }
+        ensures stored { result.2 ≡ self.stored }
     {
         let TextSchema {
             schema,
             tokenizers,
-            stores_source: _,
+            stored,
             unknown_keys: _,
         } = self;
-        (schema, tokenizers)
+        (schema, tokenizers, stored)
     }
 }
 
@@ -93,7 +94,7 @@ impl TextSchema {
 pub(crate) struct ReadFields {
     entries: Vec<FieldEntry>,
     tokenizers: FieldTokenizers,
-    stores_source: bool,
+    stored: Stored,
     unknown_keys: UnknownKeys,
 }
 
@@ -103,7 +104,7 @@ impl Drop for ReadFields {
         let ReadFields {
             entries: _,
             tokenizers: _,
-            stores_source: _,
+            stored: _,
             unknown_keys: _,
         } = self;
     }
@@ -114,18 +115,18 @@ impl Model for ReadFields {
 
     ghost Value = { TextSchemaState };
 
-    ghost view = { λ s. record { schema = s.entries.items; tokenizers = s.tokenizers; stores_source = s.stores_source; unknown_keys = s.unknown_keys } };
+    ghost view = { λ s. record { schema = s.entries.items; tokenizers = s.tokenizers; stored = s.stored; unknown_keys = s.unknown_keys } };
 }
 
 impl ReadFields {
-    // Creates an empty list, of a text that stores lines or doesn't, and says what happens to unknown keys.
+    // Creates an empty list, of a text that stores complete lines or doesn't, and says what happens to unknown keys.
     pub(crate) fn new(alloc: Global, stores_source: bool, unknown_keys: UnknownKeys) -> ReadFields
         ensures { result ≡ without_fields stores_source unknown_keys }
     {
         ReadFields {
             entries: Vec::new(alloc),
             tokenizers: FieldTokenizers::new(alloc),
-            stores_source,
+            stored: Stored::new(alloc, stores_source),
             unknown_keys,
         }
     }
@@ -141,11 +142,13 @@ impl ReadFields {
         ensures { AnswersFromText (λ (done : Unit {0}). self.new) result (field_in default self.old (view field.now)) }
     {
         let place = self.entries.len();
-        let entry = entry_of(alloc, self.entries.as_slice(), field)?;
+        let read = entry_of(alloc, self.entries.as_slice(), field)?;
+        let ReadField { entry, is_stored } = read;
         let allowed = takes_texts(&entry);
         let analyzer = tokenizer_of(alloc, place, default, allowed, field.get("tokenizer"))?;
         let stop_words = stop_words_of(alloc, place, analyzer, field.get("stop_words"))?;
         self.entries.push(entry)?;
+        self.stored.push(is_stored)?;
         self.tokenizers.push(FieldTokenizer {
             analyzer,
             stop_words,
@@ -160,7 +163,7 @@ impl ReadFields {
         let ReadFields {
             entries,
             tokenizers,
-            stores_source,
+            stored,
             unknown_keys,
         } = self;
         if entries.len() >= 1 << 32 {
@@ -169,7 +172,7 @@ impl ReadFields {
         Ok(TextSchema {
             schema: Schema::new(entries),
             tokenizers,
-            stores_source,
+            stored,
             unknown_keys,
         })
     }

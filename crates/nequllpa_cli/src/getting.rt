@@ -10,9 +10,9 @@ use nequllpa_writing::{NO, PROGRAM, REFUSED, refuse, refuse_path, tell_no_index}
 use std::io::{self, BufWriter, Write};
 use std::process::ExitCode;
 
-/// Why no line can be printed.
+/// Why no document can be printed.
 pub const NOT_STORED: &str =
-    "the lines of this index are not stored; index them with store_source = true in the schema";
+    "the lines of this index are not stored; index them with store_source = true in the schema, or with stored = true for fields";
 
 /// Prints the stored lines of documents.
 pub fn answer_get(

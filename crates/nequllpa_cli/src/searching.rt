@@ -239,7 +239,13 @@ fn line_given<'a>(
         return Ok(Err(REFUSED));
     }
     let Some(text) = given.get_str("fields") else {
-        return stored_names(rt, opened, Vec::new(rt.alloc()));
+        if !given.get_flag("snippet") {
+            return stored_names(rt, opened, Vec::new(rt.alloc()));
+        }
+        return match stored_names(rt, opened, fields_given(rt, given)?)? {
+            Ok(_) => Ok(Ok(Vec::new(rt.alloc()))),
+            Err(status) => Ok(Err(status)),
+        };
     };
     if given.get_flag("source") {
         return Ok(Err(refuse(rt, "--source stands without --fields")?));
@@ -250,7 +256,19 @@ fn line_given<'a>(
     }
 }
 
-// Returns names, or the status if the lines of an index aren't stored.
+// Returns the fields that are given for words without a field name.
+fn fields_given<'a>(rt: &HostRuntime, given: &'a ArgMatches<'_>) -> anyhow::Result<Vec<&'a str>> {
+    let mut names = Vec::new(rt.alloc());
+    if let Some(given) = given.get_strs("field") {
+        for name in given {
+            names.push(*name)?;
+        }
+    }
+    Ok(names)
+}
+
+// Returns names, or the status if nothing of an index's documents is stored, or if one of the names is that of a field
+// that isn't stored.
 fn stored_names<'a>(
     rt: &HostRuntime,
     opened: &OpenedIndex,
@@ -258,6 +276,16 @@ fn stored_names<'a>(
 ) -> anyhow::Result<Result<Vec<&'a str>, u8>> {
     if !are_stored(opened) {
         return Ok(Err(refuse(rt, NOT_STORED)?));
+    }
+    for name in &names {
+        if let Some(field) = opened.field_named(*name) {
+            if !opened.stored().has_field(field) {
+                eprintln!(rt;
+                    "{PROGRAM}: the field {name} is not stored; the schema needs stored = true for it, or store_source = true"
+                )?;
+                return Ok(Err(REFUSED));
+            }
+        }
     }
     Ok(Ok(names))
 }

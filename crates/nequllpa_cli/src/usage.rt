@@ -237,17 +237,17 @@ static READING: [Usage; 7] = [
             Word {
                 name: "source",
                 given: Given::Flag,
-                help: "Prints the stored line of a document in place of its number, if the schema says store_source = true; stands without --count, --positions and --ids",
+                help: "Prints what is stored of a document in place of its number: its line, if the schema says store_source = true, or an object of its stored fields; stands without --count, --positions and --ids",
             },
             Word {
                 name: "fields",
                 given: Given::Value("A,B"),
-                help: "Prints of the stored line of a document only the members of these fields, as a JSON object, in this order; stands where --source does, and not with it",
+                help: "Prints of what is stored of a document only the members of these fields, as a JSON object, in this order; stands where --source does, and not with it",
             },
             Word {
                 name: "snippet",
                 given: Given::Flag,
-                help: "Prints after each document, and a tab, of each text of its stored line that has a word of the query the best 30 words; stands where --source does, and not with it or --fields",
+                help: "Prints after each document, and a tab, of each stored text that has a word of the query the best 30 words; stands where --source does, and not with it or --fields",
             },
             Word {
                 name: "color",
@@ -268,7 +268,7 @@ static READING: [Usage; 7] = [
     },
     Usage {
         name: "get",
-        about: "Prints the stored lines of documents by their numbers; status 1 where there is no such document, where its block is damaged, or where lines are not stored",
+        about: "Prints what is stored of documents by their numbers: their lines, or objects of their stored fields; status 1 where there is no such document, where its block is damaged, or where nothing is stored",
         words: &[
             Word {
                 name: "DOC",

@@ -6,4 +6,3 @@ mod WantedLemmas
 mod OpenLemmas
 mod RankingLemmas
 mod ShareTextLemmas
-mod LineFieldsLemmas

@@ -3,7 +3,6 @@ pub mod Explained
 pub mod Faults
 pub mod Finding
 pub mod Ids
-pub mod LineFields
 pub mod OpenedSegments
 pub mod Positions
 pub mod RowFormats

@@ -11,7 +11,6 @@ pub mod finding;
 pub mod ids;
 pub mod inspecting;
 pub mod json_rows;
-pub mod line_fields;
 pub mod line_snippets;
 pub mod listing;
 pub mod merged_terms;
@@ -30,13 +29,13 @@ pub use documents::{SegmentStore, are_stored, document, segment_stores};
 pub use faults::{AnswerFault, DocumentFault, OpenFault};
 pub use finding::{FoundPlaces, TermPositions, find_places, first_docs, wanted_terms};
 pub use ids::{NoIds, id_field, id_field_of_all};
+pub use ii_documents::{fields_of_line, quoted};
 pub use ii_snippet::MarkStyle;
 pub use ii_term_text::{push_key, term_of};
 pub use inspecting::{
     CountFormat, TermChoice, count_all, write_count, write_fields, write_postings, write_terms,
 };
 pub use json_rows::DamageRow;
-pub use line_fields::{fields_of_line, quoted};
 pub use line_snippets::snippet_of_line;
 pub use listing::{Listing, write_listing};
 pub use merged_terms::{MergedTerm, MergedTerms};

@@ -2,10 +2,10 @@
 ghost use Rattle.std.specs.Prelude.{IfOk, string_bytes};
 ghost use Rattle.ii_io.specs.Faults.{OnlyMemory};
 ghost use Rattle.ii_snippet.specs.ObjectSnippets.{IsObjectSnippet, rules_of};
-ghost use Rattle.nequllpa_folder.specs.LineFields.{value_of_line};
+ghost use Rattle.ii_documents.specs.LineFields.{value_of_line};
 
-use crate::line_fields::read_line;
 use ii_base::Fault;
+use ii_documents::read_line;
 use ii_snippet::{SnippetRules, snippet_of_object};
 use std::alloc::Global;
 

@@ -8,13 +8,13 @@ use crate::finding::{FoundPlaces, TermPositions, find_places, first_docs, wanted
 use crate::ids::{Ids, ids_of};
 use crate::inspecting::count_all;
 use crate::json_rows::write_numbers;
-use crate::line_fields::quoted;
 use crate::opened::Opened;
 use crate::opened_index::{Bases, OpenedIndex};
 use crate::row_format::RowFormat;
 use crate::stored_part::{StoredPart, StoredParts, words_for};
 use ii_base::{Fault, Field, Term};
 use ii_docset::DocId;
+use ii_documents::quoted;
 use ii_search::Query;
 use ii_term_text::push_key;
 use std::alloc::Global;

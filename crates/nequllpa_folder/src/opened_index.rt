@@ -16,15 +16,18 @@ use crate::opened::{Opened, text_schema_of};
 use ii_base::{DocId, Field, FieldEntry, Schema};
 use ii_query_parser::{Query, QueryParserError, field_named, parse_query_by};
 use ii_reader::InvertedIndexReader;
+use ii_schema_text::Stored;
 use ii_segment_store::{SegmentFiles, StoredSegment, StoredSegments};
 use ii_store::StoredIndex;
 use ii_tokenizers::FieldTokenizers;
 use std::alloc::Global;
 
-/// An open index: its schema, the tokenizers of its fields, and its open segments in the order of their documents.
+/// An open index: its schema, the tokenizers of its fields, what is stored of its documents, and its open segments in
+/// the order of their documents.
 pub struct OpenedIndex {
     schema: Schema,
     tokenizers: FieldTokenizers,
+    stored: Stored,
     segments: Vec<Opened>,
 }
 
@@ -34,6 +37,7 @@ impl Drop for OpenedIndex {
         let OpenedIndex {
             schema: _,
             tokenizers: _,
+            stored: _,
             segments: _,
         } = self;
     }
@@ -44,12 +48,12 @@ impl OpenedIndex {
     /// hold the tokens that these hold. Returns the errors of `Opened::open`, of the first segment that doesn't
     /// open.
     #[tactic(auto, using(ii_schema_text::proofs::SchemaLaws::schema_alone))]
-    pub fn open(alloc: Global, stored: StoredSegments) -> Result<OpenedIndex, OpenFault>
-        ensures schema { IfOk result (λ o. text_schema stored.schema.items ≡ Ok o.schema) }
-        ensures tokenizers { IfOk result (λ o. IsOkAnd (tokenized_schema stored.schema.items) (λ s. (s.schema ≡ o.schema) × (s.tokenizers ≡ o.tokenizers))) }
-        ensures segments { IfOk result (λ o. AllZip (OpensAs stored.schema.items) stored.segments.items o.segments.items) }
+    pub fn open(alloc: Global, segments: StoredSegments) -> Result<OpenedIndex, OpenFault>
+        ensures schema { IfOk result (λ o. text_schema segments.schema.items ≡ Ok o.schema) }
+        ensures tokenizers { IfOk result (λ o. IsOkAnd (tokenized_schema segments.schema.items) (λ s. (s.schema ≡ o.schema) × (s.tokenizers ≡ o.tokenizers) × (s.stored ≡ o.stored))) }
+        ensures segments { IfOk result (λ o. AllZip (OpensAs segments.schema.items) segments.segments.items o.segments.items) }
     {
-        let StoredSegments { schema, segments } = stored;
+        let StoredSegments { schema, segments } = segments;
         let opened = opened_each(alloc, schema.as_slice(), segments);
         let segments = match opened {
             Ok(segments) => segments,
@@ -57,10 +61,11 @@ impl OpenedIndex {
         };
         match text_schema_of(alloc, schema.as_slice()) {
             Ok(schema) => {
-                let (schema, tokenizers) = schema.into_parts();
+                let (schema, tokenizers, stored) = schema.into_parts();
                 Ok(OpenedIndex {
                     schema,
                     tokenizers,
+                    stored,
                     segments,
                 })
             }
@@ -80,6 +85,13 @@ impl OpenedIndex {
         ensures { result.now ≡ self.now.tokenizers }
     {
         &self.tokenizers
+    }
+
+    /// Returns what is stored of documents.
+    pub fn stored(&self) -> &Stored
+        ensures { result.now ≡ self.now.stored }
+    {
+        &self.stored
     }
 
     /// Parses the text of a query over the fields of the index, each with its tokenizer (`parse_query_by` of

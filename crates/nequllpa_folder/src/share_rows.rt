@@ -6,9 +6,9 @@ ghost use Rattle.ii_ranking.specs.Shares.{share_of};
 ghost use Rattle.nequllpa_folder.specs.RowFormats.{is_json};
 ghost use Rattle.nequllpa_folder.specs.ShareTexts.{count_members, object_of, share_line, share_object, shares_text};
 
-use crate::line_fields::quoted;
 use crate::row_format::RowFormat;
 use ii_base::{Fault, Schema};
+use ii_documents::quoted;
 use ii_explanation::{push_part, push_score, push_weight};
 use ii_fieldnorm::FieldNormReader;
 use ii_ranking::Share;

@@ -1,10 +1,10 @@
 //! Writes what is requested of stored documents.
 use crate::faults::AnswerFault;
-use crate::line_fields::{fields_of_line, quoted};
 use crate::line_snippets::snippet_of_line;
 use crate::opened_index::OpenedIndex;
 use crate::row_format::RowFormat;
 use ii_base::Fault;
+use ii_documents::{fields_of_line, quoted};
 use ii_search::Query;
 use ii_snippet::{MarkStyle, SnippetRules, WantedWord, wanted_words};
 use std::alloc::Global;
@@ -18,7 +18,7 @@ const SNIPPET_WORDS: u32 = 30;
 pub enum StoredPart<'a, 'n> {
     /// Nothing: its number is written.
     Nothing,
-    /// The complete line.
+    /// All that is stored of it: its line, or the object of its stored fields.
     Line,
     /// An object of the members with these names.
     Fields(&'a [&'n str]),

@@ -11,8 +11,9 @@ use Rattle.ii_base.specs.declared.doc_id.TheConstants.{TERMINATED}
 use Rattle.ii_definitions.specs.IndexCalls.{MayAllBeIndexed, MayBeIndexed, doc_of}
 use Rattle.ii_definitions.specs.Tokens.{Call}
 use Rattle.ii_definitions.specs.declared.index_call.IndexCall.{IndexCall}
-use Rattle.nequllpa_indexing.specs.Documents.{DocumentsState, may_be_stored, next_calls, with_line}
-use Rattle.nequllpa_indexing.specs.StoredLines.{AreLinesOf, AreShort}
+use Rattle.nequllpa_indexing.specs.Documents.{AddsRecord, DocumentsState, may_be_stored, next_calls}
+use Rattle.nequllpa_indexing.specs.StoredLines.{AreLinesOf, AreShort, HasOneMore}
+use Rattle.ii_schema_text.specs.Stored.{StoredState}
 use Rattle.ii_documents.specs.JsonLines.{IsOf, line_calls_by}
 
 -- a call that may be made may be made where there are more documents
@@ -45,7 +46,7 @@ may_more es n old new may of =
     record { each = each_more es n old new each of; ordered = ordered_more es n old new each may.ordered of }
 
 -- the calls of one document more
-pub adds_line : (s : DocumentsState) (cs : List Call) (line : List ℕ) → nat_lt s.num_docs TERMINATED ≡ true → may_be_stored s.lines line ≡ true → line_calls_by s.unknown_keys s.floats s.schema s.num_docs line ≡ Ok cs → next_calls s line ≡ Ok cs
+pub adds_line : (s : DocumentsState) (cs : List Call) (line : List ℕ) → nat_lt s.num_docs TERMINATED ≡ true → may_be_stored s.stored line ≡ true → line_calls_by s.unknown_keys s.floats s.schema s.num_docs line ≡ Ok cs → next_calls s line ≡ Ok cs
 adds_line s cs line room short said = rw (room, short, said) refl
 
 -- one line more
@@ -53,6 +54,11 @@ short_more : (lines : List (List ℕ)) (line : List ℕ) → AreShort lines → 
 short_more [] line all short = (short, tt)
 short_more (l ∷ ls) line all short = (all.0, short_more ls line all.1 short)
 
-pub lines_more : (n : ℕ) (lines : Option (List (List ℕ))) (line : List ℕ) → AreLinesOf n lines → may_be_stored lines line ≡ true → AreLinesOf (n + 1) (with_line lines line)
-lines_more n None line are short = tt
-lines_more n (Some ls) line are short = (omega (arith, length-append ls (line ∷ []), are.0), short_more ls line are.1 (ltb-true (length line) (2 ^ 31) short))
+pub lines_more : (n : ℕ) (s : StoredState) (es : List SchemaEntry) (line : List ℕ) (old new : Option (List (List ℕ))) → AreLinesOf n old → AddsRecord s es line old new → AreLinesOf (n + 1) new
+lines_more n s es line None new are adds = subst (AreLinesOf (n + 1)) (sym adds) tt
+lines_more n s es line (Some rs) new are adds = subst (AreLinesOf (n + 1)) (sym adds.3) (omega (arith, length-append rs (adds.0 ∷ []), are.0), short_more rs adds.0 are.1 adds.2)
+
+-- what was added can be removed
+pub one_more : (s : StoredState) (es : List SchemaEntry) (line : List ℕ) (old new : Option (List (List ℕ))) → AddsRecord s es line old new → HasOneMore old new
+one_more s es line None new adds = adds
+one_more s es line (Some rs) new adds = (adds.0, adds.3)

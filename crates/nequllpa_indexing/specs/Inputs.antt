@@ -1,8 +1,7 @@
 -- What a line of an input holds, given as bytes.
 use Rattle.std.specs.Prelude.{◌≡◌, ◌≢◌, ℕ, Bool, true, false, List, [], Result, Ok, Err}
 use Rattle.std.specs.Str.{IsTrimAscii}
-use Rattle.nequllpa_indexing.specs.Documents.{AddsLine, DocumentsState, next_calls}
-use Rattle.ii_documents.specs.JsonLines.{TellsOfLine, told_of_line}
+use Rattle.nequllpa_indexing.specs.Documents.{AddsLine, DocumentsState, IsLineFault}
 use Rattle.nequllpa_indexing.specs.declared.faults.InputFault.{InputFault}
 use Rattle.nequllpa_indexing.specs.declared.faults.InputFault.TheVariants.{Line, NotUtf8}
 
@@ -11,7 +10,7 @@ abbrev pub AddsTrimmed : DocumentsState → DocumentsState → List ℕ → Resu
 AddsTrimmed old new text (Ok true) = AddsLine old new text
 AddsTrimmed old new text (Ok false) = (text ≡ []) × (new ≡ old)
 AddsTrimmed old new text (Err NotUtf8) = ⊥
-AddsTrimmed old new text (Err (Line fault)) = (text ≢ []) × (new ≡ old) × TellsOfLine (told_of_line fault) (next_calls old text)
+AddsTrimmed old new text (Err (Line fault)) = (text ≢ []) × (new ≡ old) × IsLineFault fault old text
 
 -- A line without the white space around it was added, is empty, or was refused.
 pub record AddsInput (old new : DocumentsState) (line : List ℕ) (result : Result Bool InputFault) : Type 0 where

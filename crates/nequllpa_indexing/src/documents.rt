@@ -12,33 +12,34 @@ ghost use Rattle.nequllpa_indexing.specs.Counted.{HasCounts, IsSegmentFault};
 ghost use Rattle.nequllpa_indexing.specs.FieldTokens.{calls_fault_by, pieces_by, tokens_by};
 ghost use Rattle.ii_indexing.specs.IndexFiles.{CountsIndexFailures, FilesGrow, IsIndexFault, WroteIndex};
 ghost use Rattle.ii_indexing.specs.Refusals.{calls_fault};
-ghost use Rattle.nequllpa_indexing.specs.Documents.{AddsLine, DocumentsState, WereCalls, next_calls};
+ghost use Rattle.nequllpa_indexing.specs.Documents.{AddsLine, DocumentsState, IsLineFault, WereCalls, no_records};
 ghost use Rattle.nequllpa_indexing.specs.StoredLines.{IsLinesFault, StoresLines};
-ghost use Rattle.ii_documents.specs.JsonLines.{TellsOfLine, told_of_line};
 
 use crate::counting::{finish_stored, index_counted};
-use crate::lines::{may_be_stored, pop_line, push_line};
+use crate::lines::{may_be_stored, no_records, pop_record, push_record};
 use crate::long_words::count_long_words;
 use ii_base::{Fault, LimitName, Schema, TextAnalyzer};
 use ii_counts::CountsWriter;
 use ii_docset::{DocId, TERMINATED};
 use ii_documents::{FloatNumbers, LineFault, line_calls_by};
 use ii_indexing::{IndexCall, IndexWriters, Indexer, write_index};
-use ii_schema_text::UnknownKeys;
+use ii_schema_text::{Stored, UnknownKeys};
 use ii_segment_store::SegmentFiles;
 use ii_tokenizers::FieldAnalyzers;
 use std::alloc::Global;
 use std::io::Write;
 use std::marker::Model;
 
-/// Documents to be indexed, as the index calls of their lines, and the lines themselves if they are stored.
+/// Documents to be indexed, as the index calls of their lines, and what is stored of the lines.
 ///
-/// Its model is the schema, the number of documents, the calls, the lines, what happens to unknown keys and to
-/// floating-point numbers, and how many of the latter were left out.
+/// Its model is the schema, the number of documents, the calls, what is stored of a line, the records that are stored
+/// if something is, what happens to unknown keys and to floating-point numbers, and how many of the latter were left
+/// out.
 pub struct Documents {
     schema: Schema,
     num_docs: DocId,
     calls: Vec<IndexCall>,
+    stored: Stored,
     lines: Option<Vec<String>>,
     unknown_keys: UnknownKeys,
     floats: FloatNumbers,
@@ -52,6 +53,7 @@ impl Drop for Documents {
             schema: _,
             num_docs: _,
             calls: _,
+            stored: _,
             lines: _,
             unknown_keys: _,
             floats: _,
@@ -73,6 +75,7 @@ impl Model for Documents {
       schema = d.schema;
       num_docs = d.num_docs;
       calls = map (call_of d.schema) d.calls.items;
+      stored = d.stored;
       lines = lines_view d.lines;
       unknown_keys = d.unknown_keys;
       floats = d.floats;
@@ -83,15 +86,16 @@ impl Model for Documents {
 }
 
 impl Documents {
-    /// Creates an empty list of documents, with the fields of a schema. Lines aren't stored, and those with unknown
-    /// keys or floating-point numbers are refused.
+    /// Creates an empty list of documents, with the fields of a schema. Nothing is stored, and lines with unknown keys
+    /// or floating-point numbers are refused.
     pub fn new(alloc: Global, schema: Schema) -> Documents
-        ensures { result ≡ record { schema = schema; num_docs = 0; calls = []; lines = None; unknown_keys = UnknownKeys.Refuse; floats = FloatNumbers.Refuse; skipped_floats = 0 } }
+        ensures { result ≡ record { schema = schema; num_docs = 0; calls = []; stored = record { is_line = false; fields = [] }; lines = None; unknown_keys = UnknownKeys.Refuse; floats = FloatNumbers.Refuse; skipped_floats = 0 } }
     {
         Documents {
             schema,
             num_docs: 0,
             calls: Vec::new(alloc),
+            stored: Stored::new(alloc, false),
             lines: None,
             unknown_keys: UnknownKeys::Refuse,
             floats: FloatNumbers::Refuse,
@@ -99,16 +103,18 @@ impl Documents {
         }
     }
 
-    /// Creates an empty list of documents, with the fields of a schema. Each line is stored, and those with unknown
-    /// keys or floating-point numbers are refused.
-    pub fn storing(alloc: Global, schema: Schema) -> Documents
-        ensures { result ≡ record { schema = schema; num_docs = 0; calls = []; lines = Some []; unknown_keys = UnknownKeys.Refuse; floats = FloatNumbers.Refuse; skipped_floats = 0 } }
+    /// Creates an empty list of documents, with the fields of a schema. Of each line what `stored` says is stored, and
+    /// lines with unknown keys or floating-point numbers are refused.
+    pub fn storing(alloc: Global, schema: Schema, stored: Stored) -> Documents
+        ensures { result ≡ record { schema = schema; num_docs = 0; calls = []; stored = stored; lines = no_records stored; unknown_keys = UnknownKeys.Refuse; floats = FloatNumbers.Refuse; skipped_floats = 0 } }
     {
+        let lines = no_records(alloc, &stored);
         Documents {
             schema,
             num_docs: 0,
             calls: Vec::new(alloc),
-            lines: Some(Vec::new(alloc)),
+            stored,
+            lines,
             unknown_keys: UnknownKeys::Refuse,
             floats: FloatNumbers::Refuse,
             skipped_floats: 0,
@@ -172,19 +178,20 @@ impl Documents {
         self.num_docs
     }
 
-    /// Adds the document of a line of JSON (`line_calls_by`), and the complete line if lines are stored.
+    /// Adds the document of a line of JSON (`line_calls_by`), and its record (`record_of`) if something is stored.
     ///
-    /// Returns `TooManyDocuments` if there are `TERMINATED` documents; `TooLong` for 2^31 bytes or more, if lines are
-    /// stored; else the fault of the line, or `OutOfMemory` if an allocation fails. The documents are then unchanged.
+    /// Returns `TooManyDocuments` if there are `TERMINATED` documents; `TooLong` for a line of 2^31 bytes or more, if
+    /// complete lines are stored; the fault of the line; `TooLong` for a record of 2^31 bytes or more; or `OutOfMemory`
+    /// if an allocation fails. The documents are then unchanged.
     pub fn push_line(&mut self, alloc: Global, line: &str) -> Result<(), LineFault>
         ensures ok { OnOk result (AddsLine self.old self.new line.now) }
         ensures err { OnErr result (self.new ≡ self.old) }
-        ensures refused { IfErr result (λ e. TellsOfLine (told_of_line e) (next_calls self.old line.now)) }
+        ensures refused { IfErr result (λ e. IsLineFault e self.old line.now) }
     {
         if self.num_docs >= TERMINATED {
             return Err(LineFault::TooManyDocuments);
         }
-        if !may_be_stored(&self.lines, line) {
+        if !may_be_stored(&self.stored, line) {
             return Err(LineFault::TooLong);
         }
         let read = line_calls_by(
@@ -197,9 +204,9 @@ impl Documents {
         )?;
         let skipped_floats = read.skipped_floats;
         let mut calls = read.calls;
-        push_line(alloc, &mut self.lines, line)?;
+        push_record(alloc, &self.schema, &self.stored, &mut self.lines, line)?;
         if self.calls.append(&mut calls).is_err() {
-            pop_line(&mut self.lines);
+            pop_record(&mut self.lines);
             return Err(LineFault::OutOfMemory);
         }
         self.num_docs += 1;
@@ -234,6 +241,7 @@ impl Documents {
             schema,
             num_docs,
             calls,
+            stored: _,
             lines: _,
             unknown_keys: _,
             floats: _,
@@ -263,6 +271,7 @@ impl Documents {
             schema,
             num_docs,
             calls,
+            stored: _,
             lines: _,
             unknown_keys: _,
             floats: _,
@@ -273,7 +282,7 @@ impl Documents {
 
     /// Builds the files of a segment of the documents, with the texts of each field split by its analyzer. They
     /// hold exactly the tokens of the documents' calls, their norms, how many tokens each document has in each field,
-    /// and the lines if they are stored.
+    /// and what is stored of their lines.
     ///
     /// # Errors
     ///

@@ -1,51 +1,75 @@
-//! The lines of documents, which are stored.
-ghost use Rattle.std.specs.Prelude.{◌≡◌, ◌-◌, ◌^◌, ◌<◌, ℕ, [], List, Option, IfErr, IfOk, OnErr, OnOk, false, length, map, option_map, string_bytes};
+//! What is stored of documents: a record of each line.
+ghost use Rattle.std.specs.Prelude.{◌≡◌, ◌⊎◌, ◌-◌, ◌^◌, ◌<◌, ℕ, [], List, Option, IfErr, IfOk, IsSome, OnErr, OnOk, false, length, map, option_map, string_bytes};
 ghost use Rattle.ii_io.specs.CountingWriter.{CountingWriterState};
 ghost use Rattle.ii_doc_store.specs.StoreWriter.{AddsDocument, HasStored};
-ghost use Rattle.nequllpa_indexing.specs.Documents.{may_be_stored, with_line};
-ghost use Rattle.nequllpa_indexing.specs.StoredLines.{AreLinesOf, AreShort, IsLinesFault, IsOutputFault, IsStoreOf, StoresLines, lines_view};
+ghost use Rattle.ii_documents.specs.Records.{HasLongRecord};
+ghost use Rattle.ii_documents.specs.declared.faults.LineFault.TheVariants as faults;
+ghost use Rattle.nequllpa_indexing.specs.Documents.{AddsRecord, may_be_stored, no_records};
+ghost use Rattle.nequllpa_indexing.specs.StoredLines.{AreLinesOf, AreShort, HasOneMore, IsLinesFault, IsOutputFault, IsStoreOf, StoresLines, lines_view};
 
-use ii_base::{CountingWriter, Fault};
+use ii_base::{CountingWriter, Fault, Schema};
 use ii_doc_store::{MAX_DOCUMENT_LEN, StoreWriteFault, StoreWriter};
-use std::alloc::{AllocError, Global};
+use ii_documents::{LineFault, record_of};
+use ii_schema_text::Stored;
+use std::alloc::Global;
 use std::io::Write;
 
-// Returns whether a line is short enough to be stored, if lines are.
-pub(crate) fn may_be_stored(lines: &Option<Vec<String>>, line: &str) -> bool
-    ensures { result ≡ may_be_stored (lines_view lines.now) line.now }
+// Returns no records, if something is stored.
+pub(crate) fn no_records(alloc: Global, stored: &Stored) -> Option<Vec<String>>
+    ensures { lines_view result ≡ no_records stored.now }
 {
-    match lines {
-        Some(_) => line.len() <= MAX_DOCUMENT_LEN,
-        None => true,
+    if stored.is_any() {
+        return Some(Vec::new(alloc));
     }
+    None
 }
 
-// Adds a line, if lines are stored. After an error they are unchanged.
-pub(crate) fn push_line(
-    alloc: Global,
-    lines: &mut Option<Vec<String>>,
-    line: &str,
-) -> Result<(), AllocError>
-    ensures ok { OnOk result (lines_view lines.new ≡ with_line (lines_view lines.old) line.now) }
-    ensures err { OnErr result (lines_view lines.new ≡ lines_view lines.old) }
+// Returns whether a line is short enough to be stored, if complete lines are.
+pub(crate) fn may_be_stored(stored: &Stored, line: &str) -> bool
+    ensures { result ≡ may_be_stored stored.now line.now }
 {
-    let Some(lines) = lines else {
+    if !stored.is_line() {
+        return true;
+    }
+    line.len() <= MAX_DOCUMENT_LEN
+}
+
+// Adds the record of a line, if something is stored. Returns `TooLong` if it is too long, or `OutOfMemory`; the
+// records are then unchanged.
+pub(crate) fn push_record(
+    alloc: Global,
+    schema: &Schema,
+    stored: &Stored,
+    records: &mut Option<Vec<String>>,
+    line: &str,
+) -> Result<(), LineFault>
+    ensures ok { OnOk result (AddsRecord stored.now schema.now line.now (lines_view records.old) (lines_view records.new)) }
+    ensures err { OnErr result (lines_view records.new ≡ lines_view records.old) }
+    ensures fault { IfErr result (λ e. (e ≡ faults.OutOfMemory) ⊎ ((e ≡ faults.TooLong) × IsSome (lines_view records.old) × HasLongRecord stored.now schema.now line.now)) }
+{
+    let Some(records) = records else {
         return Ok(());
     };
-    let text = String::from_str(alloc, line)?;
-    Ok(lines.push(text)?)
+    let record = match record_of(alloc, schema, stored, line) {
+        Ok(record) => record,
+        Err(_) => return Err(LineFault::OutOfMemory),
+    };
+    if record.len() > MAX_DOCUMENT_LEN {
+        return Err(LineFault::TooLong);
+    }
+    Ok(records.push(record)?)
 }
 
-// Removes the last line, if lines are stored.
-pub(crate) fn pop_line(lines: &mut Option<Vec<String>>)
-    ensures { (before : Option (List (List ℕ))) (line : List ℕ) → lines_view lines.old ≡ with_line before line → lines_view lines.new ≡ before }
+// Removes the last record, if something is stored.
+pub(crate) fn pop_record(records: &mut Option<Vec<String>>)
+    ensures { (before : Option (List (List ℕ))) → HasOneMore before (lines_view records.old) → lines_view records.new ≡ before }
 {
-    if let Some(lines) = lines {
-        lines.pop();
+    if let Some(records) = records {
+        records.pop();
     }
 }
 
-// Writes the file of lines to memory, if lines are stored.
+// Writes the file of records to memory, if something is stored.
 pub(crate) fn lines_file(
     alloc: Global,
     num_docs: u32,
@@ -65,7 +89,7 @@ pub(crate) fn lines_file(
     }
 }
 
-// Writes the file of lines to memory.
+// Writes the file of records to memory.
 fn written(alloc: Global, lines: Vec<String>) -> Result<Vec<u8>, Fault>
     requires few { length lines.items < 2 ^ 31 }
     requires short { AreShort (map string_bytes lines.items) }
@@ -85,7 +109,7 @@ fn written(alloc: Global, lines: Vec<String>) -> Result<Vec<u8>, Fault>
     }
 }
 
-// Stores lines in a store that has no documents.
+// Stores records in a store that has no documents.
 fn store_all<W: Write>(writer: &mut StoreWriter<W>, lines: Vec<String>) -> Result<(), Fault>
     requires open { writer.old.closed ≡ false }
     requires empty { (initial : CountingWriterState) × HasStored initial writer.old [] }
@@ -103,7 +127,7 @@ fn store_all<W: Write>(writer: &mut StoreWriter<W>, lines: Vec<String>) -> Resul
     Ok(())
 }
 
-// Stores a line.
+// Stores a record.
 fn store_line<W: Write>(writer: &mut StoreWriter<W>, line: &str) -> Result<(), Fault>
     requires open { writer.old.closed ≡ false }
     requires few { writer.old.num_docs < 2 ^ 31 - 1 }

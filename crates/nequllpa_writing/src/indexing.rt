@@ -1,6 +1,7 @@
 //! The command `index`.
-ghost use Rattle.std.specs.Prelude.{◌≡◌, [], None, Some, if◌then◌else◌};
+ghost use Rattle.std.specs.Prelude.{◌≡◌, []};
 ghost use Rattle.ii_documents.specs.declared.floats.FloatNumbers.TheVariants as floats;
+ghost use Rattle.nequllpa_indexing.specs.Documents.{no_records};
 
 use crate::float_paths::float_path;
 use crate::keyed_lines::{KeyedLines, LineRefusal};
@@ -105,20 +106,15 @@ pub fn answer_index(
     }
 }
 
-/// Returns an empty list of documents, whose lines are stored, and whose unknown keys are ignored, if the schema's text
-/// says so, and the tokenizers of their fields.
+/// Returns an empty list of documents, and the tokenizers of their fields. What is stored of them, and whether their
+/// unknown keys are ignored, is as the schema's text says.
 pub fn documents_for(alloc: Global, schema: TextSchema) -> (Documents, FieldTokenizers)
-    ensures documents { result.0 ≡ record { schema = schema.schema; num_docs = 0; calls = []; lines = if schema.stores_source then Some [] else None; unknown_keys = schema.unknown_keys; floats = floats.Refuse; skipped_floats = 0 } }
+    ensures documents { result.0 ≡ record { schema = schema.schema; num_docs = 0; calls = []; stored = schema.stored; lines = no_records schema.stored; unknown_keys = schema.unknown_keys; floats = floats.Refuse; skipped_floats = 0 } }
     ensures tokenizers { result.1 ≡ schema.tokenizers }
 {
-    let stores_source = schema.stores_source();
     let unknown = schema.unknown_keys();
-    let (schema, tokenizers) = schema.into_parts();
-    if stores_source {
-        let documents = Documents::storing(alloc, schema);
-        return (documents.with_unknown_keys(unknown), tokenizers);
-    }
-    let documents = Documents::new(alloc, schema);
+    let (schema, tokenizers, stored) = schema.into_parts();
+    let documents = Documents::storing(alloc, schema, stored);
     (documents.with_unknown_keys(unknown), tokenizers)
 }
 

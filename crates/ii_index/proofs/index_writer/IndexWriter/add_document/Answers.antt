@@ -9,6 +9,6 @@ returns-in-Ok-clause-added g c =
     (λ known.
     record {
       calls = c.in-Ok.ensures.ok.0;
-      is_document = c.in-Ok.ensures.ok.1;
+      is_document = c.in-Ok.ensures.ok.2;
       pending = λ k us h. adds_line c.self.inside.index.schema c.self.inside.documents c.push_line.new.self c.args.document.now c.self.invariant.0 were c.in-Ok.ensures.ok (g.D.Directory.seen c.self.inside.index.directory) c.self.inside.flushed k us h;
     })

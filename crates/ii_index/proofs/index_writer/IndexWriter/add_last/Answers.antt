@@ -11,7 +11,7 @@ returns-in-Ok-flush-clause-added g c =
     (λ known.
     record {
       calls = c.in-Ok-push_line.ensures.ok.0;
-      is_document = c.in-Ok-push_line.ensures.ok.1;
+      is_document = c.in-Ok-push_line.ensures.ok.2;
       pending = λ k us h.
           let p = adds_line c.self.inside.index.schema c.self.inside.documents c.push_line.new.self c.args.document.now c.self.invariant.0 were c.in-Ok-push_line.ensures.ok (g.D.Directory.seen c.self.inside.index.directory) c.self.inside.flushed k us h in
           let written = (rw (c.replace-documents.ensures.value, c.take-flushed.ensures.value) at c.in-Ok-flush.ensures.written) known _ _ p in

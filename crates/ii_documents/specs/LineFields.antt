@@ -1,10 +1,12 @@
--- What is printed of a stored line if only some of its fields are wanted.
+-- The members of a line with some names, as the text of an object.
 use Rattle.std.specs.Prelude.{◌≡◌, ◌≤◌, ℕ, Bool, true, false, List, [], ◌∷◌, ◌++◌, map, Option, None, Some, unwrap_or}
 use Rattle.std.specs.Borrow.{Bor}
-use Rattle.serde_json.specs.Data.{Data, Members, depth, member, no_members, null, string}
+use Rattle.serde_json.specs.Data.{Data, Members, array, boolean, depth, member, no_members, null, number, object, string}
 use Rattle.serde_json.specs.Find.{get}
 use Rattle.serde_json.specs.Read.{max_depth, read}
 use Rattle.serde_json.specs.Written.{comma_if, compact_text, has_float}
+use Rattle.ii_documents.specs.declared.line_fields.NullMembers.{NullMembers}
+use Rattle.ii_documents.specs.declared.line_fields.NullMembers.TheVariants.{Keep, LeaveOut}
 
 -- borrowed names as lists of bytes
 abbrev pub names_of : List (Bor (List ℕ)) → List (List ℕ)
@@ -19,10 +21,21 @@ abbrev pub with_member : List ℕ → Option Data → Members → Members
 with_member name None ms = ms
 with_member name (Some d) ms = member name d ms
 
+-- a value, unless it is null and such members are left out
+abbrev pub unless_null : NullMembers → Option Data → Option Data
+unless_null Keep found = found
+unless_null LeaveOut None = None
+unless_null LeaveOut (Some null) = None
+unless_null LeaveOut (Some (boolean b)) = Some (boolean b)
+unless_null LeaveOut (Some (number n)) = Some (number n)
+unless_null LeaveOut (Some (string s)) = Some (string s)
+unless_null LeaveOut (Some (array ds)) = Some (array ds)
+unless_null LeaveOut (Some (object ms)) = Some (object ms)
+
 -- the members of a value with these names, in the order of the names; a name that it doesn't have is left out
-abbrev pub chosen : List (List ℕ) → Data → Members
-chosen [] d = no_members
-chosen (name ∷ names) d = with_member name (get name d) (chosen names d)
+abbrev pub chosen : NullMembers → List (List ℕ) → Data → Members
+chosen nulls [] d = no_members
+chosen nulls (name ∷ names) d = with_member name (unless_null nulls (get name d)) (chosen nulls names d)
 
 -- A text of a value: the one without spaces if it has no floating-point number, and one that is read as the value.
 pub record IsValueText (d : Data) (text : List ℕ) : Type 0 where
