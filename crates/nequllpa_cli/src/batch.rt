@@ -1,4 +1,5 @@
 //! The option `--batch` of `search`: each line of standard input is a query, and is answered by a line of JSON.
+use crate::host_lines::HostLines;
 use crate::query_texts::{byte_of, reason_of, tell_left_out};
 use crate::searching::{Wanted, write_wanted};
 use crate::timing::Timing;
@@ -99,7 +100,14 @@ fn rows_of(
     tell_left_out(rt, opened, fields, text)?;
     opened.bound(&mut query);
     let mut rows = Vec::new(rt.alloc());
-    match write_wanted(rt.alloc(), &mut rows, opened, &query, wanted) {
+    match write_wanted(
+        rt.alloc(),
+        &mut rows,
+        opened,
+        &query,
+        wanted,
+        &HostLines::new(rt),
+    ) {
         Ok(_) => Ok(Ok(rows)),
         Err(fault) => Ok(Err(NoAnswer {
             reason: format!(in rt.alloc(); "{fault}")?,

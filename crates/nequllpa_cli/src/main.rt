@@ -8,6 +8,7 @@ mod checking;
 mod commands;
 mod deleting;
 mod getting;
+mod host_lines;
 mod query_texts;
 mod replacing;
 mod searching;

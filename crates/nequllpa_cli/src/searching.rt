@@ -2,6 +2,7 @@
 use crate::batch::answer_batch;
 use crate::commands::{ended, field_named, format_given, number_given, opened_at};
 use crate::getting::NOT_STORED;
+use crate::host_lines::HostLines;
 use crate::query_texts::{refuse_query, tell_left_out};
 use crate::snippet_style::style_given;
 use crate::timing::Timing;
@@ -10,8 +11,8 @@ use ii_base::{Field, ValueType};
 use ii_query_parser::Query;
 use ii_segment_store::WantedFiles;
 use nequllpa_folder::{
-    AnswerFault, BestListing, CountFormat, Listing, OpenedIndex, RowFormat, StoredPart, are_stored,
-    id_field_of_all, write_best, write_count, write_listing,
+    AnswerFault, BestListing, CountFormat, Listing, MarkStyle, OpenedIndex, RowFormat, SourceLines,
+    StoredPart, are_stored, id_field_of_all, write_best, write_count, write_listing,
 };
 use nequllpa_writing::{PROGRAM, REFUSED, refuse};
 use std::alloc::Global;
@@ -78,6 +79,9 @@ fn option_of_line(given: &ArgMatches<'_>) -> Option<&'static str> {
     }
     if given.get_flag("snippet") {
         return Some("snippet");
+    }
+    if given.get_str("locate").is_some() {
+        return Some("locate");
     }
     None
 }
@@ -164,7 +168,7 @@ fn names_given<'a>(
 fn wanted_given<'a, 'n>(
     rt: &HostRuntime,
     opened: &OpenedIndex,
-    given: &ArgMatches<'_>,
+    given: &'a ArgMatches<'_>,
     limit: u32,
     names: &'a [&'n str],
 ) -> anyhow::Result<Result<Wanted<'a, 'n>, u8>> {
@@ -238,6 +242,12 @@ fn line_given<'a>(
         eprintln!(rt; "{PROGRAM}: --{option} stands without --snippet")?;
         return Ok(Err(REFUSED));
     }
+    if given.get_flag("source") && given.get_str("fields").is_some() {
+        return Ok(Err(refuse(rt, "--source stands without --fields")?));
+    }
+    if let Some(field) = given.get_str("locate") {
+        return place_given(rt, opened, given, field);
+    }
     let Some(text) = given.get_str("fields") else {
         if !given.get_flag("snippet") {
             return stored_names(rt, opened, Vec::new(rt.alloc()));
@@ -247,11 +257,30 @@ fn line_given<'a>(
             Err(status) => Ok(Err(status)),
         };
     };
-    if given.get_flag("source") {
-        return Ok(Err(refuse(rt, "--source stands without --fields")?));
-    }
     match names_in(rt, opened, text)? {
         Ok(names) => stored_names(rt, opened, names),
+        Err(status) => Ok(Err(status)),
+    }
+}
+
+// Returns no names of fields, or the status if documents have no places in a field, or if their places are printed with
+// an option that this doesn't go with.
+fn place_given<'a>(
+    rt: &HostRuntime,
+    opened: &OpenedIndex,
+    given: &ArgMatches<'_>,
+    name: &'a str,
+) -> anyhow::Result<Result<Vec<&'a str>, u8>> {
+    if given.get_flag("source") || given.get_str("fields").is_some() {
+        return Ok(Err(refuse(rt, "--locate stands without --source and --fields")?));
+    }
+    if let Err(status) = field_named(rt, opened, name)? {
+        return Ok(Err(status));
+    }
+    let mut names = Vec::new(rt.alloc());
+    names.push(name)?;
+    match stored_names(rt, opened, names)? {
+        Ok(_) => Ok(Ok(Vec::new(rt.alloc()))),
         Err(status) => Ok(Err(status)),
     }
 }
@@ -321,14 +350,17 @@ fn is_one_of(name: &str, names: &[&str]) -> bool {
 // Returns what is printed of stored lines, or the status if --color has no value that it may have.
 fn part_given<'a, 'n>(
     rt: &HostRuntime,
-    given: &ArgMatches<'_>,
+    given: &'a ArgMatches<'_>,
     names: &'a [&'n str],
 ) -> anyhow::Result<Result<StoredPart<'a, 'n>, u8>> {
     if given.get_flag("snippet") {
         return match style_given(rt, given) {
-            Some(style) => Ok(Ok(StoredPart::Snippet(style))),
+            Some(style) => Ok(Ok(snippet_part(given, style))),
             None => Ok(Err(refuse(rt, "--color is always, never or auto")?)),
         };
+    }
+    if let Some(field) = given.get_str("locate") {
+        return Ok(Ok(StoredPart::Place(field)));
     }
     if given.get_flag("source") {
         return Ok(Ok(StoredPart::Line));
@@ -337,6 +369,14 @@ fn part_given<'a, 'n>(
         return Ok(Ok(StoredPart::Nothing));
     }
     Ok(Ok(StoredPart::Fields(names)))
+}
+
+// Returns snippets as what is printed: of stored lines, or of lines that are read again.
+fn snippet_part<'a, 'n>(given: &'a ArgMatches<'_>, style: MarkStyle) -> StoredPart<'a, 'n> {
+    match given.get_str("locate") {
+        Some(field) => StoredPart::PlacedSnippet(field, style),
+        None => StoredPart::Snippet(style),
+    }
 }
 
 // Prints what is wanted of the matching documents.
@@ -348,23 +388,31 @@ fn print_wanted(
     wanted: &Wanted<'_, '_>,
 ) -> anyhow::Result<ExitCode> {
     let mut out = BufWriter::new(rt.alloc(), io::writer(rt))?;
-    let written = write_wanted(rt.alloc(), &mut out, opened, query, wanted);
+    let written = write_wanted(
+        rt.alloc(),
+        &mut out,
+        opened,
+        query,
+        wanted,
+        &HostLines::new(rt),
+    );
     out.flush()?;
     ended(rt, path, written)
 }
 
 /// Writes what is wanted of the matching documents. Returns whether any matches.
-pub fn write_wanted<W: Write>(
+pub fn write_wanted<W: Write, L: SourceLines>(
     alloc: Global,
     out: &mut W,
     opened: &OpenedIndex,
     query: &Query,
     wanted: &Wanted<'_, '_>,
+    files: &L,
 ) -> Result<bool, AnswerFault> {
     match wanted {
         Wanted::Count(format) => write_count(alloc, out, opened, query, *format),
-        Wanted::Best(how) => write_best(alloc, out, opened, query, how),
-        Wanted::Found(how) => write_listing(alloc, out, opened, query, how),
+        Wanted::Best(how) => write_best(alloc, out, opened, query, how, files),
+        Wanted::Found(how) => write_listing(alloc, out, opened, query, how, files),
     }
 }
 

@@ -75,6 +75,11 @@ static WRITING: [Usage; 5] = [
                 help: "Leaves out numbers with a fraction or an exponent in the values of JSON fields, and counts them; without it a line with one is no document",
             },
             Word {
+                name: "locate",
+                given: Given::Value("FIELD"),
+                help: "Keeps where each line is: puts FILE:LINE:BYTE, the file as given, the number of the line from 1 and the byte of the file at which it begins, into this field of its document, a text field with stored = true; search --locate prints it",
+            },
+            Word {
                 name: "memory",
                 given: Given::Value("SIZE"),
                 help: "About how much memory lines take before they are written as a segment, as 256MB, in B, KB, MB or GB (512MB unless given)",
@@ -104,6 +109,11 @@ static WRITING: [Usage; 5] = [
                 name: "FILE",
                 given: Given::Words,
                 help: "Files of JSON lines, an object on each line; - is standard input, which is read if no file is given",
+            },
+            Word {
+                name: "locate",
+                given: Given::Value("FIELD"),
+                help: "Keeps where each line is: puts FILE:LINE:BYTE, the file as given, the number of the line from 1 and the byte of the file at which it begins, into this field of its document, a text field with stored = true; search --locate prints it",
             },
             Word {
                 name: "memory",
@@ -250,6 +260,11 @@ static READING: [Usage; 7] = [
                 help: "Prints after each document, and a tab, of each stored text that has a word of the query the best 30 words; stands where --source does, and not with it or --fields",
             },
             Word {
+                name: "locate",
+                given: Given::Value("FIELD"),
+                help: "Prints in place of the number of a document where its line is, as FILE:LINE, - if the field has no place (index --locate FIELD); with --snippet reads the line again, in the file as it is now; stands without --count, --positions, --ids, --source and --fields",
+            },
+            Word {
                 name: "color",
                 given: Given::Value("WHEN"),
                 help: "Whether --snippet prints the words of the query in bold: always, never, or auto, which is on a terminal (auto if it is not given)",
@@ -262,7 +277,7 @@ static READING: [Usage; 7] = [
             Word {
                 name: "json",
                 given: Given::Flag,
-                help: "Prints a JSON object for each document: doc, its number; with --ids id; with --top score, and units, the score in units of 2^-38; with --explain explain, an array of objects with query, weight, weight_units, count, norm, share and units; with --source source, its line; with --fields fields, these members; with --snippet snippet, as HTML with the words of the query in <b> elements; with --positions terms, each with field, term and positions; with --count one object with count",
+                help: "Prints a JSON object for each document: doc, its number; with --ids id; with --top score, and units, the score in units of 2^-38; with --explain explain, an array of objects with query, weight, weight_units, count, norm, share and units; with --source source, its line; with --fields fields, these members; with --locate place, an object with file, line and byte, or null; with --snippet snippet, as HTML with the words of the query in <b> elements; with --positions terms, each with field, term and positions; with --count one object with count",
             },
         ],
     },

@@ -10,6 +10,7 @@ use crate::inspecting::count_all;
 use crate::json_rows::write_numbers;
 use crate::opened::Opened;
 use crate::opened_index::{Bases, OpenedIndex};
+use crate::places::SourceLines;
 use crate::row_format::RowFormat;
 use crate::stored_part::{StoredPart, StoredParts, words_for};
 use ii_base::{Fault, Field, Term};
@@ -44,20 +45,27 @@ pub struct Listing<'a, 'n> {
 /// `field`, `term` and `positions`. If stored documents are requested, a line of words is the document alone, and
 /// a JSON line has it as `source`; the first that can't be read ends the listing. If fields of them are, these are in
 /// its place, and the member of a JSON line is `fields`. If snippets are, a line of words has the document's number, and
-/// after a tab the snippet of the document (`snippet_of_line`), which is the member `snippet` of a JSON line.
-pub fn write_listing<W: Write>(
+/// after a tab the snippet of the document (`snippet_of_line`), which is the member `snippet` of a JSON line. If places
+/// are, a line of words has the file and the number of the document's line in place of its number, `-` if it has none, and
+/// a JSON line has them as `place`, an object with `file`, `line` and `byte`, or null; their snippets are of lines of
+/// `files`.
+pub fn write_listing<W: Write, L: SourceLines>(
     alloc: Global,
     out: &mut W,
     opened: &OpenedIndex,
     query: &Query,
     how: &Listing<'_, '_>,
+    files: &L,
 ) -> Result<bool, AnswerFault> {
     if how.limit == 0 {
         return Ok(count_all(alloc, opened.segments(), query)? > 0);
     }
     let rows = rows_of(alloc, opened, query, how)?;
     let any = !rows.is_empty();
-    let written = write_all_rows(alloc, out, opened, query, how, &rows);
+    let written = match how.stored {
+        StoredPart::Nothing => write_words_of_all(alloc, out, opened, query, how, &rows),
+        _ => write_sources_of_all(alloc, out, opened, query, how, files, &rows),
+    };
     drop(rows);
     match written {
         Ok(()) => Ok(any),
@@ -166,21 +174,6 @@ fn found_of(
     }
 }
 
-// Writes the found documents of all segments.
-fn write_all_rows<W: Write>(
-    alloc: Global,
-    out: &mut W,
-    opened: &OpenedIndex,
-    query: &Query,
-    how: &Listing<'_, '_>,
-    rows: &Vec<SegmentRows>,
-) -> Result<(), AnswerFault> {
-    match how.stored {
-        StoredPart::Nothing => write_words_of_all(alloc, out, opened, query, how, rows),
-        _ => write_sources_of_all(alloc, out, opened, query, how, rows),
-    }
-}
-
 // Writes a line for each found document of all segments.
 fn write_words_of_all<W: Write>(
     alloc: Global,
@@ -202,12 +195,13 @@ fn write_words_of_all<W: Write>(
 }
 
 // Writes what is requested of each found document of all segments.
-fn write_sources_of_all<W: Write>(
+fn write_sources_of_all<W: Write, L: SourceLines>(
     alloc: Global,
     out: &mut W,
     opened: &OpenedIndex,
     query: &Query,
     how: &Listing<'_, '_>,
+    files: &L,
     rows: &Vec<SegmentRows>,
 ) -> Result<(), AnswerFault> {
     let words = words_for(alloc, how.stored, query)?;
@@ -215,7 +209,7 @@ fn write_sources_of_all<W: Write>(
     let mut written = Ok(());
     for segment in rows {
         if written.is_ok() {
-            written = write_sources(alloc, out, opened, &parts, segment);
+            written = write_sources(alloc, out, opened, &parts, files, segment);
         }
     }
     drop(words);
@@ -264,11 +258,12 @@ fn write_rows<W: Write>(
 }
 
 // Writes what is requested of each found document of a segment.
-fn write_sources<W: Write>(
+fn write_sources<W: Write, L: SourceLines>(
     alloc: Global,
     out: &mut W,
     opened: &OpenedIndex,
     parts: &StoredParts<'_, '_>,
+    files: &L,
     rows: &SegmentRows,
 ) -> Result<(), AnswerFault> {
     let Some(segment) = opened.segments().get(rows.segment) else {
@@ -279,7 +274,7 @@ fn write_sources<W: Write>(
     for (doc, number) in rows.found.docs.iter().zip(&rows.numbers) {
         if written.is_ok() {
             written = match stored.get(*doc) {
-                Ok(document) => write_source(alloc, out, parts, *number, document),
+                Ok(document) => write_source(alloc, out, parts, files, *number, document),
                 Err(fault) => Err(AnswerFault::Document(fault)),
             };
         }
@@ -289,23 +284,22 @@ fn write_sources<W: Write>(
 }
 
 // Writes what is requested of a stored document, as a line of words or of JSON.
-fn write_source<W: Write>(
+fn write_source<W: Write, L: SourceLines>(
     alloc: Global,
     out: &mut W,
     parts: &StoredParts<'_, '_>,
+    files: &L,
     number: u64,
     document: &[u8],
 ) -> Result<(), AnswerFault> {
     if parts.format.is_json() {
         write!(out, "{{\"doc\":{number}")?;
-        parts.write_member(alloc, out, document)?;
+        parts.write_members(alloc, out, files, document)?;
         write!(out, "}}{}", parts.format.end())?;
         return Ok(());
     }
-    if parts.has_number() {
-        write!(out, "{number}\t")?;
-    }
-    parts.write(alloc, out, document)?;
+    parts.write_start(alloc, out, number, document)?;
+    parts.write_end(alloc, out, files, document)?;
     writeln!(out)?;
     Ok(())
 }

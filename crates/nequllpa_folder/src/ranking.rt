@@ -19,6 +19,7 @@ use crate::inspecting::count_all;
 use crate::listing::write_id;
 use crate::opened::Opened;
 use crate::opened_index::OpenedIndex;
+use crate::places::SourceLines;
 use crate::row_format::RowFormat;
 use crate::stored_part::{StoredPart, StoredParts, words_for};
 use ii_base::{Fault, Field, Schema, Term};
@@ -53,13 +54,16 @@ pub struct BestListing<'a, 'n> {
 /// follows (`push_shares`): a line of words for each part of the query, or a member `explain`. If stored documents are
 /// requested, a line of words has the document in place of its number, and a JSON line has it as `source`, at its end. If
 /// fields of them are, these are in its place, and the member is `fields`. If snippets are, a line of words has the snippet
-/// of the document (`snippet_of_line`) after its score and a tab, and the member is `snippet`.
-pub fn write_best<W: Write>(
+/// of the document (`snippet_of_line`) after its score and a tab, and the member is `snippet`. If places are, a line of
+/// words has the file and the number of the document's line in place of its number, `-` if it has none, and the member is
+/// `place`, an object with `file`, `line` and `byte`, or null; their snippets are of lines of `files`.
+pub fn write_best<W: Write, L: SourceLines>(
     alloc: Global,
     out: &mut W,
     opened: &OpenedIndex,
     query: &Query,
     how: &BestListing<'_, '_>,
+    files: &L,
 ) -> Result<bool, AnswerFault> {
     if how.limit == 0 {
         return Ok(count_all(alloc, opened.segments(), query)? > 0);
@@ -82,7 +86,7 @@ pub fn write_best<W: Write>(
     };
     let written = match how.stored {
         StoredPart::Nothing => write_rows(alloc, out, how, &best, &ids),
-        _ => write_parts(alloc, out, opened, query, how, &best),
+        _ => write_parts(alloc, out, opened, query, how, files, &best),
     };
     drop(ids);
     drop(best);
@@ -328,27 +332,29 @@ fn doc_of_number(segment: &Opened, base: u32, number: DocId) -> Option<DocId> {
 }
 
 // Writes what is requested of each of the best documents.
-fn write_parts<W: Write>(
+fn write_parts<W: Write, L: SourceLines>(
     alloc: Global,
     out: &mut W,
     opened: &OpenedIndex,
     query: &Query,
     how: &BestListing<'_, '_>,
+    files: &L,
     best: &Best,
 ) -> Result<(), AnswerFault> {
     let words = words_for(alloc, how.stored, query)?;
     let parts = StoredParts::new(opened, how.stored, how.format, &words);
-    let written = write_sources(alloc, out, opened, &parts, best);
+    let written = write_sources(alloc, out, opened, &parts, files, best);
     drop(words);
     written
 }
 
 // Writes what is requested of the stored document, and the score, of each of the best documents.
-fn write_sources<W: Write>(
+fn write_sources<W: Write, L: SourceLines>(
     alloc: Global,
     out: &mut W,
     opened: &OpenedIndex,
     parts: &StoredParts<'_, '_>,
+    files: &L,
     best: &Best,
 ) -> Result<(), AnswerFault> {
     let stores = segment_stores(alloc, opened)?;
@@ -357,7 +363,15 @@ fn write_sources<W: Write>(
         if written.is_ok() {
             let explanation = text_at(&best.explanations, place);
             written = match document(&stores, u64::from(pair.1)) {
-                Ok(document) => write_source(alloc, out, parts, *pair, document, explanation),
+                Ok(document) => write_source(
+                    alloc,
+                    out,
+                    parts,
+                    files,
+                    *pair,
+                    document,
+                    explanation,
+                ),
                 Err(fault) => Err(AnswerFault::Document(fault)),
             };
         }
@@ -367,10 +381,11 @@ fn write_sources<W: Write>(
 }
 
 // Writes what is requested of a stored document, with its score, and what the score is made of.
-fn write_source<W: Write>(
+fn write_source<W: Write, L: SourceLines>(
     alloc: Global,
     out: &mut W,
     parts: &StoredParts<'_, '_>,
+    files: &L,
     best: (Score, DocId),
     document: &[u8],
     explanation: &str,
@@ -379,21 +394,14 @@ fn write_source<W: Write>(
     if parts.format.is_json() {
         write!(out, "{{\"doc\":{doc}")?;
         write_score_members(alloc, out, score, explanation)?;
-        parts.write_member(alloc, out, document)?;
+        parts.write_members(alloc, out, files, document)?;
         write!(out, "}}{}", parts.format.end())?;
         return Ok(());
     }
-    if parts.has_number() {
-        write!(out, "{doc}\t")?;
-        write_score(alloc, out, score)?;
-        write!(out, "\t")?;
-        parts.write(alloc, out, document)?;
-        write!(out, "\n{explanation}")?;
-        return Ok(());
-    }
-    parts.write(alloc, out, document)?;
+    parts.write_start(alloc, out, u64::from(doc), document)?;
     write!(out, "\t")?;
     write_score(alloc, out, score)?;
+    parts.write_end(alloc, out, files, document)?;
     write!(out, "\n{explanation}")?;
     Ok(())
 }

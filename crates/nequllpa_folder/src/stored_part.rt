@@ -2,6 +2,7 @@
 use crate::faults::AnswerFault;
 use crate::line_snippets::snippet_of_line;
 use crate::opened_index::OpenedIndex;
+use crate::places::{SourceLines, line_again, write_place, write_place_json};
 use crate::row_format::RowFormat;
 use ii_base::Fault;
 use ii_documents::{fields_of_line, quoted};
@@ -24,6 +25,21 @@ pub enum StoredPart<'a, 'n> {
     Fields(&'a [&'n str]),
     /// The snippets of its texts, in this style.
     Snippet(MarkStyle),
+    /// The place of its line, which it has in the field with this name: the file and the number of the line.
+    Place(&'a str),
+    /// The same, and the snippets of the texts of that line, which is read again, in this style.
+    PlacedSnippet(&'a str, MarkStyle),
+}
+
+impl StoredPart<'_, '_> {
+    // Returns the style of snippets, if they are requested.
+    fn style(&self) -> Option<MarkStyle> {
+        match self {
+            StoredPart::Snippet(style) => Some(*style),
+            StoredPart::PlacedSnippet(_, style) => Some(*style),
+            _ => None,
+        }
+    }
 }
 
 // Returns what a query wants, if snippets are requested.
@@ -32,9 +48,9 @@ pub(crate) fn words_for<'q>(
     part: StoredPart<'_, '_>,
     query: &'q Query,
 ) -> Result<Vec<WantedWord<'q>>, Fault> {
-    match part {
-        StoredPart::Snippet(_) => wanted_words(alloc, query),
-        _ => Ok(Vec::new(alloc)),
+    match part.style() {
+        Some(_) => wanted_words(alloc, query),
+        None => Ok(Vec::new(alloc)),
     }
 }
 
@@ -55,10 +71,7 @@ impl<'a, 'n> StoredParts<'a, 'n> {
         format: RowFormat,
         words: &'a [WantedWord<'a>],
     ) -> StoredParts<'a, 'n> {
-        let style = match part {
-            StoredPart::Snippet(style) => style,
-            _ => MarkStyle::Plain,
-        };
+        let style = part.style().unwrap_or(MarkStyle::Plain);
         let rules = SnippetRules {
             schema: opened.schema(),
             tokenizers: opened.tokenizers(),
@@ -73,64 +86,104 @@ impl<'a, 'n> StoredParts<'a, 'n> {
         }
     }
 
-    // Returns whether the number of a document is written before what is requested of it.
-    pub(crate) fn has_number(&self) -> bool {
-        match self.part {
-            StoredPart::Nothing | StoredPart::Snippet(_) => true,
-            StoredPart::Line | StoredPart::Fields(_) => false,
-        }
-    }
-
-    // Writes what is requested of a stored document.
-    pub(crate) fn write<W: Write>(
+    // Writes what a line of words begins with: the number of a document, or what is requested of it instead.
+    pub(crate) fn write_start<W: Write>(
         &self,
         alloc: Global,
         out: &mut W,
+        number: u64,
         document: &[u8],
     ) -> Result<(), AnswerFault> {
         match self.part {
-            StoredPart::Nothing => Ok(()),
+            StoredPart::Nothing | StoredPart::Snippet(_) => Ok(write!(out, "{number}")?),
             StoredPart::Line => Ok(out.write_all(document)?),
             StoredPart::Fields(names) => {
                 write_text(out, fields_of_line(alloc, line_of(document), names)?)
             }
-            StoredPart::Snippet(_) => {
-                write_text(out, snippet_of_line(alloc, &self.rules, line_of(document))?)
+            StoredPart::Place(field) | StoredPart::PlacedSnippet(field, _) => {
+                write_place(alloc, out, line_of(document), field)
             }
         }
     }
 
-    // Writes what is requested of a stored document as a member of a JSON object.
-    pub(crate) fn write_member<W: Write>(
+    // Writes the snippets of a document after a tab, if they are requested.
+    pub(crate) fn write_end<W: Write, L: SourceLines>(
         &self,
         alloc: Global,
         out: &mut W,
+        files: &L,
+        document: &[u8],
+    ) -> Result<(), AnswerFault> {
+        match self.snippet_of(alloc, files, document)? {
+            Some(snippet) => {
+                write!(out, "\t")?;
+                write_text(out, snippet)
+            }
+            None => Ok(()),
+        }
+    }
+
+    // Writes what is requested of a document as members of a JSON object.
+    pub(crate) fn write_members<W: Write, L: SourceLines>(
+        &self,
+        alloc: Global,
+        out: &mut W,
+        files: &L,
         document: &[u8],
     ) -> Result<(), AnswerFault> {
         match self.part {
-            StoredPart::Nothing => return Ok(()),
-            StoredPart::Line => write!(out, ",\"source\":")?,
-            StoredPart::Fields(_) => write!(out, ",\"fields\":")?,
-            StoredPart::Snippet(_) => {
-                write!(out, ",\"snippet\":")?;
-                return self.write_quoted_snippet(alloc, out, document);
+            StoredPart::Nothing | StoredPart::Snippet(_) => {}
+            StoredPart::Line => {
+                write!(out, ",\"source\":")?;
+                out.write_all(document)?;
+            }
+            StoredPart::Fields(names) => {
+                write!(out, ",\"fields\":")?;
+                write_text(out, fields_of_line(alloc, line_of(document), names)?)?;
+            }
+            StoredPart::Place(field) | StoredPart::PlacedSnippet(field, _) => {
+                write!(out, ",\"place\":")?;
+                write_place_json(alloc, out, line_of(document), field)?;
             }
         }
-        self.write(alloc, out, document)
+        match self.snippet_of(alloc, files, document)? {
+            Some(snippet) => write_snippet_member(alloc, out, snippet),
+            None => Ok(()),
+        }
     }
 
-    // Writes the snippets of a stored document as a JSON string.
-    fn write_quoted_snippet<W: Write>(
+    // Returns the snippets of a document, if they are requested: of its stored line, or of the line that is read again.
+    fn snippet_of<L: SourceLines>(
         &self,
         alloc: Global,
-        out: &mut W,
+        files: &L,
         document: &[u8],
-    ) -> Result<(), AnswerFault> {
-        let snippet = snippet_of_line(alloc, &self.rules, line_of(document))?;
-        let written = write_quoted(alloc, out, snippet.as_str());
-        drop(snippet);
-        written
+    ) -> Result<Option<String>, AnswerFault> {
+        match self.part {
+            StoredPart::Snippet(_) => {
+                Ok(Some(snippet_of_line(alloc, &self.rules, line_of(document))?))
+            }
+            StoredPart::PlacedSnippet(field, _) => {
+                let line = line_again(alloc, files, line_of(document), field)?;
+                let snippet = snippet_of_line(alloc, &self.rules, line_of(line.as_slice()));
+                drop(line);
+                Ok(Some(snippet?))
+            }
+            _ => Ok(None),
+        }
     }
+}
+
+// Writes snippets as a member of a JSON object.
+fn write_snippet_member<W: Write>(
+    alloc: Global,
+    out: &mut W,
+    snippet: String,
+) -> Result<(), AnswerFault> {
+    write!(out, ",\"snippet\":")?;
+    let written = write_quoted(alloc, out, snippet.as_str());
+    drop(snippet);
+    written
 }
 
 // Returns a stored document as a text, which is empty if it isn't UTF-8.

@@ -44,7 +44,7 @@ pub struct Replacement<'a> {
 pub fn add_given<'a>(
     rt: &HostRuntime,
     path: &'a str,
-    given: &ArgMatches<'_>,
+    given: &'a ArgMatches<'_>,
 ) -> anyhow::Result<Added<'a>> {
     let target = match target_of(rt, path, false)? {
         Ok(target) => target,
@@ -64,7 +64,10 @@ pub fn add_given<'a>(
     };
     let replaces = keyed.is_some();
     let segments = NewSegments::new(target, Former::Kept, bytes);
-    let mut intake = begun(rt, given, segments, schema, budget, keyed)?;
+    let mut intake = match begun(rt, given, segments, schema, budget, keyed)? {
+        Ok(intake) => intake,
+        Err(status) => return Ok(Added::Ended(ExitCode::from(status))),
+    };
     if let Err(status) = take_inputs(rt, given, &mut intake)? {
         intake.discard(rt);
         return Ok(Added::Ended(ExitCode::from(status)));

@@ -4,16 +4,17 @@ ghost use Rattle.ii_documents.specs.declared.floats.FloatNumbers.TheVariants as 
 ghost use Rattle.nequllpa_indexing.specs.Documents.{no_records};
 
 use crate::float_paths::float_path;
-use crate::keyed_lines::{KeyedLines, LineRefusal};
+use crate::keyed_lines::{KeyedLines, LineRefusal, no_memory};
 use crate::left_out::LeftOut;
 use crate::memory::{Budget, budget_given};
 use crate::messages::{NO, PROGRAM, REFUSED, refuse, refuse_file, refuse_path};
 use crate::new_segments::{Former, NewSegments};
 use crate::orphans::refuse_orphan;
+use crate::places::located_by;
 use crate::schemas::text_schema_of;
 use clap::ArgMatches;
 use ii_base::{Field, Term, ValueType};
-use ii_documents::{FloatNumbers, LineFault, ValueFault};
+use ii_documents::{FloatNumbers, LineFault, LinePlace, ValueFault};
 use ii_schema_text::{SchemaFault, TextSchema, field_name_at, new_schema_text, read_text_schema};
 use ii_store::FolderLock;
 use ii_tokenizers::FieldTokenizers;
@@ -53,6 +54,8 @@ pub struct Intake<'a> {
     skipped_floats: u64,
     // the lines, if their documents replace others
     keyed: Option<KeyedLines>,
+    // the field in which documents get the places of their lines
+    located: Option<&'a str>,
     skips_bad: bool,
     // whether neither progress nor counts are printed
     is_quiet: bool,
@@ -92,7 +95,10 @@ pub fn answer_index(
         Err(status) => return Ok(ExitCode::from(status)),
     };
     let segments = NewSegments::new(target, Former::Replaced, text.into_bytes());
-    let mut intake = begun(rt, given, segments, schema, budget, None)?;
+    let mut intake = match begun(rt, given, segments, schema, budget, None)? {
+        Ok(intake) => intake,
+        Err(status) => return Ok(ExitCode::from(status)),
+    };
     if let Err(status) = take_inputs(rt, given, &mut intake)? {
         intake.discard(rt);
         return Ok(ExitCode::from(status));
@@ -182,12 +188,16 @@ impl<'a> Target<'a> {
 /// segments, or kept if their documents replace those with the same key in a field.
 pub fn begun<'a>(
     rt: &HostRuntime,
-    given: &ArgMatches<'_>,
+    given: &'a ArgMatches<'_>,
     segments: NewSegments<'a>,
     schema: TextSchema,
     budget: Budget,
     keyed: Option<KeyedLines>,
-) -> anyhow::Result<Intake<'a>> {
+) -> anyhow::Result<Result<Intake<'a>, u8>> {
+    let located = match located_by(rt, given, &schema)? {
+        Ok(located) => located,
+        Err(status) => return Ok(Err(status)),
+    };
     let begun = Instant::now(rt)?;
     let is_quiet = given.get_flag("quiet");
     if !is_quiet {
@@ -195,7 +205,7 @@ pub fn begun<'a>(
     }
     let (documents, tokenizers) = documents_for(rt.alloc(), schema);
     let documents = documents.with_floats(floats_given(given));
-    Ok(Intake {
+    Ok(Ok(Intake {
         segments,
         most_bytes: budget.bytes_of_lines(),
         documents,
@@ -204,13 +214,14 @@ pub fn begun<'a>(
         long_words: 0,
         skipped_floats: 0,
         keyed,
+        located,
         skips_bad: given.get_flag("skip-bad"),
         is_quiet,
         bad_lines: 0,
         bytes: 0,
         reported: 0,
         begun,
-    })
+    }))
 }
 
 // Returns what happens to numbers with a fraction.
@@ -327,6 +338,7 @@ fn take_lines<R: BufRead>(
     intake: &mut Intake<'_>,
 ) -> anyhow::Result<Result<(), u8>> {
     let mut line = Vec::new(rt.alloc());
+    let mut byte = 0u64;
     for number in 1..u64::MAX {
         line.clear();
         let len = match reader.read_until(b'\n', &mut line) {
@@ -336,9 +348,15 @@ fn take_lines<R: BufRead>(
         if len == 0 {
             return Ok(Ok(()));
         }
-        if let Err(status) = intake.take_line(rt, name, number, line.as_slice())? {
+        let place = LinePlace {
+            file: name,
+            line: number,
+            byte,
+        };
+        if let Err(status) = intake.take_line(rt, place, line.as_slice())? {
             return Ok(Err(status));
         }
+        byte = byte.saturating_add(len as u64);
     }
     Ok(Ok(()))
 }
@@ -433,6 +451,7 @@ impl<'a> Intake<'a> {
             long_words: _,
             skipped_floats: _,
             keyed,
+            located: _,
             skips_bad: _,
             is_quiet: _,
             bad_lines,
@@ -459,8 +478,24 @@ impl<'a> Intake<'a> {
         self.is_quiet
     }
 
+    // Adds the document of a line, with the line's place if that is wanted, or keeps the line.
+    fn put_line(
+        &mut self,
+        alloc: Global,
+        place: LinePlace<'_>,
+        line: &[u8],
+    ) -> Result<(), LineRefusal> {
+        let Some(field) = self.located else {
+            return self.put_document(alloc, line);
+        };
+        match place.put_in(alloc, line, field) {
+            Ok(object) => self.put_document(alloc, object.as_slice()),
+            Err(_) => Err(no_memory()),
+        }
+    }
+
     // Adds the document of a line, or keeps the line.
-    fn put_line(&mut self, alloc: Global, line: &[u8]) -> Result<(), LineRefusal> {
+    fn put_document(&mut self, alloc: Global, line: &[u8]) -> Result<(), LineRefusal> {
         if let Some(keyed) = &mut self.keyed {
             return keyed.take(alloc, &self.documents, &self.tokenizers, line);
         }
@@ -474,8 +509,7 @@ impl<'a> Intake<'a> {
     fn take_line(
         &mut self,
         rt: &HostRuntime,
-        name: &str,
-        number: u64,
+        place: LinePlace<'_>,
         line: &[u8],
     ) -> anyhow::Result<Result<(), u8>> {
         self.bytes = self.bytes.saturating_add(line.len() as u64);
@@ -492,13 +526,13 @@ impl<'a> Intake<'a> {
             }
         }
         self.unwritten = self.unwritten.saturating_add(len);
-        match self.put_line(rt.alloc(), line) {
+        match self.put_line(rt.alloc(), place, line) {
             Ok(()) => Ok(Ok(())),
             Err(fault) => {
                 if fault.is_memory() {
-                    return Ok(Err(refuse_path(rt, name, fault)?));
+                    return Ok(Err(refuse_path(rt, place.file, fault)?));
                 }
-                self.refuse_line(rt, name, number, line, &fault)
+                self.refuse_line(rt, place.file, place.line, line, &fault)
             }
         }
     }

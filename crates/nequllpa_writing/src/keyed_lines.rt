@@ -131,7 +131,7 @@ impl KeyedLines {
 }
 
 // An allocation that failed.
-fn no_memory() -> LineRefusal {
+pub(crate) fn no_memory() -> LineRefusal {
     LineRefusal::Input(InputFault::Line(LineFault::OutOfMemory))
 }
 

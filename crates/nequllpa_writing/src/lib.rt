@@ -11,6 +11,7 @@ pub mod merging;
 pub mod messages;
 mod new_segments;
 mod orphans;
+mod places;
 mod schemas;
 pub mod upgrading;
 
