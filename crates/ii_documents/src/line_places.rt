@@ -1,11 +1,11 @@
 //! Where lines are: in a file, at the number of a line, from a byte on.
-ghost use Rattle.std.specs.Prelude.{◌≡◌, IfOk, string_bytes};
+ghost use Rattle.std.specs.Prelude.{◌≡◌, ◌++◌, IfOk, OnOk, string_bytes};
 ghost use Rattle.ii_io.specs.Faults.{OnlyMemory};
-ghost use Rattle.ii_documents.specs.LinePlaces.{HasMember, place_text};
+ghost use Rattle.ii_documents.specs.LinePlaces.{HasLastMember, HasMember, comma_after, last_member, place_text};
 
 use crate::line_fields::quoted;
 use ii_base::Fault;
-use std::alloc::Global;
+use std::alloc::{AllocError, Global};
 
 /// The place of a line.
 #[derive(Clone, Copy, Debug, PartialEq, Eq)]
@@ -44,20 +44,45 @@ impl<'a> LinePlace<'a> {
         ensures object { IfOk result (λ object. HasMember name.now (place_text self.now.file.now self.now.line self.now.byte) line.now object.items) }
         ensures only { OnlyMemory result }
     {
-        let Some(members) = line.trim_ascii().strip_suffix(b"}") else {
+        let whole = line.trim_ascii();
+        if !whole.ends_with(b"}") {
             return Ok(Vec::from_slice(alloc, line)?);
-        };
-        let mut object = Vec::from_slice(alloc, members)?;
-        if !members.trim_ascii_end().ends_with(b"{") {
-            object.push(b',')?;
         }
         let text = self.to_text(alloc)?;
-        let text = quoted(alloc, text.as_str())?;
-        let name = quoted(alloc, name)?;
-        object.extend_from_slice(name.as_bytes())?;
-        object.push(b':')?;
-        object.extend_from_slice(text.as_bytes())?;
-        object.push(b'}')?;
-        Ok(object)
+        with_member(alloc, &whole[..whole.len() - 1], name, text.as_str())
     }
+}
+
+// Returns the object of members with one member more, the last one: a name and a text.
+fn with_member(alloc: Global, members: &[u8], name: &str, text: &str) -> Result<Vec<u8>, Fault>
+    ensures object { IfOk result (λ object. HasLastMember name.now text.now members.now object.items) }
+    ensures only { OnlyMemory result }
+{
+    let mut object = Vec::from_slice(alloc, members)?;
+    push_comma(&mut object, members.trim_ascii_end())?;
+    push_member(alloc, &mut object, name, text)?;
+    Ok(object)
+}
+
+// Adds the comma after members without white space at their end.
+fn push_comma(object: &mut Vec<u8>, members: &[u8]) -> Result<(), AllocError>
+    ensures { OnOk result (object.new.items ≡ object.old.items ++ comma_after members.now) }
+{
+    if members.ends_with(b"{") {
+        return Ok(());
+    }
+    Ok(object.push(b',')?)
+}
+
+// Adds the last member of an object, and its end.
+fn push_member(alloc: Global, object: &mut Vec<u8>, name: &str, text: &str) -> Result<(), Fault>
+    ensures added { OnOk result (object.new.items ≡ object.old.items ++ last_member name.now text.now) }
+    ensures only { OnlyMemory result }
+{
+    let name = quoted(alloc, name)?;
+    let text = quoted(alloc, text)?;
+    object.extend_from_slice(name.as_bytes())?;
+    object.push(b':')?;
+    object.extend_from_slice(text.as_bytes())?;
+    Ok(object.push(b'}')?)
 }
