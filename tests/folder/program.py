@@ -186,11 +186,22 @@ def ids(user):
             ('"text"\nfieldnorms = false', ['c', 'b', 'a'], 2, '', '--ids: the field id has texts without fieldnorms'),
             ('"json"', ['c', 'b', 'a'], 2, '', '--ids: the field id has JSON values'),
             ('"u64"\nindexed = false', [1, 2, 3], 2, '', '--ids: the schema has no indexed field id'),
-            ('"bool"', [True, False, None], 0, 'true\nfalse\n-\n', '')):
+            ('"bool"', [True, False, None], 0, 'true\nfalse\n-\n', ''),
+            ('"text"\nstored = true', ['doc-12 \u00e9', 'b', None], 0, 'doc-12 \u00e9\nb\n-\n', ''),
+            ('"text"\nindexed = false\nstored = true', ['', ['c', 'd'], 'a'], 0, '-\n["c","d"]\na\n', ''),
+            ('"u64"\nindexed = false\nstored = true', [1, [2, 3], 2 ** 64 - 1], 0, f'1\n[2,3]\n{2 ** 64 - 1}\n', ''),
+            ('"date"\nstored = true', ['2026-11-29T01:00:00+01:00', None, '1970-01-01T00:00:00Z'], 0, '2026-11-29T01:00:00+01:00\n-\n1970-01-01T00:00:00Z\n', ''),
+            ('"json"\nstored = true', [{'b': 1, 'a': None}, 'c', True], 0, '{"a":null,"b":1}\nc\ntrue\n', '')):
         schema = user.write('ids.toml', IDS.replace('"u64"', settings, 1))
         docs = [{'id': value, 'body': 'sea'} for value in values]
         user.wants(['index', 'ids', '--schema', schema], 0, '3 documents indexed\n', given=lines(docs).encode())
         user.wants(['search', 'ids', 'sea', '--ids'], status, out, err)
+        if status == 0:
+            names = [None if row == '-' else row for row in out.split('\n')[:-1]]
+            rows = [json.loads(row) for row in user.run('search', 'ids', 'sea', '--ids', '--json').stdout.splitlines()]
+            best = user.run('search', 'ids', 'sea', '--ids', '--top', 3).stdout.decode().splitlines()
+            if rows != [{'doc': doc, 'id': name} for doc, name in enumerate(names)] or [row.split('\t')[0] for row in best] != out.split('\n')[:-1]:
+                raise Failed(f'ids: {settings}: {rows}, {best}')
     user.write('ids.toml', IDS)
     user.wants(['search', 'folder', 'the', '--field', 'body', '--limit', 0], 0, '')
     user.wants(['search', 'folder', 'nosuchword', '--limit', 0], 1, '')

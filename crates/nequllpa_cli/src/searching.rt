@@ -11,8 +11,9 @@ use ii_base::{Field, ValueType};
 use ii_query_parser::Query;
 use ii_segment_store::WantedFiles;
 use nequllpa_folder::{
-    AnswerFault, BestListing, CountFormat, Listing, MarkStyle, OpenedIndex, RowFormat, SourceLines,
-    StoredPart, are_stored, id_field_of_all, write_best, write_count, write_listing,
+    AnswerFault, BestListing, CountFormat, IdSource, Listing, MarkStyle, OpenedIndex, RowFormat,
+    SourceLines, StoredPart, are_stored, id_source, stores_ids, write_best, write_count,
+    write_listing,
 };
 use nequllpa_writing::{PROGRAM, REFUSED, refuse};
 use std::alloc::Global;
@@ -49,13 +50,31 @@ pub fn answer_search(
         return Ok(ExitCode::from(status));
     }
     let timing = Timing::begin(rt, given)?;
-    match opened_at(rt, path, wanted_by(given))? {
+    match opened_for(rt, path, given)? {
         Ok(opened) => {
             timing.tell(rt, "opening")?;
             search(rt, path, &opened, given, limit)
         }
         Err(status) => Ok(ExitCode::from(status)),
     }
+}
+
+// Opens an index with the files that a search reads. That ids are stored is known when the index is open: then it is
+// opened again, with the stored documents.
+fn opened_for(
+    rt: &HostRuntime,
+    path: &str,
+    given: &ArgMatches<'_>,
+) -> anyhow::Result<Result<OpenedIndex, u8>> {
+    let opened = match opened_at(rt, path, wanted_by(given))? {
+        Ok(opened) => opened,
+        Err(status) => return Ok(Err(status)),
+    };
+    if !given.get_flag("ids") || !stores_ids(&opened) {
+        return Ok(Ok(opened));
+    }
+    drop(opened);
+    opened_at(rt, path, WantedFiles::All)
 }
 
 // Returns the files that a search reads: the stored documents if it prints of them, the counts if it ranks.
@@ -416,18 +435,18 @@ pub fn write_wanted<W: Write, L: SourceLines>(
     }
 }
 
-// Returns the field whose values are printed instead of document numbers, if requested, or the status if the
-// index has no such values.
+// Returns where the ids are read that are printed instead of document numbers, if requested, or the status if the index
+// has none.
 fn ids_given(
     rt: &HostRuntime,
     opened: &OpenedIndex,
     given: &ArgMatches<'_>,
-) -> anyhow::Result<Result<Option<Field>, u8>> {
+) -> anyhow::Result<Result<Option<IdSource>, u8>> {
     if !given.get_flag("ids") {
         return Ok(Ok(None));
     }
-    match id_field_of_all(opened) {
-        Ok(Ok(field)) => Ok(Ok(Some(field))),
+    match id_source(opened) {
+        Ok(Ok(source)) => Ok(Ok(Some(source))),
         Ok(Err(reason)) => Ok(Err(refuse(rt, reason)?)),
         Err(fault) => Ok(Err(refuse(rt, fault)?)),
     }

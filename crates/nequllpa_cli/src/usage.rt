@@ -242,7 +242,7 @@ static READING: [Usage; 7] = [
             Word {
                 name: "ids",
                 given: Given::Flag,
-                help: "Prints the value of the field id in place of the number of a document, - if it has none; refused for texts of several words",
+                help: "Prints the value of the field id in place of the number of a document, - if it has none: the stored one if the schema stores it, else its first term; that is refused for texts of several words",
             },
             Word {
                 name: "source",

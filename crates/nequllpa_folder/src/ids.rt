@@ -1,4 +1,4 @@
-//! Reads the values of the field `id`.
+//! Reads the values of the field `id`, in the terms of an index or in its stored documents.
 ghost use Rattle.std.specs.Prelude.{◌≡◌, ◌⊎◌, ◌<◌, ◌&&◌, IfErr, IfOk, Ok, length, nat_lt};
 ghost use Rattle.ii_segments.specs.Segments.{is_living};
 ghost use Rattle.std.specs.Option.{option_map};
@@ -7,16 +7,19 @@ ghost use Rattle.ii_io.specs.declared.faults.Part.{Part};
 ghost use Rattle.ii_fieldnorm.specs.Readers.{id_of_doc, norms_of_ids};
 ghost use Rattle.nequllpa_folder.specs.Ids.{first_above_one as the_first_above_one, first_of_several as the_first_of_several, id_field_of};
 
+use crate::documents::StoredDocs;
 use crate::faults::AnswerFault;
 use crate::opened::{Opened, is_living};
 use crate::opened_index::{Bases, OpenedIndex};
 use ii_alive::AliveBits;
 use ii_base::{Fault, Field, IndexRecordOption, ValueType};
 use ii_docset::{DocId, DocSet, TERMINATED};
+use ii_documents::read_line;
 use ii_fieldnorm::FieldNormReader;
 use ii_reader::InvertedIndexReader;
 use ii_term_text::push_key;
 use ii_termdict::TermInfo;
+use serde_json::Value;
 use std::alloc::Global;
 use thiserror::Error;
 
@@ -93,6 +96,35 @@ pub fn id_field_of_all(opened: &OpenedIndex) -> Result<Result<Field, NoIds>, Fau
     Ok(Ok(field))
 }
 
+/// Where the values of the field `id` are read.
+#[derive(Clone, Copy, Debug, PartialEq, Eq)]
+pub enum IdSource {
+    /// In the terms of this field.
+    Terms(Field),
+    /// In the stored documents.
+    Stored,
+}
+
+/// Returns whether the schema says of the field `id` that it is stored.
+pub fn stores_ids(opened: &OpenedIndex) -> bool {
+    match opened.field_named(ID_FIELD) {
+        Some(field) => opened.stored().has_member(field),
+        None => false,
+    }
+}
+
+/// Returns where the values of the field `id` are read: in the stored documents if the schema says that it is stored,
+/// else in the terms of the field (`id_field_of_all`), or why they can't be read there.
+pub fn id_source(opened: &OpenedIndex) -> Result<Result<IdSource, NoIds>, Fault> {
+    if stores_ids(opened) {
+        return Ok(Ok(IdSource::Stored));
+    }
+    match id_field_of_all(opened)? {
+        Ok(field) => Ok(Ok(IdSource::Terms(field))),
+        Err(reason) => Ok(Err(reason)),
+    }
+}
+
 // Returns the first living document with several words in a text field.
 fn first_of_several(opened: &Opened, field: Field) -> Result<Result<Option<DocId>, NoIds>, Fault>
     ensures found { IfOk result (λ found. found ≡ the_first_of_several opened.now.alive (option_map norms_of_ids (body_of field opened.now.index.fieldnorms))) }
@@ -160,9 +192,66 @@ impl Ids {
     }
 }
 
-/// Returns the ids of ascending documents: for each the first of its terms in the field, in the order of the
-/// keys. Opens terms until each document has its id.
+/// Returns the ids of ascending documents of the segment at a place. From stored documents: for each the value of the
+/// member `id`, a text as it is, another value as JSON. From terms: for each the first of its terms in the field, in the
+/// order of the keys; terms are opened until each document has its id.
 pub fn ids_of(
+    alloc: Global,
+    placed: (usize, &Opened),
+    source: IdSource,
+    docs: &[DocId],
+) -> Result<Ids, AnswerFault> {
+    let (place, segment) = placed;
+    match source {
+        IdSource::Stored => stored_ids(alloc, StoredDocs::new(segment.store(), place), docs),
+        IdSource::Terms(field) => {
+            if field.field_id() as usize >= segment.schema().num_fields() {
+                return Ok(Ids::none(alloc));
+            }
+            ids_of_terms(alloc, segment, field, docs)
+        }
+    }
+}
+
+// Returns the ids that stored documents have.
+fn stored_ids(alloc: Global, stored: StoredDocs<'_>, docs: &[DocId]) -> Result<Ids, AnswerFault> {
+    let mut stored = stored;
+    let mut ids = Ids::none(alloc);
+    for doc in docs {
+        let document = stored.get(*doc)?;
+        ids.texts.push(stored_id(alloc, document)?)?;
+    }
+    drop(stored);
+    Ok(ids)
+}
+
+// Returns the id of a stored document, an empty text if it has none.
+fn stored_id(alloc: Global, document: &[u8]) -> Result<String, Fault> {
+    let object = read_line(alloc, std::str::from_utf8(document).unwrap_or(""))?;
+    let id = match object.get(ID_FIELD) {
+        Some(value) => text_of(alloc, value),
+        None => Ok(String::new(alloc)),
+    };
+    drop(object);
+    id
+}
+
+// Returns the text of a value: of a text itself, of null an empty one, of another value its JSON.
+fn text_of(alloc: Global, value: &Value) -> Result<String, Fault> {
+    if value.is_null() {
+        return Ok(String::new(alloc));
+    }
+    if let Some(text) = value.as_str() {
+        return Ok(String::from_str(alloc, text)?);
+    }
+    match value.to_string(alloc) {
+        Ok(text) => Ok(text),
+        Err(_) => Err(Fault::OutOfMemory),
+    }
+}
+
+// Returns the ids of ascending documents from the terms of a field.
+fn ids_of_terms(
     alloc: Global,
     opened: &Opened,
     field: Field,

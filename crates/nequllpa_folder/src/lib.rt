@@ -29,7 +29,7 @@ pub use deleting::{docs_to_delete, docs_with_term};
 pub use documents::{SegmentStore, are_stored, document, segment_stores};
 pub use faults::{AnswerFault, DocumentFault, OpenFault};
 pub use finding::{FoundPlaces, TermPositions, find_places, first_docs, wanted_terms};
-pub use ids::{NoIds, id_field, id_field_of_all};
+pub use ids::{IdSource, NoIds, id_field, id_field_of_all, id_source, stores_ids};
 pub use ii_documents::{fields_of_line, quoted};
 pub use ii_snippet::MarkStyle;
 pub use ii_term_text::{push_key, term_of};

@@ -5,7 +5,7 @@ ghost use Rattle.ii_query_parser.specs.Queries.{has_fields};
 use crate::documents::StoredDocs;
 use crate::faults::AnswerFault;
 use crate::finding::{FoundPlaces, TermPositions, find_places, first_docs, wanted_terms};
-use crate::ids::{Ids, ids_of};
+use crate::ids::{IdSource, Ids, ids_of};
 use crate::inspecting::count_all;
 use crate::json_rows::write_numbers;
 use crate::opened::Opened;
@@ -13,7 +13,7 @@ use crate::opened_index::{Bases, OpenedIndex};
 use crate::places::SourceLines;
 use crate::row_format::RowFormat;
 use crate::stored_part::{StoredPart, StoredParts, words_for};
-use ii_base::{Fault, Field, Term};
+use ii_base::{Fault, Term};
 use ii_docset::DocId;
 use ii_documents::quoted;
 use ii_search::Query;
@@ -30,8 +30,8 @@ pub struct Listing<'a, 'n> {
     pub format: RowFormat,
     /// Whether the positions of the terms that the query wants are written.
     pub with_positions: bool,
-    /// The field whose value is written instead of a document's number.
-    pub ids: Option<Field>,
+    /// Where the id is read that is written instead of a document's number.
+    pub ids: Option<IdSource>,
     /// What of the stored document is written instead of its number.
     pub stored: StoredPart<'a, 'n>,
 }
@@ -122,7 +122,7 @@ fn rows_in(
 ) -> Result<SegmentRows, AnswerFault> {
     let (place, segment) = placed;
     let numbers = numbers_of(alloc, segment, &found.docs, base)?;
-    match ids_in(alloc, segment, how, &found.docs) {
+    match ids_in(alloc, placed, how, &found.docs) {
         Ok(ids) => Ok(SegmentRows {
             segment: place,
             found,
@@ -219,17 +219,12 @@ fn write_sources_of_all<W: Write, L: SourceLines>(
 // Returns the ids of documents, if requested.
 fn ids_in(
     alloc: Global,
-    segment: &Opened,
+    placed: (usize, &Opened),
     how: &Listing<'_, '_>,
     docs: &[DocId],
 ) -> Result<Ids, AnswerFault> {
     match how.ids {
-        Some(field) => {
-            if field.field_id() as usize >= segment.schema().num_fields() {
-                return Ok(Ids::none(alloc));
-            }
-            ids_of(alloc, segment, field, docs)
-        }
+        Some(source) => ids_of(alloc, placed, source, docs),
         None => Ok(Ids::none(alloc)),
     }
 }

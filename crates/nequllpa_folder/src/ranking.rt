@@ -14,7 +14,7 @@ use crate::documents::{document, segment_stores};
 use crate::explaining::explanations;
 use crate::faults::AnswerFault;
 use crate::finding::wanted_terms;
-use crate::ids::ids_of;
+use crate::ids::{IdSource, ids_of};
 use crate::inspecting::count_all;
 use crate::listing::write_id;
 use crate::opened::Opened;
@@ -39,8 +39,8 @@ pub struct BestListing<'a, 'n> {
     pub format: RowFormat,
     /// Whether what its score is made of is written after it.
     pub with_explanations: bool,
-    /// The field whose value is written instead of a document's number.
-    pub ids: Option<Field>,
+    /// Where the id is read that is written instead of a document's number.
+    pub ids: Option<IdSource>,
     /// What of the stored document is written instead of its number.
     pub stored: StoredPart<'a, 'n>,
 }
@@ -74,7 +74,7 @@ pub fn write_best<W: Write, L: SourceLines>(
     };
     let any = !best.docs.is_empty();
     let ids = match how.ids {
-        Some(field) => ids_of_best(alloc, opened, field, &best.docs),
+        Some(source) => ids_of_best(alloc, opened, source, &best.docs),
         None => Ok(Vec::new(alloc)),
     };
     let ids = match ids {
@@ -273,7 +273,7 @@ fn doc_freq_in(alloc: Global, segment: &Opened, term: &Term) -> Result<u64, Faul
 fn ids_of_best(
     alloc: Global,
     opened: &OpenedIndex,
-    field: Field,
+    source: IdSource,
     best: &[(Score, DocId)],
 ) -> Result<Vec<String>, AnswerFault> {
     let mut texts = Vec::new(alloc);
@@ -281,8 +281,9 @@ fn ids_of_best(
         texts.push(String::new(alloc))?;
     }
     let mut base: u32 = 0;
-    for segment in opened.segments() {
-        put_ids(alloc, segment, field, base, best, &mut texts)?;
+    for placed in opened.segments().iter().enumerate() {
+        let segment = placed.1;
+        put_ids(alloc, placed, source, base, best, &mut texts)?;
         base = base.saturating_add(segment.num_living());
     }
     Ok(texts)
@@ -291,15 +292,13 @@ fn ids_of_best(
 // Sets the ids of the best documents that are in a segment, given the number of its first living document.
 fn put_ids(
     alloc: Global,
-    segment: &Opened,
-    field: Field,
+    placed: (usize, &Opened),
+    source: IdSource,
     base: u32,
     best: &[(Score, DocId)],
     texts: &mut Vec<String>,
 ) -> Result<(), AnswerFault> {
-    if field.field_id() as usize >= segment.schema().num_fields() {
-        return Ok(());
-    }
+    let segment = placed.1;
     let mut docs = Vec::new(alloc);
     for pair in best {
         if let Some(doc) = doc_of_number(segment, base, pair.1) {
@@ -307,7 +306,7 @@ fn put_ids(
         }
     }
     docs.sort_unstable();
-    let ids = ids_of(alloc, segment, field, &docs)?;
+    let ids = ids_of(alloc, placed, source, &docs)?;
     for (place, pair) in best.iter().enumerate() {
         let Some(doc) = doc_of_number(segment, base, pair.1) else {
             continue;
