@@ -14,6 +14,6 @@ mod values;
 pub use faults::{LineFault, ValueFault};
 pub use floats::FloatNumbers;
 pub use json_lines::{LineCalls, line_calls, line_calls_by};
-pub use line_fields::{fields_of_line, quoted, read_line};
+pub use line_fields::{fields_of_line, quoted, read_line, value_text};
 pub use line_places::LinePlace;
 pub use records::record_of;

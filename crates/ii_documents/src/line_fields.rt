@@ -112,8 +112,8 @@ fn push_member(
     Ok(true)
 }
 
-// Returns the text of a value.
-fn value_text(alloc: Global, value: &Value) -> Result<String, Fault>
+/// Returns the text of a value, without spaces. Fails only with `OutOfMemory`.
+pub fn value_text(alloc: Global, value: &Value) -> Result<String, Fault>
     ensures text { IfOk result (λ text. IsValueText (view value.now) (string_bytes text)) }
     ensures only { OnlyMemory result }
 {

@@ -14,7 +14,7 @@ use crate::opened_index::{Bases, OpenedIndex};
 use ii_alive::AliveBits;
 use ii_base::{Fault, Field, IndexRecordOption, ValueType};
 use ii_docset::{DocId, DocSet, TERMINATED};
-use ii_documents::read_line;
+use ii_documents::{read_line, value_text};
 use ii_fieldnorm::FieldNormReader;
 use ii_reader::InvertedIndexReader;
 use ii_term_text::push_key;
@@ -244,10 +244,7 @@ fn text_of(alloc: Global, value: &Value) -> Result<String, Fault> {
     if let Some(text) = value.as_str() {
         return Ok(String::from_str(alloc, text)?);
     }
-    match value.to_string(alloc) {
-        Ok(text) => Ok(text),
-        Err(_) => Err(Fault::OutOfMemory),
-    }
+    value_text(alloc, value)
 }
 
 // Returns the ids of ascending documents from the terms of a field.
