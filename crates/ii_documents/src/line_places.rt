@@ -60,7 +60,7 @@ fn with_member(alloc: Global, members: &[u8], name: &str, text: &str) -> Result<
 {
     let mut object = Vec::from_slice(alloc, members)?;
     push_comma(&mut object, members.trim_ascii_end())?;
-    push_member(alloc, &mut object, name, text)?;
+    push_last_member(alloc, &mut object, name, text)?;
     Ok(object)
 }
 
@@ -75,7 +75,12 @@ fn push_comma(object: &mut Vec<u8>, members: &[u8]) -> Result<(), AllocError>
 }
 
 // Adds the last member of an object, and its end.
-fn push_member(alloc: Global, object: &mut Vec<u8>, name: &str, text: &str) -> Result<(), Fault>
+fn push_last_member(
+    alloc: Global,
+    object: &mut Vec<u8>,
+    name: &str,
+    text: &str,
+) -> Result<(), Fault>
     ensures added { OnOk result (object.new.items ≡ object.old.items ++ last_member name.now text.now) }
     ensures only { OnlyMemory result }
 {
