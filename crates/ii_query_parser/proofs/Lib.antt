@@ -1,6 +1,7 @@
 mod AddressRows
 pub mod BoundLemmas
 pub mod LeftLemmas
+pub mod PhrasePrefixLemmas
 pub mod PrefixRows
 pub mod QueryLemmas
 pub mod RangeRows
