@@ -1,5 +1,5 @@
 -- Phrases whose last term is one of a range.
-use Rattle.std.proofs.Common.{◌≡◌, ◌∙◌, ℕ, Bool, true, ◌&&◌, List, [], ◌∷◌, ◌++◌, false, length, nat_eq, nat_lt, ap, refl, sym}
+use Rattle.std.proofs.Common.{◌≡◌, ◌∙◌, ℕ, Bool, ◌&&◌, List, [], ◌∷◌, ◌++◌, nat_eq, nat_lt, ap, refl, sym}
 use Rattle.std.proofs.Math.Bool.{and-true}
 use Rattle.std.proofs.lemmas.List.Folds.{list_all-append}
 use Rattle.std.specs.List.{list_all, list_any, starts_with}
@@ -11,10 +11,9 @@ use Rattle.ii_query_parser.specs.declared.query.PhraseTerm.{PhraseTerm}
 use Rattle.ii_query_parser.specs.declared.term_range.KeyBound.TheVariants.{Unbounded}
 use Rattle.ii_query_parser.specs.declared.term_range.TermRange.{TermRange}
 use Rattle.ii_query_parser.specs.Queries.{has_phrase, has_phrase_prefix, has_phrase_within, has_positions_in, others_with, phrase_has_positions, phrase_is_within}
-use Rattle.ii_query_parser.specs.QuerySteps.{phrase_kept, phrase_within}
 use Rattle.ii_query_parser.specs.QueryTexts.{PhraseState}
 use Rattle.ii_query_parser.specs.Ranges.{in_range}
-use Rattle.ii_query_parser.specs.StarredTexts.{has_starred, is_token_under, last_term, starts_with_term, with_last_key}
+use Rattle.ii_query_parser.specs.StarredTexts.{has_starred, last_term, starts_with_term, with_last_key}
 use Rattle.ii_query_parser.proofs.SlopLemmas.{phrase_within_zero}
 
 -- a test of the terms of a phrase with a prefix

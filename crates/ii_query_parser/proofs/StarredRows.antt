@@ -1,5 +1,5 @@
 -- Phrases whose last word is a prefix in texts of queries, each computed.
-use Rattle.std.specs.Prelude.{◌≡◌, ℕ, Bool, true, false, List, [], ◌∷◌, Option, None, Some, codes, filter, map, nat_eq, not, refl, take}
+use Rattle.std.specs.Prelude.{◌≡◌, ℕ, true, false, List, [], ◌∷◌, Option, Some, codes, filter, map, nat_eq, not, refl, take}
 use Rattle.std.specs.List.{list_any}
 use Rattle.ii_base.specs.AsciiWords.{ascii_words}
 use Rattle.ii_base.specs.Schema.{SchemaEntry}

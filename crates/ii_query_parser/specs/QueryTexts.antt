@@ -1,7 +1,7 @@
 -- What the text of a query means, by the fields of a schema.
 use Rattle.std.specs.Prelude.{◌≡◌, ◌⊎◌, is_some, ℕ, Bool, true, false, ◌&&◌, ◌||◌, ◌==◌, ◌+◌, ◌-◌, not, List, [], ◌∷◌, ◌++◌, Option, None, Some, Result, Ok, Err, bytes_eq, drop, if◌then◌else◌, length, map, nat_eq, nat_le, nat_lt, option_map, position, slice_get, take}
 use Rattle.std.specs.Int.{bytes_high_first}
-use Rattle.std.specs.List.{find, list_all, list_any, position_from, starts_with}
+use Rattle.std.specs.List.{find, list_all, list_any, position_from}
 use Rattle.std.specs.Option.{option_or, option_to_list}
 use Rattle.std.specs.Result.{result_ok}
 use Rattle.hex.specs.Hex.{decode_of}
