@@ -14,7 +14,7 @@ use Rattle.ii_query_parser.specs.declared.query.Query.{Query, size-Query}
 use Rattle.ii_query_parser.specs.declared.query.Query.TheVariants.{AndNot}
 use Rattle.ii_query_parser.proofs.QueryLemmas.{and_not_tree}
 use Rattle.ii_query_parser.specs.Bounded.{bounded, each_bounded}
-use Rattle.ii_query_parser.specs.Queries.{QueryTree, QueryTrees, all_below, all_match, any_matches, any_of, each_of, has_tree, hold_for_all, holds_for_all, no_tree, nothing, one_phrase, one_range, one_term, tree, tree_matches, tree_of, trees_from, without}
+use Rattle.ii_query_parser.specs.Queries.{QueryTree, QueryTrees, all_below, all_match, any_matches, any_of, each_of, has_tree, hold_for_all, holds_for_all, no_tree, nothing, one_phrase, one_phrase_prefix, one_range, one_term, tree, tree_matches, tree_of, trees_from, without}
 
 -- a number below n is below the smaller of two others exactly if it is below the smaller of one of them
 below_least : (doc n m t : ℕ) → doc < n → nat_lt doc (min (min m n) t) ≡ nat_lt doc (min m t)
@@ -30,6 +30,7 @@ mutual
   same_below n (all_below m) ts doc lt = below_least doc n m TERMINATED lt
   same_below n (one_term term) ts doc lt = refl
   same_below n (one_phrase first others slop) ts doc lt = refl
+  same_below n (one_phrase_prefix phrase) ts doc lt = refl
   same_below n (one_range range) ts doc lt = refl
   same_below n (each_of qs) ts doc lt = ap (λ (b : Bool). b && all_match (each_bounded n qs) ts doc) (has_as_many n qs) ∙ ap (λ (b : Bool). has_tree qs && b) (all_same n qs ts doc lt)
   same_below n (any_of qs) ts doc lt = any_same n qs ts doc lt
@@ -53,6 +54,7 @@ mutual
   bounded_holds of_term of_phrase n (all_below m) = refl
   bounded_holds of_term of_phrase n (one_term term) = refl
   bounded_holds of_term of_phrase n (one_phrase first others slop) = refl
+  bounded_holds of_term of_phrase n (one_phrase_prefix phrase) = refl
   bounded_holds of_term of_phrase n (one_range range) = refl
   bounded_holds of_term of_phrase n (each_of qs) = each_bounded_holds of_term of_phrase n qs
   bounded_holds of_term of_phrase n (any_of qs) = each_bounded_holds of_term of_phrase n qs

@@ -1,6 +1,7 @@
 mod AddressRows
 pub mod BoundLemmas
 pub mod LeftLemmas
+pub mod PhrasePrefixLemmas
 pub mod PrefixRows
 pub mod QueryLemmas
 pub mod RangeRows
@@ -9,6 +10,7 @@ pub mod SetLemmas
 pub mod SetRows
 pub mod SlopLemmas
 pub mod SlopRows
+pub mod StarredRows
 pub mod TermLemmas
 mod TokenizerRows
 pub mod TreeLemmas

@@ -6,14 +6,15 @@ use Rattle.ii_base.specs.Schema.{SchemaEntry}
 use Rattle.ii_base.specs.Terms.{TermState}
 use Rattle.ii_base.specs.declared.doc_id.TheConstants.{TERMINATED}
 use Rattle.ii_definitions.specs.Tokens.{IndexToken}
+use Rattle.ii_query_parser.specs.declared.phrase_prefix.PhrasePrefix.{PhrasePrefix}
 use Rattle.ii_query_parser.specs.declared.query.PhraseTerm.{PhraseTerm}
 use Rattle.ii_query_parser.specs.declared.query.Query.{Query}
 use Rattle.ii_query_parser.specs.declared.term_range.KeyBound.TheVariants.{Unbounded}
 use Rattle.ii_query_parser.specs.declared.term_range.TermRange.{TermRange}
 use Rattle.ii_query_parser.specs.declared.query.Query.TheOpen.{Query-F}
 use Rattle.ii_query_parser.specs.declared.query.Query.TheFolds.{fold-roll-Query}
-use Rattle.ii_query_parser.specs.declared.query.Query.TheVariants.{Empty, All, Term, Phrase, Range, And, Or, AndNot, rolls-Empty, rolls-All, rolls-Term, rolls-Phrase, rolls-Range, rolls-And, rolls-Or, rolls-AndNot}
-use Rattle.ii_query_parser.specs.Queries.{covers_docs, tree_covers, trees_cover, QueryTree, all_below, all_match, any_matches, any_of, each_of, has_fields, has_tree, hold_for_all, holds_for_all, is_token_in, is_within, keeps_positions, matches, nothing, one_phrase, one_range, one_term, phrase_has_positions, phrase_is_within, tree_matches, tree_of, tree_step, trees_of, without}
+use Rattle.ii_query_parser.specs.declared.query.Query.TheVariants.{Empty, All, Term, Phrase, PhrasePrefix as WithPrefix, Range, And, Or, AndNot, rolls-Empty, rolls-All, rolls-Term, rolls-Phrase, rolls-PhrasePrefix, rolls-Range, rolls-And, rolls-Or, rolls-AndNot}
+use Rattle.ii_query_parser.specs.Queries.{covers_docs, tree_covers, trees_cover, QueryTree, all_below, all_match, any_matches, any_of, each_of, has_fields, has_phrase_prefix, has_tree, hold_for_all, holds_for_all, is_token_in, is_within, keeps_positions, matches, nothing, one_phrase, one_phrase_prefix, one_range, one_term, others_with, phrase_has_positions, phrase_is_within, tree_matches, tree_of, tree_step, trees_of, without}
 
 pub nothing_tree : tree_of Empty ≡ nothing
 nothing_tree = ap tree_of (sym rolls-Empty) ∙ fold-roll-Query QueryTree tree_step Query-F.Empty
@@ -26,6 +27,9 @@ term_tree term = ap tree_of (sym (rolls-Term term)) ∙ fold-roll-Query QueryTre
 
 pub phrase_tree : (first : TermState) (others : Vec PhraseTerm Global) (slop : ℕ) → tree_of (Phrase first others slop) ≡ one_phrase first others.items slop
 phrase_tree first others slop = ap tree_of (sym (rolls-Phrase first others slop)) ∙ fold-roll-Query QueryTree tree_step (Query-F.Phrase first others slop)
+
+pub phrase_prefix_tree : (phrase : PhrasePrefix) → tree_of (WithPrefix phrase) ≡ one_phrase_prefix phrase
+phrase_prefix_tree phrase = ap tree_of (sym (rolls-PhrasePrefix phrase)) ∙ fold-roll-Query QueryTree tree_step (Query-F.PhrasePrefix phrase)
 
 pub range_tree : (range : TermRange) → tree_of (Range range) ≡ one_range range
 range_tree range = ap tree_of (sym (rolls-Range range)) ∙ fold-roll-Query QueryTree tree_step (Query-F.Range range)
@@ -66,6 +70,10 @@ term_fields n term = ap (holds_for_all (is_within n) (phrase_is_within n)) (term
 pub phrase_fields : (n : ℕ) (first : TermState) (others : Vec PhraseTerm Global) (slop : ℕ) → has_fields n (Phrase first others slop) ≡ phrase_is_within n first others.items
 phrase_fields n first others slop = ap (holds_for_all (is_within n) (phrase_is_within n)) (phrase_tree first others slop)
 
+pub phrase_prefix_fields : (n : ℕ) (phrase : PhrasePrefix)
+    → has_fields n (WithPrefix phrase) ≡ phrase_is_within n phrase.first (others_with phrase phrase.last.prefix.value)
+phrase_prefix_fields n phrase = ap (holds_for_all (is_within n) (phrase_is_within n)) (phrase_prefix_tree phrase)
+
 pub range_fields : (n : ℕ) (range : TermRange) → has_fields n (Range range) ≡ is_within n range.prefix
 range_fields n range = ap (holds_for_all (is_within n) (phrase_is_within n)) (range_tree range)
 
@@ -92,6 +100,10 @@ pub phrase_positions : (entries : List SchemaEntry) (first : TermState) (others 
     → keeps_positions entries (Phrase first others slop) ≡ phrase_has_positions entries first others.items
 phrase_positions entries first others slop = ap (holds_for_all (λ (t : TermState). true) (phrase_has_positions entries)) (phrase_tree first others slop)
 
+pub phrase_prefix_positions : (entries : List SchemaEntry) (phrase : PhrasePrefix)
+    → keeps_positions entries (WithPrefix phrase) ≡ phrase_has_positions entries phrase.first (others_with phrase phrase.last.prefix.value)
+phrase_prefix_positions entries phrase = ap (holds_for_all (λ (t : TermState). true) (phrase_has_positions entries)) (phrase_prefix_tree phrase)
+
 pub range_positions : (entries : List SchemaEntry) (range : TermRange) → keeps_positions entries (Range range) ≡ true
 range_positions entries range = ap (holds_for_all (λ (t : TermState). true) (phrase_has_positions entries)) (range_tree range)
 
@@ -108,6 +120,9 @@ and_not_positions entries first other = ap (holds_for_all (λ (t : TermState). t
 -- whether the parts of a query for all documents reach so many, for each variant
 pub all_covers : (n m : ℕ) → covers_docs n (All m) ≡ nat_le n (min m TERMINATED)
 all_covers n m = ap (tree_covers n) (all_tree m)
+
+pub phrase_prefix_covers : (n : ℕ) (phrase : PhrasePrefix) → covers_docs n (WithPrefix phrase) ≡ true
+phrase_prefix_covers n phrase = ap (tree_covers n) (phrase_prefix_tree phrase)
 
 pub range_covers : (n : ℕ) (range : TermRange) → covers_docs n (Range range) ≡ true
 range_covers n range = ap (tree_covers n) (range_tree range)
@@ -127,6 +142,9 @@ or_matches qs ts doc = ap (λ (t : QueryTree). tree_matches t ts doc) (or_tree q
 
 pub and_matches : (qs : Vec Query Global) (ts : List IndexToken) (doc : ℕ) → matches (And qs) ts doc ≡ (has_tree (trees_of qs.items) && list_all (λ (q : Query). matches q ts doc) qs.items)
 and_matches qs ts doc = ap (λ (t : QueryTree). tree_matches t ts doc) (and_tree qs) ∙ ap (λ (b : Bool). has_tree (trees_of qs.items) && b) (all_matched qs.items ts doc)
+
+pub phrase_prefix_matches : (phrase : PhrasePrefix) (ts : List IndexToken) (doc : ℕ) → matches (WithPrefix phrase) ts doc ≡ has_phrase_prefix phrase ts doc
+phrase_prefix_matches phrase ts doc = ap (λ (t : QueryTree). tree_matches t ts doc) (phrase_prefix_tree phrase)
 
 pub range_matches : (range : TermRange) (ts : List IndexToken) (doc : ℕ) → matches (Range range) ts doc ≡ list_any (is_token_in range doc) ts
 range_matches range ts doc = ap (λ (t : QueryTree). tree_matches t ts doc) (range_tree range)

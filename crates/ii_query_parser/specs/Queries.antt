@@ -1,5 +1,5 @@
 -- What a query means, by the tokens of an index.
-use Rattle.std.specs.Prelude.{ℕ, ◌+◌, Bool, true, false, ◌&&◌, ◌||◌, ◌==◌, not, List, [], ◌∷◌, map, min, nat_le, nat_lt}
+use Rattle.std.specs.Prelude.{ℕ, ◌+◌, Bool, true, false, ◌&&◌, ◌||◌, ◌==◌, not, List, [], ◌∷◌, ◌++◌, map, min, nat_le, nat_lt}
 use Rattle.std.specs.List.{list_all, list_any, range_with_len}
 use Rattle.ii_base.specs.Options.{has_positions}
 use Rattle.ii_base.specs.Schema.{SchemaEntry}
@@ -10,9 +10,10 @@ use Rattle.ii_definitions.specs.Postings.{is_at, tokens_at}
 use Rattle.ii_definitions.specs.Tokens.{IndexToken}
 use Rattle.ii_query_parser.specs.declared.query.Query.{Query, fold-Query}
 use Rattle.ii_query_parser.specs.declared.query.Query.TheOpen.{Query-F}
+use Rattle.ii_query_parser.specs.declared.phrase_prefix.PhrasePrefix.{PhrasePrefix}
 use Rattle.ii_query_parser.specs.declared.query.PhraseTerm.{PhraseTerm}
 use Rattle.ii_query_parser.specs.declared.term_range.TermRange.{TermRange}
-use Rattle.ii_query_parser.specs.Ranges.{KeyRange, in_keys, keys_of}
+use Rattle.ii_query_parser.specs.Ranges.{KeyRange, in_keys, in_range, keys_of}
 
 -- whether a token of a document has the field and the key of a term
 abbrev pub is_token_of : TermState → ℕ → IndexToken → Bool
@@ -63,13 +64,22 @@ is_token_between range doc t = (t.doc == doc) && (t.field == range.prefix.field)
 abbrev pub is_token_in : TermRange → ℕ → IndexToken → Bool
 is_token_in range doc t = is_token_between (keys_of range) doc t
 
--- What a query is made of: none; all documents below a number; a term; a phrase within a slop; a range of terms; what each of some queries matches, or any of them; what one matches and another one doesn't.
+-- the other terms of a phrase whose last term has a key
+abbrev pub others_with : PhrasePrefix → List ℕ → List PhraseTerm
+others_with p key = p.others.items ++ record { distance = p.distance; term = record { field = p.last.prefix.field; value = key } } ∷ []
+
+-- whether a document has a phrase whose last term is one of a range: the phrase with the key of some token that the range has
+abbrev pub has_phrase_prefix : PhrasePrefix → List IndexToken → ℕ → Bool
+has_phrase_prefix p ts doc = list_any (λ (t : IndexToken). (t.field == p.last.prefix.field) && in_range p.last t.key && has_phrase_within 0 ts doc p.first (others_with p t.key)) ts
+
+-- What a query is made of: none; all documents below a number; a term; a phrase within a slop; a phrase whose last term is one of a range; a range of terms; what each of some queries matches, or any of them; what one matches and another one doesn't.
 mutual
   pub data QueryTree : Type 0 where
     nothing : QueryTree
     all_below : ℕ → QueryTree
     one_term : TermState → QueryTree
     one_phrase : TermState → List PhraseTerm → ℕ → QueryTree
+    one_phrase_prefix : PhrasePrefix → QueryTree
     one_range : TermRange → QueryTree
     each_of : QueryTrees → QueryTree
     any_of : QueryTrees → QueryTree
@@ -90,6 +100,7 @@ tree_step Query-F.Empty = nothing
 tree_step (Query-F.All n) = all_below n
 tree_step (Query-F.Term term) = one_term term
 tree_step (Query-F.Phrase first others slop) = one_phrase first others.items slop
+tree_step (Query-F.PhrasePrefix phrase) = one_phrase_prefix phrase
 tree_step (Query-F.Range range) = one_range range
 tree_step (Query-F.And queries) = each_of (trees_from queries.items)
 tree_step (Query-F.Or queries) = any_of (trees_from queries.items)
@@ -108,13 +119,14 @@ abbrev pub has_tree : QueryTrees → Bool
 has_tree no_tree = false
 has_tree (tree t ts) = true
 
--- Whether a document matches: it is below a number, has a token with the term's field and key, has the phrase within its slop, has a token in the range, or matches as the parts say.
+-- Whether a document matches: it is below a number, has a token with the term's field and key, has the phrase within its slop, has the phrase with one of the range, has a token in the range, or matches as the parts say.
 abbrev mutual
   pub tree_matches : QueryTree → List IndexToken → ℕ → Bool
   tree_matches nothing ts doc = false
   tree_matches (all_below n) ts doc = nat_lt doc (min n TERMINATED)
   tree_matches (one_term term) ts doc = list_any (is_token_of term doc) ts
   tree_matches (one_phrase first others slop) ts doc = has_phrase_within slop ts doc first others
+  tree_matches (one_phrase_prefix phrase) ts doc = has_phrase_prefix phrase ts doc
   tree_matches (one_range range) ts doc = list_any (is_token_in range doc) ts
   tree_matches (each_of qs) ts doc = has_tree qs && all_match qs ts doc
   tree_matches (any_of qs) ts doc = any_matches qs ts doc
@@ -132,13 +144,14 @@ abbrev mutual
 abbrev pub matches : Query → List IndexToken → ℕ → Bool
 matches query ts doc = tree_matches (tree_of query) ts doc
 
--- Whether a test of terms and of phrases holds for all of a query, whatever the slop; a range is tested by its prefix.
+-- Whether a test of terms and of phrases holds for all of a query, whatever the slop; a range is tested by its prefix, also as the last term of a phrase.
 abbrev mutual
   pub holds_for_all : (TermState → Bool) → (TermState → List PhraseTerm → Bool) → QueryTree → Bool
   holds_for_all of_term of_phrase nothing = true
   holds_for_all of_term of_phrase (all_below n) = true
   holds_for_all of_term of_phrase (one_term term) = of_term term
   holds_for_all of_term of_phrase (one_phrase first others slop) = of_phrase first others
+  holds_for_all of_term of_phrase (one_phrase_prefix phrase) = of_phrase phrase.first (others_with phrase phrase.last.prefix.value)
   holds_for_all of_term of_phrase (one_range range) = of_term range.prefix
   holds_for_all of_term of_phrase (each_of qs) = hold_for_all of_term of_phrase qs
   holds_for_all of_term of_phrase (any_of qs) = hold_for_all of_term of_phrase qs
@@ -179,6 +192,7 @@ abbrev mutual
   tree_covers n (all_below m) = nat_le n (min m TERMINATED)
   tree_covers n (one_term term) = true
   tree_covers n (one_phrase first others slop) = true
+  tree_covers n (one_phrase_prefix phrase) = true
   tree_covers n (one_range range) = true
   tree_covers n (each_of qs) = trees_cover n qs
   tree_covers n (any_of qs) = trees_cover n qs

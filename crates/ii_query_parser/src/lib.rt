@@ -3,8 +3,9 @@
 
 pub mod laws;
 pub mod literal;
+mod literal_analyzers;
+pub mod phrase_prefix;
 mod phrase_words;
-mod prefix_analyzers;
 pub mod query;
 pub mod query_parser;
 pub mod query_parser_error;
@@ -17,6 +18,7 @@ pub use ii_query_grammar::{
     UserInputBound, UserInputLiteral, UserInputRange, UserInputSet, can_name, parse, spell_name,
 };
 pub use literal::field_named;
+pub use phrase_prefix::PhrasePrefix;
 pub use query::{PhraseTerm, Query};
 pub use query_parser::{parse_query, parse_query_by, query_of, query_of_by};
 pub use query_parser_error::QueryParserError;

@@ -4,8 +4,9 @@ ghost use Rattle.ii_io.specs.Faults.{OnlyMemory};
 ghost use Rattle.ii_base.specs.Schema.{SchemaEntry};
 ghost use Rattle.ii_definitions.specs.Tokens.{IndexToken};
 ghost use Rattle.ii_query_parser.specs.Bounded.{bounded, each_bounded};
-ghost use Rattle.ii_query_parser.specs.Queries.{any_of, covers_docs, each_of, has_fields, has_positions_in, is_token_in, keeps_positions, matches, no_tree, one_range, tree, tree_of, trees_of, without};
+ghost use Rattle.ii_query_parser.specs.Queries.{any_of, covers_docs, each_of, has_fields, has_phrase_prefix, has_positions_in, is_token_in, keeps_positions, matches, no_tree, one_phrase_prefix, one_range, others_with, phrase_has_positions, phrase_is_within, tree, tree_of, trees_of, without};
 
+use crate::phrase_prefix::PhrasePrefix;
 use crate::term_range::TermRange;
 use ii_base::{DocId, Fault, Schema, Term};
 use std::alloc::Global;
@@ -35,6 +36,10 @@ pub enum Query {
     /// moved back by its distance, differ by at most the slop. With slop 0 each other term is at its distance after
     /// the first one. The fields of the terms keep positions.
     Phrase(Term, Vec<PhraseTerm>, u32),
+    /// Matches the documents with a phrase whose last term is any of a range: each other term at its distance
+    /// after the first one. The fields of all terms keep positions. A search collects these documents when it is
+    /// opened.
+    PhrasePrefix(PhrasePrefix),
     /// Matches the documents with a token whose field is that of the range, and whose key the range has. A
     /// search collects these documents when it is opened.
     Range(TermRange),
@@ -70,6 +75,18 @@ impl Query {
         ensures covers { (n : ℕ) → covers_docs n result ≡ true }
     {
         Query::range(TermRange::with_prefix(prefix))
+    }
+
+    /// Returns the query that matches the documents with a phrase whose last term is any of a range.
+    #[tactic(auto, using(crate::proofs::QueryLemmas::phrase_prefix_tree, crate::proofs::QueryLemmas::phrase_prefix_matches, crate::proofs::QueryLemmas::phrase_prefix_fields, crate::proofs::QueryLemmas::phrase_prefix_positions, crate::proofs::QueryLemmas::phrase_prefix_covers))]
+    pub fn phrase_prefix(phrase: PhrasePrefix) -> Query
+        ensures tree { tree_of result ≡ one_phrase_prefix phrase }
+        ensures matches { (ts : List IndexToken) (doc : ℕ) → matches result ts doc ≡ has_phrase_prefix phrase ts doc }
+        ensures fields { (n : ℕ) → has_fields n result ≡ phrase_is_within n phrase.first (others_with phrase phrase.last.prefix.value) }
+        ensures positions { (entries : List SchemaEntry) → keeps_positions entries result ≡ phrase_has_positions entries phrase.first (others_with phrase phrase.last.prefix.value) }
+        ensures covers { (n : ℕ) → covers_docs n result ≡ true }
+    {
+        Query::PhrasePrefix(phrase)
     }
 
     /// Returns the query that matches what both match. Fails only with `OutOfMemory`.
@@ -167,7 +184,7 @@ impl Query {
 
     /// Returns whether each term belongs to a field of the schema.
     #[cycle(has_fields)]
-    #[tactic(auto, using(crate::proofs::QueryLemmas::nothing_fields, crate::proofs::QueryLemmas::all_fields, crate::proofs::QueryLemmas::term_fields, crate::proofs::QueryLemmas::phrase_fields, crate::proofs::QueryLemmas::range_fields, crate::proofs::QueryLemmas::and_fields, crate::proofs::QueryLemmas::or_fields, crate::proofs::QueryLemmas::and_not_fields))]
+    #[tactic(auto, using(crate::proofs::QueryLemmas::nothing_fields, crate::proofs::QueryLemmas::all_fields, crate::proofs::QueryLemmas::term_fields, crate::proofs::QueryLemmas::phrase_fields, crate::proofs::QueryLemmas::phrase_prefix_fields, crate::proofs::QueryLemmas::range_fields, crate::proofs::QueryLemmas::and_fields, crate::proofs::QueryLemmas::or_fields, crate::proofs::QueryLemmas::and_not_fields))]
     pub fn has_fields(&self, schema: &Schema) -> bool
         ensures { result ≡ has_fields (length schema.now) self.now }
     {
@@ -176,6 +193,7 @@ impl Query {
             Query::All(_) => true,
             Query::Term(term) => is_in(term, schema),
             Query::Phrase(first, others, _) => is_in(first, schema) && are_in(others, schema),
+            Query::PhrasePrefix(phrase) => is_phrase_in(phrase, schema),
             Query::Range(range) => is_in(&range.prefix, schema),
             Query::And(queries) => have_fields(queries, schema),
             Query::Or(queries) => have_fields(queries, schema),
@@ -185,7 +203,7 @@ impl Query {
 
     /// Returns whether the fields of all phrases keep positions.
     #[cycle(keeps_positions)]
-    #[tactic(auto, using(crate::proofs::QueryLemmas::nothing_positions, crate::proofs::QueryLemmas::all_positions, crate::proofs::QueryLemmas::term_positions, crate::proofs::QueryLemmas::phrase_positions, crate::proofs::QueryLemmas::range_positions, crate::proofs::QueryLemmas::and_positions, crate::proofs::QueryLemmas::or_positions, crate::proofs::QueryLemmas::and_not_positions))]
+    #[tactic(auto, using(crate::proofs::QueryLemmas::nothing_positions, crate::proofs::QueryLemmas::all_positions, crate::proofs::QueryLemmas::term_positions, crate::proofs::QueryLemmas::phrase_positions, crate::proofs::QueryLemmas::phrase_prefix_positions, crate::proofs::QueryLemmas::range_positions, crate::proofs::QueryLemmas::and_positions, crate::proofs::QueryLemmas::or_positions, crate::proofs::QueryLemmas::and_not_positions))]
     pub fn keeps_positions(&self, schema: &Schema) -> bool
         ensures { result ≡ keeps_positions schema.now self.now }
     {
@@ -197,6 +215,7 @@ impl Query {
             Query::Phrase(first, others, _) => {
                 has_positions_in(first, schema) && have_positions_in(others, schema)
             }
+            Query::PhrasePrefix(phrase) => phrase_has_positions_in(phrase, schema),
             Query::And(queries) => keep_positions(queries, schema),
             Query::Or(queries) => keep_positions(queries, schema),
             Query::AndNot(first, other) => {
@@ -208,7 +227,7 @@ impl Query {
 
 // Bounds the parts of a query that match all documents. It recurses once for each level of nesting.
 #[cycle(bound_query)]
-#[tactic(auto, using(crate::proofs::QueryLemmas::nothing_tree, crate::proofs::QueryLemmas::all_tree, crate::proofs::QueryLemmas::term_tree, crate::proofs::QueryLemmas::phrase_tree, crate::proofs::QueryLemmas::range_tree, crate::proofs::QueryLemmas::and_tree, crate::proofs::QueryLemmas::or_tree, crate::proofs::QueryLemmas::and_not_tree))]
+#[tactic(auto, using(crate::proofs::QueryLemmas::nothing_tree, crate::proofs::QueryLemmas::all_tree, crate::proofs::QueryLemmas::term_tree, crate::proofs::QueryLemmas::phrase_tree, crate::proofs::QueryLemmas::phrase_prefix_tree, crate::proofs::QueryLemmas::range_tree, crate::proofs::QueryLemmas::and_tree, crate::proofs::QueryLemmas::or_tree, crate::proofs::QueryLemmas::and_not_tree))]
 fn bound_query(query: &mut Query, num_docs: DocId)
     ensures { tree_of query.new ≡ bounded num_docs (tree_of query.old) }
 {
@@ -217,6 +236,7 @@ fn bound_query(query: &mut Query, num_docs: DocId)
         Query::All(limit) => *limit = (*limit).min(num_docs),
         Query::Term(_) => {}
         Query::Phrase(_, _, _) => {}
+        Query::PhrasePrefix(_) => {}
         Query::Range(_) => {}
         Query::And(queries) => bound_each(queries.as_mut_slice(), num_docs),
         Query::Or(queries) => bound_each(queries.as_mut_slice(), num_docs),
@@ -311,6 +331,15 @@ fn are_in(others: &[PhraseTerm], schema: &Schema) -> bool
     true
 }
 
+// Whether the fields of all terms of a phrase with a prefix are among the schema's.
+#[tactic(auto, using(crate::proofs::PhrasePrefixLemmas::fields_of_each))]
+fn is_phrase_in(phrase: &PhrasePrefix, schema: &Schema) -> bool
+    ensures { result ≡ phrase_is_within (length schema.now) phrase.now.first (others_with phrase.now phrase.now.last.prefix.value) }
+{
+    is_in(&phrase.first, schema)
+        && (are_in(&phrase.others, schema) && is_in(&phrase.last.prefix, schema))
+}
+
 // Whether a term's field keeps positions.
 fn has_positions_in(term: &Term, schema: &Schema) -> bool
     ensures { result ≡ has_positions_in schema.now term.now }
@@ -333,4 +362,14 @@ fn have_positions_in(others: &[PhraseTerm], schema: &Schema) -> bool
         }
     }
     true
+}
+
+// Whether the fields of all terms of a phrase with a prefix keep positions.
+#[tactic(auto, using(crate::proofs::PhrasePrefixLemmas::positions_of_each))]
+fn phrase_has_positions_in(phrase: &PhrasePrefix, schema: &Schema) -> bool
+    ensures { result ≡ phrase_has_positions schema.now phrase.now.first (others_with phrase.now phrase.now.last.prefix.value) }
+{
+    has_positions_in(&phrase.first, schema)
+        && (have_positions_in(&phrase.others, schema)
+            && has_positions_in(&phrase.last.prefix, schema))
 }
