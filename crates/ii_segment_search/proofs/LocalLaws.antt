@@ -22,7 +22,7 @@ use Rattle.ii_segments.proofs.CountLaws.{all_weaker, living_within, test_by_rank
 use Rattle.ii_segments.proofs.MergedLaws.{IsTyped, index_typed}
 use Rattle.ii_segments.proofs.MergeLaws.{below, from_append, of_living}
 use Rattle.ii_segment_search.specs.SegmentSearch.{SearchIsLocal}
-use Rattle.ii_search.proofs.FoundLemmas.{any_alike}
+use Rattle.ii_search.proofs.RangeMatches.{any_alike}
 
 all_same : {A : Type 0} (f g : A → Bool) (xs : List A) → ((x : A) → f x ≡ g x) → list_all f xs ≡ list_all g xs
 all_same f g [] same = refl
