@@ -78,7 +78,7 @@ module _ (p : PhrasePrefix) (ts : List IndexToken) (doc : ℕ) where
   key_of_document =
       both_ways (has_phrase_prefix p ts doc) (list_any (λ (t : IndexToken). (t.doc == doc) && gives_key t) ts)
       (any_gives gives_key ts (list_any (λ (t : IndexToken). (t.doc == doc) && gives_key t) ts ≡ true)
-      (λ t gives.
+      (λ t gives among.
       let has = (and_parts ((t.field == p.last.prefix.field) && in_range p.last t.key) (has_phrase_within 0 ts doc p.first (others_with p t.key)) gives).1 in
       let there = key_there t.key has (list_any (λ (u : IndexToken). (u.doc == doc) && is_at p.last.prefix.field t.key u) ts) refl in
       any_more (λ (u : IndexToken). (u.doc == doc) && is_at p.last.prefix.field t.key u) (λ (u : IndexToken). (u.doc == doc) && gives_key u) (same_key t gives) ts there))

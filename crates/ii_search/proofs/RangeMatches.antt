@@ -40,13 +40,13 @@ any_more p q more (x ∷ xs) is = by (p x) refl (any_more p q more xs)
     by true here later = rw (more x here) refl
     by false here later = or_right (q x) (list_any q xs) (later (rw here at is))
 
--- what each element that passes gives
-pub any_gives : {A : Type 0} (p : A → Bool) (xs : List A) (P : Type 0) → ((x : A) → p x ≡ true → P) → list_any p xs ≡ true → P
+-- what an element that passes gives, which is one of the list: some element passes each test that it passes
+pub any_gives : {A : Type 0} (p : A → Bool) (xs : List A) (P : Type 0) → ((x : A) → p x ≡ true → ((q : A → Bool) → q x ≡ true → list_any q xs ≡ true) → P) → list_any p xs ≡ true → P
 any_gives p [] P gives is = absurd (true≢false (sym is))
-any_gives p (x ∷ xs) P gives is = by (p x) refl (any_gives p xs P gives)
+any_gives p (x ∷ xs) P gives is = by (p x) refl (any_gives p xs P (λ y passes among. gives y passes (λ q also. or_right (q x) (list_any q xs) (among q also))))
   where
     by : (b : Bool) → p x ≡ b → (list_any p xs ≡ true → P) → P
-    by true here later = gives x here
+    by true here later = gives x here (λ q also. rw also refl)
     by false here later = later (rw here at is)
 
 -- where no element passes, none passes another test too
