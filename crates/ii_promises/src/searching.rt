@@ -22,8 +22,8 @@ ghost use Rattle.ii_promises.specs.HopelessBlocks.{hopeful_blocks, is_hopeless_b
 
 use bytes::Bytes;
 use ii_ram::{
-    DocId, DocSet, Fault, IndexCall, OpenIndex, PhrasePrefix, PhraseTerm, Query, QueryCursor, Schema,
-    SegmentPostings, Term, TermOrPhrase, TermRange, TextAnalyzer, count, index_in_ram,
+    DocId, DocSet, Fault, IndexCall, OpenIndex, PhrasePrefix, PhraseTerm, Query, QueryCursor,
+    Schema, SegmentPostings, Term, TermOrPhrase, TermRange, TextAnalyzer, count, index_in_ram,
     open_index_with_norms, search, top_by_count,
 };
 use std::alloc::Global;
