@@ -1,10 +1,9 @@
 -- Opening a phrase whose last term is one of a range.
-use Rattle.std.proofs.Common.{◌≡◌, ◌∙◌, ℕ, List, [], ◌∷◌, ◌++◌, Some, Result, Ok, Err, inl, inr, refl, ap, sym}
+use Rattle.std.proofs.Common.{◌≡◌, ◌∙◌, ℕ, List, [], ◌∷◌, ◌++◌, Some, Result, Ok, Err, inl, inr, refl, ap}
 use Rattle.std.specs.Prelude.{slice_get}
 use Rattle.ii_io.specs.declared.faults.Fault.{Fault}
 use Rattle.ii_io.specs.declared.faults.Part.{Part}
 use Rattle.ii_base.specs.Entries.{Entry}
-use Rattle.ii_base.specs.Terms.{TermState}
 use Rattle.ii_base.specs.declared.schema.index_record_option.IndexRecordOption.TheVariants.{WithFreqsAndPositions}
 use Rattle.ii_query.specs.Phrase.{PhrasePartState}
 use Rattle.ii_query_parser.specs.declared.phrase_prefix.PhrasePrefix.{PhrasePrefix}
@@ -12,7 +11,7 @@ use Rattle.ii_query_parser.specs.declared.query.PhraseTerm.{PhraseTerm}
 use Rattle.ii_reader.specs.InvertedIndexReader.{InvertedIndexReaderState, IsRefusal}
 use Rattle.ii_reader.specs.OpenIndex.{OpenIndexState}
 use Rattle.ii_termdict.specs.Dictionary.{TermEntry}
-use Rattle.ii_search.specs.Found.{docs_of_term, docs_under, phrase_parts_of, phrase_prefix_lists, phrase_with, with_part}
+use Rattle.ii_search.specs.Found.{docs_of_term, phrase_parts_of, phrase_prefix_lists, phrase_with, with_part}
 use Rattle.ii_search.proofs.PartLemmas.{in_front, none_in_front}
 use Rattle.ii_search.proofs.RangeLemmas.{lists_in_range}
 

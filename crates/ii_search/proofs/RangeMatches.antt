@@ -52,7 +52,7 @@ any_gives p (x ∷ xs) P gives is = by (p x) refl (any_gives p xs P (λ y passes
 -- where no element passes, none passes another test too
 pub any_none : {A : Type 0} (p q : A → Bool) (xs : List A) → list_any p xs ≡ false → list_any (λ (x : A). p x && q x) xs ≡ false
 any_none p q [] none = refl
-any_none p q (x ∷ xs) none = by (p x) refl (any_none p q xs)
+any_none {A = A} p q (x ∷ xs) none = by (p x) refl (any_none p q xs)
   where
     by : (b : Bool) → p x ≡ b → (list_any p xs ≡ false → list_any (λ (y : A). p y && q y) xs ≡ false) → list_any (λ (y : A). p y && q y) (x ∷ xs) ≡ false
     by true here later = absurd (true≢false (rw here at none))

@@ -1,4 +1,4 @@
-ghost use Rattle.std.specs.Prelude.{◌≡◌, ◌<◌, ◌×◌, Ok, Some, IfErr, IfOk, OnOk, length, nat_lt, true};
+ghost use Rattle.std.specs.Prelude.{◌≡◌, ◌<◌, Ok, Some, IfErr, IfOk, OnOk, length, nat_lt, true};
 ghost use Rattle.std.specs.List.{list_all};
 ghost use Rattle.ii_base.specs.declared.schema.index_record_option.IndexRecordOption.TheVariants.{WithFreqsAndPositions};
 ghost use Rattle.ii_query.specs.BitSet.{docs_of_set};
