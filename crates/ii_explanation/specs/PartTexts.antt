@@ -8,7 +8,7 @@ use Rattle.ii_base.specs.declared.schema.value_type.ValueType.{ValueType}
 use Rattle.ii_base.specs.declared.schema.value_type.ValueType.TheVariants as types
 use Rattle.ii_query_grammar.specs.Trees.{Bound, exclusive, inclusive, unbounded}
 use Rattle.ii_query_parser.specs.declared.query.PhraseTerm.{PhraseTerm}
-use Rattle.ii_query_parser.specs.Queries.{QueryTree, all_below, any_of, each_of, nothing, one_phrase, one_range, one_term, without}
+use Rattle.ii_query_parser.specs.Queries.{QueryTree, all_below, any_of, each_of, nothing, one_phrase, one_phrase_prefix, one_range, one_term, others_with, without}
 use Rattle.ii_query_parser.specs.QueryTexts.{is_unbounded}
 use Rattle.ii_query_parser.specs.Ranges.{KeyRange, keys_of}
 use Rattle.ii_term_text.specs.KeyTexts.{text_of_key, type_of_letter, utf8_or_bytes}
@@ -27,6 +27,11 @@ in_field entries field text_by = in_entry (slice_get entries field) text_by
 abbrev pub later_terms : ValueType → ℕ → List PhraseTerm → List ℕ
 later_terms t last [] = []
 later_terms t last (o ∷ os) = (repeat (o.distance - last - 1) (codes " ?") ++ 32 ∷ text_of_key t o.term.value) ++ later_terms t o.distance os
+
+-- the distance of the last term of a phrase, given that of the one before these
+abbrev pub last_distance : ℕ → List PhraseTerm → ℕ
+last_distance last [] = last
+last_distance last (o ∷ os) = last_distance o.distance os
 
 -- the terms of a phrase, in quotes
 abbrev pub phrase_text : TermState → List PhraseTerm → ValueType → List ℕ
@@ -90,12 +95,13 @@ range_text r t =
     if is_unbounded r.lower && is_unbounded r.upper then key_start t r.prefix.value ++ codes "*"
     else opening r.lower ++ bound_text t r.lower ++ codes " TO " ++ bound_text t r.upper ++ closing r.upper
 
--- the text of a part of a query that has no parts: keys as `terms` prints them
+-- the text of a part of a query that has no parts: keys as `terms` prints them; a phrase whose last term is one of a range with the prefix of this as its last term, and `*`
 abbrev pub part_text : List SchemaEntry → QueryTree → List ℕ
 part_text entries nothing = []
 part_text entries (all_below n) = codes "*"
 part_text entries (one_term term) = in_field entries term.field (λ t. text_of_key t term.value)
 part_text entries (one_phrase first others slop) = in_field entries first.field (λ t. phrase_text first others t ++ slop_text slop)
+part_text entries (one_phrase_prefix p) = in_field entries p.first.field (λ t. phrase_text p.first (others_with p p.last.prefix.value) t ++ codes "*")
 part_text entries (one_range range) = in_field entries range.prefix.field (range_text (keys_of range))
 part_text entries (each_of qs) = []
 part_text entries (any_of qs) = []

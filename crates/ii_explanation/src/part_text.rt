@@ -1,24 +1,25 @@
 //! The text of a part of a query.
-ghost use Rattle.std.specs.Prelude.{◌≡◌, ◌==◌, ◌<◌, ◌≤◌, ◌++◌, ◌-◌, ◌∷◌, [], IfSome, OnOk, codes, length, position, slice_get, string_bytes};
+ghost use Rattle.std.specs.Prelude.{◌≡◌, ◌==◌, ◌<◌, ◌≤◌, ◌++◌, ◌-◌, ◌∷◌, [], IfOk, IfSome, OnOk, codes, length, position, slice_get, string_bytes};
 ghost use Rattle.std.specs.List.{repeat};
 ghost use Rattle.std.specs.Option.{option_map};
-ghost use Rattle.ii_explanation.specs.PartTexts.{bound_text, closing, in_field, json_start, key_start, later_terms, lettered_start, opening, part_text, path_len, phrase_text, range_text, slop_text, typed_start};
-ghost use Rattle.ii_query_parser.specs.Queries.{tree_of};
+ghost use Rattle.ii_explanation.specs.PartTexts.{bound_text, closing, in_field, json_start, key_start, last_distance, later_terms, lettered_start, opening, part_text, path_len, phrase_text, range_text, slop_text, typed_start};
+ghost use Rattle.ii_query_parser.specs.Queries.{others_with, tree_of};
 ghost use Rattle.ii_query_parser.specs.QueryTexts.{is_unbounded};
 ghost use Rattle.ii_query_parser.specs.Ranges.{key_bound, keys_of};
 ghost use Rattle.ii_term_text.specs.KeyTexts.{text_of_key, type_of_letter};
 
 use ii_base::{Field, FieldEntry, Schema, Term, ValueType};
-use ii_query_parser::{KeyBound, PhraseTerm, Query, TermRange};
+use ii_query_parser::{KeyBound, PhrasePrefix, PhraseTerm, Query, TermRange};
 use ii_term_text::{push_key, push_path_bytes};
 use std::alloc::{AllocError, Global};
 
 /// Appends the text of a part of a query that has no parts, as a query is written: the name of the field, a colon, and
 /// the term as the command `terms` prints it (`push_key`); for a phrase its terms in quotes, with `?` for each position
-/// between two of them that has none, and `~` and its slop if it isn't 0; for a range its bounds in brackets, or the
-/// beginning of its keys and `*`; for all documents `*`. Of any other query, and of a field that the schema doesn't
-/// have, it appends nothing.
-#[tactic(auto, using(ii_query_parser::proofs::QueryLemmas::nothing_tree, ii_query_parser::proofs::QueryLemmas::all_tree, ii_query_parser::proofs::QueryLemmas::term_tree, ii_query_parser::proofs::QueryLemmas::phrase_tree, ii_query_parser::proofs::QueryLemmas::range_tree, ii_query_parser::proofs::QueryLemmas::and_tree, ii_query_parser::proofs::QueryLemmas::or_tree, ii_query_parser::proofs::QueryLemmas::and_not_tree))]
+/// between two of them that has none, and `~` and its slop if it isn't 0; for a phrase whose last term is one of a range
+/// the prefix of this as the last term, and `*` after the quotes, without bounds of the range; for a range its bounds in
+/// brackets, or the beginning of its keys and `*`; for all documents `*`. Of any other query, and of a field that the
+/// schema doesn't have, it appends nothing.
+#[tactic(auto, using(ii_query_parser::proofs::QueryLemmas::nothing_tree, ii_query_parser::proofs::QueryLemmas::all_tree, ii_query_parser::proofs::QueryLemmas::term_tree, ii_query_parser::proofs::QueryLemmas::phrase_tree, ii_query_parser::proofs::QueryLemmas::phrase_prefix_tree, ii_query_parser::proofs::QueryLemmas::range_tree, ii_query_parser::proofs::QueryLemmas::and_tree, ii_query_parser::proofs::QueryLemmas::or_tree, ii_query_parser::proofs::QueryLemmas::and_not_tree))]
 pub fn push_part(
     alloc: Global,
     text: &mut String,
@@ -33,6 +34,7 @@ pub fn push_part(
         Query::Phrase(first, others, slop) => {
             push_phrase(alloc, text, schema, first, others, *slop)
         }
+        Query::PhrasePrefix(phrase) => push_phrase_prefix(alloc, text, schema, phrase),
         Query::Range(range) => push_range(alloc, text, schema, range),
         Query::Empty | Query::And(_) | Query::Or(_) | Query::AndNot(_, _) => Ok(()),
     }
@@ -116,42 +118,98 @@ fn push_terms(
 ) -> Result<(), AllocError>
     ensures { OnOk result (string_bytes text.new ≡ string_bytes text.old ++ phrase_text first.now others.now value_type) }
 {
-    text.push_str("\"")?;
-    push_key(alloc, text, value_type, first.serialized_value_bytes())?;
-    push_later_terms(alloc, text, value_type, others)?;
+    push_first_terms(alloc, text, value_type, first, others)?;
     text.push_str("\"")
 }
 
-// Appends the terms of a phrase after the first one.
+// Appends the text of a phrase whose last term is one of a range.
+fn push_phrase_prefix(
+    alloc: Global,
+    text: &mut String,
+    schema: &Schema,
+    phrase: &PhrasePrefix,
+) -> Result<(), AllocError>
+    ensures { OnOk result (string_bytes text.new ≡ string_bytes text.old ++ in_field schema.now phrase.now.first.field (λ t. phrase_text phrase.now.first (others_with phrase.now phrase.now.last.prefix.value) t ++ codes "*")) }
+{
+    let Some(entry) = entry_of(schema, phrase.first.field()) else {
+        return Ok(());
+    };
+    push_name(text, entry)?;
+    push_terms_of_prefix(alloc, text, entry.value_type(), phrase)
+}
+
+// Appends the terms of a phrase whose last term is one of a range, in quotes, the prefix of this as the last one, and
+// `*`.
+#[tactic(auto, using(crate::proofs::PartTextLemmas::with_star))]
+fn push_terms_of_prefix(
+    alloc: Global,
+    text: &mut String,
+    value_type: ValueType,
+    phrase: &PhrasePrefix,
+) -> Result<(), AllocError>
+    ensures { OnOk result (string_bytes text.new ≡ string_bytes text.old ++ phrase_text phrase.now.first (others_with phrase.now phrase.now.last.prefix.value) value_type ++ codes "*") }
+{
+    let last = push_first_terms(alloc, text, value_type, &phrase.first, &phrase.others)?;
+    push_later_term(
+        alloc,
+        text,
+        value_type,
+        last,
+        phrase.distance,
+        phrase.last.prefix.serialized_value_bytes(),
+    )?;
+    text.push_str("\"*")
+}
+
+// Appends a quote and the first terms of a phrase, and returns the distance of the last one of these.
+fn push_first_terms(
+    alloc: Global,
+    text: &mut String,
+    value_type: ValueType,
+    first: &Term,
+    others: &[PhraseTerm],
+) -> Result<u32, AllocError>
+    ensures pushed { OnOk result (string_bytes text.new ≡ string_bytes text.old ++ 34 ∷ (text_of_key value_type first.now.value ++ later_terms value_type 0 others.now)) }
+    ensures last { IfOk result (λ last. last ≡ last_distance 0 others.now) }
+{
+    text.push_str("\"")?;
+    push_key(alloc, text, value_type, first.serialized_value_bytes())?;
+    push_later_terms(alloc, text, value_type, others)
+}
+
+// Appends the terms of a phrase after the first one, and returns the distance of the last one.
 fn push_later_terms(
     alloc: Global,
     text: &mut String,
     value_type: ValueType,
     others: &[PhraseTerm],
-) -> Result<(), AllocError>
-    ensures { OnOk result (string_bytes text.new ≡ string_bytes text.old ++ later_terms value_type 0 others.now) }
+) -> Result<u32, AllocError>
+    ensures pushed { OnOk result (string_bytes text.new ≡ string_bytes text.old ++ later_terms value_type 0 others.now) }
+    ensures last { IfOk result (λ last. last ≡ last_distance 0 others.now) }
 {
     let mut last = 0;
     for other in others {
-        push_later_term(alloc, text, value_type, last, other)?;
+        let key = other.term.serialized_value_bytes();
+        push_later_term(alloc, text, value_type, last, other.distance, key)?;
         last = other.distance;
     }
-    Ok(())
+    Ok(last)
 }
 
-// Appends a term of a phrase, given the distance of the one before it.
+// Appends a term of a phrase, given its distance, its key, and the distance of the term before it.
 fn push_later_term(
     alloc: Global,
     text: &mut String,
     value_type: ValueType,
     last: u32,
-    other: &PhraseTerm,
+    distance: u32,
+    key: &[u8],
 ) -> Result<(), AllocError>
-    ensures { OnOk result (string_bytes text.new ≡ string_bytes text.old ++ repeat (other.now.distance - last - 1) (codes " ?") ++ 32 ∷ text_of_key value_type other.now.term.value) }
+    ensures { OnOk result (string_bytes text.new ≡ string_bytes text.old ++ repeat (distance - last - 1) (codes " ?") ++ 32 ∷ text_of_key value_type key.now) }
 {
-    push_gap(text, other.distance.saturating_sub(last).saturating_sub(1))?;
+    push_gap(text, distance.saturating_sub(last).saturating_sub(1))?;
     text.push_str(" ")?;
-    push_key(alloc, text, value_type, other.term.serialized_value_bytes())
+    push_key(alloc, text, value_type, key)
 }
 
 // Appends ` ?` for each of so many positions.

@@ -14,6 +14,7 @@ mod FewLaws
 mod TextFaults
 mod OrderlyLaws
 mod PlainLaws
+mod PrefixTokens
 mod ReadsLaws
 pub mod BlockLaws
 pub mod DecodesLaws

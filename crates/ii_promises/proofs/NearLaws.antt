@@ -9,6 +9,7 @@ use Rattle.ii_query.specs.Phrase.{has_positions, parts_have}
 use Rattle.ii_query.specs.SloppyPhrase.{is_near, is_within, sloppy_docs, stand_near}
 use Rattle.ii_query.proofs.SloppyLemmas.{sloppy_has, way_found, way_none, within_true}
 use Rattle.ii_query.proofs.WindowLemmas.{within_here}
+use Rattle.ii_search.proofs.RangeMatches.{any_more}
 use Rattle.ii_promises.proofs.PhraseLaws.{next_term}
 
 -- whether a position is at most `slop` before or after a place
@@ -18,14 +19,6 @@ is_close slop place q = nat_le place (q + slop) && nat_le q (place + slop)
 -- whether one of the positions is
 abbrev pub are_close : ℕ → ℕ → List ℕ → Bool
 are_close slop place positions = list_any (is_close slop place) positions
-
-pub any_more : {X : Type 0} (f g : X → Bool) → ((x : X) → f x ≡ true → g x ≡ true) → (xs : List X) → list_any f xs ≡ true → list_any g xs ≡ true
-any_more f g more [] is = is
-any_more f g more (x ∷ xs) is = by (f x) refl (any_more f g more xs)
-  where
-    by : (b : Bool) → f x ≡ b → (list_any f xs ≡ true → list_any g xs ≡ true) → list_any g (x ∷ xs) ≡ true
-    by true here later = rw (more x here) refl
-    by false here later = or_right (g x) (list_any g xs) (later (rw here at is))
 
 -- a position within the slop by a way back is close
 pub near_close : (slop back place q : ℕ) → back ≤ slop → is_within slop place (q + back) ≡ true → is_close slop place q ≡ true

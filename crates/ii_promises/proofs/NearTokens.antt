@@ -11,7 +11,8 @@ use Rattle.ii_query_parser.specs.Queries.{QueryTree, follow_near, has_fields, ha
 use Rattle.ii_query_parser.proofs.QueryLemmas.{phrase_tree}
 use Rattle.ii_query.proofs.SloppyLemmas.{way_found, way_none}
 use Rattle.ii_promises.specs.Phrases.{AreTexts, KeepPositions}
-use Rattle.ii_promises.proofs.NearLaws.{Way, any_more, close_near, is_close, near_close}
+use Rattle.ii_search.proofs.RangeMatches.{any_more}
+use Rattle.ii_promises.proofs.NearLaws.{Way, close_near, is_close, near_close}
 
 -- the next word of a phrase
 abbrev pub next_word : TermState → PhraseTerm
@@ -49,7 +50,7 @@ module _ (slop : ℕ) (ts : List IndexToken) (doc : ℕ) (second : TermState) (s
       absurd (let wrong : false ≡ true = sym far ∙ and_from (is_text_key second ts) (has_close slop ts doc second (start + 1)) both.0 close in cc)
   none_near back up far false is = rw is refl
 
-  close_follows : follow_near slop ts doc (next_word second ∷ []) start ≡ (is_text_key second ts && has_close slop ts doc second (start + 1))
+  pub close_follows : follow_near slop ts doc (next_word second ∷ []) start ≡ (is_text_key second ts && has_close slop ts doc second (start + 1))
   close_follows = by (is_text_key second ts && has_close slop ts doc second (start + 1)) refl
     where
       by : (b : Bool) → (is_text_key second ts && has_close slop ts doc second (start + 1)) ≡ b → follow_near slop ts doc (next_word second ∷ []) start ≡ (is_text_key second ts && has_close slop ts doc second (start + 1))

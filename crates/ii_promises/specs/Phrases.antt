@@ -1,5 +1,6 @@
--- What the terms of a phrase of two need.
-use Rattle.std.specs.Prelude.{◌≡◌, ◌<◌, true, List, length}
+-- What the terms of a phrase need.
+use Rattle.std.specs.Prelude.{◌≡◌, ◌<◌, ◌||◌, ◌==◌, true, List, length}
+use Rattle.std.specs.List.{AllByRecursion}
 use Rattle.ii_base.specs.Schema.{SchemaEntry}
 use Rattle.ii_base.specs.Terms.{TermState}
 use Rattle.ii_definitions.specs.Tokens.{IndexToken}
@@ -16,3 +17,7 @@ pub record KeepPositions (schema : List SchemaEntry) (first second : TermState) 
 pub record AreTexts (tokens : List IndexToken) (first second : TermState) : Type 0 where
   pub first_text : is_text_key first tokens ≡ true
   pub second_text : is_text_key second tokens ≡ true
+
+-- All tokens in the fields of both terms are of texts.
+abbrev pub HaveTexts : List IndexToken → TermState → TermState → Type 0
+HaveTexts tokens first second = AllByRecursion (λ (t : IndexToken). ((t.field == first.field) || (t.field == second.field)) ≡ true → t.of_text ≡ true) tokens

@@ -16,14 +16,14 @@ ghost use Rattle.ii_base.specs.Schema.{SchemaEntry};
 ghost use Rattle.ii_reader.specs.OpenIndex.{IndexHolds};
 ghost use Rattle.ii_indexing.specs.RamFiles.{IsRamFault};
 ghost use Rattle.ii_promises.specs.Decodes.{HaveDecodedFew};
-ghost use Rattle.ii_promises.specs.Phrases.{AreTexts, KeepPositions};
+ghost use Rattle.ii_promises.specs.Phrases.{AreTexts, HaveTexts, KeepPositions};
 ghost use Rattle.ii_promises.specs.DecodedBlocks.{DecodesNoneTwice};
 ghost use Rattle.ii_promises.specs.HopelessBlocks.{hopeful_blocks, is_hopeless_block};
 
 use bytes::Bytes;
 use ii_ram::{
-    DocId, DocSet, Fault, IndexCall, OpenIndex, PhraseTerm, Query, QueryCursor, Schema,
-    SegmentPostings, Term, TermOrPhrase, TermRange, TextAnalyzer, count, index_in_ram,
+    DocId, DocSet, Fault, IndexCall, OpenIndex, PhrasePrefix, PhraseTerm, Query, QueryCursor,
+    Schema, SegmentPostings, Term, TermOrPhrase, TermRange, TextAnalyzer, count, index_in_ram,
     open_index_with_norms, search, top_by_count,
 };
 use std::alloc::Global;
@@ -172,6 +172,36 @@ pub fn phrases_find_what_is_near(
         term: second,
     })?;
     let query = Query::Phrase(first, others, slop);
+    let found = search(alloc, index, &query);
+    drop(query);
+    found
+}
+
+/// A phrase of a term and a prefix finds exactly the documents with a token of the term, and one at the next position
+/// whose key starts with the prefix, in ascending order. The tokens in both fields are of texts, and both fields keep
+/// positions. Where the index holds tokens, this fails only with `OutOfMemory`.
+#[tactic(auto, using(crate::proofs::SearchingLaws::found_ascend))]
+pub fn phrases_with_a_prefix_find_what_starts_with_it(
+    alloc: Global,
+    index: &OpenIndex,
+    first: Term,
+    prefix: Term,
+) -> Result<QueryCursor<TermOrPhrase<SegmentPostings>>, Fault>
+    requires first { first.field < length index.now.readers }
+    requires prefix { prefix.field < length index.now.readers }
+    ensures ascending { IfOk result (λ cursor. IsAscending cursor.rest) }
+    ensures found { (schema : List SchemaEntry) (num_docs : ℕ) (tokens : List IndexToken) → IndexHolds schema num_docs index.now tokens → KeepPositions schema first prefix → HaveTexts tokens first prefix
+        → IfOk result (λ cursor. (doc : ℕ) → has_doc cursor.rest doc
+        ≡ list_any (λ t. is_token_of first doc t && list_any (λ u. (u.doc == doc) && (u.field == prefix.field) && starts_with nat_eq u.key prefix.value && (u.position == t.position + 1)) tokens) tokens) }
+    ensures memory { (schema : List SchemaEntry) (num_docs : ℕ) (tokens : List IndexToken) → IndexHolds schema num_docs index.now tokens → KeepPositions schema first prefix
+        → IfErr result (λ fault. fault ≡ Fault.OutOfMemory) }
+{
+    let query = Query::phrase_prefix(PhrasePrefix {
+        first,
+        others: Vec::new(alloc),
+        distance: 1,
+        last: TermRange::with_prefix(prefix),
+    });
     let found = search(alloc, index, &query);
     drop(query);
     found

@@ -39,8 +39,8 @@ pub use ii_reader::{BlockSegmentPostings, FreqReadingOption, LoadedPostings, Seg
 
 // how an index is searched
 pub use ii_query_parser::{
-    Delimiter, Expected, Feature, KeyBound, MAX_NESTING, MAX_SET_VALUES, ParseError, PhraseTerm,
-    Query, QueryParserError, TermRange, UserInputAst, UserInputBound, UserInputLiteral,
+    Delimiter, Expected, Feature, KeyBound, MAX_NESTING, MAX_SET_VALUES, ParseError, PhrasePrefix,
+    PhraseTerm, Query, QueryParserError, TermRange, UserInputAst, UserInputBound, UserInputLiteral,
     UserInputRange, UserInputSet, can_name, parse, parse_query, query_of, spell_name,
     unknown_field_name,
 };

@@ -6,8 +6,8 @@ use crate::memory_index::{Call, Kind, Said, calls_of, cursor_of, indexed, ready_
 use ii_base::{AsciiTokenizer, Fault, Field, Term};
 use ii_docset::{DocId, DocSet, TERMINATED};
 use ii_ram::{
-    AllDocs, KeyBound, PhraseTerm, Query, QueryCursor, TermOrPhrase, TermRange, count,
-    index_in_ram, search, top_by_count,
+    AllDocs, KeyBound, PhrasePrefix, PhraseTerm, Query, QueryCursor, TermOrPhrase, TermRange,
+    count, index_in_ram, search, top_by_count,
 };
 use ii_reader::{OpenIndex, SegmentPostings};
 use std::alloc::Global;
@@ -236,6 +236,48 @@ static RANGES: [(&str, Edge, Edge, &str); 9] = [
 fn ranges_give_documents(rt: HostRuntime) -> Result<(), Fail> {
     for (prefix, lower, upper, wanted) in &RANGES {
         let query = range(rt.alloc(), *prefix, *lower, *upper)?;
+        let found = found(rt.alloc(), &query)?;
+        assert_eq!(rt; found.as_str(), *wanted);
+    }
+    Ok(())
+}
+
+// Builds the query of a phrase of a word and a prefix.
+fn phrase_with(
+    alloc: Global,
+    first: &Asked,
+    distance: u32,
+    prefix: &Asked,
+) -> Result<Query, Fault> {
+    let (first, prefix) = (term(alloc, first)?, term(alloc, prefix)?);
+    Ok(Query::phrase_prefix(PhrasePrefix {
+        first,
+        others: Vec::new(alloc),
+        distance,
+        last: TermRange::with_prefix(prefix),
+    }))
+}
+
+// A word, how many positions after it a word starts with a prefix, the prefix, and what is found.
+static STARTED: [(Asked, u32, Asked, &str); 9] = [
+    ((0, "a"), 1, (0, "b"), "0,4,2 in all"),
+    ((0, "a"), 1, (0, "c"), "1,1 in all"),
+    // each word of the field
+    ((0, "a"), 1, (0, ""), "0,1,4,3 in all"),
+    ((0, "a"), 2, (0, ""), "0,1 in all"),
+    ((0, "b"), 1, (0, ""), "0,1 in all"),
+    // another field
+    ((0, "a"), 0, (1, ""), "0,4,2 in all"),
+    ((1, "a"), 1, (1, "b"), "3,1 in all"),
+    // words that no document has
+    ((0, "a"), 1, (0, "x"), "0 in all"),
+    ((0, "z"), 1, (0, ""), "0 in all"),
+];
+
+#[test]
+fn phrases_with_a_prefix_give_documents(rt: HostRuntime) -> Result<(), Fail> {
+    for (first, distance, prefix, wanted) in &STARTED {
+        let query = phrase_with(rt.alloc(), first, *distance, prefix)?;
         let found = found(rt.alloc(), &query)?;
         assert_eq!(rt; found.as_str(), *wanted);
     }

@@ -19,12 +19,12 @@ use Rattle.ii_definitions.specs.Postings.{is_at}
 use Rattle.ii_definitions.specs.Tokens.{IndexToken}
 use Rattle.ii_query_parser.specs.declared.query.PhraseTerm.{PhraseTerm}
 use Rattle.ii_query_parser.specs.Queries as queries
-use Rattle.ii_query_parser.specs.Queries.{QueryTree, QueryTrees, are_of_texts, follow_near, has_positions_in, hold_for_all, holds_for_all, is_text_key, is_token_of, phrase_has_positions, tree_covers, tree_of, trees_cover}
+use Rattle.ii_query_parser.specs.Queries.{QueryTree, QueryTrees, are_of_texts, follow_near, has_positions_in, hold_for_all, holds_for_all, is_text_key, is_token_of, others_with, phrase_has_positions, tree_covers, tree_of, trees_cover}
 use Rattle.ii_segments.specs.Segments.{AreSegmentTokens, Segment, at_rank, index_tokens, is_key_of_text_in, is_living, living_tokens, num_docs_of, tokens_from}
 use Rattle.ii_segments.proofs.CountLaws.{all_weaker, test_by_rank, tokens_after}
 use Rattle.ii_segments.proofs.MergedLaws.{IsTyped, index_typed, merged_is_segment}
 use Rattle.ii_segments.proofs.MergeLaws.{below, from_append, of_living}
-use Rattle.ii_segment_search.proofs.LocalLaws.{bound_local, follow_local, range_local, text_of_some, typed_own}
+use Rattle.ii_segment_search.proofs.LocalLaws.{bound_local, follow_local, phrase_prefix_local, range_local, text_of_some, typed_own}
 use Rattle.ii_ranking.specs.Combinations.{any_of, each_of, unless}
 use Rattle.ii_ranking.specs.OneIndex.{ScoresAreLocal}
 use Rattle.ii_ranking.specs.Scores.{if_occurs, phrase_score, score_by, scored_by_tokens, term_score, tree_score, tree_scores}
@@ -189,6 +189,8 @@ module _ (schema : List SchemaEntry) (st : Statistics) (before after : List Segm
         tree_local (queries.all_below m) covers keeps = ap (λ (b : Bool). if b then Some SCORE_ONE else None) (bound_local schema before after s doc lives all_typed own_typed n m docs own covers)
         tree_local (queries.one_term term) covers keeps = term_local term
         tree_local (queries.one_phrase first others slop) covers keeps = phrase_local first others slop keeps
+        tree_local (queries.one_phrase_prefix phrase) covers keeps =
+            ap (λ (b : Bool). if phrase_has_positions schema phrase.first (others_with phrase phrase.last.prefix.value) && b then Some SCORE_ONE else None) (phrase_prefix_local schema before after s doc lives all_typed own_typed phrase)
         tree_local (queries.one_range range) covers keeps = ap (λ (b : Bool). if b then Some SCORE_ONE else None) (range_local schema before after s doc lives all_typed own_typed range)
         tree_local (queries.each_of qs) covers keeps = ap each_of (trees_local qs covers keeps)
         tree_local (queries.any_of qs) covers keeps = ap any_of (trees_local qs covers keeps)

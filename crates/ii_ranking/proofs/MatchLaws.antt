@@ -14,7 +14,7 @@ use Rattle.ii_definitions.specs.Tokens.{IndexToken}
 use Rattle.ii_segments.proofs.OrderLemmas.{Ascend, ascend_from_order, filter_ascends}
 use Rattle.ii_query_parser.specs.declared.query.PhraseTerm.{PhraseTerm}
 use Rattle.ii_query_parser.specs.Queries as queries
-use Rattle.ii_query_parser.specs.Queries.{QueryTree, QueryTrees, all_match, any_matches, follow_near, has_phrase_within, has_positions_in, has_tree, hold_for_all, holds_for_all, is_text_key, is_token_in, is_token_of, phrase_has_positions, tree_matches, tree_of}
+use Rattle.ii_query_parser.specs.Queries.{QueryTree, QueryTrees, all_match, any_matches, follow_near, has_phrase_prefix, has_phrase_within, has_positions_in, has_tree, hold_for_all, holds_for_all, is_text_key, is_token_in, is_token_of, phrase_has_positions, tree_matches, tree_of}
 use Rattle.ii_ranking.specs.Combinations.{both, each_of, either, unless}
 use Rattle.ii_ranking.specs.Scores.{if_occurs, phrase_score, score_by, scored_by_tokens, term_score, tree_score, tree_scores}
 use Rattle.ii_ranking.specs.TokenCounts.{AreOrdered, MatchesScore, PhrasesScoreByStarts, keeps_counts, num_tokens_of}
@@ -111,6 +111,7 @@ module _ (schema : List SchemaEntry) (ts : List IndexToken) (st : Statistics) (o
     tree_some (queries.all_below m) keeps = if_some _
     tree_some (queries.one_term term) keeps = term_some term
     tree_some (queries.one_phrase first others slop) keeps = phrase_some first others slop keeps
+    tree_some (queries.one_phrase_prefix phrase) keeps = if_some _ ∙ ap (λ (b : Bool). b && has_phrase_prefix phrase ts doc) keeps
     tree_some (queries.one_range range) keeps = if_some _
     tree_some (queries.each_of qs) keeps = each_some qs keeps
     tree_some (queries.any_of qs) keeps = fold_either None (tree_scores (scored_by_tokens schema ts st) qs doc) ∙ any_some qs keeps

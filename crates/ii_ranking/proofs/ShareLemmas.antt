@@ -76,6 +76,7 @@ mutual
   shares_add_up s (queries.one_phrase first others slop) doc =
       let terms = first ∷ map (λ (o : PhraseTerm). o.term) others in
       count_total (score_by s terms first.field doc) (share_by s (queries.one_phrase first others slop) terms first.field doc) (λ count. refl) (phrase_count slop (s.entries WithFreqsAndPositions first) (parts_of s others) doc)
+  shares_add_up s (queries.one_phrase_prefix phrase) doc = constant_total (queries.one_phrase_prefix phrase) (s.has_phrase_in phrase doc)
   shares_add_up s (queries.one_range range) doc = constant_total (queries.one_range range) (s.has_in range doc)
   shares_add_up s (queries.each_of qs) doc = each_adds_up s qs doc
   shares_add_up s (queries.any_of qs) doc = any_adds_up s qs doc

@@ -49,6 +49,7 @@ module _ (n num_docs : ℕ) (a b : Scored) (alike : AreAlike n num_docs a b) (do
     alike_tree (queries.all_below m) fields = refl
     alike_tree (queries.one_term term) fields = ap option_to_list (alike_term term (ltb-true term.field n fields))
     alike_tree (queries.one_phrase first others slop) fields = ap option_to_list (alike_phrase first others slop fields)
+    alike_tree (queries.one_phrase_prefix phrase) fields = ap (λ (has : Bool). option_to_list (constant_share (queries.one_phrase_prefix phrase) has)) (alike.has_phrase_in phrase doc fields)
     alike_tree (queries.one_range range) fields = ap (λ (has : Bool). option_to_list (constant_share (queries.one_range range) has)) (alike.has_in range doc (ltb-true range.prefix.field n fields))
     alike_tree (queries.each_of qs) fields = λ j. if alike_all qs fields j then alike_trees qs fields j else []
     alike_tree (queries.any_of qs) fields = alike_trees qs fields

@@ -33,15 +33,16 @@ use Rattle.ii_definitions.proofs.GroupedLaws.{none_occurs}
 use Rattle.ii_reader.specs.InvertedIndexReader.{InvertedIndexReaderState}
 use Rattle.ii_reader.specs.OpenIndex.{FieldReaderHolds, IndexHolds, OpenIndexState}
 use Rattle.ii_reader.proofs.ReaderLemmas.{list_held}
+use Rattle.ii_query_parser.specs.declared.phrase_prefix.PhrasePrefix.{PhrasePrefix}
 use Rattle.ii_query_parser.specs.declared.query.PhraseTerm.{PhraseTerm}
 use Rattle.ii_query_parser.specs.declared.query.Query.{Query}
 use Rattle.ii_query_parser.specs.declared.query.Query.TheVariants.{Range}
 use Rattle.ii_query_parser.specs.declared.term_range.TermRange.{TermRange}
 use Rattle.ii_query_parser.specs.Queries as queries
-use Rattle.ii_query_parser.specs.Queries.{QueryTree, QueryTrees, has_fields, hold_for_all, holds_for_all, is_token_in, is_within, phrase_is_within, tree_of}
+use Rattle.ii_query_parser.specs.Queries.{QueryTree, QueryTrees, has_fields, hold_for_all, holds_for_all, is_token_in, is_within, others_with, phrase_is_within, tree_of}
 use Rattle.ii_query_parser.proofs.QueryLemmas.{range_fields, range_matches, range_positions, range_tree}
 use Rattle.ii_search.specs.Found.{docs_kept, docs_of_term, docs_under, tree_found}
-use Rattle.ii_search.proofs.FoundLemmas.{gives_matches}
+use Rattle.ii_search.proofs.FoundLemmas.{gives_matches, phrase_prefix_given}
 use Rattle.ii_ranking.specs.Combinations.{any_of, each_of, unless}
 use Rattle.ii_ranking.specs.Scores.{IsScoreFault, Scored, damage_of, entry_at, first_of, if_occurs, norm_id_in, norms_damage, opened_or_none, parts_damage, parts_of, phrase_count, phrase_score, query_damage, query_score, scored_by_tokens, scored_in, term_score, tree_damage, tree_score, tree_scores, trees_damage}
 use Rattle.ii_ranking.specs.TokenScores.{GivesBest, GivesScores, ScoresAreOfTokens, token_score}
@@ -53,6 +54,7 @@ use Rattle.ii_ranking.proofs.TopLemmas.{scored_alike}
 pub record AreAlike (n num_docs : ℕ) (a b : Scored) : Type 0 where
   pub statistics : a.statistics ≡ b.statistics
   pub entries : (requested : IndexRecordOption) (term : TermState) → term.field < n → a.entries requested term ≡ b.entries requested term
+  pub has_phrase_in : (phrase : PhrasePrefix) (doc : ℕ) → phrase_is_within n phrase.first (others_with phrase phrase.last.prefix.value) ≡ true → a.has_phrase_in phrase doc ≡ b.has_phrase_in phrase doc
   pub has_in : (range : TermRange) (doc : ℕ) → range.prefix.field < n → a.has_in range doc ≡ b.has_in range doc
   pub norm_id : (field doc : ℕ) → doc < num_docs → a.norm_id field doc ≡ b.norm_id field doc
 
@@ -87,6 +89,7 @@ module _ (n num_docs : ℕ) (a b : Scored) (alike : AreAlike n num_docs a b) (do
     same_tree (queries.all_below m) fields = refl
     same_tree (queries.one_term term) fields = same_term term (ltb-true term.field n fields)
     same_tree (queries.one_phrase first others slop) fields = same_phrase first others slop fields
+    same_tree (queries.one_phrase_prefix phrase) fields = ap (λ (has : Bool). if has then Some SCORE_ONE else None) (alike.has_phrase_in phrase doc fields)
     same_tree (queries.one_range range) fields = ap (λ (has : Bool). if has then Some SCORE_ONE else None) (alike.has_in range doc (ltb-true range.prefix.field n fields))
     same_tree (queries.each_of qs) fields = ap each_of (same_trees qs fields)
     same_tree (queries.any_of qs) fields = ap any_of (same_trees qs fields)
@@ -145,6 +148,7 @@ module _ (schema : List SchemaEntry) (num_docs : ℕ) (index : OpenIndexState) (
   held_alike statistics = record {
     statistics = refl;
     entries = λ requested term field. ap opened_or_none (held_list requested term field);
+    has_phrase_in = λ phrase doc fields. let g = phrase_prefix_given schema num_docs index ts phrase holds fields in ap (λ (r : Result (List Entry) Part). has_doc (opened_or_none r) doc) g.is ∙ g.exact doc;
     has_in = λ range doc field. let f = finds_range range field in ap (λ (r : Result (List Entry) Part). has_doc (opened_or_none r) doc) f.found ∙ f.exact doc;
     norm_id = held_norm;
   }
@@ -177,6 +181,7 @@ module _ (schema : List SchemaEntry) (num_docs : ℕ) (index : OpenIndexState) (
           let norms = norms_damage (body_of first.field index.fieldnorms) in
           sound_term WithFreqsAndPositions first (first_of (parts_damage index others) norms) (ltb-true first.field (length schema) h.0)
           (ap (λ (d : Option Part). first_of d norms) (sound_parts others h.1) ∙ sound_norms first.field)
+      sound_tree (queries.one_phrase_prefix phrase) fields = ap damage_of (phrase_prefix_given schema num_docs index ts phrase holds fields).is
       sound_tree (queries.one_range range) fields = ap damage_of (finds_range range (ltb-true range.prefix.field (length schema) fields)).found
       sound_tree (queries.each_of qs) fields = sound_trees qs fields
       sound_tree (queries.any_of qs) fields = sound_trees qs fields

@@ -1,5 +1,5 @@
 -- What a document scores by a query: BM25 for terms and phrases, the sum of what matches else.
-use Rattle.std.specs.Prelude.{◌≡◌, ◌⊎◌, ℕ, ◌^◌, ◌==◌, ◌<◌, Bool, List, [], ◌∷◌, Option, None, Some, Result, Ok, Err, if◌then◌else◌, filter, length, map, min, nat_le, nat_lt, slice_index_or, unwrap_or}
+use Rattle.std.specs.Prelude.{◌≡◌, ◌⊎◌, ℕ, ◌^◌, ◌==◌, ◌<◌, Bool, ◌&&◌, List, [], ◌∷◌, Option, None, Some, Result, Ok, Err, if◌then◌else◌, filter, length, map, min, nat_le, nat_lt, slice_index_or, unwrap_or}
 use Rattle.std.specs.List.{find, list_any}
 use Rattle.std.specs.Option.{option_map}
 use Rattle.ii_io.specs.declared.faults.Fault.{Fault}
@@ -25,19 +25,21 @@ use Rattle.ii_definitions.specs.Fields.{option_of}
 use Rattle.ii_definitions.specs.Norms.{has_norms}
 use Rattle.ii_definitions.specs.Postings.{doc_count, key_postings}
 use Rattle.ii_definitions.specs.Tokens.{IndexToken}
+use Rattle.ii_query_parser.specs.declared.phrase_prefix.PhrasePrefix.{PhrasePrefix}
 use Rattle.ii_query_parser.specs.declared.query.PhraseTerm.{PhraseTerm}
 use Rattle.ii_query_parser.specs.declared.query.Query.{Query}
 use Rattle.ii_query_parser.specs.declared.term_range.TermRange.{TermRange}
 use Rattle.ii_query_parser.specs.Queries as queries
-use Rattle.ii_query_parser.specs.Queries.{QueryTree, QueryTrees, is_token_in, tree_of}
+use Rattle.ii_query_parser.specs.Queries.{QueryTree, QueryTrees, has_phrase_prefix, is_token_in, others_with, phrase_has_positions, tree_of}
 use Rattle.ii_reader.specs.OpenIndex.{OpenIndexState}
 use Rattle.ii_search.specs.Found.{docs_of_term, tree_found}
 use Rattle.ii_ranking.specs.Combinations.{any_of, each_of, unless}
 
--- What scores are made of: the numbers of an index, the entries of each term, whether a document has a term in a range, and the norm id of each document in a field.
+-- What scores are made of: the numbers of an index, the entries of each term, whether a document has a phrase whose last term is one of a range, or a term in a range, and the norm id of each document in a field.
 pub record Scored : Type 0 where
   pub statistics : Statistics
   pub entries : IndexRecordOption → TermState → List Entry
+  pub has_phrase_in : PhrasePrefix → ℕ → Bool
   pub has_in : TermRange → ℕ → Bool
   pub norm_id : ℕ → ℕ → ℕ
 
@@ -81,6 +83,7 @@ abbrev mutual
   tree_score s (queries.all_below n) doc = if nat_lt doc (min n TERMINATED) then Some SCORE_ONE else None
   tree_score s (queries.one_term term) doc = term_score s term doc
   tree_score s (queries.one_phrase first others slop) doc = phrase_score s first others slop doc
+  tree_score s (queries.one_phrase_prefix phrase) doc = if s.has_phrase_in phrase doc then Some SCORE_ONE else None
   tree_score s (queries.one_range range) doc = if s.has_in range doc then Some SCORE_ONE else None
   tree_score s (queries.each_of qs) doc = each_of (tree_scores s qs doc)
   tree_score s (queries.any_of qs) doc = any_of (tree_scores s qs doc)
@@ -109,15 +112,17 @@ abbrev pub scored_in : OpenIndexState → Statistics → Scored
 scored_in index statistics = record {
   statistics = statistics;
   entries = λ requested term. opened_or_none (docs_of_term requested index term);
+  has_phrase_in = λ phrase doc. has_doc (opened_or_none (tree_found index (queries.one_phrase_prefix phrase))) doc;
   has_in = λ range doc. has_doc (opened_or_none (tree_found index (queries.one_range range))) doc;
   norm_id = λ field doc. norm_id_in (body_of field index.fieldnorms) doc;
 }
 
--- what they are made of by the tokens of an index
+-- what they are made of by the tokens of an index; phrases are found in fields with positions
 abbrev pub scored_by_tokens : List SchemaEntry → List IndexToken → Statistics → Scored
 scored_by_tokens entries ts statistics = record {
   statistics = statistics;
   entries = λ requested term. key_postings (option_of entries term.field) term.field term.value requested ts;
+  has_phrase_in = λ phrase doc. phrase_has_positions entries phrase.first (others_with phrase phrase.last.prefix.value) && has_phrase_prefix phrase ts doc;
   has_in = λ range doc. list_any (is_token_in range doc) ts;
   norm_id = λ field doc. if has_norms entries field then id_of_norm (doc_count doc field ts) else 1;
 }
@@ -158,6 +163,7 @@ abbrev mutual
   tree_damage index (queries.all_below n) = None
   tree_damage index (queries.one_term term) = term_damage index term
   tree_damage index (queries.one_phrase first others slop) = phrase_damage index first others
+  tree_damage index (queries.one_phrase_prefix phrase) = damage_of (tree_found index (queries.one_phrase_prefix phrase))
   tree_damage index (queries.one_range range) = damage_of (tree_found index (queries.one_range range))
   tree_damage index (queries.each_of qs) = trees_damage index qs
   tree_damage index (queries.any_of qs) = trees_damage index qs

@@ -70,6 +70,7 @@ abbrev mutual
   tree_shares s (queries.all_below n) doc = option_to_list (constant_share (queries.all_below n) (nat_lt doc (min n TERMINATED)))
   tree_shares s (queries.one_term term) doc = option_to_list (term_share s term doc)
   tree_shares s (queries.one_phrase first others slop) doc = option_to_list (phrase_share s first others slop doc)
+  tree_shares s (queries.one_phrase_prefix phrase) doc = option_to_list (constant_share (queries.one_phrase_prefix phrase) (s.has_phrase_in phrase doc))
   tree_shares s (queries.one_range range) doc = option_to_list (constant_share (queries.one_range range) (s.has_in range doc))
   tree_shares s (queries.each_of qs) doc = if all_have_shares s qs doc then trees_shares s qs doc else []
   tree_shares s (queries.any_of qs) doc = trees_shares s qs doc

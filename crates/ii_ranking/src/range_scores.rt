@@ -1,4 +1,4 @@
-//! The scores of the documents that have a term in a range.
+//! The scores of the documents that have a term in a range, or a phrase whose last term is one of a range.
 ghost use Rattle.std.specs.Prelude.{◌≡◌, IfErr, None, OnOk, Some, if◌then◌else◌, length, true};
 ghost use Rattle.ii_bm25.specs.declared.bm25.TheConstants.{SCORE_ONE};
 ghost use Rattle.ii_docset.specs.Intersection.{has_doc};

@@ -20,8 +20,8 @@ use ii_reader::OpenIndex;
 use std::alloc::Global;
 
 /// Returns the score of each document below a number, `None` where it doesn't match the query: BM25 for a term or a
-/// phrase, 1.0 for all documents, and the sum of the parts that match else. A phrase counts as often as it begins in
-/// a document. Where a field keeps no counts each is 1, and so is each norm where it keeps no norms. Each term's
+/// phrase, 1.0 for all documents, a range, or a phrase whose last term is one of a range, and the sum of the parts that
+/// match else. A phrase counts as often as it begins in a document. Where a field keeps no counts each is 1, and so is each norm where it keeps no norms. Each term's
 /// field must be a field of the index.
 ///
 /// It takes 16 bytes for each document and each level of nesting.
@@ -96,7 +96,7 @@ fn add_scores<S: Bm25StatisticsProvider>(
         Query::Phrase(first, others, slop) => {
             add_phrase(alloc, index, statistics, first, others, *slop, scores)
         }
-        Query::Range(_) => add_found(alloc, index, query, scores),
+        Query::PhrasePrefix(_) | Query::Range(_) => add_found(alloc, index, query, scores),
         Query::And(queries) => add_each(alloc, index, statistics, queries, scores),
         Query::Or(queries) => add_any(alloc, index, statistics, queries, scores),
         Query::AndNot(first, other) => {

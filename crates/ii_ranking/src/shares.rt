@@ -27,11 +27,11 @@ use std::alloc::Global;
 /// A part of a query that a document matches, and what it adds to the document's score.
 #[derive(Clone, Copy)]
 pub struct Share<'q> {
-    /// The part: a term, a phrase, all documents or a range.
+    /// The part: a term, a phrase, a phrase whose last term is one of a range, all documents or a range.
     pub part: &'q Query,
-    /// Its BM25 weight, in units of 2^-22; 0 for all documents and for a range.
+    /// Its BM25 weight, in units of 2^-22; 0 where each document scores 1.0.
     pub weight: u32,
-    /// How often it occurs in the document; 1 for all documents and for a range.
+    /// How often it occurs in the document; 1 where each document scores 1.0.
     pub count: u32,
     /// The id of the document's norm in the part's field, 1 where it has none.
     pub fieldnorm_id: u8,
@@ -96,8 +96,8 @@ fn add_shares<'q, S: Bm25StatisticsProvider>(
             push_share(shares, share)?;
             Ok(())
         }
-        Query::Range(_) => {
-            let share = range_share(alloc, index, query, doc)?;
+        Query::PhrasePrefix(_) | Query::Range(_) => {
+            let share = found_share(alloc, index, query, doc)?;
             push_share(shares, share)?;
             Ok(())
         }
@@ -229,9 +229,9 @@ fn constant_share<'q>(part: &'q Query, is_matching: bool) -> Option<Share<'q>>
     })
 }
 
-// Returns the share of a range, if a document has a term in it.
+// Returns the share of a query that always scores 1.0, if a document matches it.
 #[inline(never)]
-fn range_share<'q>(
+fn found_share<'q>(
     alloc: Global,
     index: &OpenIndex,
     part: &'q Query,

@@ -1,5 +1,5 @@
 -- What a query gives in an index that holds tokens.
-use Rattle.std.proofs.Common.{◌≡◌, ◌∙◌, ℕ, Bool, true, false, ◌&&◌, ◌||◌, ◌==◌, not, List, [], ◌∷◌, Option, None, Some, Result, Ok, Err, inl, inr, cond, length, map, nat_eq, ◌+◌, arith, refl, sym, ap}
+use Rattle.std.proofs.Common.{◌≡◌, ◌∙◌, ℕ, Bool, true, false, ◌&&◌, ◌||◌, ◌==◌, not, List, [], ◌∷◌, Option, None, Some, Result, Ok, Err, inl, inr, cond, length, map, nat_eq, ◌+◌, arith, refl, sym, ap, subst}
 use Rattle.std.specs.Prelude.{IsSomeAnd, MatchOption, filter, min, nat_lt, slice_get}
 use Rattle.std.specs.List.{list_all, list_any}
 use Rattle.std.specs.Result.{result_unwrap_or}
@@ -28,6 +28,7 @@ use Rattle.ii_query.proofs.SloppyLemmas.{sloppy_has}
 use Rattle.ii_termdict.specs.Dictionary.{entry_keys, info_under}
 use Rattle.ii_termstore.specs.declared.term_info.TermInfo.{TermInfo}
 use Rattle.ii_definitions.specs.Cut.{cut_entry}
+use Rattle.ii_definitions.specs.Fields.{option_of}
 use Rattle.ii_definitions.specs.Files.{HoldsTerm}
 use Rattle.ii_definitions.specs.Postings.{grouped, is_at, key_postings, kind_of, occurs, tokens_at, with_token}
 use Rattle.ii_definitions.specs.Tokens.{IndexToken}
@@ -35,14 +36,17 @@ use Rattle.ii_definitions.proofs.GroupedLaws.{none_occurs}
 use Rattle.ii_reader.specs.InvertedIndexReader.{InvertedIndexReaderState, IsRefusal}
 use Rattle.ii_reader.specs.OpenIndex.{FieldReaderHolds, IndexHolds, OpenIndexState, all_or_first}
 use Rattle.ii_reader.proofs.ReaderLemmas.{list_held}
+use Rattle.ii_query_parser.specs.declared.phrase_prefix.PhrasePrefix.{PhrasePrefix}
 use Rattle.ii_query_parser.specs.declared.query.PhraseTerm.{PhraseTerm}
 use Rattle.ii_query_parser.specs.declared.query.Query.{Query}
 use Rattle.ii_query_parser.specs.declared.term_range.TermRange.{TermRange}
 use Rattle.ii_query_parser.specs.Ranges.{in_range}
-use Rattle.ii_search.proofs.RangeMatches.{key_there, range_has}
-use Rattle.ii_search.specs.Found.{AreMatches, combined, combined_lists, docs_kept, docs_under, found_in, lists_found, phrase_of, phrase_parts_of, range_lists, tree_found, with_list, with_part}
+use Rattle.ii_query_parser.proofs.PhrasePrefixLemmas.{fields_of_each}
+use Rattle.ii_search.proofs.PhrasePrefixMatches.{absent_key, same_with}
+use Rattle.ii_search.proofs.RangeMatches.{any_alike, any_kept, key_there, range_has, tests_have}
+use Rattle.ii_search.specs.Found.{AreMatches, combined, combined_lists, docs_kept, docs_of_term, docs_under, found_in, keys_in, lists_found, phrase_of, phrase_parts_of, phrase_with, range_lists, tree_found, with_list, with_part}
 use Rattle.ii_query_parser.specs.Queries as queries
-use Rattle.ii_query_parser.specs.Queries.{QueryTree, QueryTrees, all_match, any_matches, are_of_texts, follow_near, has_fields, has_phrase_within, has_positions_in, has_tree, hold_for_all, holds_for_all, is_text_key, is_token_in, is_token_of, is_within, keeps_positions, matches, phrase_has_positions, phrase_is_within, stands_near, tree_matches, tree_of}
+use Rattle.ii_query_parser.specs.Queries.{QueryTree, QueryTrees, all_match, any_matches, are_of_texts, follow_near, has_fields, has_phrase_prefix, has_phrase_within, has_positions_in, has_tree, hold_for_all, holds_for_all, is_text_key, is_token_in, is_token_of, is_within, keeps_positions, matches, others_with, phrase_has_positions, phrase_is_within, stands_near, tree_matches, tree_of}
 
 -- a token in front of entries
 with_has : (t : IndexToken) (es : List Entry) (doc : ℕ) → has_doc (with_token t es) doc ≡ (nat_eq t.doc doc || has_doc es doc)
@@ -109,13 +113,12 @@ record GivesAny (found : Result (List (List Entry)) Part) (holds : ℕ → Bool)
   is : found ≡ Ok lists
   any : (doc : ℕ) → has_doc (union_of lists) doc ≡ holds doc
 
-gives_keys : (entries : List SchemaEntry) (field : ℕ) (keys : List (List ℕ)) (ts : List IndexToken) (reader : Option InvertedIndexReaderState)
-    → IsSomeAnd reader (λ r. FieldReaderHolds entries field r ts)
-    → GivesAny (all_or_first (map (λ (key : List ℕ). docs_under Basic key reader) keys)) (λ (doc : ℕ). list_any (λ (key : List ℕ). list_any (λ (t : IndexToken). (t.doc == doc) && is_at field key t) ts) keys)
-gives_keys entries field [] ts reader h = record { lists = []; is = refl; any = λ doc. refl }
-gives_keys entries field (key ∷ keys) ts reader h =
-    let f = gives_under entries field key ts reader h in
-    let g = gives_keys entries field keys ts reader h in
+gives_keys : (found : List ℕ → Result (List Entry) Part) (holds : List ℕ → ℕ → Bool) → ((key : List ℕ) → Gives (found key) (holds key)) → (keys : List (List ℕ))
+    → GivesAny (all_or_first (map found keys)) (λ (doc : ℕ). list_any (λ (key : List ℕ). holds key doc) keys)
+gives_keys found holds each [] = record { lists = []; is = refl; any = λ doc. refl }
+gives_keys found holds each (key ∷ keys) =
+    let f = each key in
+    let g = gives_keys found holds each keys in
     rw (f.is, g.is) (record { lists = f.es ∷ g.lists; is = refl; any = λ doc. union_has f.es g.lists doc ∙ rw (f.exact doc, g.any doc) refl })
 
 -- the documents of the terms in a range
@@ -125,7 +128,8 @@ gives_range : (entries : List SchemaEntry) (range : TermRange) (ts : List IndexT
 gives_range entries range ts None h = absurd h
 gives_range entries range ts (Some r) h =
     let field = range.prefix.field in
-    let g = gives_keys entries field (filter (in_range range) (entry_keys r.terms)) ts (Some r) h in
+    let g = gives_keys (λ (key : List ℕ). docs_under Basic key (Some r)) (λ (key : List ℕ) (doc : ℕ). list_any (λ (t : IndexToken). (t.doc == doc) && is_at field key t) ts)
+    (λ key. gives_under entries field key ts (Some r) h) (filter (in_range range) (entry_keys r.terms)) in
     rw (g.is) (record {
       es = union_of g.lists;
       is = refl;
@@ -168,16 +172,16 @@ cut_placed doc holds WithFreqs (e ∷ es) = rw (and-false (nat_eq e.doc doc)) (c
 cut_placed doc holds WithFreqsAndPositions [] = refl
 cut_placed doc holds WithFreqsAndPositions (e ∷ es) = ap (λ (b : Bool). (nat_eq e.doc doc && list_any holds e.positions) || b) (cut_placed doc holds WithFreqsAndPositions es)
 
--- what is kept of a key's tokens in a field with positions
-kept_placed : (option : IndexRecordOption) (us : List IndexToken) (b : Bool) → has_positions option ≡ true → (us ≡ [] → b ≡ false) → (has_positions (downgrade (kind_of option us) WithFreqsAndPositions) && b) ≡ (are_of_texts us && b)
-kept_placed option [] b keeps none = rw (none refl) (and-false _)
-kept_placed option (t ∷ us) b keeps none = by option t.of_text keeps
+-- what is kept of a key's tokens in a field, if it has positions
+kept_placed : (option : IndexRecordOption) (us : List IndexToken) (b : Bool) → (us ≡ [] → b ≡ false) → (has_positions (downgrade (kind_of option us) WithFreqsAndPositions) && b) ≡ (has_positions option && (are_of_texts us && b))
+kept_placed option [] b none = rw (none refl) (and-false _ ∙ sym (and-false (has_positions option)))
+kept_placed option (t ∷ us) b none = by option t.of_text
   where
-    by : (o : IndexRecordOption) (texts : Bool) → has_positions o ≡ true → (has_positions (downgrade (cond texts o Basic) WithFreqsAndPositions) && b) ≡ (texts && b)
-    by o false keeps = refl
-    by Basic true keeps = absurd (cc)
-    by WithFreqs true keeps = absurd (cc)
-    by WithFreqsAndPositions true keeps = refl
+    by : (o : IndexRecordOption) (texts : Bool) → (has_positions (downgrade (cond texts o Basic) WithFreqsAndPositions) && b) ≡ (has_positions o && (texts && b))
+    by o false = sym (and-false (has_positions o))
+    by Basic true = refl
+    by WithFreqs true = refl
+    by WithFreqsAndPositions true = refl
 
 swapped : (a b c : Bool) → ((a && b) && c) ≡ ((a && c) && b)
 swapped true true true = refl
@@ -186,82 +190,157 @@ swapped true false true = refl
 swapped true false false = refl
 swapped false b c = refl
 
-pub any_alike : {A : Type 0} (p q : A → Bool) (xs : List A) → ((x : A) → p x ≡ q x) → list_any p xs ≡ list_any q xs
-any_alike p q [] same = refl
-any_alike p q (x ∷ xs) same = rw (same x, any_alike p q xs same) refl
-
--- a key's postings have the positions of its tokens
-positions_have : (option : IndexRecordOption) (ts : List IndexToken) (term : TermState) (doc : ℕ) (holds : ℕ → Bool) → has_positions option ≡ true
-    → placed_in doc holds (key_postings option term.field term.value WithFreqsAndPositions ts) ≡ (is_text_key term ts && list_any (λ (t : IndexToken). is_token_of term doc t && holds t.position) ts)
-positions_have option ts term doc holds keeps =
+-- a key's postings have the positions of its tokens, if its field has positions
+positions_have : (option : IndexRecordOption) (ts : List IndexToken) (term : TermState) (doc : ℕ) (holds : ℕ → Bool)
+    → placed_in doc holds (key_postings option term.field term.value WithFreqsAndPositions ts) ≡ (has_positions option && (is_text_key term ts && list_any (λ (t : IndexToken). is_token_of term doc t && holds t.position) ts))
+positions_have option ts term doc holds =
     let us = tokens_at term.field term.value ts in
     cut_placed doc holds _ (grouped us)
-    ∙ kept_placed option us (placed_in doc holds (grouped us)) keeps (λ none. ap (λ (vs : List IndexToken). placed_in doc holds (grouped vs)) none)
-    ∙ ap (λ (b : Bool). are_of_texts us && b)
+    ∙ kept_placed option us (placed_in doc holds (grouped us)) (λ none. ap (λ (vs : List IndexToken). placed_in doc holds (grouped vs)) none)
+    ∙ ap (λ (b : Bool). has_positions option && (are_of_texts us && b))
     (grouped_placed doc holds us ∙ any_of (token_in doc holds) (is_at term.field term.value) ts
     ∙ any_alike (λ (t : IndexToken). token_in doc holds t && is_at term.field term.value t) (λ (t : IndexToken). is_token_of term doc t && holds t.position) ts (λ t. swapped (t.doc == doc) (holds t.position) (is_at term.field term.value t)))
 
--- A term's entries are found, with the positions of its tokens.
-pub record GivesPositions (ts : List IndexToken) (term : TermState) (found : Result (List Entry) Part) : Type 0 where
+-- A term's entries are found, with the positions of its tokens if these are kept.
+pub record GivesPositions (keeps : Bool) (ts : List IndexToken) (term : TermState) (found : Result (List Entry) Part) : Type 0 where
   pub es : List Entry
   pub is : found ≡ Ok es
-  pub exact : (doc : ℕ) (holds : ℕ → Bool) → placed_in doc holds es ≡ (is_text_key term ts && list_any (λ (t : IndexToken). is_token_of term doc t && holds t.position) ts)
+  pub exact : (doc : ℕ) (holds : ℕ → Bool) → placed_in doc holds es ≡ (keeps && (is_text_key term ts && list_any (λ (t : IndexToken). is_token_of term doc t && holds t.position) ts))
 
-positions_kept : (reader : InvertedIndexReaderState) (term : TermState) (ts : List IndexToken) (kept : Option TermInfo) → has_positions reader.option ≡ true
+positions_kept : (reader : InvertedIndexReaderState) (term : TermState) (ts : List IndexToken) (kept : Option TermInfo)
     → MatchOption kept (occurs term.field term.value ts ≡ false) (HoldsTerm reader.option term.field term.value reader.postings reader.positions ts)
-    → GivesPositions ts term (docs_kept WithFreqsAndPositions reader kept)
-positions_kept reader term ts None keeps none = record {
+    → GivesPositions (has_positions reader.option) ts term (docs_kept WithFreqsAndPositions reader kept)
+positions_kept reader term ts None none = record {
   es = [];
   is = refl;
-  exact = λ doc holds. sym (ap (λ (us : List IndexToken). are_of_texts us && list_any (λ (t : IndexToken). is_token_of term doc t && holds t.position) ts) (none_occurs term.field term.value ts none));
+  exact = λ doc holds. sym (ap (λ (us : List IndexToken). has_positions reader.option && (are_of_texts us && list_any (λ (t : IndexToken). is_token_of term doc t && holds t.position) ts)) (none_occurs term.field term.value ts none) ∙ and-false (has_positions reader.option));
 }
-positions_kept reader term ts (Some info) keeps holds = record {
+positions_kept reader term ts (Some info) holds = record {
   es = key_postings reader.option term.field term.value WithFreqsAndPositions ts;
   is = list_held reader term.field term.value WithFreqsAndPositions ts info holds;
-  exact = λ doc place. positions_have reader.option ts term doc place keeps;
+  exact = λ doc place. positions_have reader.option ts term doc place;
 }
 
-positions_under : (entries : List SchemaEntry) (term : TermState) (ts : List IndexToken) (reader : Option InvertedIndexReaderState) → has_positions_in entries term ≡ true
-    → IsSomeAnd reader (λ r. FieldReaderHolds entries term.field r ts) → GivesPositions ts term (docs_under WithFreqsAndPositions term.value reader)
-positions_under entries term ts None keeps h = absurd h
-positions_under entries term ts (Some r) keeps h = positions_kept r term ts (info_under term.value r.terms) (ap has_positions h.option_is ∙ keeps) (h.holds.exact term.value)
+positions_under : (entries : List SchemaEntry) (term : TermState) (ts : List IndexToken) (reader : Option InvertedIndexReaderState)
+    → IsSomeAnd reader (λ r. FieldReaderHolds entries term.field r ts) → GivesPositions (has_positions_in entries term) ts term (docs_under WithFreqsAndPositions term.value reader)
+positions_under entries term ts None h = absurd h
+positions_under entries term ts (Some r) h =
+    subst (λ (keeps : Bool). GivesPositions keeps ts term (docs_under WithFreqsAndPositions term.value (Some r))) (ap has_positions h.option_is) (positions_kept r term ts (info_under term.value r.terms) (h.holds.exact term.value))
 
--- The other terms of a phrase are found.
-pub record GivesParts (ts : List IndexToken) (others : List PhraseTerm) (found : Result (List PhrasePartState) Part) : Type 0 where
+-- The other terms of a phrase are found, with their positions if the fields of all keep these.
+pub record GivesParts (keeps : Bool) (ts : List IndexToken) (others : List PhraseTerm) (found : Result (List PhrasePartState) Part) : Type 0 where
   pub parts : List PhrasePartState
   pub is : found ≡ Ok parts
-  pub exact : (slop back doc start : ℕ) → parts_have (is_near slop back start) parts doc ≡ list_all (λ (o : PhraseTerm). stands_near slop back ts doc o.term (start + o.distance)) others
+  pub exact : (slop back doc start : ℕ) → parts_have (is_near slop back start) parts doc ≡ (keeps && list_all (λ (o : PhraseTerm). stands_near slop back ts doc o.term (start + o.distance)) others)
 
-gives_part : (ts : List IndexToken) (o : PhraseTerm) (others : List PhraseTerm) (first : Result (List Entry) Part) (found : Result (List PhrasePartState) Part) → GivesPositions ts o.term first → GivesParts ts others found
-    → GivesParts ts (o ∷ others) (with_part o.distance first found)
-gives_part ts o others first found f g = rw (f.is, g.is) (record {
+both_and : (a b c d : Bool) → ((a && b) && (c && d)) ≡ ((a && c) && (b && d))
+both_and true true c d = refl
+both_and true false true d = refl
+both_and true false false d = refl
+both_and false b c d = refl
+
+gives_part : (k l : Bool) (ts : List IndexToken) (o : PhraseTerm) (others : List PhraseTerm) (first : Result (List Entry) Part) (found : Result (List PhrasePartState) Part) → GivesPositions k ts o.term first → GivesParts l ts others found
+    → GivesParts (k && l) ts (o ∷ others) (with_part o.distance first found)
+gives_part k l ts o others first found f g = rw (f.is, g.is) (record {
   parts = record { distance = o.distance; rest = f.es } ∷ g.parts;
   is = refl;
-  exact = λ slop back doc start. rw (f.exact doc (λ (p : ℕ). sloppy.is_within slop (start + o.distance) (p + back)), g.exact slop back doc start) refl;
+  exact = λ slop back doc start.
+      (λ j. f.exact doc (λ (p : ℕ). sloppy.is_within slop (start + o.distance) (p + back)) j && g.exact slop back doc start j)
+      ∙ both_and k (stands_near slop back ts doc o.term (start + o.distance)) l (list_all (λ (p : PhraseTerm). stands_near slop back ts doc p.term (start + p.distance)) others);
 })
 
 gives_parts : (entries : List SchemaEntry) (n : ℕ) (index : OpenIndexState) (ts : List IndexToken) (others : List PhraseTerm) → IndexHolds entries n index ts
-    → list_all (λ (o : PhraseTerm). nat_lt o.term.field (length entries)) others ≡ true → list_all (λ (o : PhraseTerm). has_positions_in entries o.term) others ≡ true → GivesParts ts others (phrase_parts_of index others)
-gives_parts entries n index ts [] holds fields keeps = record { parts = []; is = refl; exact = λ slop back doc start. refl }
-gives_parts entries n index ts (o ∷ os) holds fields keeps =
+    → list_all (λ (o : PhraseTerm). nat_lt o.term.field (length entries)) others ≡ true → GivesParts (list_all (λ (o : PhraseTerm). has_positions_in entries o.term) others) ts others (phrase_parts_of index others)
+gives_parts entries n index ts [] holds fields = record { parts = []; is = refl; exact = λ slop back doc start. refl }
+gives_parts entries n index ts (o ∷ os) holds fields =
     let h = and_parts (nat_lt o.term.field (length entries)) (list_all (λ (p : PhraseTerm). nat_lt p.term.field (length entries)) os) fields in
-    let k = and_parts (has_positions_in entries o.term) (list_all (λ (p : PhraseTerm). has_positions_in entries p.term) os) keeps in
-    gives_part ts o os _ _ (positions_under entries o.term ts (slice_get index.readers o.term.field) k.0 (holds.readers o.term.field (ltb-true o.term.field (length entries) h.0)))
-    (gives_parts entries n index ts os holds h.1 k.1)
+    gives_part (has_positions_in entries o.term) (list_all (λ (p : PhraseTerm). has_positions_in entries p.term) os) ts o os _ _
+    (positions_under entries o.term ts (slice_get index.readers o.term.field) (holds.readers o.term.field (ltb-true o.term.field (length entries) h.0)))
+    (gives_parts entries n index ts os holds h.1)
 
 -- the other terms are near where their tokens are
-follow_parts : (ts : List IndexToken) (others : List PhraseTerm) (found : Result (List PhrasePartState) Part) (g : GivesParts ts others found) (slop doc start : ℕ) → stand_near slop g.parts doc start ≡ follow_near slop ts doc others start
-follow_parts ts others found g slop doc start =
-    any_alike (λ (back : ℕ). parts_have (is_near slop back start) g.parts doc) (λ (back : ℕ). list_all (λ (o : PhraseTerm). stands_near slop back ts doc o.term (start + o.distance)) others) (ways_back slop) (λ back. g.exact slop back doc start)
+follow_parts : (keeps : Bool) (ts : List IndexToken) (others : List PhraseTerm) (found : Result (List PhrasePartState) Part) (g : GivesParts keeps ts others found) (slop doc start : ℕ) → stand_near slop g.parts doc start ≡ (keeps && follow_near slop ts doc others start)
+follow_parts keeps ts others found g slop doc start =
+    any_alike (λ (back : ℕ). parts_have (is_near slop back start) g.parts doc) (λ (back : ℕ). keeps && list_all (λ (o : PhraseTerm). stands_near slop back ts doc o.term (start + o.distance)) others) (ways_back slop) (λ back. g.exact slop back doc start)
+    ∙ any_kept keeps (λ (back : ℕ). list_all (λ (o : PhraseTerm). stands_near slop back ts doc o.term (start + o.distance)) others) (ways_back slop)
 
-gives_phrase : (slop : ℕ) (ts : List IndexToken) (first : TermState) (others : List PhraseTerm) (a : Result (List Entry) Part) (b : Result (List PhrasePartState) Part) → GivesPositions ts first a → GivesParts ts others b
-    → Gives (phrase_of slop a b) (λ (doc : ℕ). has_phrase_within slop ts doc first others)
-gives_phrase slop ts first others a b f g = rw (f.is, g.is) (record {
+-- something else that a test asks, in front
+in_front_of_both : (a b c : Bool) → (a && (b && c)) ≡ (b && (a && c))
+in_front_of_both true b c = refl
+in_front_of_both false true c = refl
+in_front_of_both false false c = refl
+
+grouped_and : (a b c d : Bool) → (a && (b && (c && d))) ≡ ((a && c) && (b && d))
+grouped_and true b c d = in_front_of_both b c d
+grouped_and false b c d = refl
+
+gives_phrase : (k l : Bool) (slop : ℕ) (ts : List IndexToken) (first : TermState) (others : List PhraseTerm) (a : Result (List Entry) Part) (b : Result (List PhrasePartState) Part) → GivesPositions k ts first a → GivesParts l ts others b
+    → Gives (phrase_of slop a b) (λ (doc : ℕ). (k && l) && has_phrase_within slop ts doc first others)
+gives_phrase k l slop ts first others a b f g = rw (f.is, g.is) (record {
   es = sloppy_docs slop f.es g.parts;
   is = refl;
-  exact = λ doc. sloppy_has slop doc f.es g.parts ∙ f.exact doc (stand_near slop g.parts doc)
-      ∙ ap (λ (b : Bool). is_text_key first ts && b) (any_alike _ _ ts (λ t. ap (λ (c : Bool). is_token_of first doc t && c) (follow_parts ts others b g slop doc t.position)));
+  exact = λ doc.
+      let of : IndexToken → Bool = is_token_of first doc in
+      let follows : IndexToken → Bool = λ t. follow_near slop ts doc others t.position in
+      sloppy_has slop doc f.es g.parts ∙ f.exact doc (stand_near slop g.parts doc)
+      ∙ ap (λ (c : Bool). k && (is_text_key first ts && c))
+      (any_alike (λ (t : IndexToken). of t && stand_near slop g.parts doc t.position) (λ (t : IndexToken). l && (of t && follows t)) ts
+      (λ t. ap (λ (c : Bool). of t && c) (follow_parts l ts others b g slop doc t.position) ∙ in_front_of_both (of t) l (follows t))
+      ∙ any_kept l (λ (t : IndexToken). of t && follows t) ts)
+      ∙ grouped_and k (is_text_key first ts) l (list_any (λ (t : IndexToken). of t && follows t) ts);
 })
+
+-- the documents of a phrase, if the fields of its terms have positions
+phrase_given : (entries : List SchemaEntry) (n : ℕ) (index : OpenIndexState) (ts : List IndexToken) (first : TermState) (others : List PhraseTerm) (slop : ℕ) → IndexHolds entries n index ts → phrase_is_within (length entries) first others ≡ true
+    → Gives (phrase_of slop (docs_of_term WithFreqsAndPositions index first) (phrase_parts_of index others)) (λ (doc : ℕ). phrase_has_positions entries first others && has_phrase_within slop ts doc first others)
+phrase_given entries n index ts first others slop holds fields =
+    let h = and_parts (nat_lt first.field (length entries)) _ fields in
+    gives_phrase (has_positions_in entries first) (list_all (λ (o : PhraseTerm). has_positions_in entries o.term) others) slop ts first others _ _
+    (positions_under entries first ts (slice_get index.readers first.field) (holds.readers first.field (ltb-true first.field (length entries) h.0)))
+    (gives_parts entries n index ts others holds h.1)
+
+-- ---- a phrase whose last term is one of a range
+-- the documents of the phrase with each key in the range
+gives_with : (entries : List SchemaEntry) (n : ℕ) (index : OpenIndexState) (ts : List IndexToken) (p : PhrasePrefix) → IndexHolds entries n index ts → phrase_is_within (length entries) p.first (others_with p p.last.prefix.value) ≡ true
+    → (key : List ℕ) → Gives (phrase_with index p key) (λ (doc : ℕ). phrase_has_positions entries p.first (others_with p p.last.prefix.value) && has_phrase_within 0 ts doc p.first (others_with p key))
+gives_with entries n index ts p holds fields key =
+    let same_fields = same_with (λ (f : ℕ). nat_lt f (length entries)) p key p.last.prefix.value in
+    let same_positions = same_with (λ (f : ℕ). has_positions (option_of entries f)) p key p.last.prefix.value in
+    let g = phrase_given entries n index ts p.first (others_with p key) 0 holds (ap (λ (b : Bool). nat_lt p.first.field (length entries) && b) same_fields ∙ fields) in
+    record {
+      es = g.es;
+      is = g.is;
+      exact = λ doc. g.exact doc ∙ ap (λ (b : Bool). (has_positions_in entries p.first && b) && has_phrase_within 0 ts doc p.first (others_with p key)) same_positions;
+    }
+
+gives_phrase_prefix : (entries : List SchemaEntry) (n : ℕ) (index : OpenIndexState) (ts : List IndexToken) (p : PhrasePrefix) (reader : Option InvertedIndexReaderState) → IndexHolds entries n index ts
+    → phrase_is_within (length entries) p.first (others_with p p.last.prefix.value) ≡ true → IsSomeAnd reader (λ r. FieldReaderHolds entries p.last.prefix.field r ts)
+    → Gives (combined_lists union_of (all_or_first (map (phrase_with index p) (keys_in p.last reader)))) (λ (doc : ℕ). phrase_has_positions entries p.first (others_with p p.last.prefix.value) && has_phrase_prefix p ts doc)
+gives_phrase_prefix entries n index ts p None holds fields h = absurd h
+gives_phrase_prefix entries n index ts p (Some r) holds fields h =
+    let keeps = phrase_has_positions entries p.first (others_with p p.last.prefix.value) in
+    let has : ℕ → List ℕ → Bool = λ doc key. has_phrase_within 0 ts doc p.first (others_with p key) in
+    let keys = filter (in_range p.last) (entry_keys r.terms) in
+    let g = gives_keys (phrase_with index p) (λ (key : List ℕ) (doc : ℕ). keeps && has doc key) (gives_with entries n index ts p holds fields) keys in
+    rw (g.is) (record {
+      es = union_of g.lists;
+      is = refl;
+      exact = λ doc. g.any doc ∙ any_kept keeps (has doc) keys
+          ∙ ap (λ (b : Bool). keeps && b) (tests_have (has doc) p.last (entry_keys r.terms) ts (λ key there. key_there _ p.last.prefix.field key r.terms ts (h.holds.exact key) there) (λ key none. absent_key p ts doc key (none_has p.last.prefix.field key ts doc none)));
+    })
+
+-- the documents of a phrase with a prefix in an index that holds tokens, if the fields of its terms have positions
+pub phrase_prefix_given : (entries : List SchemaEntry) (n : ℕ) (index : OpenIndexState) (ts : List IndexToken) (p : PhrasePrefix) → IndexHolds entries n index ts → phrase_is_within (length entries) p.first (others_with p p.last.prefix.value) ≡ true
+    → Gives (tree_found index (queries.one_phrase_prefix p)) (λ (doc : ℕ). phrase_has_positions entries p.first (others_with p p.last.prefix.value) && has_phrase_prefix p ts doc)
+phrase_prefix_given entries n index ts p holds fields =
+    let all = sym (fields_of_each (length entries) p) ∙ fields in
+    let later = (and_parts (nat_lt p.first.field (length entries)) _ all).1 in
+    let last = (and_parts (list_all (λ (o : PhraseTerm). nat_lt o.term.field (length entries)) p.others.items) (nat_lt p.last.prefix.field (length entries)) later).1 in
+    gives_phrase_prefix entries n index ts p (slice_get index.readers p.last.prefix.field) holds fields (holds.readers p.last.prefix.field (ltb-true p.last.prefix.field (length entries) last))
+
+-- what is given under a condition that holds
+given_if : (keeps : Bool) (found : Result (List Entry) Part) (holds : ℕ → Bool) → keeps ≡ true → Gives found (λ (doc : ℕ). keeps && holds doc) → Gives found holds
+given_if keeps found holds is g = record { es = g.es; is = g.is; exact = λ doc. g.exact doc ∙ ap (λ (b : Bool). b && holds doc) is }
 
 -- all documents below a number
 all_below : (n doc : ℕ) → has_doc (all_from 0 n) doc ≡ nat_lt doc n
@@ -301,10 +380,9 @@ mutual
   gives_tree entries n index ts (queries.one_term term) holds fields keeps =
       gives_under entries term.field term.value ts (slice_get index.readers term.field) (holds.readers term.field (ltb-true term.field (length entries) fields))
   gives_tree entries n index ts (queries.one_phrase first others slop) holds fields keeps =
-      let h = and_parts (nat_lt first.field (length entries)) _ fields in
-      let k = and_parts (has_positions_in entries first) _ keeps in
-      gives_phrase slop ts first others _ _ (positions_under entries first ts (slice_get index.readers first.field) k.0 (holds.readers first.field (ltb-true first.field (length entries) h.0)))
-      (gives_parts entries n index ts others holds h.1 k.1)
+      given_if (phrase_has_positions entries first others) _ (λ (doc : ℕ). has_phrase_within slop ts doc first others) keeps (phrase_given entries n index ts first others slop holds fields)
+  gives_tree entries n index ts (queries.one_phrase_prefix phrase) holds fields keeps =
+      given_if (phrase_has_positions entries phrase.first (others_with phrase phrase.last.prefix.value)) _ (has_phrase_prefix phrase ts) keeps (phrase_prefix_given entries n index ts phrase holds fields)
   gives_tree entries n index ts (queries.one_range range) holds fields keeps =
       gives_range entries range ts (slice_get index.readers range.prefix.field) (holds.readers range.prefix.field (ltb-true range.prefix.field (length entries) fields))
   gives_tree entries n index ts (queries.each_of qs) holds fields keeps = gives_each ts qs _ (gives_lists entries n index ts qs holds fields keeps)

@@ -1,6 +1,8 @@
 pub mod DecodesLemmas
 pub mod FoundLemmas
 pub mod PartLemmas
+pub mod PhrasePrefixLemmas
+pub mod PhrasePrefixMatches
 pub mod QueryLemmas
 pub mod RangeLemmas
 pub mod RangeMatches

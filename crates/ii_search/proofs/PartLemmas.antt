@@ -34,7 +34,7 @@ pub record IsListing (index : OpenIndexState) (all left : List PhraseTerm) (part
   pub listed : phrase_parts_of index all ≡ in_front parts (phrase_parts_of index left)
   pub fields : list_all (λ (o : PhraseTerm). nat_lt o.term.field (length index.readers)) left ≡ true
 
-none_in_front : (found : Result (List PhrasePartState) Part) → found ≡ in_front [] found
+pub none_in_front : (found : Result (List PhrasePartState) Part) → found ≡ in_front [] found
 none_in_front (Ok parts) = refl
 none_in_front (Err part) = refl
 

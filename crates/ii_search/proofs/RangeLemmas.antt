@@ -1,4 +1,4 @@
--- Collecting the documents of the terms in a range.
+-- Collecting the documents of the lists of the keys in a range.
 use Rattle.std.proofs.Common.{◌≡◌, ◌∙◌, ℕ, zero, suc, ◌+◌, ◌≤◌, Bool, true, false, ◌||◌, List, [], ◌∷◌, ◌++◌, Some, Result, Ok, Err, add-one, append-nil, drop, filter, inl, inr, length, map, refl, sym, ap, arith}
 use Rattle.std.specs.Prelude.{slice_get}
 use Rattle.std.specs.List.{AllByRecursion}
@@ -7,7 +7,6 @@ use Rattle.std.proofs.lemmas.Option.{get_or_from_slice_get, slice_get_within}
 use Rattle.ii_io.specs.declared.faults.Fault.{Fault}
 use Rattle.ii_io.specs.declared.faults.Part.{Part}
 use Rattle.ii_base.specs.Entries.{Entry, document, docs_of}
-use Rattle.ii_base.specs.declared.schema.index_record_option.IndexRecordOption.TheVariants.{Basic}
 use Rattle.ii_docset.specs.Cursor.{IsSound}
 use Rattle.ii_docset.specs.Intersection.{has_doc}
 use Rattle.ii_docset.proofs.CursorLemmas.{documents_sound}
@@ -19,11 +18,11 @@ use Rattle.ii_query.proofs.SetLemmas.{collected, none_in}
 use Rattle.ii_query.proofs.UnionLemmas.{either_sound}
 use Rattle.ii_query_parser.specs.declared.term_range.TermRange.{TermRange}
 use Rattle.ii_query_parser.specs.Ranges.{in_range}
-use Rattle.ii_reader.specs.InvertedIndexReader.{InvertedIndexReaderState, IsRefusal}
+use Rattle.ii_reader.specs.InvertedIndexReader.{IsRefusal}
 use Rattle.ii_reader.specs.OpenIndex.{all_or_first}
 use Rattle.ii_reader.proofs.IndexLemmas.{in_front, in_front_of_none, one_more}
 use Rattle.ii_termdict.specs.Dictionary.{TermEntry, entry_keys}
-use Rattle.ii_search.specs.Found.{combined_lists, docs_under, range_lists}
+use Rattle.ii_search.specs.Found.{combined_lists}
 use Rattle.ii_search.specs.Ranges.{AddsIfInRange}
 
 -- the documents of a union
@@ -41,35 +40,39 @@ keys_many : (entries : List TermEntry) → length (entry_keys entries) ≡ lengt
 keys_many [] = refl
 keys_many (e ∷ es) = ap suc (keys_many es)
 
-module _ (range : TermRange) (reader : InvertedIndexReaderState) where
+module _ (found : List ℕ → Result (List Entry) Part) (range : TermRange) (entries : List TermEntry) where
   -- the keys of the field from one on
   abbrev left : ℕ → List (List ℕ)
-  left ord = drop ord (entry_keys reader.terms)
+  left ord = drop ord (entry_keys entries)
 
   -- what the keys of a list that are in the range give
   abbrev lists_of : List (List ℕ) → Result (List (List Entry)) Part
-  lists_of keys = all_or_first (map (λ (key : List ℕ). docs_under Basic key (Some reader)) (filter (in_range range) keys))
+  lists_of keys = all_or_first (map found (filter (in_range range) keys))
+
+  -- what all keys in the range give
+  abbrev pub lists_in_range : Result (List (List Entry)) Part
+  lists_in_range = lists_of (entry_keys entries)
 
   -- The set has the documents of the lists so far; in front of those of the keys that are left they are all.
   pub record IsCollecting (ord : ℕ) (words : List ℕ) : Type 0 where
     pub lists : List (List Entry)
-    pub listed : range_lists range (Some reader) ≡ in_front lists (lists_of (left ord))
+    pub listed : lists_in_range ≡ in_front lists (lists_of (left ord))
     pub set : (d : ℕ) → is_in words d ≡ has_doc (union_of lists) d
     pub sound : AllByRecursion IsSound lists
 
   pub collecting_first : (words : List ℕ) → words ≡ [] → IsCollecting 0 words
   collecting_first words none = record {
     lists = [];
-    listed = in_front_of_none (range_lists range (Some reader));
+    listed = in_front_of_none lists_in_range;
     set = λ d. ap (λ (ws : List ℕ). is_in ws d) none ∙ none_in d;
     sound = tt;
   }
 
   -- the key at a place
-  key_at : (ord : ℕ) (key : List ℕ) → slice_get (entry_keys reader.terms) ord ≡ Some key → left ord ≡ key ∷ left (ord + 1)
+  key_at : (ord : ℕ) (key : List ℕ) → slice_get (entry_keys entries) ord ≡ Some key → left ord ≡ key ∷ left (ord + 1)
   key_at ord key is =
-      let inside = slice_get_within (entry_keys reader.terms) ord key is in
-      drop-cons (entry_keys reader.terms) ord [] inside ∙ rw (get_or_from_slice_get (entry_keys reader.terms) ord key [] is, add-one ord) refl
+      let inside = slice_get_within (entry_keys entries) ord key is in
+      drop-cons (entry_keys entries) ord [] inside ∙ rw (get_or_from_slice_get (entry_keys entries) ord key [] is, add-one ord) refl
 
   -- one list more
   union_more : (lists : List (List Entry)) (es : List Entry) (d : ℕ) → has_doc (union_of (lists ++ es ∷ [])) d ≡ (has_doc es d || has_doc (union_of lists) d)
@@ -78,16 +81,16 @@ module _ (range : TermRange) (reader : InvertedIndexReaderState) where
       union_has fs (lists ++ es ∷ []) d ∙ ap (λ (b : Bool). has_doc fs d || b) (union_more lists es d) ∙ or_swap (has_doc fs d) (has_doc es d) (has_doc (union_of lists) d)
       ∙ ap (λ (b : Bool). has_doc es d || b) (sym (union_has fs lists d))
 
-  pub collecting_next : (ord : ℕ) (key old new : List ℕ) → IsCollecting ord old → slice_get (entry_keys reader.terms) ord ≡ Some key → AddsIfInRange reader key (in_range range key) old new → IsCollecting (ord + 1) new
+  pub collecting_next : (ord : ℕ) (key old new : List ℕ) → IsCollecting ord old → slice_get (entry_keys entries) ord ≡ Some key → AddsIfInRange (found key) (in_range range key) old new → IsCollecting (ord + 1) new
   collecting_next ord key old new c at adds = by (in_range range key) refl adds
     where
-      by : (b : Bool) → in_range range key ≡ b → AddsIfInRange reader key b old new → IsCollecting (ord + 1) new
+      by : (b : Bool) → in_range range key ≡ b → AddsIfInRange (found key) b old new → IsCollecting (ord + 1) new
       by true is adds = record {
         lists = c.lists ++ adds.es ∷ [];
         listed =
-            let here : range_lists range (Some reader) ≡ in_front c.lists (all_or_first (docs_under Basic key (Some reader) ∷ map (λ (k : List ℕ). docs_under Basic k (Some reader)) (filter (in_range range) (left (ord + 1))))) =
+            let here : lists_in_range ≡ in_front c.lists (all_or_first (found key ∷ map found (filter (in_range range) (left (ord + 1))))) =
             c.listed ∙ ap (λ (ks : List (List ℕ)). in_front c.lists (lists_of ks)) (key_at ord key at) ∙ rw is refl in
-            one_more (range_lists range (Some reader)) c.lists (docs_under Basic key (Some reader)) (map (λ (k : List ℕ). docs_under Basic k (Some reader)) (filter (in_range range) (left (ord + 1)))) adds.es here adds.found;
+            one_more lists_in_range c.lists (found key) (map found (filter (in_range range) (left (ord + 1)))) adds.es here adds.is;
         set = λ d. adds.added d ∙ ap (λ (b : Bool). has_doc adds.es d || b) (c.set d) ∙ sym (union_more c.lists adds.es d);
         sound = all_both IsSound c.lists (adds.es ∷ []) c.sound (adds.sound, tt);
       }
@@ -98,13 +101,13 @@ module _ (range : TermRange) (reader : InvertedIndexReaderState) where
         sound = c.sound;
       }
 
-  pub collecting_refused : (ord : ℕ) (key words : List ℕ) (fault : Fault) → IsCollecting ord words → slice_get (entry_keys reader.terms) ord ≡ Some key → (in_range range key ≡ true) × IsRefusal (docs_under Basic key (Some reader)) fault
-      → IsRefusal (combined_lists union_of (range_lists range (Some reader))) fault
+  pub collecting_refused : (ord : ℕ) (key words : List ℕ) (fault : Fault) → IsCollecting ord words → slice_get (entry_keys entries) ord ≡ Some key → (in_range range key ≡ true) × IsRefusal (found key) fault
+      → IsRefusal (combined_lists union_of lists_in_range) fault
   collecting_refused ord key words fault c at (is, inl memory) = inl memory
   collecting_refused ord key words fault c at (is, inr (part, why, err)) =
-      let here : range_lists range (Some reader) ≡ in_front c.lists (all_or_first (docs_under Basic key (Some reader) ∷ map (λ (k : List ℕ). docs_under Basic k (Some reader)) (filter (in_range range) (left (ord + 1))))) =
+      let here : lists_in_range ≡ in_front c.lists (all_or_first (found key ∷ map found (filter (in_range range) (left (ord + 1))))) =
       c.listed ∙ ap (λ (ks : List (List ℕ)). in_front c.lists (lists_of ks)) (key_at ord key at) ∙ rw is refl in
-      let all : range_lists range (Some reader) ≡ Err part = here ∙ rw err refl in
+      let all : lists_in_range ≡ Err part = here ∙ rw err refl in
       inr (part, why, rw all refl)
 
   union_sound : (lists : List (List Entry)) → AllByRecursion IsSound lists → IsSound (union_of lists)
@@ -116,8 +119,8 @@ module _ (range : TermRange) (reader : InvertedIndexReaderState) where
   union_docs [] = refl
   union_docs (es ∷ lists) = refl
 
-  pub collecting_all : (ord : ℕ) (words : List ℕ) → length reader.terms ≤ ord → IsCollecting ord words → combined_lists union_of (range_lists range (Some reader)) ≡ Ok (docs_of_set words)
+  pub collecting_all : (ord : ℕ) (words : List ℕ) → length entries ≤ ord → IsCollecting ord words → combined_lists union_of lists_in_range ≡ Ok (docs_of_set words)
   collecting_all ord words end c =
-      let none : left ord ≡ [] = drop_end ord (entry_keys reader.terms) (omega (arith, end, keys_many reader.terms)) in
-      let all : range_lists range (Some reader) ≡ Ok c.lists = c.listed ∙ rw none (ap (λ (ls : List (List Entry)). Ok ls) (append-nil c.lists)) in
+      let none : left ord ≡ [] = drop_end ord (entry_keys entries) (omega (arith, end, keys_many entries)) in
+      let all : lists_in_range ≡ Ok c.lists = c.listed ∙ rw none (ap (λ (ls : List (List Entry)). Ok ls) (append-nil c.lists)) in
       rw all (ap (λ (es : List Entry). Ok es) (sym (collected words (docs_of_union c.lists) (union_of c.lists) (union_docs c.lists) (union_sound c.lists c.sound).ascending c.set)))

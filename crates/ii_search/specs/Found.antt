@@ -18,12 +18,13 @@ use Rattle.ii_termstore.specs.declared.term_info.TermInfo.{TermInfo}
 use Rattle.ii_definitions.specs.Tokens.{IndexToken}
 use Rattle.ii_reader.specs.InvertedIndexReader.{InvertedIndexReaderState, term_of_file}
 use Rattle.ii_reader.specs.OpenIndex.{OpenIndexState, all_or_first}
+use Rattle.ii_query_parser.specs.declared.phrase_prefix.PhrasePrefix.{PhrasePrefix}
 use Rattle.ii_query_parser.specs.declared.query.PhraseTerm.{PhraseTerm}
 use Rattle.ii_query_parser.specs.declared.query.Query.{Query}
 use Rattle.ii_query_parser.specs.declared.term_range.TermRange.{TermRange}
 use Rattle.ii_query_parser.specs.Ranges.{in_range}
 use Rattle.ii_query_parser.specs.Queries as queries
-use Rattle.ii_query_parser.specs.Queries.{QueryTree, QueryTrees, matches, tree_of}
+use Rattle.ii_query_parser.specs.Queries.{QueryTree, QueryTrees, matches, others_with, tree_of}
 
 -- the documents of a term, given its term info, or the first corrupt part; none if the term is absent
 abbrev pub docs_kept : IndexRecordOption → InvertedIndexReaderState → Option TermInfo → Result (List Entry) Part
@@ -65,6 +66,14 @@ phrase_of slop (Err part) others = Err part
 phrase_of slop (Ok es) (Err part) = Err part
 phrase_of slop (Ok es) (Ok others) = Ok (sloppy_docs slop es others)
 
+-- the documents of a phrase whose last term has a key, or the first corrupt part
+abbrev pub phrase_with : OpenIndexState → PhrasePrefix → List ℕ → Result (List Entry) Part
+phrase_with index p key = phrase_of 0 (docs_of_term WithFreqsAndPositions index p.first) (phrase_parts_of index (others_with p key))
+
+-- the documents of each phrase with a term of the range as its last one, or the first corrupt part
+abbrev pub phrase_prefix_lists : OpenIndexState → PhrasePrefix → Result (List (List Entry)) Part
+phrase_prefix_lists index p = all_or_first (map (phrase_with index p) (keys_in p.last (slice_get index.readers p.last.prefix.field)))
+
 -- two lists combined, or the first corrupt part
 abbrev pub combined : (List Entry → List Entry → List Entry) → Result (List Entry) Part → Result (List Entry) Part → Result (List Entry) Part
 combined by (Err part) other = Err part
@@ -89,6 +98,7 @@ abbrev mutual
   tree_found index (queries.all_below n) = Ok (all_from 0 (min n TERMINATED))
   tree_found index (queries.one_term term) = docs_of_term Basic index term
   tree_found index (queries.one_phrase first others slop) = phrase_of slop (docs_of_term WithFreqsAndPositions index first) (phrase_parts_of index others)
+  tree_found index (queries.one_phrase_prefix phrase) = combined_lists union_of (phrase_prefix_lists index phrase)
   tree_found index (queries.one_range range) = combined_lists union_of (range_lists range (slice_get index.readers range.prefix.field))
   tree_found index (queries.each_of qs) = combined_lists intersection_of (lists_found index qs)
   tree_found index (queries.any_of qs) = combined_lists union_of (lists_found index qs)

@@ -5,7 +5,7 @@ ghost use Rattle.ii_query.specs.Combined.{union_of};
 ghost use Rattle.ii_query_parser.specs.Ranges.{in_range};
 ghost use Rattle.ii_reader.specs.InvertedIndexReader.{IsRefusal};
 ghost use Rattle.ii_search.specs.Found.{combined_lists, docs_under, range_lists};
-ghost use Rattle.ii_search.specs.Ranges.{AddsIfInRange, AddsKey};
+ghost use Rattle.ii_search.specs.Ranges.{AddsIfInRange, AddsList};
 
 use ii_base::{Fault, IndexRecordOption};
 use ii_docset::DocSet;
@@ -41,7 +41,7 @@ fn add_if_in_range(
     key: &[u8],
     docs: &mut BitSet,
 ) -> Result<(), Fault>
-    ensures added { OnOk result (AddsIfInRange reader.now key.now (in_range range.now key.now) docs.old docs.new) }
+    ensures added { OnOk result (AddsIfInRange (docs_under Basic key.now (Some reader.now)) (in_range range.now key.now) docs.old docs.new) }
     ensures refused { IfErr result (λ fault. (in_range range.now key.now ≡ true) × IsRefusal (docs_under Basic key.now (Some reader.now)) fault) }
 {
     if !range.contains(key) {
@@ -52,7 +52,7 @@ fn add_if_in_range(
 
 // Adds the documents of a key.
 fn add_key(reader: &InvertedIndexReader, key: &[u8], docs: &mut BitSet) -> Result<(), Fault>
-    ensures added { OnOk result (AddsKey reader.now key.now docs.old docs.new) }
+    ensures added { OnOk result (AddsList (docs_under Basic key.now (Some reader.now)) docs.old docs.new) }
     ensures refused { IfErr result (IsRefusal (docs_under Basic key.now (Some reader.now))) }
 {
     let Some(info) = reader.terms().get(key) else {

@@ -12,22 +12,23 @@ ghost use Rattle.ii_io.specs.Faults.{OnlyMemory};
 ghost use Rattle.ii_query.specs.Combined.{intersection_of, union_of, without};
 ghost use Rattle.ii_query.specs.QueryCursor.{cursors_under, rests};
 ghost use Rattle.ii_search.specs.Decodes.{DecodesFew, EachDecodesFew};
-ghost use Rattle.ii_search.specs.Found.{GivesCount, GivesMatches, combined, combined_lists, docs_of_term, found_in, lists_found, phrase_of, phrase_parts_of, range_lists};
-ghost use Rattle.ii_query_parser.specs.Queries.{has_fields, keeps_positions, trees_of};
+ghost use Rattle.ii_search.specs.Found.{GivesCount, GivesMatches, combined, combined_lists, docs_of_term, found_in, lists_found, phrase_of, phrase_parts_of, phrase_prefix_lists, range_lists};
+ghost use Rattle.ii_query_parser.specs.Queries.{has_fields, keeps_positions, others_with, phrase_is_within, trees_of};
 
+use crate::phrase_prefixes::docs_of_phrases;
 use crate::ranges::docs_in_range;
 use ii_base::{Fault, IndexRecordOption, Term};
 use ii_docset::DocSet;
 use ii_query::{PhrasePart, QueryCursor, SloppyPhraseMatch, TermOrPhrase};
-use ii_query_parser::{PhraseTerm, Query, TermRange};
+use ii_query_parser::{PhrasePrefix, PhraseTerm, Query, TermRange};
 use ii_reader::{OpenIndex, SegmentPostings};
 use std::alloc::Global;
 
 /// Returns a cursor over the documents that match a query, in ascending order. Each term's field must be a
 /// field of the index (see `Query::has_fields`). Phrases over fields without positions match nothing (see
-/// `Query::keeps_positions`). The documents of a range of terms are collected when the search is opened, in a set
-/// of one bit for each document of the index. The stack that a search needs depends on how deep the query is nested, not on how
-/// many clauses it has.
+/// `Query::keeps_positions`). The documents of a range of terms, and of a phrase whose last term is one of a range,
+/// are collected when the search is opened, in a set of one bit for each document of the index. The stack that a search
+/// needs depends on how deep the query is nested, not on how many clauses it has.
 ///
 /// # Errors
 ///
@@ -74,7 +75,7 @@ pub fn count(alloc: Global, index: &OpenIndex, query: &Query) -> Result<u32, Fau
 
 // Returns a cursor over the documents of a query. It recurses once for each level of nesting.
 #[cycle(find)]
-#[tactic(auto, using(ii_query_parser::proofs::QueryLemmas::term_fields, ii_query_parser::proofs::QueryLemmas::phrase_fields, ii_query_parser::proofs::QueryLemmas::range_fields, ii_query_parser::proofs::QueryLemmas::and_not_fields))]
+#[tactic(auto, using(ii_query_parser::proofs::QueryLemmas::term_fields, ii_query_parser::proofs::QueryLemmas::phrase_fields, ii_query_parser::proofs::QueryLemmas::phrase_prefix_fields, ii_query_parser::proofs::QueryLemmas::range_fields, ii_query_parser::proofs::QueryLemmas::and_not_fields))]
 fn find(
     alloc: Global,
     index: &OpenIndex,
@@ -90,6 +91,7 @@ fn find(
         Query::All(num_docs) => Ok(QueryCursor::all(*num_docs)),
         Query::Term(term) => find_term(index, term),
         Query::Phrase(first, others, slop) => find_phrase(alloc, index, first, others, *slop),
+        Query::PhrasePrefix(phrase) => find_phrase_prefix(alloc, index, phrase),
         Query::Range(range) => find_range(alloc, index, range),
         Query::And(queries) => find_all(alloc, index, queries),
         Query::Or(queries) => find_any(alloc, index, queries),
@@ -267,6 +269,24 @@ fn find_phrase(
     }
 }
 
+// Returns a cursor over the documents of a phrase whose last term is one of a range, which are collected in a set.
+#[inline(never)]
+fn find_phrase_prefix(
+    alloc: Global,
+    index: &OpenIndex,
+    phrase: &PhrasePrefix,
+) -> Result<QueryCursor<TermOrPhrase<SegmentPostings>>, Fault>
+    requires fields { phrase_is_within (length index.now.readers) phrase.now.first (others_with phrase.now phrase.now.last.prefix.value) ≡ true }
+    ensures listed { IfOk result (λ cursor. combined_lists union_of (phrase_prefix_lists index.now phrase.now) ≡ Ok cursor.rest) }
+    ensures lazy { IfOk result (λ cursor. AllByRecursion EachDecodesFew cursor.cursors) }
+    ensures refused { IfErr result (IsRefusal (combined_lists union_of (phrase_prefix_lists index.now phrase.now))) }
+{
+    match docs_of_phrases(alloc, index, phrase) {
+        Ok(docs) => Ok(QueryCursor::set(docs)),
+        Err(fault) => Err(fault),
+    }
+}
+
 // Returns a cursor over the documents of the terms in a range, which are collected in a set.
 #[inline(never)]
 fn find_range(
@@ -286,7 +306,7 @@ fn find_range(
 }
 
 // Returns cursors over the documents of the other terms of a phrase.
-fn phrase_parts(
+pub(crate) fn phrase_parts(
     alloc: Global,
     index: &OpenIndex,
     others: &[PhraseTerm],

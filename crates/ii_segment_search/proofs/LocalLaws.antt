@@ -13,16 +13,18 @@ use Rattle.ii_alive.specs.Alive.{num_living, rank}
 use Rattle.ii_alive.proofs.RankLemmas.{rank_below}
 use Rattle.ii_definitions.specs.Postings.{is_at, tokens_at}
 use Rattle.ii_definitions.specs.Tokens.{IndexToken}
+use Rattle.ii_query_parser.specs.declared.phrase_prefix.PhrasePrefix.{PhrasePrefix}
 use Rattle.ii_query_parser.specs.declared.query.PhraseTerm.{PhraseTerm}
 use Rattle.ii_query_parser.specs.declared.term_range.TermRange.{TermRange}
 use Rattle.ii_query_parser.specs.Ranges.{in_range}
-use Rattle.ii_query_parser.specs.Queries.{QueryTree, QueryTrees, all_below, all_match, any_matches, any_of, are_of_texts, each_of, follow_near, has_phrase_within, has_tree, is_in_slop, is_text_key, is_token_in, is_token_of, no_tree, nothing, one_phrase, one_range, one_term, stands_near, tree, tree_covers, tree_matches, tree_of, trees_cover, without}
+use Rattle.ii_query_parser.specs.Queries.{QueryTree, QueryTrees, all_below, all_match, any_matches, any_of, are_of_texts, each_of, follow_near, has_phrase_prefix, has_phrase_within, has_tree, is_in_slop, is_text_key, is_token_in, is_token_of, no_tree, nothing, one_phrase, one_phrase_prefix, one_range, one_term, others_with, stands_near, tree, tree_covers, tree_matches, tree_of, trees_cover, without}
 use Rattle.ii_segments.specs.Segments.{AreSegmentTokens, Segment, at_rank, index_tokens, is_key_of_text_in, is_living, living_tokens, num_docs_of, tokens_from}
 use Rattle.ii_segments.proofs.CountLaws.{all_weaker, living_within, test_by_rank, tokens_after}
 use Rattle.ii_segments.proofs.MergedLaws.{IsTyped, index_typed}
 use Rattle.ii_segments.proofs.MergeLaws.{below, from_append, of_living}
 use Rattle.ii_segment_search.specs.SegmentSearch.{SearchIsLocal}
-use Rattle.ii_search.proofs.FoundLemmas.{any_alike}
+use Rattle.ii_search.proofs.PhrasePrefixMatches.{key_of_document}
+use Rattle.ii_search.proofs.RangeMatches.{any_alike}
 
 all_same : {A : Type 0} (f g : A → Bool) (xs : List A) → ((x : A) → f x ≡ g x) → list_all f xs ≡ list_all g xs
 all_same f g [] same = refl
@@ -161,6 +163,16 @@ module _ (entries : List SchemaEntry) (before after : List Segment) (s : Segment
         (λ t. ap (λ (b : Bool). is_token_of first number t && b) (follow_local slop others t.position)))
         ∙ placed_local first (follow_near slop s.tokens doc others)
 
+    pub phrase_prefix_local : (phrase : PhrasePrefix) → has_phrase_prefix phrase all number ≡ has_phrase_prefix phrase s.tokens doc
+    phrase_prefix_local phrase =
+        let ranged : IndexToken → Bool = λ t. (t.field == phrase.last.prefix.field) && in_range phrase.last t.key in
+        let own : List ℕ → Bool = λ key. has_phrase_within 0 s.tokens doc phrase.first (others_with phrase key) in
+        key_of_document phrase all number
+        ∙ any_alike (λ (t : IndexToken). (t.doc == number) && (ranged t && has_phrase_within 0 all number phrase.first (others_with phrase t.key))) (λ (t : IndexToken). (t.doc == number) && (ranged t && own t.key)) all
+        (λ t. ap (λ (b : Bool). (t.doc == number) && (ranged t && b)) (phrase_local 0 phrase.first (others_with phrase t.key)))
+        ∙ any_local (λ b t. b && (ranged t && own t.key)) (λ t. refl) (λ b t d. refl) before after s doc lives
+        ∙ sym (key_of_document phrase s.tokens doc)
+
     pub bound_local : (n m : ℕ) → num_docs_of (before ++ s ∷ after) ≤ n → length s.alive ≤ n → nat_le n (min m TERMINATED) ≡ true → nat_lt number (min m TERMINATED) ≡ nat_lt doc (min m TERMINATED)
     bound_local n m docs own covers =
         let limit = min m TERMINATED in
@@ -174,6 +186,7 @@ module _ (entries : List SchemaEntry) (before after : List Segment) (s : Segment
       tree_local n (all_below m) docs own covers = bound_local n m docs own covers
       tree_local n (one_term term) docs own covers = term_local term
       tree_local n (one_phrase first others slop) docs own covers = phrase_local slop first others
+      tree_local n (one_phrase_prefix phrase) docs own covers = phrase_prefix_local phrase
       tree_local n (one_range range) docs own covers = range_local range
       tree_local n (each_of qs) docs own covers = ap (λ (b : Bool). has_tree qs && b) (all_local n qs docs own covers)
       tree_local n (any_of qs) docs own covers = some_local n qs docs own covers

@@ -142,7 +142,7 @@ const LONG: &str = "the sea, the old sea";
 // A text, how many of the best are wanted, how many are passed, and the best.
 type Row = (&'static str, usize, usize, &'static str);
 
-static SEA_ROWS: [Row; 13] = [
+static SEA_ROWS: [Row; 15] = [
     ("old", 1, 0, "0:55825604729,"),
     ("the", 2, 0, "1:64382810291,0:55825604729,"),
     ("the OR old", 2, 0, "0:111651209458,1:109849025811,"),
@@ -155,6 +155,8 @@ static SEA_ROWS: [Row; 13] = [
     ("\"sea the\"~2", 2, 0, "1:90932431040,"),
     ("old NOT \"the sea\"", 5, 0, "0:55825604729,"),
     ("o*", usize::MAX, 0, "0:274877906944,1:274877906944,"),
+    ("\"the o\"*", 2, 0, "0:274877906944,1:274877906944,"),
+    ("\"the s\"*", 2, 0, "1:274877906944,"),
     ("old", 0, 0, ""),
     ("old", 5, usize::MAX, ""),
 ];
@@ -264,7 +266,7 @@ fn explained(alloc: Global, text: &str, doc: DocId) -> Result<String, Fault> {
 }
 
 // A text, a document, and the shares of its score: they sum to those of `SEA_ROWS`.
-static SHARE_ROWS: [(&str, DocId, &str); 8] = [
+static SHARE_ROWS: [(&str, DocId, &str); 10] = [
     ("the OR old", 1, "2:64382810291,1:45466215520,"),
     ("the AND old", 0, "1:55825604729,1:55825604729,"),
     ("the AND red", 0, ""),
@@ -273,6 +275,8 @@ static SHARE_ROWS: [(&str, DocId, &str); 8] = [
     ("old NOT \"the sea\"", 0, "1:55825604729,"),
     ("old NOT \"the sea\"", 1, ""),
     ("o*", 1, "1:274877906944,"),
+    ("\"the s\"*", 1, "1:274877906944,"),
+    ("\"the s\"*", 0, ""),
 ];
 
 #[test]

@@ -92,13 +92,17 @@ fn found(
 // A text, the deleted documents of the segments, and what is found.
 type Row = (&'static str, Option<DocId>, Option<DocId>, &'static str);
 
-static ROWS: [Row; 12] = [
+static ROWS: [Row; 16] = [
     ("sea", None, None, "0,2,of 4"),
     ("bird", None, None, "1,2,of 4"),
     ("old", None, None, "0,3,of 4"),
     ("\"old sea\"", None, None, "0,of 4"),
     ("bird sea", None, None, "0,1,2,of 4"),
     ("old NOT sea", None, None, "3,of 4"),
+    ("\"the s\"*", None, None, "2,of 4"),
+    ("\"a b\"*", None, None, "1,2,of 4"),
+    ("\"a b\"*", Some(0), None, "0,1,of 3"),
+    ("\"the old s\"*", Some(1), Some(0), "0,of 2"),
     ("storm", None, None, "of 4"),
     ("sea", Some(0), None, "1,of 3"),
     ("bird", Some(0), None, "0,1,of 3"),

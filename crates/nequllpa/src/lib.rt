@@ -37,10 +37,10 @@ pub use ii_ram::{
 
 // how an index is searched
 pub use ii_ram::{
-    Delimiter, Expected, Feature, KeyBound, MAX_NESTING, MAX_SET_VALUES, ParseError, PhraseTerm,
-    Query, QueryCursor, QueryParserError, TermOrPhrase, TermRange, UserInputAst, UserInputBound,
-    UserInputLiteral, UserInputRange, UserInputSet, can_name, count, parse, parse_query, query_of,
-    search, spell_name, top_by_count, unknown_field_name,
+    Delimiter, Expected, Feature, KeyBound, MAX_NESTING, MAX_SET_VALUES, ParseError, PhrasePrefix,
+    PhraseTerm, Query, QueryCursor, QueryParserError, TermOrPhrase, TermRange, UserInputAst,
+    UserInputBound, UserInputLiteral, UserInputRange, UserInputSet, can_name, count, parse,
+    parse_query, query_of, search, spell_name, top_by_count, unknown_field_name,
 };
 
 // the norms of documents

@@ -1,0 +1,6 @@
+use Rattle.ii_search.specs.Found.{phrase_with}
+use Rattle.ii_search.proofs.RangeLemmas.{IsCollecting}
+use Rattle.ii_search.proofs.phrase_prefixes.docs_of_phrases.Given as goal
+
+abbrev pub invariant-loop-ord : goal.invariant-loop-ord
+invariant-loop-ord l = IsCollecting (phrase_with l.index l.phrase) l.phrase.last l.terms l.ord l.docs
