@@ -7,5 +7,6 @@ mod ShareSumLaws
 mod TokenOrderLaws
 mod WordScoreLaws
 mod SegmentLaws
+mod StoredFieldsLaws
 mod SegmentRankingLaws
 mod IndexRankingLaws

@@ -12,4 +12,5 @@ pub mod keys;
 pub mod merging;
 pub mod ranking;
 pub mod segments;
+pub mod stored_fields;
 pub mod stored_lines;

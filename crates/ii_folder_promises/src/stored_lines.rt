@@ -75,7 +75,7 @@ pub fn merged_lines_come_back(
 }
 
 // Returns the file of stored lines.
-fn store_of(segment: SegmentFiles) -> Option<Vec<u8>>
+pub(crate) fn store_of(segment: SegmentFiles) -> Option<Vec<u8>>
     ensures { result ≡ segment.store }
 {
     let SegmentFiles {
@@ -91,7 +91,7 @@ fn store_of(segment: SegmentFiles) -> Option<Vec<u8>>
 }
 
 // Returns a line of a store.
-fn line_of(alloc: Global, bytes: Bytes, doc: DocId) -> Result<Vec<u8>, StoredLineFault>
+pub(crate) fn line_of(alloc: Global, bytes: Bytes, doc: DocId) -> Result<Vec<u8>, StoredLineFault>
     ensures same { (lines : List (List ℕ)) → HoldsDocuments bytes lines → doc < length lines → IfOk result (λ found. found.items ≡ get_or lines doc []) }
     ensures there { (lines : List (List ℕ)) → HoldsDocuments bytes lines → doc < length lines → IsErrOf result StoredLineFault.Missing → ⊥ }
     ensures unmerged { (fault : StoreMergeFault) → IsErrOf result (StoredLineFault.Merge fault) → ⊥ }
