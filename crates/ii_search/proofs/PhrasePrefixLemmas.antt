@@ -1,5 +1,5 @@
 -- Opening a phrase whose last term is one of a range.
-use Rattle.std.proofs.Common.{◌≡◌, ◌∙◌, ℕ, List, [], ◌∷◌, ◌++◌, Some, Result, Ok, Err, inl, inr, refl, ap}
+use Rattle.std.proofs.Common.{◌≡◌, ◌∙◌, ℕ, List, [], ◌∷◌, ◌++◌, map, Some, Result, Ok, Err, inl, inr, refl, ap}
 use Rattle.std.specs.Prelude.{slice_get}
 use Rattle.ii_io.specs.declared.faults.Fault.{Fault}
 use Rattle.ii_io.specs.declared.faults.Part.{Part}
@@ -8,11 +8,15 @@ use Rattle.ii_base.specs.declared.schema.index_record_option.IndexRecordOption.T
 use Rattle.ii_query.specs.Phrase.{PhrasePartState}
 use Rattle.ii_query_parser.specs.declared.phrase_prefix.PhrasePrefix.{PhrasePrefix}
 use Rattle.ii_query_parser.specs.declared.query.PhraseTerm.{PhraseTerm}
+use Rattle.ii_query_parser.specs.Queries.{others_with}
 use Rattle.ii_reader.specs.InvertedIndexReader.{InvertedIndexReaderState, IsRefusal}
 use Rattle.ii_reader.specs.OpenIndex.{OpenIndexState}
 use Rattle.ii_termdict.specs.Dictionary.{TermEntry}
-use Rattle.ii_search.specs.Found.{docs_of_term, phrase_parts_of, phrase_prefix_lists, phrase_with, with_part}
+use Rattle.ii_search.specs.declared.phrase_prefixes.OpenedTerm.{OpenedTerm}
+use Rattle.ii_search.specs.PhrasePrefixes.{part_of}
+use Rattle.ii_search.specs.Found.{docs_of_term, phrase_of, phrase_parts_of, phrase_prefix_lists, phrase_with, with_part}
 use Rattle.ii_search.proofs.PartLemmas.{in_front, none_in_front}
+use Rattle.ii_search.proofs.PhrasePrefixMatches.{last_with}
 use Rattle.ii_search.proofs.RangeLemmas.{lists_in_range}
 
 -- the lists of the keys in the range are those of the dictionary of the field
@@ -43,12 +47,18 @@ module _ (index : OpenIndexState) (os : List PhraseTerm) (o : PhraseTerm) where
       → phrase_parts_of index (os ++ o ∷ []) ≡ Ok (parts ++ record { distance = o.distance; rest = es } ∷ [])
   last_opens parts es is found = parts_before index os (o ∷ []) ∙ rw (is, found) refl
 
-  -- one of those before it is refused
-  pub others_refused : (fault : Fault) → IsRefusal (phrase_parts_of index os) fault → IsRefusal (phrase_parts_of index (os ++ o ∷ [])) fault
-  others_refused fault (inl memory) = inl memory
-  others_refused fault (inr (part, why, err)) = inr (part, why, parts_before index os (o ∷ []) ∙ rw err refl)
-
   -- it is refused
   pub last_refused : (parts : List PhrasePartState) (fault : Fault) → phrase_parts_of index os ≡ Ok parts → IsRefusal (docs_of_term WithFreqsAndPositions index o.term) fault → IsRefusal (phrase_parts_of index (os ++ o ∷ [])) fault
   last_refused parts fault is (inl memory) = inl memory
   last_refused parts fault is (inr (part, why, err)) = inr (part, why, parts_before index os (o ∷ []) ∙ rw (is, err) refl)
+
+-- one opened term more
+pub opened_pushed : (terms : List OpenedTerm) (t : OpenedTerm) → map part_of (terms ++ t ∷ []) ≡ map part_of terms ++ part_of t ∷ []
+opened_pushed [] t = refl
+opened_pushed (s ∷ ss) t = ap (λ (ps : List PhrasePartState). part_of s ∷ ps) (opened_pushed ss t)
+
+-- a term between the first and the last one is refused
+pub refused_before : (index : OpenIndexState) (p : PhrasePrefix) (key : List ℕ) (es : List Entry) (fault : Fault) → docs_of_term WithFreqsAndPositions index p.first ≡ Ok es → IsRefusal (phrase_parts_of index p.others.items) fault → IsRefusal (phrase_with index p key) fault
+refused_before index p key es fault first (inl memory) = inl memory
+refused_before index p key es fault first (inr (part, why, err)) =
+    inr (part, why, ap (λ (found : Result (List Entry) Part). phrase_of 0 found (phrase_parts_of index (others_with p key))) first ∙ ap (phrase_of 0 (Ok es)) (parts_before index p.others.items (last_with p key ∷ []) ∙ ap (λ (found : Result (List PhrasePartState) Part). before found (phrase_parts_of index (last_with p key ∷ []))) err))

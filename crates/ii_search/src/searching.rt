@@ -306,7 +306,7 @@ fn find_range(
 }
 
 // Returns cursors over the documents of the other terms of a phrase.
-pub(crate) fn phrase_parts(
+fn phrase_parts(
     alloc: Global,
     index: &OpenIndex,
     others: &[PhraseTerm],
