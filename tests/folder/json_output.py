@@ -95,6 +95,8 @@ NAMED = 'j\\ \\"k\\"'
 EXPLAINED = (
     ('body:sea', {0: [('body:sea', [3], 1, 2, 6)], 1: [('body:sea', [3], 2, 3, 6)], 2: [('body:sea', [3], 1, 1, 6)]}),
     ('body:"old sea"', {0: [('body:"old sea"', [2, 3], 1, 2, 6)], 1: [('body:"old sea"', [2, 3], 1, 3, 6)]}),
+    ('body:"old se"*', {0: [('body:"old se"*',)], 1: [('body:"old se"*',)]}),
+    (f'{NAMED}.k:"the s"*', {2: [('j "k":"k s the k s s"*',)]}),
     ('tag:"\u8001\u4eba"', {1: [('tag:\u8001\u4eba', [1], 2, 1, 4)]}),
     ('tag:l* OR tag:a*', {0: [('tag:a*',)], 2: [('tag:l*',)]}),
     ('word:x', {0: [('word:x', [2], 1, 2, 3)], 2: [('word:x', [2], 1, 1, 3)]}),
@@ -167,7 +169,7 @@ def explanations(user):
 
 
 def gaps(user):
-    """Compares what is printed of a phrase between whose words some are left out, and of its slop."""
+    """Compares what is printed of a phrase between whose words some are left out, and of its slop or its star."""
     user.write('gaps.toml', '[[field]]\nname = "body"\ntype = "text"\ntokenizer = "en"\nstop_words = ["of", "the"]\n')
     user.wants(['index', 'gaps', '--schema', 'gaps.toml'], 0, given=given([{'body': 'Theory of the deep sea'}]))
     for query, part in (('"theory of the deep sea"', '"theori ? ? deep sea"'), ('"theory of the deep sea"~0', '"theori ? ? deep sea"'), ('"theory of the deep sea"~1', '"theori ? ? deep sea"~1'),
@@ -175,6 +177,10 @@ def gaps(user):
         share, row = share_row('body:' + part, [1, 1, 1], 1, 3, 3, 1)
         user.wants(['search', 'gaps', query, '--top', 1, '--json', '--explain'], 0, f'{{"doc":0,"score":{ranking_meaning.show(share)},"units":{share},"explain":[{row}]}}\n')
     user.wants(['search', 'gaps', '"deep theory of the sea"~3', '--top', 1, '--json', '--explain'], 1)
+    for query, part in (('"theory of the de"*', '"theori ? ? de"*'), ('"theory of the deep"*', '"theori ? ? deep"*'), ('"the de"*', 'de*'), ('"deep se"*', '"deep se"*')):
+        share, row = share_row('body:' + part)
+        user.wants(['search', 'gaps', query, '--top', 1, '--json', '--explain'], 0, f'{{"doc":0,"score":{ranking_meaning.show(share)},"units":{share},"explain":[{row}]}}\n')
+    user.wants(['search', 'gaps', '"theory the"*'], 1)
 
 
 def by_hand(user):

@@ -72,6 +72,8 @@ def text_of(query):
         return 'id:*'
     if kind == 'phrase':
         return f'{SCHEMA[parts[0]][0]}:"{" ".join(key.decode() for key in parts[1])}"' + (f'~{parts[2]}' if parts[2] else '')
+    if kind == 'starred':
+        return f'{SCHEMA[parts[0]][0]}:"{" ".join(key.decode() for key in parts[1])}"*'
     if kind == 'term':
         name, term = SCHEMA[parts[0]][0], term_of(*parts)
         if SCHEMA[parts[0]][1] != 'json':

@@ -1,7 +1,7 @@
 #!/usr/bin/env python3
 """Runs `nequllpa` over random folders: random schemas and lines of every type, with every tokenizer, some with lists of
 several blocks. Segments are added, documents deleted and replaced, and all segments merged. `check` must find no damage, and
-`terms`, `postings`, `fields` and `search`, also for phrases with a slop and without one, prefixes, sets and ranges, must answer what a plain reading of the lines gives.
+`terms`, `postings`, `fields` and `search`, also for phrases with a slop and without one, prefixes, phrases that end with one, sets and ranges, must answer what a plain reading of the lines gives.
 
     random_folders.py              60 folders, as the gate runs it
     random_folders.py N SEED       N others"""
@@ -418,10 +418,13 @@ class Reader:
         words = field.words_of(text)
         if not words:
             return set()
-        (begin, first), *others = words
-        if not others:
-            return set(field.lists.get(first.encode(), {}))
-        lists = [(position - begin, field.lists.get(word.encode(), {})) for position, word in words]
+        if len(words) == 1:
+            return set(field.lists.get(words[0][1].encode(), {}))
+        return self.docs_with([(position, word.encode()) for position, word in words], field, slop)
+
+    def docs_with(self, words, field, slop):
+        """Returns the documents with a phrase of keys, each at its position, within a slop."""
+        lists = [(position - words[0][0], field.lists.get(key, {})) for position, key in words]
         moved = lambda doc: [[place - distance for place in docs.get(doc, ())] for distance, docs in lists]
         return {doc for doc in lists[0][1] if phrase_starts(moved(doc), slop)}
 
@@ -510,6 +513,20 @@ class Reader:
                 self.finds(f'{name}:{quoted(text)}', self.docs_of(field, text))
             if words and (slop == 0 or len(set(words)) == len(words)):
                 self.finds(f'{name}:{quoted(text)}~{slop}', self.docs_of(field, text, slop))
+            self.starred(chosen, field, name, text)
+
+    def starred(self, chosen, field, name, text):
+        """Compares the search for a text whose last word is a prefix: the last one of the field's prefixes, after the words before it."""
+        text = text[:chosen.randint(1, len(text))] if text else text
+        if not field.starts_of(text):
+            return
+        at, start = field.starts_of(text)[-1]
+        words = [(place, word) for place, word in field.words_of(text) if place < at]
+        found = set()
+        for key, docs in field.lists.items():
+            if key.startswith(start.encode()):
+                found |= self.docs_with([*((place, word.encode()) for place, word in words), (at, key)], field, 0) if words else set(docs)
+        self.finds(f'{name}:{quoted(text)}*', found)
 
     def texts_in(self, value):
         """Returns the texts of a value of a text field."""

@@ -1,7 +1,7 @@
 #!/usr/bin/env python3
 """Compares the best documents that `nequllpa search --top` prints, and their scores, with a definition of the score that knows of
 no segments (`ranking_meaning.py`): over one segment and several, with deleted documents and after a merge. The queries have words,
-phrases, prefixes and ranges in fields of all kinds, of one field and of none, joined by AND, OR, NOT and a minus. What `--explain` prints is
+phrases, prefixes, phrases that end with one, and ranges in fields of all kinds, of one field and of none, joined by AND, OR, NOT and a minus. What `--explain` prints is
 compared with the shares of this definition, which have to add up to the score.
 
     ranking.py            50 folders with 200 queries each, as the gate runs it
@@ -16,7 +16,7 @@ sys.dont_write_bytecode = True
 import player
 import users
 from ranking_meaning import SCORE_MAX, WEIGHT_BITS, Ranking, show
-from segments_meaning import FIELD, SCHEMA, WORDS, i64_key, some_doc, some_key, some_phrase as words_of_phrase, u64_key
+from segments_meaning import FIELD, SCHEMA, WORDS, i64_key, some_doc, some_key, some_phrase as words_of_phrase, some_starred as words_of_starred, u64_key
 
 FOLDERS = 50
 QUERIES = 200
@@ -77,6 +77,17 @@ def some_phrase(chosen):
     return ('phrase', FIELD['body'], keys, slop), f'body:{text}'
 
 
+def some_starred(chosen):
+    """Returns a query for a phrase whose last word is a prefix, of a field, of a path or of all texts, and its text."""
+    keys = words_of_starred(chosen)
+    text, how = '"' + b' '.join(keys).decode() + '"*', chosen.random()
+    if how < 0.2:
+        return ('or', *(('starred', field, keys) for field in TEXTS)), text
+    if how < 0.35:
+        return ('starred', FIELD['j'], [b'p\0s' + key for key in keys]), f'j.p:{text}'
+    return ('starred', FIELD['body'], keys), f'body:{text}'
+
+
 def some_part(chosen):
     """Returns a query without parts, and its text."""
     how = chosen.random()
@@ -84,8 +95,10 @@ def some_part(chosen):
         return some_range(chosen)
     if how < 0.3:
         return some_prefix(chosen)
-    if how < 0.5:
+    if how < 0.45:
         return some_phrase(chosen)
+    if how < 0.52:
+        return some_starred(chosen)
     if how < 0.65:
         word = chosen.choice(WORDS + ['none'])
         return ('or', *(('term', field, word.encode()) for field in TEXTS)), word
@@ -123,7 +136,8 @@ def text_of_part(query):
         return others[1]
     if kind == 'term':
         return f'{SCHEMA[field][0]}:{player.term_of(field, *others)}'
-    return f'{SCHEMA[field][0]}:"{" ".join(player.term_of(field, key) for key in others[0])}"' + (f'~{others[1]}' if others[1] else '')
+    after = '*' if kind == 'starred' else f'~{others[1]}' if others[1] else ''
+    return f'{SCHEMA[field][0]}:"{" ".join(player.term_of(field, key) for key in others[0])}"' + after
 
 
 def explained(shares, units, is_json):

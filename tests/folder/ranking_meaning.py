@@ -1,8 +1,9 @@
 """What a document scores by a query: BM25 in integers, with k1 = 1.2 and b = 0.75. Every function is a definition in natural numbers
 and floors of quotients. What is asked is a list of documents, as `segments_meaning.py` reads them; segments are unknown here.
 
-A query is a list: `["term", FIELD, KEY]`, `["phrase", FIELD, KEYS, SLOP]`, `["range", FIELD, TAKES, TEXT]` of the keys that a function
-takes (a prefix too), with its text, and `and`, `or`, `not` of two queries or more."""
+A query is a list: `["term", FIELD, KEY]`, `["phrase", FIELD, KEYS, SLOP]`, `["starred", FIELD, KEYS]` of a phrase whose last key is a
+prefix, `["range", FIELD, TAKES, TEXT]` of the keys that a function takes (a prefix too), with its text, and `and`, `or`, `not` of two
+queries or more."""
 import bisect
 
 from segments_meaning import SCHEMA, Meaning
@@ -128,6 +129,8 @@ class Ranking:
             return self.scores_by(parts[0], parts[1:], {doc: count for doc, count, _ in self.postings(*parts)})
         if kind == 'phrase':
             return self.scores_by(*parts[:2], self.meaning.phrase_counts(*parts))
+        if kind == 'starred':
+            return dict.fromkeys(self.meaning.starred(*parts), 2 ** SCORE_BITS)
         if kind == 'range':
             field, takes = parts[:2]
             return {token[0]: 2 ** SCORE_BITS for token in self.meaning.tokens if token[1] == field and takes(token[2])}
@@ -145,7 +148,7 @@ class Ranking:
         """Returns what the score of a document is made of: of each part of a query that it matches, in the order of the query, the
         part, its weight, how often it occurs, the norm of the document, and what the part adds; none if the document doesn't match."""
         kind, *parts = query
-        if kind == 'range':
+        if kind in ('range', 'starred'):
             return [(query, 0, 1, 1, 2 ** SCORE_BITS) for _ in range(doc in self.scores(query))]
         if kind in ('term', 'phrase'):
             field, keys = (parts[0], parts[1:]) if kind == 'term' else parts[:2]

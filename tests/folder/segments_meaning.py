@@ -2,7 +2,8 @@
 added, deleted by a term, committed, rolled back and merged. Also random sessions, documents and queries.
 
 A document maps names of fields to values. A key is the bytes of a term of its field. A query is a list: `["all"]`,
-`["term", FIELD, KEY]`, `["phrase", FIELD, KEYS, SLOP]`, and `and`, `or` and `not` (the first and not the second) of two queries."""
+`["term", FIELD, KEY]`, `["phrase", FIELD, KEYS, SLOP]`, `["starred", FIELD, KEYS]` (a phrase of which the last key is a prefix),
+and `and`, `or` and `not` (the first and not the second) of two queries."""
 import itertools
 import random
 import re
@@ -101,6 +102,11 @@ class Meaning:
         starts = {doc: len(phrase_starts([one[doc] for one in moved], slop)) for doc in set.intersection(*map(set, moved))}
         return {doc: count for doc, count in sorted(starts.items()) if count}
 
+    def starred(self, field, keys):
+        """Returns the documents that have a phrase whose last key starts with the last of these."""
+        *first, last = keys
+        return {doc for key, _ in self.terms(field) if key.startswith(last) for doc in self.phrase_counts(field, [*first, key], 0)}
+
     def num_tokens(self, field):
         return sum(token[1] == field for token in self.tokens)
 
@@ -113,6 +119,8 @@ class Meaning:
             return {token[0] for token in self.tokens if token[1] == query[1] and token[2] == query[2]}
         if kind == 'phrase':
             return set(self.phrase_counts(*query[1:]))
+        if kind == 'starred':
+            return self.starred(*query[1:])
         first, second = self.match(query[1]), self.match(query[2])
         return first & second if kind == 'and' else first | second if kind == 'or' else first - second
 
@@ -185,12 +193,20 @@ def some_phrase(chosen):
     return [word.encode() for word in words], slop
 
 
+def some_starred(chosen):
+    """Returns the words of a phrase, of the last one its start."""
+    *first, last = chosen.choices(WORDS, k=chosen.randint(2, 3))
+    return [word.encode() for word in (*first, last[:chosen.randint(1, len(last))])]
+
+
 def some_query(chosen, depth=2):
     """Returns a query."""
     if depth == 0 or chosen.random() < 0.4:
         if chosen.random() < 0.2:
             return ['all']
         if chosen.random() < 0.4:
+            if chosen.random() < 0.3:
+                return ['starred', FIELD['body'], some_starred(chosen)]
             return ['phrase', FIELD['body'], *some_phrase(chosen)]
         return ['term', *some_key(chosen, list(FIELD.values()))]
     return [chosen.choice(['and', 'or', 'not']), some_query(chosen, depth - 1), some_query(chosen, depth - 1)]

@@ -153,6 +153,12 @@ def begins(key):
     return lambda word: word.startswith(key)
 
 
+def starred_tests(tokenizer, text):
+    """Returns the tests of a text of a query whose last word is a prefix, which isn't stemmed."""
+    last = tokens('default' if tokenizer == 'en' else tokenizer, text)[-1]
+    return [is_key(word) for start, _, word in tokens(tokenizer, text) if start < last[0]] + [begins(last[2])]
+
+
 def is_between(lower, upper):
     """Returns a test of words from one up to another one, by their bytes; either may be None."""
     return lambda word: (lower is None or lower.encode() <= word.encode()) and (upper is None or word.encode() < upper.encode())
@@ -160,7 +166,7 @@ def is_between(lower, upper):
 
 def random_part(chosen, fields, default):
     """Returns a part of a query, and for each field the tests of its words, in order."""
-    kind = chosen.choice(['word', 'word', 'word', 'phrase', 'prefix', 'range', 'number', 'path'])
+    kind = chosen.choice(['word', 'word', 'word', 'phrase', 'prefix', 'starred', 'range', 'number', 'path'])
     if kind == 'number':
         return 'count:>=7', {}
     if kind == 'path':
@@ -173,6 +179,9 @@ def random_part(chosen, fields, default):
     if kind == 'prefix':
         word = chosen.choice(['se', 'o', 'Se', 'stra', 'na\u00ef', '\u05e9\u05dc'])
         return f'{before}{word}*', {name: [begins(key) for key in keys_of(fields[name], word)] for name in names}
+    if kind == 'starred':
+        first, last = chosen.choice(ASKED), chosen.choice(['se', 'o', 'Se', 'stra', 'na\u00ef', '\u05e9\u05dc'])
+        return f'{before}"{first} {last}"*', {name: starred_tests(fields[name], f'{first} {last}') for name in names}
     if kind == 'phrase':
         text = ' '.join(chosen.choices(ASKED, k=2))
         keys = {name: keys_of(fields[name], text) for name in names}

@@ -110,13 +110,14 @@ FOUND = (
     ('j.p:[9223372036854775807 TO *]', [0, 1]), ('j.p:{9223372036854775807 TO *]', [1]), ('j.p:[* TO 9223372036854775807]', [0]), ('j.p:[9223372036854775808 TO 9223372036854775807]', []),
     ('j.p:*', [0, 1, 2, 3]), ('j.p:[a TO *]', [2]),
     ('se*', [0, 1, 2]), ('sea*', [0, 1]), ('*', [0, 1, 2, 3]), ('* AND NOT se*', [3]), ('SE*', [0, 1, 2]), ('word:zz*', []), ('word:*', [0, 1, 2, 3]), ('word:[set TO sea]', []),
+    ('"se"*', [0, 1, 2]), ('body:"THE se"*', [0]), ('plain:"The s"*', [0]), ('plain:"the s"*', []), ('body:"sea th"*', []), ('body:"the sea s"*', []), ('j.p:"z"*', [2]),
     ('when:["2001-01-01T00:00:00Z" TO "1990-01-01T00:00:00Z"]', []), ('when:{"1990-01-01T00:00:00Z" TO *]', [1]),
     ('tag:IN [a "b c" d]', [0, 2]))
 # The keys of fields of numbers and dates, one after the other in the file of terms.
 KEYS = ('7FFFFFFFFFFFFFFF 8000000000000001', '88C24D6667470000 8D93A53711350000')
 
 LITERAL = '; put the word in quotes to search for it as it is'
-WILDCARDS = 'wildcards (s*a, s?a) are not supported, but for a * that ends a word' + LITERAL
+WILDCARDS = 'wildcards (s*a, s?a) are not supported, but for a * that ends a word or comes after quotes' + LITERAL
 FUZZY = 'fuzzy words (sea~1) are not supported' + LITERAL
 SLOP = 'a slop is a number up to 4294967295'
 TWICE = 'a word stands twice in a phrase with slop, which is not supported'
@@ -151,6 +152,8 @@ REFUSED = (
     ('se?', 'at byte 2: ' + WILDCARDS), ('*a', 'at byte 0: ' + WILDCARDS), ('a*b', 'at byte 1: ' + WILDCARDS),
     ('/re/', 'at byte 0: regular expressions (/se.*/) are not supported' + LITERAL),
     ('sea~1', 'at byte 3: ' + FUZZY), ('"a b"~99999999999', 'at byte 6: ' + SLOP), ('"a b"~', 'at byte 6: ' + SLOP), ('body:"a b"~2.5', 'at byte 11: ' + SLOP), ('"a b" ~2', 'at byte 6: ' + FUZZY),
+    ('"a b"~2*', 'at byte 7: ' + WILDCARDS), ('"a b"*c', 'at byte 5: ' + WILDCARDS), ('body:"a b"*~2', 'at byte 10: ' + WILDCARDS), ('year:"1"*', 'field year: a prefix must be the start of one word, in a field of texts'),
+    ('bare:"a b"*', 'field bare: the field keeps no positions, which a phrase needs'), ('note:"a b"*', 'field note: the field is not indexed'), ('"..."*', 'no word to search for'),
     ('"a a b"~2', 'field body: ' + TWICE), ('"b c B"~1', 'field body: ' + TWICE), ('bare:"a b"~2', 'field bare: the field keeps no positions, which a phrase needs'), ('note:"a b"~2', 'field note: the field is not indexed'),
     ('a^2', 'at byte 1: boosts (sea^2) are not supported' + LITERAL),
     ('+a', 'at byte 0: required clauses (+sea) are not supported; join the words that must all match with AND'),
@@ -306,7 +309,7 @@ def rows(user):
     user.write('schema.toml', '[[field]]\nname = "body"\ntype = "text"\n[[field]]\nname = "id"\ntype = "text"\ntokenizer = "raw"\n')
     lines = [{'body': 'The old man\u2019s \u201csea\u201d', 'id': 'ID-7 a'}, {'body': 'a ' + 'x' * 40 + ' b', 'id': 'id-7'}, {'body': '\u8001\u4eba STRASSE'}]
     user.wants(['index', 'rows', '--schema', 'schema.toml'], 0, '3 documents indexed\n', given=''.join(json.dumps(line) + '\n' for line in lines).encode())
-    for query, found in (('the', [0]), ('SEA', [0]), ('man', [0]), ('"MAN S SEA"', [0]), ('"old sea"', []), ('"a b"', []), ('\u8001\u4eba', [2]), ('"\u4eba \u8001"', []), ('stra\u00dfe', [2]),
+    for query, found in (('the', [0]), ('SEA', [0]), ('man', [0]), ('"MAN S SEA"', [0]), ('"MAN S SE"*', [0]), ('"man se"*', []), ('id:"ID-7"*', [0]), ('"old sea"', []), ('"a b"', []), ('\u8001\u4eba', [2]), ('"\u4eba \u8001"', []), ('stra\u00dfe', [2]),
                          ('ID-7', []), ('id:ID-7', []), ('id:"ID-7 a"', [0]), ('id:id-7', [1]), ('the AND -id:"ID-7 a"', []),
                          ('id:IN [id-7 "ID-7 a" x]', [0, 1]), ('id:IN [ID-7]', []), ('id:IN []', []), ('body:IN [stra\u00dfe "man s sea"]', [0, 2]), ('*', [0, 1, 2]), ('* AND NOT id:IN[id-7]', [0, 2]), ('the AND *', [0]),
                          ('the AND body:"-"', [0]), ('body:"-" OR sea', [0]), ('sea AND NOT body:"-"', [0]), ('the AND "-"', []), ('"-" OR sea', [0]), ('body:IN [a "-"]', [1]), ('sea AND body:IN ["-"]', [0]), ('sea AND body:IN []', [])):
@@ -329,14 +332,14 @@ def rows(user):
     # forms of an English word
     user.write('english.toml', 'tokenizer = "en"\n[[field]]\nname = "body"\ntype = "text"\n')
     user.wants(['index', 'english', '--schema', 'english.toml'], 0, '2 documents indexed\n', given=b'{"body": "The old seas"}\n{"body": "Sailing by the old sea"}\n')
-    for query, found in (('sail', [1]), ('SAILED', [1]), ('"old sea"', [0, 1]), ('"sails by"', [1]), ('seas', [0, 1]), ('saili', []), ('body:IN [sails]', [1])):
+    for query, found in (('sail', [1]), ('SAILED', [1]), ('"old sea"', [0, 1]), ('"sails by"', [1]), ('"sails b"*', [1]), ('"sail by the ol"*', [1]), ('"old se"*', [0, 1]), ('"by sailing"*', []), ('seas', [0, 1]), ('saili', []), ('body:IN [sails]', [1])):
         user.wants(['search', 'english', query], 0 if found else 1, ''.join(f'{doc}\n' for doc in found))
     # stop words
     user.write('stops.toml', 'tokenizer = "en"\nstore_source = true\n[[field]]\nname = "body"\ntype = "text"\nstop_words = ["The", "of", "the", "don\'t"]\n')
     user.wants(['index', 'stops', '--schema', 'stops.toml'], 0, '3 documents indexed\n', given=b'{"body": "The old seas"}\n{"body": "Theory of the sea"}\n{"body": "THE of the; don\'t"}\n')
     user.wants(['terms', 'stops', 'body'], 0, '1 don\n1 old\n2 sea\n1 t\n1 theori\n')
     for query, found in (('the AND sea', [0, 1]), ('the sea', [0, 1]), ('"the old"', [0]), ('"old sea"', [0]), ('"theory sea"', []), ('"theory of sea"', []), ('"theory of the sea"', [1]), ('"theory in a sea"', []),
-                         ('"Theory THE of sea"', [1]), ('the*', [1]), ('body:[the TO theory]', [1]), ('body:IN [of old]', [0]), ('don\'t', [2]), ('* AND NOT the', [0, 1, 2])):
+                         ('"Theory THE of sea"', [1]), ('the*', [1]), ('"theory of the s"*', [1]), ('"theory of th"*', []), ('"the ol"*', [0]), ('"old the"*', []), ('"the"*', [1]), ('body:[the TO theory]', [1]), ('body:IN [of old]', [0]), ('don\'t', [2]), ('* AND NOT the', [0, 1, 2])):
         user.wants(['search', 'stops', query], 0 if found else 1, ''.join(f'{doc}\n' for doc in found))
     for query in ('the', '"of THE"', 'the AND of', 'body:IN [the of]', 'the AND NOT sea'):
         user.wants(['search', 'stops', query], 2, '', 'no word to search for')

@@ -87,6 +87,12 @@ class Index:
         """Returns the documents with a text at a place in which a word starts like this."""
         return {doc for doc, texts in self.texts.get(place, {}).items() if any(word.startswith(start) for text in texts for word in text)}
 
+    def with_phrase_start(self, place, phrase):
+        """Returns the documents with a text at a place in which these words follow one another, of the last one its start."""
+        *first, last = phrase
+        return {doc for doc, texts in self.texts.get(place, {}).items()
+                if any(text[i:i + len(first)] == first and text[i + len(first)].startswith(last) for text in texts for i in range(len(text) - len(first)))}
+
     def all_docs(self):
         """Returns all documents: those below the last one that a line has, and that one."""
         return set(range(1 + max((int(line.split()[1]) for line in self.lines), default=-1)))
@@ -169,12 +175,18 @@ def literal(index, draw):
         written = chosen[0]
     else:
         written = f'"{spelled(chosen, draw)}"'
-    slop = draw.choice((0, 1, 2, 3, 7)) if written[0] == '"' and len(set(chosen)) == len(chosen) and draw.random() < 0.4 else None
+    is_starred = written[0] == '"' and draw.random() < 0.3
+    if is_starred:
+        chosen[-1] = chosen[-1][:draw.randrange(1, len(chosen[-1]) + 1)]
+        written = f'"{spelled(chosen, draw)}"*'
+    slop = draw.choice((0, 1, 2, 3, 7)) if written[0] == '"' and not is_starred and len(set(chosen)) == len(chosen) and draw.random() < 0.4 else None
     if slop is not None:
         written += f'~{slop}'
     prefix = {'': '', 'text': 'text:'}.get(place, f'leaf.{place}:')
     if is_prefix:
         found = index.with_prefix(place or 'text', chosen[0])
+    elif is_starred:
+        found = index.with_phrase_start(place or 'text', chosen)
     else:
         found = index.with_phrase_within(place or 'text', chosen, slop) if slop else index.with_phrase(place or 'text', chosen)
     if place in PATHS and len(chosen) == 1 and chosen[0].isdecimal():
@@ -203,7 +215,7 @@ def query(index, draw, depth):
 def part(index, draw, depth):
     """Returns a literal, or a query in parentheses."""
     text, docs = query(index, draw, depth - 1)
-    return (text, docs) if re.fullmatch(r'[^ ]+|[^" ]*"[^"]*"(~\d+)?|[^" ]*(IN *)?[\[{][^\]}]*[\]}]', text) and '(' not in text else (f'({text})', docs)
+    return (text, docs) if re.fullmatch(r'[^ ]+|[^" ]*"[^"]*"(~\d+|\*)?|[^" ]*(IN *)?[\[{][^\]}]*[\]}]', text) and '(' not in text else (f'({text})', docs)
 
 
 def all_of(index, draw, depth):

@@ -72,6 +72,7 @@ module _ (x : Scored) (a b : Statistics) (docs : a.num_docs ≡ b.num_docs) wher
       same_tree (queries.all_below m) same = refl
       same_tree (queries.one_term term) same = same_term term same.0
       same_tree (queries.one_phrase first others slop) same = same_phrase first others slop same
+      same_tree (queries.one_phrase_prefix phrase) same = refl
       same_tree (queries.one_range range) same = refl
       same_tree (queries.each_of qs) same = ap each_of (same_trees qs same)
       same_tree (queries.any_of qs) same = ap any_of (same_trees qs same)

@@ -5,13 +5,14 @@ use Rattle.std.specs.Prelude.{nat_lt}
 use Rattle.std.proofs.lemmas.Bool.{and_parts, ltb-true}
 use Rattle.ii_base.specs.Terms.{TermState}
 use Rattle.ii_definitions.proofs.ListLaws.{all_both}
+use Rattle.ii_query_parser.specs.declared.phrase_prefix.PhrasePrefix.{PhrasePrefix}
 use Rattle.ii_query_parser.specs.declared.query.PhraseTerm.{PhraseTerm}
 use Rattle.ii_query_parser.specs.declared.query.Query.{Query}
 use Rattle.ii_query_parser.specs.declared.term_range.TermRange.{TermRange}
-use Rattle.ii_query_parser.specs.declared.query.Query.TheVariants.{Empty, All, Term, Phrase, Range, And, Or, AndNot}
+use Rattle.ii_query_parser.specs.declared.query.Query.TheVariants.{Empty, All, Term, Phrase, PhrasePrefix as WithPrefix, Range, And, Or, AndNot}
 use Rattle.ii_query_parser.specs.Queries as queries
 use Rattle.ii_query_parser.specs.Queries.{QueryTree, QueryTrees, has_fields, hold_for_all, holds_for_all, is_within, phrase_is_within, tree_of, trees_of}
-use Rattle.ii_query_parser.proofs.QueryLemmas.{all_tree, and_not_tree, and_tree, nothing_tree, or_tree, phrase_tree, range_tree, term_tree}
+use Rattle.ii_query_parser.proofs.QueryLemmas.{all_tree, and_not_tree, and_tree, nothing_tree, or_tree, phrase_prefix_tree, phrase_tree, range_tree, term_tree}
 use Rattle.ii_index.specs.Statistics.{query_terms, tree_terms, trees_terms}
 
 all_terms : (queries : List Query) → trees_terms (trees_of queries) ≡ flat_map query_terms queries
@@ -29,6 +30,9 @@ terms_of_term term = ap tree_terms (term_tree term)
 
 pub terms_of_phrase : (first : TermState) (others : Vec PhraseTerm Global) (slop : ℕ) → query_terms (Phrase first others slop) ≡ first ∷ map (λ (o : PhraseTerm). o.term) others.items
 terms_of_phrase first others slop = ap tree_terms (phrase_tree first others slop)
+
+pub terms_of_phrase_prefix : (phrase : PhrasePrefix) → query_terms (WithPrefix phrase) ≡ []
+terms_of_phrase_prefix phrase = ap tree_terms (phrase_prefix_tree phrase)
 
 pub terms_of_range : (range : TermRange) → query_terms (Range range) ≡ []
 terms_of_range range = ap tree_terms (range_tree range)
@@ -62,6 +66,7 @@ module _ (n : ℕ) where
     tree_below (queries.one_phrase first others slop) is =
         let h = and_parts (nat_lt first.field n) (list_all (λ (o : PhraseTerm). nat_lt o.term.field n) others) is in
         (ltb-true first.field n h.0, others_below others h.1)
+    tree_below (queries.one_phrase_prefix phrase) is = tt
     tree_below (queries.one_range range) is = tt
     tree_below (queries.each_of qs) is = trees_below qs is
     tree_below (queries.any_of qs) is = trees_below qs is

@@ -10,7 +10,7 @@ use Rattle.ii_definitions.specs.Tokens.{IndexToken}
 use Rattle.ii_query_parser.specs.declared.query.PhraseTerm.{PhraseTerm}
 use Rattle.ii_query_parser.specs.declared.query.Query.{Query}
 use Rattle.ii_query_parser.specs.declared.query.Query.TheVariants.{Term}
-use Rattle.ii_query_parser.specs.Queries.{QueryTree, QueryTrees, all_below, any_of, each_of, no_tree, nothing, one_phrase, one_range, one_term, tree, tree_of, without}
+use Rattle.ii_query_parser.specs.Queries.{QueryTree, QueryTrees, all_below, any_of, each_of, no_tree, nothing, one_phrase, one_phrase_prefix, one_range, one_term, tree, tree_of, without}
 use Rattle.ii_ranking.specs.Scores.{damage_of, first_of}
 use Rattle.ii_segment_search.specs.Searcher.{OpenSegmentState, found_from, total_living}
 use Rattle.ii_index.specs.Deletes.{has_term}
@@ -25,6 +25,7 @@ abbrev mutual
   tree_terms (all_below n) = []
   tree_terms (one_term term) = term ∷ []
   tree_terms (one_phrase first others slop) = first ∷ map (λ (o : PhraseTerm). o.term) others
+  tree_terms (one_phrase_prefix phrase) = []
   tree_terms (one_range range) = []
   tree_terms (each_of qs) = trees_terms qs
   tree_terms (any_of qs) = trees_terms qs

@@ -8,7 +8,7 @@ use ii_base::{Fault, Term};
 use ii_query_parser::{PhraseTerm, Query};
 use std::alloc::Global;
 
-// Returns the terms of a query, in its order, except those of ranges.
+// Returns the terms of a query, in its order, except those of ranges and of phrases with one, whose scores need none.
 pub(crate) fn query_terms<'q>(alloc: Global, query: &'q Query) -> Result<Vec<&'q Term>, Fault>
     ensures terms { IfOk result (λ terms. map (λ t. t.now) terms.items ≡ query_terms query.now) }
     ensures only { OnlyMemory result }
@@ -20,7 +20,7 @@ pub(crate) fn query_terms<'q>(alloc: Global, query: &'q Query) -> Result<Vec<&'q
 
 // Appends the terms of a query.
 #[cycle(push_terms)]
-#[tactic(auto, using(crate::proofs::TermLemmas::terms_of_nothing, crate::proofs::TermLemmas::terms_of_all, crate::proofs::TermLemmas::terms_of_term, crate::proofs::TermLemmas::terms_of_phrase, crate::proofs::TermLemmas::terms_of_range, crate::proofs::TermLemmas::terms_of_and, crate::proofs::TermLemmas::terms_of_or, crate::proofs::TermLemmas::terms_of_and_not))]
+#[tactic(auto, using(crate::proofs::TermLemmas::terms_of_nothing, crate::proofs::TermLemmas::terms_of_all, crate::proofs::TermLemmas::terms_of_term, crate::proofs::TermLemmas::terms_of_phrase, crate::proofs::TermLemmas::terms_of_phrase_prefix, crate::proofs::TermLemmas::terms_of_range, crate::proofs::TermLemmas::terms_of_and, crate::proofs::TermLemmas::terms_of_or, crate::proofs::TermLemmas::terms_of_and_not))]
 fn push_terms<'q>(query: &'q Query, terms: &mut Vec<&'q Term>) -> Result<(), Fault>
     ensures pushed { OnOk result (map (λ t. t.now) terms.new.items ≡ map (λ t. t.now) terms.old.items ++ query_terms query.now) }
     ensures only { OnlyMemory result }
@@ -33,6 +33,7 @@ fn push_terms<'q>(query: &'q Query, terms: &mut Vec<&'q Term>) -> Result<(), Fau
             terms.push(first)?;
             push_others(others, terms)
         }
+        Query::PhrasePrefix(_) => Ok(()),
         Query::Range(_) => Ok(()),
         Query::And(queries) => push_all_terms(queries, terms),
         Query::Or(queries) => push_all_terms(queries, terms),

@@ -31,16 +31,16 @@ unless (Some feature) at n f some leaves = some
 end_leaves : (k n : ℕ) (text : List ℕ) → length text < n → length (drop k text) < n
 end_leaves k n text less = omega (arith, length-drop k text, less)
 
-slop_leaves : (place at n : ℕ) (field : Option (List ℕ)) (phrase rest : List ℕ) (slop : Option ℕ) → length rest < n → Leaves n (phrase_with_slop place at field phrase rest slop)
-slop_leaves place at n field phrase rest None few = omega (arith, few)
-slop_leaves place at n field phrase rest (Some slop) few = few
+slop_leaves : (size place at n : ℕ) (field : Option (List ℕ)) (phrase rest : List ℕ) (slop : Option ℕ) → length rest < n → Leaves n (phrase_with_slop size place at field phrase rest slop)
+slop_leaves size place at n field phrase rest None few = omega (arith, few)
+slop_leaves size place at n field phrase rest (Some slop) few = unless (feature_after rest) (size - length rest) n _ (omega (arith, few)) few
 
 closed_leaves : (size at n : ℕ) (field : Option (List ℕ)) (phrase rest : List ℕ) → length rest < n → Leaves n (closed_phrase size at field phrase rest)
 closed_leaves size at n field phrase rest few =
     let text = drop 1 rest in
     either (begins 126 rest) n _ _
-    (λ is. slop_leaves (size - length text) at n field phrase (from_stop stops.WordEnd text) (slop_of (before_stop stops.WordEnd text)) (end_leaves (place_of stops.WordEnd false text) n text (end_leaves 1 n rest few)))
-    (λ is. few)
+    (λ is. slop_leaves size (size - length text) at n field phrase (from_stop stops.WordEnd text) (slop_of (before_stop stops.WordEnd text)) (end_leaves (place_of stops.WordEnd false text) n text (end_leaves 1 n rest few)))
+    (λ is. either (has_star rest) n _ _ (λ star. end_leaves 1 n rest few) (λ none. few))
 
 phrase_leaves : (size at n : ℕ) (field : Option (List ℕ)) (text : List ℕ) → length text < n → Leaves n (phrase_front size at field text)
 phrase_leaves size at n field text less =

@@ -89,6 +89,9 @@ front_of_plain size at text word rest b bs is plain cut =
 one_fails : (p : Bool) (a b : Front) → p ≡ false → cond p a b ≡ b
 one_fails p a b h = rw h refl
 
+two_fail : (p q : Bool) (a b c : Front) → p ≡ false → q ≡ false → cond p a (cond q b c) ≡ c
+two_fail p q a b c h i = rw (h, i) refl
+
 one_holds : (p : Bool) (a b : Front) → p ≡ true → cond p a b ≡ a
 one_holds p a b h = rw h refl
 
@@ -167,18 +170,28 @@ closed_front size at field phrase rest may =
     ap (λ (p : List ℕ). ended_phrase size at field p (from_stop stops.PhraseEnd (text ++ 34 ∷ rest))) cut.before
     ∙ ap (ended_phrase size at field text) cut.after
 
--- one without a slop
-quoted_front : (size at : ℕ) (field : Option (List ℕ)) (phrase rest : List ℕ) → is_writable phrase ≡ true → begins 126 rest ≡ false
+-- one without a slop and a star
+quoted_front : (size at : ℕ) (field : Option (List ℕ)) (phrase rest : List ℕ) → is_writable phrase ≡ true → begins 126 rest ≡ false → has_star rest ≡ false
     → phrase_front size at field (escaped stops.PhraseEscape false phrase ++ 34 ∷ rest) ≡ front_with at (literal (record { field_name = option_map unescaped field; phrase = phrase; delimiter = delimiters.DoubleQuotes })) rest
-quoted_front size at field phrase rest may none =
+quoted_front size at field phrase rest may none no_star =
     closed_front size at field phrase rest may
-    ∙ one_fails (begins 126 rest) _ _ none
+    ∙ two_fail (begins 126 rest) (has_star rest) _ _ _ none no_star
     ∙ ap (λ (p : List ℕ). front_with at (literal (record { field_name = option_map unescaped field; phrase = p; delimiter = delimiters.DoubleQuotes })) rest) (phrase_unescapes phrase)
 
+-- one with a star
+starred_front : (size at : ℕ) (field : Option (List ℕ)) (phrase rest : List ℕ) → is_writable phrase ≡ true → has_star (42 ∷ rest) ≡ true
+    → phrase_front size at field ((escaped stops.PhraseEscape false phrase ++ 34 ∷ []) ++ 42 ∷ rest) ≡ front_with at (literal (record { field_name = option_map unescaped field; phrase = phrase; delimiter = delimiters.Prefix })) rest
+starred_front size at field phrase rest may star =
+    let text = escaped stops.PhraseEscape false phrase in
+    ap (phrase_front size at field) (append_assoc text (34 ∷ []) (42 ∷ rest))
+    ∙ closed_front size at field phrase (42 ∷ rest) may
+    ∙ one_holds (has_star (42 ∷ rest)) _ _ star
+    ∙ ap (λ (p : List ℕ). front_with at (literal (record { field_name = option_map unescaped field; phrase = p; delimiter = delimiters.Prefix })) rest) (phrase_unescapes phrase)
+
 -- one with a slop
-sloppy_front : (size at slop : ℕ) (field : Option (List ℕ)) (phrase rest : List ℕ) → (is_writable phrase && nat_lt slop 4294967296) ≡ true → place_of stops.WordEnd false rest ≡ 0
+sloppy_front : (size at slop : ℕ) (field : Option (List ℕ)) (phrase rest : List ℕ) → (is_writable phrase && nat_lt slop 4294967296) ≡ true → place_of stops.WordEnd false rest ≡ 0 → feature_after rest ≡ None
     → phrase_front size at field ((escaped stops.PhraseEscape false phrase ++ 34 ∷ []) ++ 126 ∷ (decimal slop ++ rest)) ≡ front_with at (literal (record { field_name = option_map unescaped field; phrase = phrase; delimiter = delimiters.Slop slop })) rest
-sloppy_front size at slop field phrase rest h stop =
+sloppy_front size at slop field phrase rest h stop none =
     let text = escaped stops.PhraseEscape false phrase in
     let after = decimal slop ++ rest in
     let parts = and_parts (is_writable phrase) (nat_lt slop 4294967296) h in
@@ -186,10 +199,15 @@ sloppy_front size at slop field phrase rest h stop =
     let cut = slop_cut slop rest low stop in
     ap (phrase_front size at field) (append_assoc text (34 ∷ []) (126 ∷ after))
     ∙ closed_front size at field phrase (126 ∷ after) parts.0
-    ∙ ap (λ (ds : List ℕ). phrase_with_slop (size - length after) at field text (from_stop stops.WordEnd after) (slop_of ds)) cut.before
-    ∙ ap (λ (s : Option ℕ). phrase_with_slop (size - length after) at field text (from_stop stops.WordEnd after) s) (slop_of_decimal slop low)
-    ∙ ap (λ (l : List ℕ). front_with at (literal_with field text (delimiters.Slop slop)) l) cut.after
+    ∙ ap (λ (ds : List ℕ). phrase_with_slop size (size - length after) at field text (from_stop stops.WordEnd after) (slop_of ds)) cut.before
+    ∙ ap (λ (s : Option ℕ). phrase_with_slop size (size - length after) at field text (from_stop stops.WordEnd after) s) (slop_of_decimal slop low)
+    ∙ ap (λ (l : List ℕ). unless_feature (feature_after l) (size - length l) (front_with at (literal_with field text (delimiters.Slop slop)) l)) cut.after
+    ∙ unless_none (feature_after rest) _ _ none
     ∙ ap (λ (p : List ℕ). front_with at (literal (record { field_name = option_map unescaped field; phrase = p; delimiter = delimiters.Slop slop })) rest) (phrase_unescapes phrase)
+
+-- the text of a phrase and its last quote, after its first quote
+abbrev quoted_end : List ℕ → List ℕ
+quoted_end phrase = escaped stops.PhraseEscape false phrase ++ 34 ∷ []
 
 -- the text of a phrase and its slop, after its first quote
 slop_text : (slop : ℕ) (phrase rest : List ℕ) → ((escaped stops.PhraseEscape false phrase ++ 34 ∷ []) ++ 126 ∷ decimal slop) ++ rest ≡ (escaped stops.PhraseEscape false phrase ++ 34 ∷ []) ++ 126 ∷ (decimal slop ++ rest)
@@ -241,9 +259,6 @@ no_quote : (lower : Bound) (after : List ℕ) → begins 34 (lower_text lower ++
 no_quote unbounded after = refl
 no_quote (inclusive text) after = refl
 no_quote (exclusive text) after = refl
-
-two_fail : (p q : Bool) (a b c : Front) → p ≡ false → q ≡ false → cond p a (cond q b c) ≡ c
-two_fail p q a b c h i = rw (h, i) refl
 
 no_case : {A : Type 0} (p q r s : Bool) (a b c d : A) → p ≡ false → q ≡ false → r ≡ false → s ≡ false → cond p (Some a) (cond q (Some b) (cond r (Some c) (cond s (Some d) None))) ≡ None
 no_case p q r s a b c d h i j k = rw (h, i, j, k) refl
@@ -329,8 +344,9 @@ named_value size at name delimiters.None phrase rest h follows end =
     ∙ value_follows size at name (word_text phrase) rest follows (some_in_word phrase some)
     ∙ ap (λ (w : List ℕ). front_with at (literal (record { field_name = Some (unescaped name); phrase = w; delimiter = delimiters.None })) rest) (word_unescapes phrase)
 named_value size at name delimiters.DoubleQuotes phrase rest h follows end =
-    ap (phrase_front size at (Some name)) (append_assoc (escaped stops.PhraseEscape false phrase) (34 ∷ []) rest) ∙ quoted_front size at (Some name) phrase rest h (no_slop rest end)
-named_value size at name (delimiters.Slop slop) phrase rest h follows end = ap (phrase_front size at (Some name)) (slop_text slop phrase rest) ∙ sloppy_front size at slop (Some name) phrase rest h follows.stop
+    ap (phrase_front size at (Some name)) (append_assoc (escaped stops.PhraseEscape false phrase) (34 ∷ []) rest) ∙ quoted_front size at (Some name) phrase rest h (no_slop rest end) follows.star
+named_value size at name (delimiters.Slop slop) phrase rest h follows end = ap (phrase_front size at (Some name)) (slop_text slop phrase rest) ∙ sloppy_front size at slop (Some name) phrase rest h follows.stop follows.feature
+named_value size at name delimiters.Prefix phrase rest h follows end = ap (phrase_front size at (Some name)) (append_assoc (quoted_end phrase) (42 ∷ []) rest) ∙ starred_front size at (Some name) phrase rest h (star_ends rest end)
 named_value size at name delimiters.Star phrase rest h follows end =
     let parts = and_parts (not (is_empty phrase)) (is_writable phrase) h in
     ap (value_front size at name) (append_assoc (word_text phrase) (42 ∷ []) rest) ∙ prefix_value size at name phrase rest parts.1 (not-true (is_empty phrase) parts.0) end
@@ -411,12 +427,17 @@ begins_alone size delimiters.Star phrase rest h end =
 begins_alone size delimiters.DoubleQuotes phrase rest h end = record {
   no_space_first = refl;
   some = refl;
-  front_is = λ at. ap (phrase_front size at None) (append_assoc (escaped stops.PhraseEscape false phrase) (34 ∷ []) rest) ∙ quoted_front size at None phrase rest h (no_slop rest end);
+  front_is = λ at. ap (phrase_front size at None) (append_assoc (escaped stops.PhraseEscape false phrase) (34 ∷ []) rest) ∙ quoted_front size at None phrase rest h (no_slop rest end) (word_ends rest end).0.star;
 }
 begins_alone size (delimiters.Slop slop) phrase rest h end = record {
   no_space_first = refl;
   some = refl;
-  front_is = λ at. ap (phrase_front size at None) (slop_text slop phrase rest) ∙ sloppy_front size at slop None phrase rest h (word_ends rest end).0.stop;
+  front_is = λ at. ap (phrase_front size at None) (slop_text slop phrase rest) ∙ sloppy_front size at slop None phrase rest h (word_ends rest end).0.stop (word_ends rest end).0.feature;
+}
+begins_alone size delimiters.Prefix phrase rest h end = record {
+  no_space_first = refl;
+  some = refl;
+  front_is = λ at. ap (phrase_front size at None) (append_assoc (quoted_end phrase) (42 ∷ []) rest) ∙ starred_front size at None phrase rest h (star_ends rest end);
 }
 
 begins_named : (size : ℕ) (name : List ℕ) (delimiter : Delimiter) (phrase rest : List ℕ) → is_writable_word name ≡ true → is_value delimiter phrase ≡ true → ends rest ≡ true

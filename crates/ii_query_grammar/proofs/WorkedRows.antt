@@ -35,6 +35,12 @@ prefix text = leaf (record { field_name = None; phrase = text; delimiter = delim
 abbrev prefix_in : List ℕ → List ℕ → Ast
 prefix_in name text = leaf (record { field_name = Some name; phrase = text; delimiter = delimiters.Star })
 
+abbrev starred : List ℕ → Ast
+starred text = leaf (record { field_name = None; phrase = text; delimiter = delimiters.Prefix })
+
+abbrev starred_in : List ℕ → List ℕ → Ast
+starred_in name text = leaf (record { field_name = Some name; phrase = text; delimiter = delimiters.Prefix })
+
 abbrev range : List ℕ → Bound → Bound → Ast
 range name lower upper = ranged (record { field_name = name; lower = lower; upper = upper })
 
@@ -206,6 +212,34 @@ far_slop_row = refl
 abbrev spelled_slop_row : spelled (all (sloppy 2 (codes "a \"b") ∷ sloppy_in (codes "x") 0 [] ∷ [])) ≡ codes "\"a \\\"b\"~2 AND x:\"\"~0"
 unfolding digits
 spelled_slop_row = refl
+
+abbrev starred_row : parsed 9 (codes "\"old se\"* AND (x:\"se\"*)") ≡ tree (all (starred (codes "old se") ∷ starred_in (codes "x") (codes "se") ∷ []))
+unfolding tokens
+starred_row = refl
+
+-- a star directly after the quotes
+abbrev far_star_row : parsed 9 (codes "\"a b\" *") ≡ tree (any (phrase (codes "a b") ∷ everything ∷ []))
+unfolding tokens
+far_star_row = refl
+
+abbrev star_in_quotes_row : parsed 9 (codes "\"a b*\"") ≡ tree (phrase (codes "a b*"))
+unfolding tokens
+star_in_quotes_row = refl
+
+abbrev star_then_word_row : parsed 9 (codes "x:\"a b\"*c") ≡ unsupported Wildcards 7
+unfolding tokens
+star_then_word_row = refl
+
+abbrev slop_then_star_row : parsed 9 (codes "\"a b\"~2*") ≡ unsupported Wildcards 7
+unfolding tokens
+slop_then_star_row = refl
+
+abbrev star_then_slop_row : parsed 9 (codes "\"a b\"*~2") ≡ unsupported Wildcards 5
+unfolding tokens
+star_then_slop_row = refl
+
+abbrev spelled_starred_row : spelled (all (starred (codes "a \"b*") ∷ starred_in (codes "x") [] ∷ [])) ≡ codes "\"a \\\"b*\"* AND x:\"\"*"
+spelled_starred_row = refl
 
 abbrev boost_row : parsed 9 (codes "(a b)^2") ≡ unsupported Boosts 5
 unfolding tokens

@@ -173,16 +173,22 @@ literal_with field phrase delimiter = literal (record { field_name = option_map 
 abbrev pub slop_of : List ℕ → Option ℕ
 slop_of digits = if not (is_empty digits) && all_ascii_digits digits && nat_lt (digits_value 10 digits) 4294967296 then Some (digits_value 10 digits) else None
 
--- a phrase with the slop that is expected at a byte, if it is a number, and the text after it
-abbrev pub phrase_with_slop : ℕ → ℕ → Option (List ℕ) → List ℕ → List ℕ → Option ℕ → Front
-phrase_with_slop place at field phrase rest None = broken_front place (Syntax expected.Slop place)
-phrase_with_slop place at field phrase rest (Some slop) = front_with at (literal_with field phrase (delimiters.Slop slop)) rest
+-- a phrase with the slop that is expected at a byte, if it is a number, and the text after it, which begins with no operator
+abbrev pub phrase_with_slop : ℕ → ℕ → ℕ → Option (List ℕ) → List ℕ → List ℕ → Option ℕ → Front
+phrase_with_slop size place at field phrase rest None = broken_front place (Syntax expected.Slop place)
+phrase_with_slop size place at field phrase rest (Some slop) = unless_feature (feature_after rest) (size - length rest) (front_with at (literal_with field phrase (delimiters.Slop slop)) rest)
+
+-- a phrase without a slop, from the text after its last quote: its last word is a prefix if a `*` that ends a prefix follows
+abbrev pub starred_phrase : ℕ → Option (List ℕ) → List ℕ → List ℕ → Front
+starred_phrase at field phrase rest =
+    if has_star rest then front_with at (literal_with field phrase delimiters.Prefix) (drop 1 rest)
+    else front_with at (literal_with field phrase delimiters.DoubleQuotes) rest
 
 -- a phrase, from the text after its last quote: after a `~` the word that is its slop
 abbrev pub closed_phrase : ℕ → ℕ → Option (List ℕ) → List ℕ → List ℕ → Front
 closed_phrase size at field phrase rest =
-    if begins 126 rest then phrase_with_slop (size - length (drop 1 rest)) at field phrase (from_stop stops.WordEnd (drop 1 rest)) (slop_of (before_stop stops.WordEnd (drop 1 rest)))
-    else front_with at (literal_with field phrase delimiters.DoubleQuotes) rest
+    if begins 126 rest then phrase_with_slop size (size - length (drop 1 rest)) at field phrase (from_stop stops.WordEnd (drop 1 rest)) (slop_of (before_stop stops.WordEnd (drop 1 rest)))
+    else starred_phrase at field phrase rest
 
 -- a phrase, from the text at its end: a quote, or nothing
 abbrev pub ended_phrase : ℕ → ℕ → Option (List ℕ) → List ℕ → List ℕ → Front

@@ -28,6 +28,7 @@ delimited delimiters.None phrase = word_text phrase
 delimited delimiters.DoubleQuotes phrase = quoted phrase
 delimited delimiters.Star phrase = word_text phrase ++ 42 ∷ []
 delimited (delimiters.Slop slop) phrase = quoted phrase ++ 126 ∷ decimal slop
+delimited delimiters.Prefix phrase = quoted phrase ++ 42 ∷ []
 
 -- the text of a word or a phrase without the name of its field
 abbrev pub phrase_text : Literal → List ℕ
@@ -114,6 +115,7 @@ is_value delimiters.None phrase = is_writable_word phrase
 is_value delimiters.DoubleQuotes phrase = is_writable phrase
 is_value delimiters.Star phrase = is_writable_word phrase
 is_value (delimiters.Slop slop) phrase = is_writable phrase && nat_lt slop 4294967296
+is_value delimiters.Prefix phrase = is_writable phrase
 
 -- whether a phrase can be written alone
 abbrev pub may_be_alone : Delimiter → List ℕ → Bool
@@ -121,6 +123,7 @@ may_be_alone delimiters.None phrase = is_writable_word phrase && is_no_operator 
 may_be_alone delimiters.DoubleQuotes phrase = is_writable phrase
 may_be_alone delimiters.Star phrase = is_writable_word phrase
 may_be_alone (delimiters.Slop slop) phrase = is_writable phrase && nat_lt slop 4294967296
+may_be_alone delimiters.Prefix phrase = is_writable phrase
 
 -- whether a word or a phrase can be written
 abbrev pub is_literal : Option (List ℕ) → Delimiter → List ℕ → Bool

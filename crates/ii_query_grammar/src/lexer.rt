@@ -2,7 +2,7 @@ ghost use Rattle.std.specs.Prelude.{◌≡◌, ◌∷◌, ◌<◌, ◌≤◌, []
 ghost use Rattle.std.specs.Option.{option_copied};
 ghost use Rattle.ii_query_grammar.specs.declared.parse_error.ParseError.{ParseError};
 ghost use Rattle.ii_query_grammar.specs.declared.parse_error.ParseError.TheVariants.{Syntax, Unsupported};
-ghost use Rattle.ii_query_grammar.specs.Lexemes.{IsFront, IsRange, RangeFront, broken, closed_phrase, feature_after, feature_in_front, feature_of, first_feature_of, front, front_at, lexeme_seen, lexemes, literal_with, has_star, is_prefix, phrase_front, range_front, set_front, set_values, star_lexeme, token_seen, unless_feature, unless_range, value_front, value_or_prefix, value_word, word_front, word_lexeme, word_or_name, word_or_prefix, is_empty};
+ghost use Rattle.ii_query_grammar.specs.Lexemes.{IsFront, IsRange, RangeFront, broken, closed_phrase, feature_after, feature_in_front, feature_of, first_feature_of, front, front_at, lexeme_seen, lexemes, literal_with, has_star, is_prefix, phrase_front, range_front, set_front, set_values, star_lexeme, starred_phrase, token_seen, unless_feature, unless_range, value_front, value_or_prefix, value_word, word_front, word_lexeme, word_or_name, word_or_prefix, is_empty};
 
 use crate::cut::{Stop, after_spaces, cut_at, is_nothing, strip, strip_star};
 use crate::lexeme::{BoundView, Lexeme, LiteralView, RangeView, SetView, Token};
@@ -273,7 +273,7 @@ fn phrase<'a>(
     (syntax_error(size, Expected::Quote), "")
 }
 
-// Reads the slop of a phrase, if it has one, given the text after its last quote.
+// Reads the slop or the star of a phrase, if it has one, given the text after its last quote.
 fn closed_phrase<'a>(
     size: usize,
     at: usize,
@@ -286,16 +286,36 @@ fn closed_phrase<'a>(
     ensures shorter { length result.1.now ≤ size }
 {
     let Some(text) = strip(rest, b'~') else {
-        return (
-            literal(at, field_name, phrase, Delimiter::DoubleQuotes),
-            rest,
-        );
+        return starred_phrase(at, field_name, phrase, rest);
     };
     let (digits, rest) = cut_at(text, Stop::WordEnd);
-    match slop_of(digits) {
-        Some(slop) => (literal(at, field_name, phrase, Delimiter::Slop(slop)), rest),
-        None => (syntax_error(size - text.len(), Expected::Slop), ""),
+    let Some(slop) = slop_of(digits) else {
+        return (syntax_error(size - text.len(), Expected::Slop), "");
+    };
+    if let Some(feature) = feature_after(rest.as_bytes()) {
+        return (unsupported(size - rest.len(), feature), "");
     }
+    (literal(at, field_name, phrase, Delimiter::Slop(slop)), rest)
+}
+
+// Returns the lexeme of a phrase without a slop, given the text after its last quote: its last word is a prefix if a star
+// follows.
+fn starred_phrase<'a>(
+    at: usize,
+    field_name: Option<&'a str>,
+    phrase: &'a str,
+    rest: &'a str,
+) -> (Token<'a>, &'a str)
+    ensures front { IsFront (starred_phrase at (option_copied field_name.entry) phrase.now rest.now) (token_seen result.0) result.1.now }
+    ensures shorter { length result.1.now ≤ length rest.now }
+{
+    if let Some(after) = strip_star(rest) {
+        return (literal(at, field_name, phrase, Delimiter::Prefix), after);
+    }
+    (
+        literal(at, field_name, phrase, Delimiter::DoubleQuotes),
+        rest,
+    )
 }
 
 // Classifies a word: an operator, or a word to search for.

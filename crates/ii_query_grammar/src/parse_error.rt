@@ -98,7 +98,7 @@ impl Feature {
     fn message(self) -> &'static str {
         match self {
             Feature::Wildcards => {
-                "wildcards (s*a, s?a) are not supported, but for a * that ends a word; put the word in quotes to search for it as it is"
+                "wildcards (s*a, s?a) are not supported, but for a * that ends a word or comes after quotes; put the word in quotes to search for it as it is"
             }
             Feature::Fuzzy => {
                 "fuzzy words (sea~1) are not supported; put the word in quotes to search for it as it is"

@@ -26,9 +26,9 @@ const _: () = prove!(MAX_NESTING == 128);
 /// Parses a query:
 ///
 /// - A word is a run of characters without spaces, double quotes, parentheses and colons. A phrase is a text
-///   between double quotes; a `~` and the digits of its slop may follow, a number up to 4294967295. A prefix is a word
-///   and a `*` after it, before a space, a closing parenthesis or the end. A field name, also a word, and a colon may
-///   come before each of them.
+///   between double quotes; a `~` and the digits of its slop may follow, a number up to 4294967295, or a `*`, which makes
+///   its last word a prefix. A prefix is a word and a `*` after it. Either `*` is before a space, a closing parenthesis or
+///   the end. A field name, also a word, and a colon may come before each of them.
 /// - A range is a field name, a colon, a `[` or `{`, a bound, the word `TO`, a bound, and a `]` or `}`, with any
 ///   spaces within the brackets. `[` and `]` say that the bound belongs to the range, `{` and `}` that it doesn't. A
 ///   bound is a word, which `]` and `}` end too, a text in quotes, or `*` for none. `name:>a`, `name:>=a`, `name:<a`

@@ -13,6 +13,8 @@ pub enum Delimiter {
     DoubleQuotes,
     /// Double quotes with a `~` and this slop after them.
     Slop(u32),
+    /// Double quotes with a `*` after them: the last word of the text is a prefix.
+    Prefix,
     /// A `*` after it: the text is a prefix of the words to search for.
     Star,
     /// None.
@@ -26,7 +28,7 @@ pub struct UserInputLiteral {
     pub field_name: Option<String>,
     /// The word, the text between quotes, or the prefix, without escapes.
     pub phrase: String,
-    /// Whether it is in quotes, which may have a slop after them, or a prefix.
+    /// Whether it is in quotes, which may have a slop or a `*` after them, or a prefix.
     pub delimiter: Delimiter,
 }
 
@@ -93,7 +95,7 @@ impl UserInputLiteral {
         self.spell_phrase(text)
     }
 
-    // Appends its phrase, in quotes if it has these, and its slop if it has one.
+    // Appends its phrase, in quotes if it has these, and its slop or star if it has one.
     fn spell_phrase(&self, text: &mut String) -> Result<(), AllocError>
         ensures { OnOk result (string_bytes text.new ≡ string_bytes text.old ++ phrase_text (literal_of self.now)) }
     {
@@ -108,6 +110,10 @@ impl UserInputLiteral {
             Delimiter::Slop(slop) => {
                 spell_quoted(phrase, text)?;
                 write!(text, "~{slop}")
+            }
+            Delimiter::Prefix => {
+                spell_quoted(phrase, text)?;
+                text.push_str("*")
             }
         }
     }

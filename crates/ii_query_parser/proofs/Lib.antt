@@ -10,6 +10,7 @@ pub mod SetLemmas
 pub mod SetRows
 pub mod SlopLemmas
 pub mod SlopRows
+pub mod StarredRows
 pub mod TermLemmas
 mod TokenizerRows
 pub mod TreeLemmas

@@ -4,3 +4,4 @@ pub mod Queries
 pub mod QuerySteps
 pub mod QueryTexts
 pub mod Ranges
+pub mod StarredTexts

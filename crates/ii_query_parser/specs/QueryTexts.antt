@@ -1,7 +1,7 @@
 -- What the text of a query means, by the fields of a schema.
 use Rattle.std.specs.Prelude.{◌≡◌, ◌⊎◌, is_some, ℕ, Bool, true, false, ◌&&◌, ◌||◌, ◌==◌, ◌+◌, ◌-◌, not, List, [], ◌∷◌, ◌++◌, Option, None, Some, Result, Ok, Err, bytes_eq, drop, if◌then◌else◌, length, map, nat_eq, nat_le, nat_lt, option_map, position, slice_get, take}
 use Rattle.std.specs.Int.{bytes_high_first}
-use Rattle.std.specs.List.{find, list_all, list_any, position_from, starts_with}
+use Rattle.std.specs.List.{find, list_all, list_any, position_from}
 use Rattle.std.specs.Option.{option_or, option_to_list}
 use Rattle.std.specs.Result.{result_ok}
 use Rattle.hex.specs.Hex.{decode_of}
@@ -36,6 +36,7 @@ use Rattle.ii_query_parser.specs.declared.query_parser_error.QueryParserError.{Q
 use Rattle.ii_query_parser.specs.declared.query_parser_error.QueryParserError.TheVariants as errors
 use Rattle.ii_query_parser.specs.declared.range_text.Integers.{Integers}
 use Rattle.ii_query_parser.specs.declared.range_text.Integers.TheVariants as integers
+use Rattle.ii_query_parser.specs.StarredTexts.{has_starred, is_token_under, starred_words}
 
 -- An analyzer and the fields of a schema, by which the words of a field are looked up.
 pub record TextFields : Type 0 where
@@ -307,6 +308,15 @@ unless_repeated terms (Some p) = Err (errors.UnsupportedSlop p.first.field)
 abbrev pub sloppy_terms : ℕ → List PhraseState → Terms
 sloppy_terms slop terms = if slop == 0 then Ok terms else unless_repeated terms (find repeats terms)
 
+-- the first phrase of a field without texts
+abbrev pub without_texts : List SchemaEntry → List PhraseState → Option PhraseState
+without_texts entries terms = find (λ (p : PhraseState). not (holds_texts (slice_get entries p.first.field))) terms
+
+-- the terms of a text whose last word is a prefix, unless this one is of a field without texts
+abbrev pub starred_terms : List PhraseState → Option PhraseState → Terms
+starred_terms terms None = Ok terms
+starred_terms terms (Some p) = Err (errors.UnsupportedPrefix p.first.field)
+
 -- the terms of a text by its delimiter: those of a prefix are terms of which each may be one
 abbrev pub delimited_terms : List SchemaEntry → Terms → Delimiter → Terms
 delimited_terms entries (Err e) delimiter = Err e
@@ -314,13 +324,19 @@ delimited_terms entries (Ok terms) delimiters.None = Ok terms
 delimited_terms entries (Ok terms) delimiters.DoubleQuotes = Ok terms
 delimited_terms entries (Ok terms) delimiters.Star = prefix_terms terms (no_prefix entries terms)
 delimited_terms entries (Ok terms) (delimiters.Slop slop) = sloppy_terms slop terms
+delimited_terms entries (Ok terms) delimiters.Prefix = starred_terms terms (without_texts entries terms)
 
--- the analyzers of a literal: a prefix has its own
+-- the analyzer of texts in each field whose last word is a prefix, and the fields of the schema
+abbrev pub starred_texts : AnalyzedFields → FieldTexts
+starred_texts q = record { analyze = λ field text. starred_words (q.texts.analyze field text) (q.prefixes field text); entries = q.texts.entries }
+
+-- the analyzers of a literal: a prefix has its own, and so has a text whose last word is one
 abbrev pub texts_for : AnalyzedFields → Delimiter → FieldTexts
 texts_for q delimiters.None = q.texts
 texts_for q delimiters.DoubleQuotes = q.texts
 texts_for q delimiters.Star = prefix_texts q
 texts_for q (delimiters.Slop slop) = q.texts
+texts_for q delimiters.Prefix = starred_texts q
 
 -- the terms of the text of a literal of a tree, by the analyzers that it has
 abbrev pub undelimited_terms : AnalyzedFields → Literal → Terms
@@ -537,16 +553,13 @@ abbrev pub has_words_within : ℕ → List IndexToken → ℕ → TermState → 
 has_words_within slop ts doc first [] = list_any (is_token_of first doc) ts
 has_words_within slop ts doc first (o ∷ os) = has_phrase_within slop ts doc first (o ∷ os)
 
--- whether a token of a document has the field of a term, and a key that starts with the term's
-abbrev pub is_token_under : TermState → ℕ → IndexToken → Bool
-is_token_under term doc t = (t.doc == doc) && (t.field == term.field) && starts_with nat_eq t.key term.value
-
--- whether a document has a term or a phrase, which may have a slop, or a term of which it is a prefix
+-- whether a document has a term or a phrase, which may have a slop, a term of which it is a prefix, or a phrase whose last term is one
 abbrev pub has_delimited : Delimiter → List IndexToken → ℕ → PhraseState → Bool
 has_delimited delimiters.None ts doc p = has_words ts doc p.first p.others
 has_delimited delimiters.DoubleQuotes ts doc p = has_words ts doc p.first p.others
 has_delimited delimiters.Star ts doc p = list_any (is_token_under p.first doc) ts
 has_delimited (delimiters.Slop slop) ts doc p = has_words_within slop ts doc p.first p.others
+has_delimited delimiters.Prefix ts doc p = has_starred ts doc p.first p.others
 
 -- whether a document has one of these terms, phrases or prefixes
 abbrev pub has_term : Delimiter → List IndexToken → ℕ → List PhraseState → Bool

@@ -3,9 +3,9 @@
 
 pub mod laws;
 pub mod literal;
+mod literal_analyzers;
 pub mod phrase_prefix;
 mod phrase_words;
-mod prefix_analyzers;
 pub mod query;
 pub mod query_parser;
 pub mod query_parser_error;

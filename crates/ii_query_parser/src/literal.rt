@@ -6,11 +6,13 @@ ghost use Rattle.ii_base.specs.declared.schema.value_type.ValueType.TheVariants 
 ghost use Rattle.ii_query_grammar.specs.Trees.{literal_of, set_of};
 ghost use Rattle.ii_query_parser.specs.declared.query_parser_error.QueryParserError.TheVariants as errors;
 ghost use Rattle.ii_query_parser.specs.QuerySteps.{Adds, AddsIn, AddsOrKeeps, AddsMaybe, AddsText, AddsUnlessLeft, AreAlone, CutsAtDot};
-ghost use Rattle.ii_query_parser.specs.QueryTexts.{IsWhyRefused, delimited_terms, field_named, has_json_values, holds_texts, is_alone, literal_terms, may_be_prefix, named_terms, no_phrase, no_prefix, none_unless, prefix_terms, refused, repeats, set_terms, sloppy_terms, some_default, some_terms, terms_in_field, terms_of, text_terms, typed_terms, undelimited_terms, unless_repeated, words_phrase};
+ghost use Rattle.ii_query_parser.specs.QueryTexts.{IsWhyRefused, delimited_terms, field_named, has_json_values, holds_texts, is_alone, literal_terms, may_be_prefix, named_terms, no_phrase, no_prefix, none_unless, prefix_terms, refused, repeats, set_terms, sloppy_terms, some_default, some_terms, starred_terms, terms_in_field, terms_of, text_terms, typed_terms, undelimited_terms, unless_repeated, without_texts, words_phrase};
 ghost use Rattle.std.specs.List.{find, list_all};
 
+use crate::literal_analyzers::{
+    LiteralAnalyzers, PrefixAnalyzers, StarredAnalyzers, WordAnalyzers,
+};
 use crate::phrase_words::{PhraseWords, has_words, words_phrase};
-use crate::prefix_analyzers::PrefixAnalyzers;
 use crate::query_parser_error::QueryParserError;
 use crate::unknown_field::names_field;
 use ii_base::{Fault, Field, IndexRecordOption, Schema, Term, TextAnalyzer, ValueType};
@@ -41,7 +43,7 @@ pub(crate) fn push_literal<F: FieldAnalyzers>(
     }
 }
 
-// Appends the terms and phrases of the text of a literal, by the analyzers of prefixes if it is one.
+// Appends the terms and phrases of the text of a literal, by the analyzers that it has.
 fn push_delimited<F: FieldAnalyzers>(
     alloc: Global,
     schema: &Schema,
@@ -52,16 +54,21 @@ fn push_delimited<F: FieldAnalyzers>(
 ) -> Result<(), QueryParserError>
     ensures { Adds (undelimited_terms (record { texts = record { analyze = F.words analyzers.now; entries = schema.now }; prefixes = F.prefix_words analyzers.now; defaults = default_fields.now }) (literal_of literal.now)) schema.now terms.old.items terms.new.items result }
 {
+    let words = WordAnalyzers(analyzers);
     match literal.delimiter {
         Delimiter::Star => {
             let prefixes = PrefixAnalyzers(analyzers);
             push_text(alloc, schema, default_fields, &prefixes, literal, terms)
         }
-        Delimiter::None => push_text(alloc, schema, default_fields, analyzers, literal, terms),
-        Delimiter::DoubleQuotes => {
-            push_text(alloc, schema, default_fields, analyzers, literal, terms)
+        Delimiter::Prefix => {
+            let starred = StarredAnalyzers(analyzers);
+            push_text(alloc, schema, default_fields, &starred, literal, terms)
         }
-        Delimiter::Slop(_) => push_text(alloc, schema, default_fields, analyzers, literal, terms),
+        Delimiter::None => push_text(alloc, schema, default_fields, &words, literal, terms),
+        Delimiter::DoubleQuotes => {
+            push_text(alloc, schema, default_fields, &words, literal, terms)
+        }
+        Delimiter::Slop(_) => push_text(alloc, schema, default_fields, &words, literal, terms),
     }
 }
 
@@ -76,8 +83,9 @@ pub(crate) fn push_set<F: FieldAnalyzers>(
     ensures { Adds (set_terms (record { analyze = F.words analyzers.now; entries = schema.now }) (set_of set.now)) schema.now terms.old.items terms.new.items result }
 {
     let name = set.field_name.as_str();
+    let words = WordAnalyzers(analyzers);
     for value in &set.values {
-        match push_named(alloc, schema, analyzers, name, value.as_str(), terms) {
+        match push_named(alloc, schema, &words, name, value.as_str(), terms) {
             Ok(()) => {}
             Err(error) => return Err(error),
         }
@@ -88,8 +96,8 @@ pub(crate) fn push_set<F: FieldAnalyzers>(
     Ok(())
 }
 
-// Returns an error if terms are prefixes and one of them may be none, or if they have a slop above 0 and a term
-// occurs twice in one.
+// Returns an error if terms are prefixes and one of them may be none, if they have a slop above 0 and a term occurs
+// twice in one, or if their last words are prefixes and one of them is of a field without texts.
 fn check_delimiter(
     schema: &Schema,
     delimiter: Delimiter,
@@ -104,7 +112,21 @@ fn check_delimiter(
         Delimiter::None => Ok(()),
         Delimiter::DoubleQuotes => Ok(()),
         Delimiter::Slop(slop) => check_slop(slop, terms),
+        Delimiter::Prefix => check_texts(schema, terms),
     }
+}
+
+// Returns an error if a phrase is of a field without texts.
+fn check_texts(schema: &Schema, terms: &[PhraseWords]) -> Result<(), QueryParserError>
+    ensures taken { OnOk result (without_texts schema.now terms.now ≡ None) }
+    ensures refused { IfErr result (λ e. starred_terms terms.now (without_texts schema.now terms.now) ≡ Err e) }
+{
+    for words in terms {
+        if !holds_texts(schema, words.field()) {
+            return Err(QueryParserError::UnsupportedPrefix(words.field()));
+        }
+    }
+    Ok(())
 }
 
 // Returns an error if the slop is above 0 and a term occurs twice in a phrase.
@@ -178,15 +200,15 @@ fn holds_texts(schema: &Schema, field: Field) -> bool
 }
 
 // Appends the terms and phrases of the text of a literal.
-fn push_text<F: FieldAnalyzers>(
+fn push_text<L: LiteralAnalyzers>(
     alloc: Global,
     schema: &Schema,
     default_fields: &[Field],
-    analyzers: &F,
+    analyzers: &L,
     literal: &UserInputLiteral,
     terms: &mut Vec<PhraseWords>,
 ) -> Result<(), QueryParserError>
-    ensures { Adds (literal_terms (record { analyze = F.words analyzers.now; entries = schema.now }) default_fields.now (literal_of literal.now).field_name (literal_of literal.now).phrase) schema.now terms.old.items terms.new.items result }
+    ensures { Adds (literal_terms (record { analyze = L.words analyzers.now; entries = schema.now }) default_fields.now (literal_of literal.now).field_name (literal_of literal.now).phrase) schema.now terms.old.items terms.new.items result }
 {
     let phrase = literal.phrase.as_str();
     match &literal.field_name {
@@ -197,15 +219,15 @@ fn push_text<F: FieldAnalyzers>(
 
 // Adds the terms of a text in each default field. A field that keeps no positions is left out of a phrase of
 // several words, unless there are no other terms.
-fn push_defaults<F: FieldAnalyzers>(
+fn push_defaults<L: LiteralAnalyzers>(
     alloc: Global,
     schema: &Schema,
     default_fields: &[Field],
-    analyzers: &F,
+    analyzers: &L,
     phrase: &str,
     terms: &mut Vec<PhraseWords>,
 ) -> Result<(), QueryParserError>
-    ensures { Adds (some_default (record { analyze = F.words analyzers.now; entries = schema.now }) phrase.now default_fields.now) schema.now terms.old.items terms.new.items result }
+    ensures { Adds (some_default (record { analyze = L.words analyzers.now; entries = schema.now }) phrase.now default_fields.now) schema.now terms.old.items terms.new.items result }
 {
     if default_fields.is_empty() {
         return Err(QueryParserError::NoDefaultFieldDeclared);
@@ -236,17 +258,17 @@ fn check_none(left_out: Option<Field>) -> Result<(), QueryParserError>
 }
 
 // Adds the terms of a text in a default field, unless it is left out. Returns the field if it is.
-fn push_default<F: FieldAnalyzers>(
+fn push_default<L: LiteralAnalyzers>(
     alloc: Global,
     schema: &Schema,
-    analyzers: &F,
+    analyzers: &L,
     field: Field,
     phrase: &str,
     terms: &mut Vec<PhraseWords>,
 ) -> Result<Option<Field>, QueryParserError>
-    ensures { AddsUnlessLeft field (terms_in_field (record { analyze = F.words analyzers.now field; entries = schema.now }) field [] phrase.now) schema.now terms.old.items terms.new.items result }
+    ensures { AddsUnlessLeft field (terms_in_field (record { analyze = L.words analyzers.now field; entries = schema.now }) field [] phrase.now) schema.now terms.old.items terms.new.items result }
 {
-    match push_in_one(alloc, schema, analyzers, field, "", phrase, terms) {
+    match analyzers.push_in_one(alloc, schema, field, "", phrase, terms) {
         Ok(()) => Ok(None),
         Err(QueryParserError::FieldDoesNotHavePositionsIndexed(_)) => Ok(Some(field)),
         Err(error) => Err(error),
@@ -255,18 +277,18 @@ fn push_default<F: FieldAnalyzers>(
 
 // Adds the terms of a text after a name: that of a field, or that of one of JSON values and a path after a
 // dot.
-fn push_named<F: FieldAnalyzers>(
+fn push_named<L: LiteralAnalyzers>(
     alloc: Global,
     schema: &Schema,
-    analyzers: &F,
+    analyzers: &L,
     name: &str,
     phrase: &str,
     terms: &mut Vec<PhraseWords>,
 ) -> Result<(), QueryParserError>
-    ensures { AddsOrKeeps (named_terms (record { analyze = F.words analyzers.now; entries = schema.now }) name.now phrase.now (field_named schema.now name.now)) schema.now terms.old.items terms.new.items result }
+    ensures { AddsOrKeeps (named_terms (record { analyze = L.words analyzers.now; entries = schema.now }) name.now phrase.now (field_named schema.now name.now)) schema.now terms.old.items terms.new.items result }
 {
     if let Some(field) = field_named(schema, name) {
-        return push_in_one(alloc, schema, analyzers, field, "", phrase, terms);
+        return analyzers.push_in_one(alloc, schema, field, "", phrase, terms);
     }
     let Some((name, path)) = cut_at_dot(name) else {
         return Err(QueryParserError::FieldDoesNotExist);
@@ -277,7 +299,7 @@ fn push_named<F: FieldAnalyzers>(
     if !has_json(schema, field) {
         return Err(QueryParserError::FieldDoesNotExist);
     }
-    push_in_one(alloc, schema, analyzers, field, path, phrase, terms)
+    analyzers.push_in_one(alloc, schema, field, path, phrase, terms)
 }
 
 /// Returns the first field with this name.
@@ -320,24 +342,8 @@ fn dot_in(name: &[u8]) -> Option<usize>
     name.iter().position(|b| *b == b'.')
 }
 
-// Adds the terms of a text in a field, by the field's analyzer, at a path if it has JSON values.
-fn push_in_one<F: FieldAnalyzers>(
-    alloc: Global,
-    schema: &Schema,
-    analyzers: &F,
-    field: Field,
-    path: &str,
-    phrase: &str,
-    terms: &mut Vec<PhraseWords>,
-) -> Result<(), QueryParserError>
-    ensures { AddsOrKeeps (terms_in_field (record { analyze = F.words analyzers.now field; entries = schema.now }) field path.now phrase.now) schema.now terms.old.items terms.new.items result }
-{
-    let analyzer = analyzers.analyzer(field);
-    push_in_field(alloc, schema, analyzer, field, path, phrase, terms)
-}
-
 // Adds the terms of a text in a field, at a path if it has JSON values.
-fn push_in_field<A: TextAnalyzer>(
+pub(crate) fn push_in_field<A: TextAnalyzer>(
     alloc: Global,
     schema: &Schema,
     analyzer: &A,

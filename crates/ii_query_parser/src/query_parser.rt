@@ -8,11 +8,13 @@ ghost use Rattle.ii_query_grammar.specs.Trees.{Ast, all_of, any_of, ast_of, asts
 ghost use Rattle.ii_query_parser.specs.Queries.{covers_docs, has_fields, has_tree, keeps_positions, matches, trees_of};
 ghost use Rattle.ii_query_parser.specs.Ranges.{keys_of, ranges_of};
 ghost use Rattle.ii_query_parser.specs.QuerySteps.{AreAlone, AreQueriesOf, HasPushed, HasTermsUnless, AreInside, IsInside, IsLeftBy, phrase_kept, phrase_within};
-ghost use Rattle.ii_query_parser.specs.QueryTexts.{AnalyzedFields, IsQueryBy, IsQueryOf, IsQueryOfText, IsQueryOfTextBy, has_between, has_delimited, has_keys, has_term, has_values, has_words_within, are_some, is_alone, is_token_under, is_wordless};
+ghost use Rattle.ii_query_parser.specs.QueryTexts.{AnalyzedFields, IsQueryBy, IsQueryOf, IsQueryOfText, IsQueryOfTextBy, has_between, has_delimited, has_keys, has_term, has_values, has_words_within, are_some, is_alone, is_wordless};
+ghost use Rattle.ii_query_parser.specs.StarredTexts.{has_starred, is_token_under};
 
 use crate::literal::{push_literal, push_set};
+use crate::phrase_prefix::PhrasePrefix;
 use crate::phrase_words::PhraseWords;
-use crate::query::Query;
+use crate::query::{PhraseTerm, Query};
 use crate::query_parser_error::QueryParserError;
 use crate::range_text::{TermRanges, range_keys};
 use crate::term_range::TermRange;
@@ -103,6 +105,10 @@ pub fn query_of<A: TextAnalyzer>(
 ///   path, bounds that are all integers are between integers; other bounds are between the tokens of texts.
 /// - A prefix, which ends with `*`, matches the documents that have a token which starts with the one token that this
 ///   analyzer makes of it; `UnsupportedPrefix` if it makes several, or if the field has no texts.
+/// - A phrase with a `*` after it matches the documents that have the phrase of its words, where the last one may be any
+///   token that starts with it (`Query::PhrasePrefix`). Its last word is the last token that the field's analyzer of
+///   prefixes makes of the text; the words before it are the tokens of the field's analyzer at positions before that one.
+///   A single word is a prefix: `"se"*` is `se*`. `UnsupportedPrefix` if the field has no texts.
 /// - A set matches the documents that one of its values matches, each as a text in quotes after the set's name. It
 ///   matches none if it has no values.
 /// - `*` matches all documents. Its query is `Query::All(TERMINATED)`, which no number of documents exceeds.
@@ -463,6 +469,7 @@ fn delimited_query(words: PhraseWords, delimiter: Delimiter) -> Query
         Delimiter::None => words_query(words, 0),
         Delimiter::DoubleQuotes => words_query(words, 0),
         Delimiter::Slop(slop) => words_query(words, slop),
+        Delimiter::Prefix => starred_query(words),
     }
 }
 
@@ -478,6 +485,26 @@ fn prefix_query(words: PhraseWords) -> Query
     let (first, others) = words.into_terms();
     drop(others);
     Query::prefix(first)
+}
+
+// The query of a prefix, or of a phrase whose last term is one.
+fn starred_query(words: PhraseWords) -> Query
+    ensures matches { (ts : List IndexToken) (doc : ℕ) → matches result ts doc ≡ has_starred ts doc words.first words.others }
+    ensures fields { (n : ℕ) → has_fields n result ≡ phrase_within n words }
+    ensures positions { (entries : List SchemaEntry) → keeps_positions entries result ≡ phrase_kept entries words }
+    ensures covers { (n : ℕ) → covers_docs n result ≡ true }
+{
+    let (first, mut others) = words.into_terms();
+    let Some(last) = others.pop() else {
+        return Query::prefix(first);
+    };
+    let PhraseTerm { distance, term } = last;
+    Query::phrase_prefix(PhrasePrefix {
+        first,
+        others,
+        distance,
+        last: TermRange::with_prefix(term),
+    })
 }
 
 // The query of a term, or of a phrase within a slop.

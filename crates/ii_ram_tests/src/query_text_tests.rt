@@ -14,9 +14,10 @@ fn read(alloc: Global, text: &str) -> Result<String, Fault> {
     }
 }
 
-static TREES: [(&str, &str); 24] = [
+static TREES: [(&str, &str); 25] = [
     ("a NOT b", "a AND -b"),
     ("new\\ york", "new\\ york"),
+    ("\"old se\"* title:\"a\"*", "\"old se\"* OR title:\"a\"*"),
     ("se* AND (a title:*)", "se* AND (a OR title:[* TO *])"),
     (
         "year:[1 TO {]",
@@ -45,7 +46,7 @@ static TREES: [(&str, &str); 24] = [
     ("year:[\"1 TO 2]", "at byte 14: expected a closing quote"),
     (
         "s*a",
-        "at byte 1: wildcards (s*a, s?a) are not supported, but for a * that ends a word; put the word in quotes to search for it as it is",
+        "at byte 1: wildcards (s*a, s?a) are not supported, but for a * that ends a word or comes after quotes; put the word in quotes to search for it as it is",
     ),
     (
         "",

@@ -90,6 +90,11 @@ fn wanted_words_are_marked(rt: HostRuntime) -> Result<(), Fail> {
         ),
         ("sea NOT old", "old sea", "old <b>sea</b>"),
         ("\"old sea\"", "sea, old", "<b>sea</b>, <b>old</b>"),
+        (
+            "\"old se\"*",
+            "old, sea and search",
+            "<b>old</b>, <b>sea</b> and <b>search</b>",
+        ),
         ("body:[n TO p]", "the old sea", "the <b>old</b> sea"),
         ("x", "a <i> 'x'", "a &lt;i&gt; &#x27;<b>x</b>"),
         ("e", "e\u{301} e", "e\u{301} <b>e</b>"),

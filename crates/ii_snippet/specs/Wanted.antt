@@ -3,7 +3,7 @@ use Rattle.std.specs.Prelude.{ℕ, ◌==◌, ◌&&◌, ◌++◌, Bool, List, [],
 use Rattle.std.specs.List.{position}
 use Rattle.ii_base.specs.Terms.{TermState}
 use Rattle.ii_base.specs.Words.{Word}
-use Rattle.ii_query_parser.specs.Queries.{QueryTree, QueryTrees, all_below, any_of, each_of, no_tree, nothing, one_phrase, one_range, one_term, tree, tree_of, without}
+use Rattle.ii_query_parser.specs.Queries.{QueryTree, QueryTrees, all_below, any_of, each_of, no_tree, nothing, one_phrase, one_phrase_prefix, one_range, one_term, tree, tree_of, without}
 use Rattle.ii_query_parser.specs.Ranges.{in_range}
 use Rattle.ii_query_parser.specs.declared.query.PhraseTerm.{PhraseTerm}
 use Rattle.ii_query_parser.specs.declared.query.Query.{Query}
@@ -29,6 +29,7 @@ abbrev mutual
   tree_wants (all_below n) = []
   tree_wants (one_term term) = one_word term ∷ []
   tree_wants (one_phrase first others slop) = one_word first ∷ map (λ (o : PhraseTerm). one_word o.term) others
+  tree_wants (one_phrase_prefix phrase) = (one_word phrase.first ∷ map (λ (o : PhraseTerm). one_word o.term) phrase.others.items) ++ words_of_range phrase.last ∷ []
   tree_wants (one_range range) = words_of_range range ∷ []
   tree_wants (each_of qs) = trees_want qs
   tree_wants (any_of qs) = trees_want qs

@@ -41,8 +41,8 @@ impl<'q> WantedWord<'q> {
     }
 }
 
-/// Returns what a query wants, in its order: the words of its terms and phrases, and its ranges, except excluded
-/// ones. Fails only with `OutOfMemory`.
+/// Returns what a query wants, in its order: the words of its terms and phrases, and its ranges, also those in the place
+/// of the last term of a phrase, except excluded ones. Fails only with `OutOfMemory`.
 pub fn wanted_words<'q>(alloc: Global, query: &'q Query) -> Result<Vec<WantedWord<'q>>, Fault>
     ensures wanted { IfOk result (λ words. map wanted_of words.items ≡ query_wants query.now) }
     ensures only { OnlyMemory result }
@@ -54,7 +54,7 @@ pub fn wanted_words<'q>(alloc: Global, query: &'q Query) -> Result<Vec<WantedWor
 
 // Appends what a query wants.
 #[cycle(push_words)]
-#[tactic(auto, using(crate::proofs::WantedLemmas::nothing_wanted, crate::proofs::WantedLemmas::wanted_by_all, crate::proofs::WantedLemmas::wanted_by_term, crate::proofs::WantedLemmas::wanted_by_phrase, crate::proofs::WantedLemmas::wanted_by_range, crate::proofs::WantedLemmas::wanted_by_and, crate::proofs::WantedLemmas::wanted_by_or, crate::proofs::WantedLemmas::wanted_by_and_not))]
+#[tactic(auto, using(crate::proofs::WantedLemmas::nothing_wanted, crate::proofs::WantedLemmas::wanted_by_all, crate::proofs::WantedLemmas::wanted_by_term, crate::proofs::WantedLemmas::wanted_by_phrase, crate::proofs::WantedLemmas::wanted_by_phrase_prefix, crate::proofs::WantedLemmas::wanted_by_range, crate::proofs::WantedLemmas::wanted_by_and, crate::proofs::WantedLemmas::wanted_by_or, crate::proofs::WantedLemmas::wanted_by_and_not))]
 fn push_words<'q>(query: &'q Query, words: &mut Vec<WantedWord<'q>>) -> Result<(), Fault>
     ensures wanted { OnOk result (map wanted_of words.new.items ≡ map wanted_of words.old.items ++ query_wants query.now) }
     ensures only { OnlyMemory result }
@@ -66,6 +66,11 @@ fn push_words<'q>(query: &'q Query, words: &mut Vec<WantedWord<'q>>) -> Result<(
         Query::Phrase(first, others, _) => {
             words.push(WantedWord::Term(first))?;
             push_others(others, words)
+        }
+        Query::PhrasePrefix(phrase) => {
+            words.push(WantedWord::Term(&phrase.first))?;
+            push_others(&phrase.others, words)?;
+            Ok(words.push(WantedWord::Range(&phrase.last))?)
         }
         Query::Range(range) => Ok(words.push(WantedWord::Range(range))?),
         Query::And(queries) => push_all_words(queries, words),

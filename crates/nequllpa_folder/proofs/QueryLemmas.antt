@@ -19,7 +19,8 @@ use Rattle.ii_reader.proofs.IndexLemmas.{in_front, in_front_of_none, one_more}
 use Rattle.ii_query_parser.specs.declared.query.PhraseTerm.{PhraseTerm}
 use Rattle.ii_query_parser.specs.declared.query.Query.{Query}
 use Rattle.ii_search.specs.Found.{docs_of_term, found_in}
-use Rattle.ii_query_parser.specs.Queries.{QueryTree, QueryTrees, all_below, any_of, each_of, has_fields, hold_for_all, holds_for_all, is_within, no_tree, nothing, one_phrase, one_range, one_term, phrase_is_within, tree, tree_of, without}
+use Rattle.ii_query_parser.specs.Queries.{QueryTree, QueryTrees, all_below, any_of, each_of, has_fields, hold_for_all, holds_for_all, is_within, no_tree, nothing, one_phrase, one_phrase_prefix, one_range, one_term, phrase_is_within, tree, tree_of, without}
+use Rattle.ii_query_parser.proofs.PhrasePrefixLemmas.{fields_of_each}
 use Rattle.nequllpa_folder.specs.declared.finding.TermPositions.{TermPositions}
 use Rattle.nequllpa_folder.specs.Finding.{docs_with_term, first_docs, found_places, places_view, term_places, tree_terms, trees_terms, wanted_terms}
 use Rattle.nequllpa_folder.proofs.FindingLemmas.{living_ascend, living_of}
@@ -72,6 +73,10 @@ mutual
   tree_fields n (all_below m) fields = refl
   tree_fields n (one_term term) fields = rw fields refl
   tree_fields n (one_phrase first others slop) fields = rw (← fields_of n others) fields
+  tree_fields n (one_phrase_prefix phrase) fields =
+      let each = and_parts (nat_lt phrase.first.field n) (list_all (λ (o : PhraseTerm). nat_lt o.term.field n) phrase.others.items && nat_lt phrase.last.prefix.field n) (sym (fields_of_each n phrase) ∙ fields) in
+      let others = and_parts (list_all (λ (o : PhraseTerm). nat_lt o.term.field n) phrase.others.items) (nat_lt phrase.last.prefix.field n) each.1 in
+      rw (← fields_of n phrase.others.items, each.0, others.0) refl
   tree_fields n (one_range range) fields = refl
   tree_fields n (each_of qs) fields = trees_fields n qs fields
   tree_fields n (any_of qs) fields = trees_fields n qs fields

@@ -1,12 +1,13 @@
 -- The terms that a query wants, one equation for each variant.
 use Rattle.std.proofs.Common.{◌≡◌, ◌∙◌, ℕ, List, [], ◌∷◌, ◌++◌, Vec, Box, Global, ap, flat_map, map, refl}
 use Rattle.ii_base.specs.Terms.{TermState}
+use Rattle.ii_query_parser.specs.declared.phrase_prefix.PhrasePrefix.{PhrasePrefix}
 use Rattle.ii_query_parser.specs.declared.query.PhraseTerm.{PhraseTerm}
 use Rattle.ii_query_parser.specs.declared.query.Query.{Query}
 use Rattle.ii_query_parser.specs.declared.term_range.TermRange.{TermRange}
-use Rattle.ii_query_parser.specs.declared.query.Query.TheVariants.{Empty, All, Term, Phrase, Range, And, Or, AndNot}
+use Rattle.ii_query_parser.specs.declared.query.Query.TheVariants.{Empty, All, Term, Phrase, PhrasePrefix as WithPrefix, Range, And, Or, AndNot}
 use Rattle.ii_query_parser.specs.Queries.{trees_of}
-use Rattle.ii_query_parser.proofs.QueryLemmas.{all_tree, and_not_tree, and_tree, nothing_tree, or_tree, phrase_tree, range_tree, term_tree}
+use Rattle.ii_query_parser.proofs.QueryLemmas.{all_tree, and_not_tree, and_tree, nothing_tree, or_tree, phrase_prefix_tree, phrase_tree, range_tree, term_tree}
 use Rattle.nequllpa_folder.specs.Finding.{tree_terms, trees_terms, wanted_terms}
 
 all_wanted : (queries : List Query) → trees_terms (trees_of queries) ≡ flat_map wanted_terms queries
@@ -24,6 +25,9 @@ wanted_of_term term = ap tree_terms (term_tree term)
 
 pub wanted_of_phrase : (first : TermState) (others : Vec PhraseTerm Global) (slop : ℕ) → wanted_terms (Phrase first others slop) ≡ first ∷ map (λ (o : PhraseTerm). o.term) others.items
 wanted_of_phrase first others slop = ap tree_terms (phrase_tree first others slop)
+
+pub wanted_of_phrase_prefix : (phrase : PhrasePrefix) → wanted_terms (WithPrefix phrase) ≡ phrase.first ∷ map (λ (o : PhraseTerm). o.term) phrase.others.items
+wanted_of_phrase_prefix phrase = ap tree_terms (phrase_prefix_tree phrase)
 
 pub wanted_of_range : (range : TermRange) → wanted_terms (Range range) ≡ []
 wanted_of_range range = ap tree_terms (range_tree range)

@@ -9,7 +9,7 @@ use Rattle.ii_base.specs.declared.schema.index_record_option.IndexRecordOption.T
 use Rattle.ii_reader.specs.OpenIndex.{OpenIndexState, all_or_first}
 use Rattle.ii_query_parser.specs.declared.query.PhraseTerm.{PhraseTerm}
 use Rattle.ii_query_parser.specs.declared.query.Query.{Query}
-use Rattle.ii_query_parser.specs.Queries.{QueryTree, QueryTrees, all_below, any_of, each_of, no_tree, nothing, one_phrase, one_range, one_term, tree, tree_of, without}
+use Rattle.ii_query_parser.specs.Queries.{QueryTree, QueryTrees, all_below, any_of, each_of, no_tree, nothing, one_phrase, one_phrase_prefix, one_range, one_term, tree, tree_of, without}
 use Rattle.ii_segments.specs.Segments.{is_living}
 use Rattle.ii_search.specs.Found.{docs_of_term, found_in}
 use Rattle.nequllpa_folder.specs.Positions.{positions_in_doc}
@@ -23,6 +23,7 @@ abbrev mutual
   tree_terms (all_below n) = []
   tree_terms (one_term term) = term ∷ []
   tree_terms (one_phrase first others slop) = first ∷ map (λ (o : PhraseTerm). o.term) others
+  tree_terms (one_phrase_prefix phrase) = phrase.first ∷ map (λ (o : PhraseTerm). o.term) phrase.others.items
   tree_terms (one_range range) = []
   tree_terms (each_of qs) = trees_terms qs
   tree_terms (any_of qs) = trees_terms qs

@@ -135,7 +135,7 @@ fn push_living(docs: &mut Vec<DocId>, alive: &AliveBits, doc: DocId) -> Result<(
 }
 
 /// Returns the terms that a query wants, in its order: those of its words and phrases, except excluded ones.
-/// A range of terms wants none.
+/// A range of terms wants none; of a phrase whose last term is one of a range, the other terms are wanted.
 /// Fails only with `OutOfMemory`.
 pub fn wanted_terms<'q>(alloc: Global, query: &'q Query) -> Result<Vec<&'q Term>, Fault>
     ensures wanted { IfOk result (λ terms. map (λ t. t.now) terms.items ≡ wanted_terms query.now) }
@@ -148,7 +148,7 @@ pub fn wanted_terms<'q>(alloc: Global, query: &'q Query) -> Result<Vec<&'q Term>
 
 // Appends the terms that a query wants.
 #[cycle(push_terms)]
-#[tactic(auto, using(crate::proofs::WantedLemmas::wanted_of_nothing, crate::proofs::WantedLemmas::wanted_of_all, crate::proofs::WantedLemmas::wanted_of_term, crate::proofs::WantedLemmas::wanted_of_phrase, crate::proofs::WantedLemmas::wanted_of_range, crate::proofs::WantedLemmas::wanted_of_and, crate::proofs::WantedLemmas::wanted_of_or, crate::proofs::WantedLemmas::wanted_of_and_not))]
+#[tactic(auto, using(crate::proofs::WantedLemmas::wanted_of_nothing, crate::proofs::WantedLemmas::wanted_of_all, crate::proofs::WantedLemmas::wanted_of_term, crate::proofs::WantedLemmas::wanted_of_phrase, crate::proofs::WantedLemmas::wanted_of_phrase_prefix, crate::proofs::WantedLemmas::wanted_of_range, crate::proofs::WantedLemmas::wanted_of_and, crate::proofs::WantedLemmas::wanted_of_or, crate::proofs::WantedLemmas::wanted_of_and_not))]
 fn push_terms<'q>(query: &'q Query, terms: &mut Vec<&'q Term>) -> Result<(), Fault>
     ensures wanted { OnOk result (map (λ t. t.now) terms.new.items ≡ map (λ t. t.now) terms.old.items ++ wanted_terms query.now) }
     ensures only { OnlyMemory result }
@@ -160,6 +160,10 @@ fn push_terms<'q>(query: &'q Query, terms: &mut Vec<&'q Term>) -> Result<(), Fau
         Query::Phrase(first, others, _) => {
             terms.push(first)?;
             push_others(others, terms)
+        }
+        Query::PhrasePrefix(phrase) => {
+            terms.push(&phrase.first)?;
+            push_others(&phrase.others, terms)
         }
         Query::Range(_) => Ok(()),
         Query::And(queries) => push_all_terms(queries, terms),

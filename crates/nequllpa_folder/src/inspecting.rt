@@ -78,7 +78,11 @@ fn count_in(alloc: Global, segment: &Opened, query: &Query) -> Result<u64, Fault
 fn has_all(query: &Query) -> bool {
     match query {
         Query::All(_) => true,
-        Query::Empty | Query::Term(_) | Query::Phrase(..) | Query::Range(_) => false,
+        Query::Empty
+        | Query::Term(_)
+        | Query::Phrase(..)
+        | Query::PhrasePrefix(_)
+        | Query::Range(_) => false,
         Query::And(queries) => have_all(queries),
         Query::Or(queries) => have_all(queries),
         Query::AndNot(first, other) => has_all(first) || has_all(other),
