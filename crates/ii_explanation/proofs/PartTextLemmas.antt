@@ -1,6 +1,7 @@
 -- The text of a part of a query.
-use Rattle.std.proofs.Common.{◌≡◌, ◌≢◌, ◌∙◌, ℕ, zero, suc, ◌+◌, ◌-◌, List, [], ◌∷◌, ◌++◌, Option, None, Some, MatchOption, add-one, ap, append_assoc, codes, refl, sym}
+use Rattle.std.proofs.Common.{◌≡◌, ◌≢◌, ◌∙◌, ℕ, zero, suc, ◌+◌, ◌-◌, List, [], ◌∷◌, ◌++◌, Option, None, Some, Result, Ok, Err, OnOk, MatchOption, if◌then◌else◌, add-one, ap, append_assoc, codes, refl, sym}
 use Rattle.std.specs.List.{repeat}
+use Rattle.std.specs.Result.{is_ok}
 use Rattle.std.proofs.lemmas.List.{append-nil}
 use Rattle.ii_base.specs.ValueTypes.{code_of}
 use Rattle.ii_base.specs.declared.schema.value_type.ValueType.{ValueType}
@@ -46,15 +47,18 @@ later_last t last (q ∷ os) o =
 -- the text of a phrase and `*`, put together
 pub with_star : (text : List ℕ) (t : ValueType) (first : TermState) (os : List PhraseTerm) (o : PhraseTerm)
     → ((text ++ 34 ∷ (text_of_key t first.value ++ later_terms t 0 os)) ++ (repeat (o.distance - last_distance 0 os - 1) (codes " ?") ++ 32 ∷ text_of_key t o.term.value)) ++ codes "\"*"
-    ≡ text ++ phrase_text first (os ++ o ∷ []) t ++ codes "*"
+    ≡ (text ++ phrase_text first (os ++ o ∷ []) t) ++ codes "*"
 with_star text t first os o =
     let key = text_of_key t first.value in
     let later = later_terms t 0 os in
     let one = repeat (o.distance - last_distance 0 os - 1) (codes " ?") ++ 32 ∷ text_of_key t o.term.value in
     let all = later_terms t 0 (os ++ o ∷ []) in
-    append_assoc (text ++ 34 ∷ (key ++ later)) one (codes "\"*")
-    ∙ append_assoc text (34 ∷ (key ++ later)) (one ++ codes "\"*")
-    ∙ ap (λ (end : List ℕ). text ++ 34 ∷ end)
-    (append_assoc key later (one ++ codes "\"*")
-    ∙ ap (λ (end : List ℕ). key ++ end) (sym (append_assoc later one (codes "\"*")) ∙ ap (λ (end : List ℕ). end ++ codes "\"*") (sym (later_last t 0 os o)) ∙ sym (append_assoc all (34 ∷ []) (codes "*")))
-    ∙ sym (append_assoc key (all ++ 34 ∷ []) (codes "*")))
+    let quoted = 34 ∷ (key ++ all) in
+    ap (λ (begun : List ℕ). begun ++ codes "\"*") (append_assoc text (34 ∷ (key ++ later)) one ∙ ap (λ (end : List ℕ). text ++ 34 ∷ end) (append_assoc key later one ∙ ap (λ (end : List ℕ). key ++ end) (sym (later_last t 0 os o))))
+    ∙ sym (append_assoc (text ++ quoted) (34 ∷ []) (codes "*"))
+    ∙ ap (λ (begun : List ℕ). begun ++ codes "*") (append_assoc text quoted (34 ∷ []))
+
+-- what was appended, if it could be
+pub if_appended : {A E : Type 0} (r : Result A E) (new all old wanted : List ℕ) → new ≡ (if is_ok r then all else old) → all ≡ wanted → OnOk r (new ≡ wanted)
+if_appended (Ok x) new all old wanted is same = is ∙ same
+if_appended (Err e) new all old wanted is same = tt

@@ -140,7 +140,6 @@ fn push_phrase_prefix(
 
 // Appends the terms of a phrase whose last term is one of a range, in quotes, the prefix of this as the last one, and
 // `*`.
-#[tactic(auto, using(crate::proofs::PartTextLemmas::with_star))]
 fn push_terms_of_prefix(
     alloc: Global,
     text: &mut String,
