@@ -4,7 +4,7 @@ use Rattle.std.specs.Prelude.{bytes_eq, nat_eq, nat_le}
 use Rattle.std.specs.Cmp.{both_ways}
 use Rattle.std.specs.Cmp.Lexicographic.{bytes_decides}
 use Rattle.std.specs.List.{AllByRecursion, list_any, starts_with}
-use Rattle.std.proofs.lemmas.Bool.{and_from, and_parts, eqb-true, le-leb, leb-true, lt-ltb, or_left, or_right}
+use Rattle.std.proofs.lemmas.Bool.{and_from, and_parts, eq-eqb, eqb-true, le-leb, leb-true, lt-ltb, or_left, or_right}
 use Rattle.ii_base.specs.Schema.{SchemaEntry}
 use Rattle.ii_base.specs.Terms.{TermState}
 use Rattle.ii_definitions.specs.Postings.{is_at, tokens_at}
@@ -44,8 +44,7 @@ close_here place q is =
     let both = and_parts (nat_le place (q + 0)) (nat_le q (place + 0)) is in
     let low = leb-true place (q + 0) both.0 in
     let high = leb-true q (place + 0) both.1 in
-    let same : q ≡ place = omega (arith, low, high) in
-    rw same (eqb-self place)
+    eq-eqb q place (omega (arith, low, high))
 
 here_close : (place q : ℕ) → (q == place) ≡ true → is_close 0 place q ≡ true
 here_close place q is =
