@@ -1,4 +1,6 @@
 //! Says in a document where its line is.
+ghost use Rattle.std.specs.Prelude.{◌<◌, length};
+
 use crate::messages::{PROGRAM, REFUSED};
 use clap::ArgMatches;
 use ii_base::{Field, ValueType};
@@ -31,7 +33,9 @@ pub(crate) fn located_by<'g>(
 }
 
 // Returns whether a field of a schema has texts that are stored, and complete lines aren't.
-fn takes_places(schema: &TextSchema, field: Field) -> bool {
+fn takes_places(schema: &TextSchema, field: Field) -> bool
+    requires { field < length schema.now.schema }
+{
     let entry = schema.schema().get_field_entry(field);
     entry.value_type() == ValueType::Str
         && schema.stored().has_member(field)
