@@ -2,15 +2,13 @@
 ghost use Rattle.std.specs.Prelude.{◌≡◌, ◌∷◌, ◌++◌, ℕ, [], List, Some, IfOk, IsErrOf, codes, false, map, true};
 ghost use Rattle.std.specs.Option.{option_map};
 ghost use Rattle.ii_base.specs.Schema.{SchemaEntry};
-ghost use Rattle.ii_documents.specs.declared.line_fields.NullMembers.TheVariants.{LeaveOut};
-ghost use Rattle.ii_documents.specs.LineFields.{IsObjectText, chosen, value_of_line};
-ghost use Rattle.ii_documents.specs.Records.{IsRecordOf};
+ghost use Rattle.ii_documents.specs.Records.{IsRecordBy, IsRecordOf};
 ghost use Rattle.ii_schema_text.specs.Stored.{is_any, stored_names};
 ghost use Rattle.ii_segment_store.specs.Contents.{SegmentContents, segment_contents};
 ghost use Rattle.nequllpa_indexing.specs.StoredLines.{StoresLines};
-ghost use Rattle.serde_json.specs.Data.{Members, member, no_members, object, string};
+ghost use Rattle.serde_json.specs.Data.{member, no_members, number, object, string, unsigned};
 ghost use Rattle.serde_json.specs.Read.{read};
-ghost use Rattle.serde_json.specs.Written.{compact_text, has_float};
+ghost use Rattle.serde_json.specs.Written.{compact_text};
 
 use crate::stored_lines::{StoredLineFault, line_of, store_of};
 use bytes::Bytes;
@@ -41,8 +39,8 @@ pub enum StoredFieldsFault {
 }
 
 /// A line is added to an index in a directory, whose schema stores some fields, and the index is loaded: its last
-/// segment gives back an object of exactly the line's members of these fields, without those that are null, in the order
-/// of the schema. If these have no floating-point numbers, its text is the one without spaces. It isn't missing.
+/// segment gives back the text of an object of exactly the line's members of these fields, without those that are null,
+/// in the order of the schema. It isn't missing.
 pub fn stored_fields_come_back<D: Directory, F: FieldAnalyzers>(
     alloc: Global,
     directory: &mut D,
@@ -52,11 +50,9 @@ pub fn stored_fields_come_back<D: Directory, F: FieldAnalyzers>(
     analyzers: &F,
 ) -> Result<Vec<u8>, StoredFieldsFault>
     requires known { D.is_known directory.old }
-    requires fields { stored.is_line ≡ false }
+    requires members { stored.is_line ≡ false }
     requires some { is_any stored ≡ true }
-    ensures members { (d : Data) → read line.now ≡ Some d → IfOk result (λ found. IsObjectText (chosen LeaveOut (stored_names stored.fields schema) d) found.items) }
-    ensures text { (d : Data) → read line.now ≡ Some d → has_float (object (chosen LeaveOut (stored_names stored.fields schema) d)) ≡ false
-        → IfOk result (λ found. found.items ≡ compact_text (object (chosen LeaveOut (stored_names stored.fields schema) d))) }
+    ensures fields { IfOk result (λ found. IsRecordBy false (stored_names stored.fields schema) line.now found.items) }
     ensures there { IsErrOf result (StoredFieldsFault.Document StoredLineFault.Missing) → ⊥ }
 {
     let segment = match segment_with(alloc, schema, stored, line, analyzers) {
@@ -83,8 +79,9 @@ pub fn stored_fields_come_back<D: Directory, F: FieldAnalyzers>(
     }
 }
 
-/// Of a line with a title and a body, where the title alone is stored, `{"title":"TITLE"}` is given back.
-pub fn the_stored_title_comes_back<D: Directory, F: FieldAnalyzers>(
+/// Of a line with a title, a body and a year, where the body isn't stored, `{"title":TITLE,"year":YEAR}` is given back,
+/// without spaces.
+pub fn the_stored_title_and_year_come_back<D: Directory, F: FieldAnalyzers>(
     alloc: Global,
     directory: &mut D,
     schema: Schema,
@@ -93,10 +90,10 @@ pub fn the_stored_title_comes_back<D: Directory, F: FieldAnalyzers>(
     analyzers: &F,
 ) -> Result<Vec<u8>, StoredFieldsFault>
     requires known { D.is_known directory.old }
-    requires names { map (λ (e : SchemaEntry). e.name) schema ≡ codes "title" ∷ codes "body" ∷ [] }
-    requires title { stored ≡ record { is_line = false; fields = true ∷ false ∷ [] } }
-    ensures { (title body : List ℕ) → read line.now ≡ Some (object (member (codes "body") (string body) (member (codes "title") (string title) no_members)))
-        → IfOk result (λ found. found.items ≡ codes "{\"title\":" ++ compact_text (string title) ++ codes "}") }
+    requires names { map (λ (e : SchemaEntry). e.name) schema ≡ codes "title" ∷ codes "body" ∷ codes "year" ∷ [] }
+    requires stored { stored ≡ record { is_line = false; fields = true ∷ false ∷ true ∷ [] } }
+    ensures { (title body : List ℕ) (year : ℕ) → read line.now ≡ Some (object (member (codes "body") (string body) (member (codes "title") (string title) (member (codes "year") (number (unsigned year)) no_members))))
+        → IfOk result (λ found. found.items ≡ compact_text (object (member (codes "title") (string title) (member (codes "year") (number (unsigned year)) no_members)))) }
 {
     stored_fields_come_back(alloc, directory, schema, stored, line, analyzers)
 }
