@@ -1,4 +1,4 @@
-use Rattle.std.proofs.Common.{◌≡◌, ◌∙◌, [], length}
+use Rattle.std.proofs.Common.{◌∙◌, length}
 use Rattle.ii_promises.proofs.PrefixTokens.{prefix_fields, prefix_follows, prefix_positions}
 use Rattle.ii_promises.proofs.SearchingLaws.{matches_as, memory_of_search}
 use Rattle.ii_promises.proofs.searching.phrases_with_a_prefix_find_what_starts_with_it.Goals as goal
