@@ -42,6 +42,7 @@ PLACES = {
     'ii_directory/src/memory_files.rt': {'stop_in_put'},  # a copy of the bytes was refused
     'ii_term_text/src/terms.rt': {'bytes_term', 'is_memory'},  # the kit's `hex` couldn't grow
     'ii_folder_promises/src/stored_lines.rt': {'stored_lines_come_back', 'merged_lines_come_back', 'line_of', 'copied'},  # a store, or a copy of a line
+    'ii_folder_promises/src/stored_fields.rt': {'stored_fields_come_back'},  # a store couldn't be shared
     'ii_index/src/faults.rt': {'from'},
     'nequllpa_folder/src/faults.rt': {'is_memory', 'from'},
     'nequllpa_folder/src/opened.rt': {'documents_fault'},  # stored documents couldn't be opened for it
