@@ -42,7 +42,7 @@ pub use listing::{Listing, write_listing};
 pub use merged_terms::{MergedTerm, MergedTerms};
 pub use opened::{Opened, schema_of, text_schema_of};
 pub use opened_index::{Bases, OpenedIndex, reader_of};
-pub use places::{NoLines, SourceLines};
+pub use places::SourceLines;
 pub use ranking::{BestListing, write_best};
 pub use row_format::RowFormat;
 pub use stats::{write_stats, write_stats_json};

@@ -13,16 +13,6 @@ pub trait SourceLines {
     fn line_at(&self, alloc: Global, file: &str, byte: u64) -> Result<Vec<u8>, Fault>;
 }
 
-/// No files: each line is empty.
-#[derive(Clone, Copy, Debug)]
-pub struct NoLines;
-
-impl SourceLines for NoLines {
-    fn line_at(&self, alloc: Global, _file: &str, _byte: u64) -> Result<Vec<u8>, Fault> {
-        Ok(Vec::new(alloc))
-    }
-}
-
 // Writes a place as words: the file and the number of the line.
 fn write_words<W: Write>(out: &mut W, place: LinePlace<'_>) -> Result<(), AnswerFault> {
     Ok(write!(out, "{}:{}", place.file, place.line)?)
