@@ -34,10 +34,9 @@ fn write_json<W: Write>(
 fn text_in(alloc: Global, document: &str, field: &str) -> Result<String, Fault> {
     let object = read_line(alloc, document)?;
     let text = match object.get(field) {
-        Some(value) => value.as_str().unwrap_or(""),
-        None => "",
+        Some(value) => String::from_str(alloc, value.as_str().unwrap_or("")),
+        None => Ok(String::new(alloc)),
     };
-    let text = String::from_str(alloc, text);
     drop(object);
     Ok(text?)
 }

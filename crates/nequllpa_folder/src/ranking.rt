@@ -73,7 +73,7 @@ pub fn write_best<W: Write, L: SourceLines>(
         Err(fault) => return Err(AnswerFault::Index(fault)),
     };
     let any = !best.docs.is_empty();
-    let ids = match how.ids {
+    let ids = match &how.ids {
         Some(source) => ids_of_best(alloc, opened, source, &best.docs),
         None => Ok(Vec::new(alloc)),
     };
@@ -273,7 +273,7 @@ fn doc_freq_in(alloc: Global, segment: &Opened, term: &Term) -> Result<u64, Faul
 fn ids_of_best(
     alloc: Global,
     opened: &OpenedIndex,
-    source: IdSource,
+    source: &IdSource,
     best: &[(Score, DocId)],
 ) -> Result<Vec<String>, AnswerFault> {
     let mut texts = Vec::new(alloc);
@@ -281,9 +281,8 @@ fn ids_of_best(
         texts.push(String::new(alloc))?;
     }
     let mut base: u32 = 0;
-    for placed in opened.segments().iter().enumerate() {
-        let segment = placed.1;
-        put_ids(alloc, placed, source, base, best, &mut texts)?;
+    for (place, segment) in opened.segments().iter().enumerate() {
+        put_ids(alloc, (place, segment), source, base, best, &mut texts)?;
         base = base.saturating_add(segment.num_living());
     }
     Ok(texts)
@@ -293,7 +292,7 @@ fn ids_of_best(
 fn put_ids(
     alloc: Global,
     placed: (usize, &Opened),
-    source: IdSource,
+    source: &IdSource,
     base: u32,
     best: &[(Score, DocId)],
     texts: &mut Vec<String>,
@@ -306,7 +305,7 @@ fn put_ids(
         }
     }
     docs.sort_unstable();
-    let ids = ids_of(alloc, placed, source, &docs)?;
+    let ids = ids_of(alloc, placed, *source, &docs)?;
     for (place, pair) in best.iter().enumerate() {
         let Some(doc) = doc_of_number(segment, base, pair.1) else {
             continue;
