@@ -99,15 +99,9 @@ fn rows_of(
     };
     tell_left_out(rt, opened, fields, text)?;
     opened.bound(&mut query);
+    let files = HostLines::new(rt);
     let mut rows = Vec::new(rt.alloc());
-    match write_wanted(
-        rt.alloc(),
-        &mut rows,
-        opened,
-        &query,
-        wanted,
-        &HostLines::new(rt),
-    ) {
+    match write_wanted(rt.alloc(), &mut rows, opened, &query, wanted, &files) {
         Ok(_) => Ok(Ok(rows)),
         Err(fault) => Ok(Err(NoAnswer {
             reason: format!(in rt.alloc(); "{fault}")?,

@@ -406,15 +406,9 @@ fn print_wanted(
     query: &Query,
     wanted: &Wanted<'_, '_>,
 ) -> anyhow::Result<ExitCode> {
+    let files = HostLines::new(rt);
     let mut out = BufWriter::new(rt.alloc(), io::writer(rt))?;
-    let written = write_wanted(
-        rt.alloc(),
-        &mut out,
-        opened,
-        query,
-        wanted,
-        &HostLines::new(rt),
-    );
+    let written = write_wanted(rt.alloc(), &mut out, opened, query, wanted, &files);
     out.flush()?;
     ended(rt, path, written)
 }
