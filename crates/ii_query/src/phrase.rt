@@ -93,9 +93,10 @@ impl<P: Postings> PhrasePart<P> {
         self.postings.term_freq()
     }
 
-    // Drops the documents below a target, which may be below the current document.
+    /// Drops the documents of the term below `target`, which may be below the current document, and returns the
+    /// current document. Of the current document no position may have been read, if it isn't dropped.
     #[tactic(auto, using(ii_docset::proofs::CursorLemmas::doc_below))]
-    pub(crate) fn go_to(&mut self, target: DocId) -> DocId
+    pub fn go_to(&mut self, target: DocId) -> DocId
         requires up_to { target ≤ TERMINATED }
         requires unread { IsUnreadFrom target self.old }
         ensures doc { result ≡ doc_at self.new.part.rest }

@@ -1,4 +1,4 @@
 pub mod FindLaws
 pub mod LocalLaws
-mod SearchLemmas
+pub mod SearchLemmas
 mod WorkedRows

@@ -124,7 +124,7 @@ module _ {X : Type 0} where
       let next : k + 1 ≡ suc k = omega arith in
       ap (λ (n : ℕ). take n xs) next ∙ taken_step x xs k at
 
-total_more : (xs : List OpenSegmentState) (s : OpenSegmentState) → total_living (xs ++ s ∷ []) ≡ total_living xs + num_living s.alive
+pub total_more : (xs : List OpenSegmentState) (s : OpenSegmentState) → total_living (xs ++ s ∷ []) ≡ total_living xs + num_living s.alive
 total_more [] s = omega arith
 total_more (x ∷ xs) s = omega (arith, total_more xs s)
 

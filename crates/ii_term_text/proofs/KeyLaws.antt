@@ -73,7 +73,7 @@ plain_text (boolean b) = refl
 plain_text (date z) = refl
 
 -- the parts of a key at a path
-letter_type : (t : ValueType) → type_of_letter (code_of t) ≡ Some t
+pub letter_type : (t : ValueType) → type_of_letter (code_of t) ≡ Some t
 letter_type types.Str = refl
 letter_type types.U64 = refl
 letter_type types.I64 = refl
