@@ -17,7 +17,7 @@ pub use all_docs::AllDocs;
 pub use bit_set::{BitSet, BitSetDocSet};
 pub use exclude::Exclude;
 pub use intersection::Intersection;
-pub use phrase::{PhraseMatch, PhrasePart};
+pub use phrase::{PhraseMatch, PhrasePart, clear_all};
 pub use phrase_starts::count_starts;
 pub use position_piece::POSITIONS_READ;
 pub use query_cursor::QueryCursor;

@@ -56,8 +56,8 @@ impl<P: Postings> PhrasePart<P> {
         hint
     }
 
-    // Forgets what was read of the current document's positions.
-    pub(crate) fn clear(&mut self)
+    /// Forgets what was read of the current document's positions, which are then read anew.
+    pub fn clear(&mut self)
         ensures { self.new ≡ unread self.old }
     {
         self.piece.clear();
@@ -293,8 +293,8 @@ pub(crate) fn go_to_phrase<P: Postings>(
     doc
 }
 
-// Forgets what was read of the other terms' current documents.
-pub(crate) fn clear_all<P: Postings>(others: &mut Vec<PhrasePart<P>>)
+/// Forgets what was read of the other terms' current documents.
+pub fn clear_all<P: Postings>(others: &mut Vec<PhrasePart<P>>)
     ensures { others.new.items ≡ map unread others.old.items }
 {
     for i in 0..others.len() {
