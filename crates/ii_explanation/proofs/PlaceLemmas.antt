@@ -19,10 +19,10 @@ use Rattle.ii_ranking.specs.Segments.{living_score, segment_of, segment_scored, 
 use Rattle.ii_ranking.specs.declared.segments.RankedSegment.{RankedSegment}
 use Rattle.ii_ranking.specs.declared.shares.Share.{Share}
 use Rattle.ii_ranking.specs.Shares.{ShareState, share_of, total, tree_shares}
-use Rattle.ii_ranking.specs.TopDocs.{scored_by_number, with_score}
+use Rattle.ii_scorer.specs.TopDocs.{scored_by_number, with_score}
 use Rattle.ii_ranking.proofs.SegmentLemmas.{segment_at}
 use Rattle.ii_ranking.proofs.ShareLemmas.{shares_add_up}
-use Rattle.ii_ranking.proofs.TopLemmas.{scored_more}
+use Rattle.ii_scorer.proofs.TopLemmas.{scored_more}
 use Rattle.ii_segments.specs.Segments.{is_living}
 use Rattle.ii_segment_search.specs.Searcher.{HaveFields, OpenSegmentState, total_living}
 use Rattle.ii_explanation.specs.Explanations.{AreSharesAt}

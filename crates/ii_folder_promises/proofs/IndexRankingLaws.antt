@@ -14,7 +14,7 @@ use Rattle.ii_query_parser.specs.Queries.{keeps_positions, matches}
 use Rattle.ii_query_parser.specs.QueryTexts.{AnalyzedFields, MeansTextBy, text_matches_by}
 use Rattle.ii_ranking.specs.TokenCounts.{AreOrdered}
 use Rattle.ii_ranking.specs.TokenScores.{token_score}
-use Rattle.ii_ranking.specs.TopDocs.{AreBest, scored_docs}
+use Rattle.ii_scorer.specs.TopDocs.{AreBest, scored_docs}
 use Rattle.ii_ranking.proofs.MatchLaws.{matches_score}
 use Rattle.ii_folder_promises.proofs.RankingLaws.{best_greatest, best_in_order, best_many, best_scored}
 use Rattle.ii_folder_promises.proofs.SegmentRankingLaws.{all_ordered}

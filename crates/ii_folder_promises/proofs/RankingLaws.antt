@@ -13,8 +13,8 @@ use Rattle.ii_base.specs.Schema.{SchemaEntry}
 use Rattle.ii_definitions.specs.Tokens.{IndexToken}
 use Rattle.ii_indexing.specs.RamFiles.{IsRamFault}
 use Rattle.ii_ranking.specs.TokenScores.{GivesBest}
-use Rattle.ii_ranking.specs.TopDocs.{AreBest, Precedes, scored_docs, with_score}
-use Rattle.ii_ranking.proofs.TopLemmas.{scored_more}
+use Rattle.ii_scorer.specs.TopDocs.{AreBest, Precedes, scored_docs, with_score}
+use Rattle.ii_scorer.proofs.TopLemmas.{scored_more}
 
 -- no more than are wanted
 pub few_best : (limit : ℕ) (scored : List (ℕ × ℕ)) (r : Result (Vec (ℕ × ℕ) Global) Fault) → IfOk r (λ best. AreBest (record { limit = limit; offset = 0 }) scored best.items) → IfOk r (λ best. length best.items ≤ limit)

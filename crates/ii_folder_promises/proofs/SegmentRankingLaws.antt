@@ -12,8 +12,8 @@ use Rattle.ii_segment_search.specs.Searcher.{MayAsk, OpenSegmentState, Reaches, 
 use Rattle.ii_ranking.specs.OneIndex.{SegmentsScoreAsOne}
 use Rattle.ii_ranking.specs.TokenCounts.{AreOrdered}
 use Rattle.ii_ranking.specs.TokenScores.{GivesBest, token_score, tokens_scored}
-use Rattle.ii_ranking.specs.TopDocs.{scored_docs}
-use Rattle.ii_ranking.specs.declared.top_docs.TopDocs.{TopDocs}
+use Rattle.ii_scorer.specs.TopDocs.{scored_docs}
+use Rattle.ii_scorer.specs.declared.top_docs.TopDocs.{TopDocs}
 
 module _ (schema : List SchemaEntry) where
   each_token : (opened : List OpenSegmentState) (ss : List Segment) → SegmentsHold schema opened ss → AllByRecursion (AreSegmentTokens schema) ss

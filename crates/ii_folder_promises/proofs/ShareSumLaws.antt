@@ -8,7 +8,7 @@ use Rattle.ii_query_parser.specs.declared.query.Query.{Query}
 use Rattle.ii_query_parser.specs.Queries.{tree_of}
 use Rattle.ii_reader.specs.OpenIndex.{OpenIndexState}
 use Rattle.ii_ranking.specs.declared.shares.Share.{Share}
-use Rattle.ii_ranking.specs.Combinations.{add}
+use Rattle.ii_scorer.specs.Combinations.{add}
 use Rattle.ii_ranking.specs.Scores.{query_score, scored_in}
 use Rattle.ii_ranking.specs.Shares.{ShareState, SharesAddUp, share_of, total, tree_shares}
 

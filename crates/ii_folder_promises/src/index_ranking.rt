@@ -10,7 +10,7 @@ ghost use Rattle.ii_index.specs.Segments.{HoldsIndexOf, with_tokens};
 ghost use Rattle.ii_index.specs.Statistics.{token_statistics};
 ghost use Rattle.ii_query_parser.specs.Queries.{covers_docs, has_fields, keeps_positions, matches};
 ghost use Rattle.ii_ranking.specs.TokenScores.{token_score};
-ghost use Rattle.ii_ranking.specs.TopDocs.{AreBest, scored_docs};
+ghost use Rattle.ii_scorer.specs.TopDocs.{AreBest, scored_docs};
 ghost use Rattle.ii_segment_search.specs.Searcher.{MayAsk};
 
 use ii_index::{Directory, DocId, IndexReader, IndexWriter, Query, Score, TopDocs};

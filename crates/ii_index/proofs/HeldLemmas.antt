@@ -21,8 +21,8 @@ use Rattle.ii_query_parser.specs.declared.query.Query.TheVariants.{Term}
 use Rattle.ii_query_parser.specs.Queries.{QueryTree, covers_docs, has_fields, matches, tree_covers, tree_matches}
 use Rattle.ii_query_parser.proofs.QueryLemmas.{term_fields, term_positions, term_tree}
 use Rattle.ii_ranking.specs.TokenScores.{GivesBest, token_score, tokens_scored}
-use Rattle.ii_ranking.specs.TopDocs.{scored_docs}
-use Rattle.ii_ranking.specs.declared.top_docs.TopDocs.{TopDocs}
+use Rattle.ii_scorer.specs.TopDocs.{scored_docs}
+use Rattle.ii_scorer.specs.declared.top_docs.TopDocs.{TopDocs}
 use Rattle.ii_ranking.proofs.OneIndexLaws.{segments_score_as_one}
 use Rattle.ii_segment_search.specs.Searcher.{AreFew, GivesNumber, MayAsk, OpenSegmentState, Reaches, SegmentHolds, SegmentsHold, total_living}
 use Rattle.ii_segments.specs.Segments.{AreSegmentTokens, Segment, index_tokens, living_counts, num_docs_of}

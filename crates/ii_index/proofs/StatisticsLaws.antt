@@ -16,7 +16,7 @@ use Rattle.ii_query_parser.specs.declared.query.PhraseTerm.{PhraseTerm}
 use Rattle.ii_query_parser.specs.declared.query.Query.{Query}
 use Rattle.ii_query_parser.specs.Queries as queries
 use Rattle.ii_query_parser.specs.Queries.{QueryTree, QueryTrees, tree_of}
-use Rattle.ii_ranking.specs.Combinations.{any_of, each_of, unless}
+use Rattle.ii_scorer.specs.Combinations.{any_of, each_of, unless}
 use Rattle.ii_ranking.specs.Scores.{Scored, entry_at, if_occurs, parts_of, phrase_count, phrase_score, query_score, score_by, scored_by_tokens, scored_in, term_score, tree_score, tree_scores}
 use Rattle.ii_ranking.specs.Segments.{living_score, segment_scored, segments_scored}
 use Rattle.ii_ranking.specs.TokenScores.{token_score, tokens_scored}

@@ -13,7 +13,7 @@ ghost use Rattle.ii_query_parser.specs.declared.query.Query.TheVariants as queri
 ghost use Rattle.ii_ranking.specs.Scores.{IsScoreFault, damage_of};
 ghost use Rattle.ii_ranking.specs.Segments.{segments_scored};
 ghost use Rattle.ii_ranking.specs.TokenScores.{GivesBest, token_score};
-ghost use Rattle.ii_ranking.specs.TopDocs.{AreBest, scored_docs};
+ghost use Rattle.ii_scorer.specs.TopDocs.{AreBest, scored_docs};
 ghost use Rattle.ii_reader.specs.InvertedIndexReader.{IsRefusal};
 ghost use Rattle.ii_segment_search.specs.Searcher.{GivesFound, GivesNumber, MayAsk, Reaches, SegmentsHold, found_from, living_rest, total_living};
 ghost use Rattle.ii_segments.specs.Segments.{Segment};

@@ -7,7 +7,7 @@ ghost use Rattle.ii_query_parser.specs.Queries.{has_fields};
 ghost use Rattle.ii_ranking.specs.Scores.{IsScoreFault};
 ghost use Rattle.ii_ranking.specs.Segments.{segment_of, segments_damage, segments_scored};
 ghost use Rattle.ii_ranking.specs.TokenScores.{GivesBest, tokens_scored};
-ghost use Rattle.ii_ranking.specs.TopDocs.{AreBest};
+ghost use Rattle.ii_scorer.specs.TopDocs.{AreBest};
 ghost use Rattle.ii_segment_search.specs.Searcher.{AreFew, HaveFields, SegmentsHold};
 ghost use Rattle.ii_segments.specs.Segments.{Segment};
 

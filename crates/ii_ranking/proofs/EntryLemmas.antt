@@ -8,9 +8,10 @@ use Rattle.ii_base.specs.Entries.{Entry}
 use Rattle.ii_bm25.specs.declared.bm25.TheConstants.{SCORE_ONE}
 use Rattle.ii_docset.specs.Cursor.{IsAscending, doc_at, term_freq_at}
 use Rattle.ii_docset.specs.Intersection.{has_doc}
-use Rattle.ii_ranking.specs.Combinations.{Adds, added_at, either}
+use Rattle.ii_ranking.specs.Combinations.{Adds, added_at}
+use Rattle.ii_scorer.specs.Combinations.{either}
 use Rattle.ii_ranking.specs.Scores.{entry_at}
-use Rattle.ii_ranking.proofs.CombinationLemmas.{either_none}
+use Rattle.ii_scorer.proofs.SumLemmas.{either_none}
 
 -- below its first document a list has no entry
 none_below : (doc : ℕ) (es : List Entry) → IsAscending es → doc < doc_at es → entry_at es doc ≡ None

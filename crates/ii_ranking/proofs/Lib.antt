@@ -17,6 +17,4 @@ pub mod ShareLemmas
 pub mod ShareTokenLaws
 pub mod StatisticsLemmas
 pub mod TokenLaws
-pub mod TopLemmas
-mod TopNLemmas
 mod WorkedRows

@@ -25,7 +25,7 @@ use Rattle.ii_segments.proofs.CountLaws.{all_weaker, test_by_rank, tokens_after}
 use Rattle.ii_segments.proofs.MergedLaws.{IsTyped, index_typed, merged_is_segment}
 use Rattle.ii_segments.proofs.MergeLaws.{below, from_append, of_living}
 use Rattle.ii_segment_search.proofs.LocalLaws.{bound_local, follow_local, phrase_prefix_local, range_local, text_of_some, typed_own}
-use Rattle.ii_ranking.specs.Combinations.{any_of, each_of, unless}
+use Rattle.ii_scorer.specs.Combinations.{any_of, each_of, unless}
 use Rattle.ii_ranking.specs.OneIndex.{ScoresAreLocal}
 use Rattle.ii_ranking.specs.Scores.{if_occurs, phrase_score, score_by, scored_by_tokens, term_score, tree_score, tree_scores}
 use Rattle.ii_ranking.specs.TokenCounts.{AreOrdered, num_tokens_of, phrase_starts_within, term_count}

@@ -15,7 +15,7 @@ use Rattle.ii_segments.proofs.OrderLemmas.{Ascend, ascend_from_order, filter_asc
 use Rattle.ii_query_parser.specs.declared.query.PhraseTerm.{PhraseTerm}
 use Rattle.ii_query_parser.specs.Queries as queries
 use Rattle.ii_query_parser.specs.Queries.{QueryTree, QueryTrees, all_match, any_matches, follow_near, has_phrase_prefix, has_phrase_within, has_positions_in, has_tree, hold_for_all, holds_for_all, is_text_key, is_token_in, is_token_of, phrase_has_positions, tree_matches, tree_of}
-use Rattle.ii_ranking.specs.Combinations.{both, each_of, either, unless}
+use Rattle.ii_scorer.specs.Combinations.{both, each_of, either, unless}
 use Rattle.ii_ranking.specs.Scores.{if_occurs, phrase_score, score_by, scored_by_tokens, term_score, tree_score, tree_scores}
 use Rattle.ii_ranking.specs.TokenCounts.{AreOrdered, MatchesScore, PhrasesScoreByStarts, keeps_counts, num_tokens_of}
 use Rattle.ii_ranking.proofs.CountLaws.{terms_score_by_counts}

@@ -14,7 +14,7 @@ use Rattle.ii_segment_search.proofs.LocalLaws.{docs_of_both}
 use Rattle.ii_ranking.specs.OneIndex.{SegmentsScoreAsOne}
 use Rattle.ii_ranking.specs.Segments.{living_score, segment_scored}
 use Rattle.ii_ranking.specs.TokenScores.{token_score, tokens_scored}
-use Rattle.ii_ranking.specs.TopDocs.{with_score}
+use Rattle.ii_scorer.specs.TopDocs.{with_score}
 use Rattle.ii_ranking.proofs.LocalScores.{scores_are_local}
 
 flat_of_map : {A B C : Type 0} (f : A → B) (h : B → List C) (xs : List A) → flat_map h (map f xs) ≡ flat_map (λ (x : A). h (f x)) xs

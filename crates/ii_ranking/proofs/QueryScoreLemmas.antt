@@ -16,30 +16,10 @@ use Rattle.ii_query_parser.specs.Queries.{QueryTree, has_fields, tree_of, trees_
 use Rattle.ii_reader.specs.OpenIndex.{OpenIndexState}
 use Rattle.ii_ranking.specs.declared.combination.Combination.{Combination}
 use Rattle.ii_ranking.specs.declared.combination.Combination.TheVariants.{Either, Both}
-use Rattle.ii_ranking.specs.Combinations.{Adds, AreCombined, add, any_of, both, combined, each_of, either, unless}
+use Rattle.ii_ranking.specs.Combinations.{Adds, AreCombined, combined}
+use Rattle.ii_scorer.specs.Combinations.{any_of, both, each_of, either, unless}
+use Rattle.ii_scorer.proofs.SumLemmas.{either_first}
 use Rattle.ii_ranking.specs.Scores.{IsScoreFault, Scored, first_of, phrase_score, query_damage, query_score, tree_score, tree_scores, trees_damage}
-
--- sums of scores don't depend on how they are grouped
-pub add_grouped : (a b c : ℕ) → add (add a b) c ≡ add a (add b c)
-add_grouped a b c = omega arith
-
-either_grouped : (a b c : Option ℕ) → either (either a b) c ≡ either a (either b c)
-either_grouped None b c = refl
-either_grouped (Some a) None c = refl
-either_grouped (Some a) (Some b) None = refl
-either_grouped (Some a) (Some b) (Some c) = ap (λ (s : ℕ). Some s) (add_grouped a b c)
-
--- a score in front of those of some parts
-pub either_first : (score : Option ℕ) (scores : List (Option ℕ)) → fold either score scores ≡ either score (any_of scores)
-either_first score scores = ap (λ (s : Option ℕ). fold either s scores) (sym (none_more score)) ∙ later score None scores
-  where
-    none_more : (s : Option ℕ) → either s None ≡ s
-    none_more None = refl
-    none_more (Some s) = refl
-
-    later : (s t : Option ℕ) (row : List (Option ℕ)) → fold either (either s t) row ≡ either s (fold either t row)
-    later s t [] = refl
-    later s t (r ∷ row) = ap (λ (u : Option ℕ). fold either u row) (either_grouped s t r) ∙ later s (either t r) row
 
 -- The scores so far, with those of the queries that are left, are all that are added.
 pub record IsAddingAny (s : Scored) (index : OpenIndexState) (all left : List Query) (old new : List (Option ℕ)) : Type 0 where

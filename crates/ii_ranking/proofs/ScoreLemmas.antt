@@ -18,7 +18,8 @@ use Rattle.ii_query_parser.specs.declared.query.PhraseTerm.{PhraseTerm}
 use Rattle.ii_reader.specs.InvertedIndexReader.{IsRefusal}
 use Rattle.ii_reader.specs.OpenIndex.{OpenIndexState}
 use Rattle.ii_search.specs.Found.{docs_of_term}
-use Rattle.ii_ranking.specs.Combinations.{Adds, either}
+use Rattle.ii_ranking.specs.Combinations.{Adds}
+use Rattle.ii_scorer.specs.Combinations.{either}
 use Rattle.ii_ranking.specs.Scores.{IsScoreFault, damage_of, entry_at, first_of, if_occurs, norm_id_in, opened_or_none, parts_damage, phrase_count, phrase_score, scored_in, term_score}
 
 -- a place after the first

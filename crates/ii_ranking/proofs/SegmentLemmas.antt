@@ -16,8 +16,8 @@ use Rattle.ii_segment_search.specs.Searcher.{HaveFields, OpenSegmentState, total
 use Rattle.ii_ranking.specs.declared.segments.RankedSegment.{RankedSegment}
 use Rattle.ii_ranking.specs.Scores.{IsScoreFault, first_of, query_damage, query_score, scored_in}
 use Rattle.ii_ranking.specs.Segments.{living_row, living_score, segment_of, segment_scored, segments_damage, segments_scored}
-use Rattle.ii_ranking.specs.TopNComputer.{KeepsBest, TopNState}
-use Rattle.ii_ranking.proofs.TopLemmas.{scored_alike}
+use Rattle.ii_scorer.specs.TopNComputer.{KeepsBest, TopNState}
+use Rattle.ii_scorer.proofs.TopLemmas.{scored_alike}
 
 -- the living documents of a list of scores
 pub rows_scored : (base : ℕ) (alive : List Bool) (f : ℕ → Option ℕ) (scores : List (Option ℕ)) → scores ≡ map f (range_with_len 0 (length alive)) → living_row base alive (length alive) scores ≡ segment_scored base alive f

@@ -11,13 +11,13 @@ use Rattle.ii_query_parser.specs.Queries.{has_fields}
 use Rattle.ii_reader.specs.OpenIndex.{IndexHolds}
 use Rattle.ii_segments.specs.Segments.{Segment, is_living}
 use Rattle.ii_segment_search.specs.Searcher.{OpenSegmentState, SegmentHolds, SegmentsHold}
-use Rattle.ii_ranking.specs.declared.top_docs.TopDocs.{TopDocs}
+use Rattle.ii_scorer.specs.declared.top_docs.TopDocs.{TopDocs}
 use Rattle.ii_ranking.specs.Scores.{query_score, scored_in}
 use Rattle.ii_ranking.specs.Segments.{living_score, segment_scored, segments_scored}
 use Rattle.ii_ranking.specs.TokenScores.{FailsForMemory, GivesBest, token_score, tokens_scored}
-use Rattle.ii_ranking.specs.TopDocs.{AreBest}
+use Rattle.ii_scorer.specs.TopDocs.{AreBest}
 use Rattle.ii_ranking.proofs.TokenLaws.{scores_are_of_tokens}
-use Rattle.ii_ranking.proofs.TopLemmas.{scored_alike}
+use Rattle.ii_scorer.proofs.TopLemmas.{scored_alike}
 
 module _ (schema : List SchemaEntry) (statistics : Statistics) (query : Query) (fields : has_fields (length schema) query ≡ true) where
   -- the documents of one segment

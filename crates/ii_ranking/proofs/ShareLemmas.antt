@@ -10,10 +10,10 @@ use Rattle.ii_bm25.specs.declared.bm25.TheConstants.{SCORE_ONE}
 use Rattle.ii_query_parser.specs.declared.query.PhraseTerm.{PhraseTerm}
 use Rattle.ii_query_parser.specs.Queries as queries
 use Rattle.ii_query_parser.specs.Queries.{QueryTree, QueryTrees}
-use Rattle.ii_ranking.specs.Combinations.{add, any_of, both, each_of, either, unless}
+use Rattle.ii_scorer.specs.Combinations.{add, any_of, both, each_of, either, unless}
 use Rattle.ii_ranking.specs.Scores.{Scored, entry_at, if_occurs, parts_of, phrase_count, score_by, tree_score, tree_scores}
 use Rattle.ii_ranking.specs.Shares.{ScoredHaveShares, ShareState, SharesAddUp, all_have_shares, constant_share, has_shares, share_by, share_if_occurs, total, tree_shares, trees_shares}
-use Rattle.ii_ranking.proofs.QueryScoreLemmas.{add_grouped, either_first}
+use Rattle.ii_scorer.proofs.SumLemmas.{add_grouped, either_first}
 
 -- sums one after the other
 sum_from : (a b : ℕ) (ns : List ℕ) → fold add (add a b) ns ≡ add a (fold add b ns)

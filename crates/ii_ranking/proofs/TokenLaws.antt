@@ -43,12 +43,12 @@ use Rattle.ii_query_parser.specs.Queries.{QueryTree, QueryTrees, has_fields, hol
 use Rattle.ii_query_parser.proofs.QueryLemmas.{range_fields, range_matches, range_positions, range_tree}
 use Rattle.ii_search.specs.Found.{docs_kept, docs_of_term, docs_under, tree_found}
 use Rattle.ii_search.proofs.FoundLemmas.{gives_matches, phrase_prefix_given}
-use Rattle.ii_ranking.specs.Combinations.{any_of, each_of, unless}
+use Rattle.ii_scorer.specs.Combinations.{any_of, each_of, unless}
 use Rattle.ii_ranking.specs.Scores.{IsScoreFault, Scored, damage_of, entry_at, first_of, if_occurs, norm_id_in, norms_damage, opened_or_none, parts_damage, parts_of, phrase_count, phrase_score, query_damage, query_score, scored_by_tokens, scored_in, term_score, tree_damage, tree_score, tree_scores, trees_damage}
 use Rattle.ii_ranking.specs.TokenScores.{GivesBest, GivesScores, ScoresAreOfTokens, token_score}
-use Rattle.ii_ranking.specs.TopDocs.{AreBest, scored_docs}
-use Rattle.ii_ranking.specs.declared.top_docs.TopDocs.{TopDocs}
-use Rattle.ii_ranking.proofs.TopLemmas.{scored_alike}
+use Rattle.ii_scorer.specs.TopDocs.{AreBest, scored_docs}
+use Rattle.ii_scorer.specs.declared.top_docs.TopDocs.{TopDocs}
+use Rattle.ii_scorer.proofs.TopLemmas.{scored_alike}
 
 -- Scores of documents below a number are made of the same, for terms of the first n fields.
 pub record AreAlike (n num_docs : ℕ) (a b : Scored) : Type 0 where

@@ -1,44 +1,14 @@
--- How the scores of a query's parts become its score. A part that doesn't match has none.
-use Rattle.std.specs.Prelude.{◌≡◌, ℕ, ◌+◌, ◌-◌, ◌^◌, ◌<◌, List, [], ◌∷◌, Option, None, Some, get_or, if◌then◌else◌, length, min, nat_lt, set}
-use Rattle.std.specs.List.{fold}
+-- Scores of documents that are combined, one by one.
+use Rattle.std.specs.Prelude.{◌≡◌, ℕ, ◌<◌, List, Option, None, get_or, if◌then◌else◌, length, nat_lt, set}
 use Rattle.ii_ranking.specs.declared.combination.Combination.{Combination}
 use Rattle.ii_ranking.specs.declared.combination.Combination.TheVariants.{Either, Both, Unless}
-
--- the sum of two scores, at most 2^64 - 1
-abbrev pub add : ℕ → ℕ → ℕ
-add a b = min (2 ^ 64 - 1) (a + b)
-
--- what a document scores by two parts, of which one has to match
-abbrev pub either : Option ℕ → Option ℕ → Option ℕ
-either None b = b
-either (Some a) None = Some a
-either (Some a) (Some b) = Some (add a b)
-
--- what a document scores by two parts, of which both have to match
-abbrev pub both : Option ℕ → Option ℕ → Option ℕ
-both None b = None
-both (Some a) None = None
-both (Some a) (Some b) = Some (add a b)
-
--- what a document scores by a part, unless it matches another one
-abbrev pub unless : Option ℕ → Option ℕ → Option ℕ
-unless a None = a
-unless a (Some b) = None
+use Rattle.ii_scorer.specs.Combinations.{both, either, unless}
 
 -- what a document scores by two parts
 abbrev pub combined : Combination → Option ℕ → Option ℕ → Option ℕ
 combined Either = either
 combined Both = both
 combined Unless = unless
-
--- what a document scores by some parts, of which one has to match
-abbrev pub any_of : List (Option ℕ) → Option ℕ
-any_of scores = fold either None scores
-
--- what a document scores by some parts, of which each has to match; nothing by none
-abbrev pub each_of : List (Option ℕ) → Option ℕ
-each_of [] = None
-each_of (score ∷ scores) = fold both score scores
 
 -- The scores of documents were combined with others, one by one.
 pub record AreCombined (by : Combination) (others : ℕ → Option ℕ) (old new : List (Option ℕ)) : Type 0 where

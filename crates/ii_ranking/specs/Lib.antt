@@ -6,5 +6,3 @@ pub mod Shares
 pub mod Statistics
 pub mod TokenCounts
 pub mod TokenScores
-pub mod TopDocs
-pub mod TopNComputer

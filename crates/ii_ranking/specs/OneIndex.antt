@@ -9,7 +9,7 @@ use Rattle.ii_query_parser.specs.Queries.{covers_docs, keeps_positions}
 use Rattle.ii_segments.specs.Segments.{AreSegmentTokens, Segment, index_tokens, is_living, num_docs_of}
 use Rattle.ii_segment_search.specs.Searcher.{Reaches}
 use Rattle.ii_ranking.specs.TokenScores.{token_score, tokens_scored}
-use Rattle.ii_ranking.specs.TopDocs.{scored_docs}
+use Rattle.ii_scorer.specs.TopDocs.{scored_docs}
 
 -- By the tokens of all segments a living document scores what it scores by those of its own segment.
 abbrev pub ScoresAreLocal : Type 0

@@ -33,7 +33,7 @@ use Rattle.ii_query_parser.specs.Queries as queries
 use Rattle.ii_query_parser.specs.Queries.{QueryTree, QueryTrees, has_phrase_prefix, is_token_in, others_with, phrase_has_positions, tree_of}
 use Rattle.ii_reader.specs.OpenIndex.{OpenIndexState}
 use Rattle.ii_search.specs.Found.{docs_of_term, tree_found}
-use Rattle.ii_ranking.specs.Combinations.{any_of, each_of, unless}
+use Rattle.ii_scorer.specs.Combinations.{any_of, each_of, unless}
 
 -- What scores are made of: the numbers of an index, the entries of each term, whether a document has a phrase whose last term is one of a range, or a term in a range, and the norm id of each document in a field.
 pub record Scored : Type 0 where

@@ -8,7 +8,7 @@ use Rattle.ii_segments.specs.Segments.{is_living}
 use Rattle.ii_segment_search.specs.Searcher.{OpenSegmentState}
 use Rattle.ii_ranking.specs.declared.segments.RankedSegment.{RankedSegment}
 use Rattle.ii_ranking.specs.Scores.{first_of, query_damage, query_score, scored_in}
-use Rattle.ii_ranking.specs.TopDocs.{scored_by_number}
+use Rattle.ii_scorer.specs.TopDocs.{scored_by_number}
 
 -- a segment without its references
 abbrev pub segment_of : RankedSegment → OpenSegmentState

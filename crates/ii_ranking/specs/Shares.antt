@@ -16,7 +16,7 @@ use Rattle.ii_query_parser.specs.declared.query.PhraseTerm.{PhraseTerm}
 use Rattle.ii_query_parser.specs.Queries as queries
 use Rattle.ii_query_parser.specs.Queries.{QueryTree, QueryTrees, tree_of}
 use Rattle.ii_ranking.specs.declared.shares.Share.{Share}
-use Rattle.ii_ranking.specs.Combinations.{add}
+use Rattle.ii_scorer.specs.Combinations.{add}
 use Rattle.ii_ranking.specs.Scores.{Scored, entry_at, parts_of, phrase_count, score_by, tree_score}
 
 -- A part of a query that a document matches, and what it adds to the document's score.

@@ -12,10 +12,10 @@ use Rattle.ii_query_parser.specs.declared.query.Query.{Query}
 use Rattle.ii_query_parser.specs.Queries.{has_fields}
 use Rattle.ii_reader.specs.OpenIndex.{IndexHolds, OpenIndexState}
 use Rattle.ii_segments.specs.Segments.{Segment}
-use Rattle.ii_ranking.specs.declared.top_docs.TopDocs.{TopDocs}
+use Rattle.ii_scorer.specs.declared.top_docs.TopDocs.{TopDocs}
 use Rattle.ii_ranking.specs.Scores.{query_score, scored_by_tokens, scored_in}
 use Rattle.ii_ranking.specs.Segments.{segment_scored}
-use Rattle.ii_ranking.specs.TopDocs.{AreBest}
+use Rattle.ii_scorer.specs.TopDocs.{AreBest}
 
 -- what a document scores by a query, from the tokens alone
 abbrev pub token_score : List SchemaEntry → List IndexToken → Statistics → Query → ℕ → Option ℕ

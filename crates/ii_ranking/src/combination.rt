@@ -3,7 +3,8 @@ ghost use Rattle.std.specs.Prelude.{◌≡◌, ◌<◌, ℕ, IfOk, None, get_or,
 ghost use Rattle.ii_io.specs.Faults.{OnlyMemory};
 ghost use Rattle.ii_base.specs.declared.doc_id.TheConstants.{TERMINATED};
 ghost use Rattle.ii_bm25.specs.declared.bm25.TheConstants.{SCORE_ONE};
-ghost use Rattle.ii_ranking.specs.Combinations.{Adds, AreCombined, added_at, combined, either};
+ghost use Rattle.ii_ranking.specs.Combinations.{Adds, AreCombined, added_at, combined};
+ghost use Rattle.ii_scorer.specs.Combinations.{either};
 
 use ii_base::{DocId, Fault, TERMINATED};
 use ii_bm25::{SCORE_ONE, Score};

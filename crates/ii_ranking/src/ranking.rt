@@ -7,8 +7,8 @@ ghost use Rattle.ii_query_parser.specs.Queries.{has_fields};
 ghost use Rattle.ii_reader.specs.OpenIndex.{IndexHolds};
 ghost use Rattle.ii_ranking.specs.Scores.{IsScoreFault, query_damage, query_score, scored_in};
 ghost use Rattle.ii_ranking.specs.TokenScores.{GivesBest, token_score};
-ghost use Rattle.ii_ranking.specs.TopDocs.{AreBest, scored_docs};
-ghost use Rattle.ii_ranking.specs.TopNComputer.{KeepsBest};
+ghost use Rattle.ii_scorer.specs.TopDocs.{AreBest, scored_docs};
+ghost use Rattle.ii_scorer.specs.TopNComputer.{KeepsBest};
 
 use crate::scores::score_docs;
 use crate::top_docs::TopDocs;

@@ -5,7 +5,8 @@ ghost use Rattle.ii_base.specs.Schema.{SchemaEntry};
 ghost use Rattle.ii_definitions.specs.Tokens.{IndexToken};
 ghost use Rattle.ii_query_parser.specs.Queries.{has_fields, trees_of};
 ghost use Rattle.ii_reader.specs.OpenIndex.{IndexHolds};
-ghost use Rattle.ii_ranking.specs.Combinations.{Adds, AreCombined, any_of, each_of, unless};
+ghost use Rattle.ii_ranking.specs.Combinations.{Adds, AreCombined};
+ghost use Rattle.ii_scorer.specs.Combinations.{any_of, each_of, unless};
 ghost use Rattle.ii_ranking.specs.Scores.{IsScoreFault, query_damage, query_score, scored_in, tree_scores, trees_damage};
 ghost use Rattle.ii_ranking.specs.TokenScores.{GivesScores, token_score};
 

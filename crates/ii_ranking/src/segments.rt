@@ -9,8 +9,8 @@ ghost use Rattle.ii_query_parser.specs.Queries.{has_fields};
 ghost use Rattle.ii_ranking.specs.Scores.{IsScoreFault, query_damage, query_score, scored_in};
 ghost use Rattle.ii_ranking.specs.Segments.{living_row, segment_of, segment_scored, segments_damage, segments_scored};
 ghost use Rattle.ii_ranking.specs.TokenScores.{FailsForMemory, GivesBest, tokens_scored};
-ghost use Rattle.ii_ranking.specs.TopDocs.{AreBest};
-ghost use Rattle.ii_ranking.specs.TopNComputer.{KeepsBest};
+ghost use Rattle.ii_scorer.specs.TopDocs.{AreBest};
+ghost use Rattle.ii_scorer.specs.TopNComputer.{KeepsBest};
 
 use crate::scores::score_docs;
 use crate::top_docs::TopDocs;

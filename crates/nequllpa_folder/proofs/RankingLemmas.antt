@@ -8,8 +8,8 @@ use Rattle.ii_query_parser.specs.declared.query.Query.{Query}
 use Rattle.ii_query_parser.specs.Queries.{has_fields}
 use Rattle.ii_ranking.specs.declared.segments.RankedSegment.{RankedSegment}
 use Rattle.ii_ranking.specs.Segments.{segment_of}
-use Rattle.ii_ranking.specs.declared.top_docs.TopDocs.{TopDocs}
-use Rattle.ii_ranking.specs.TopDocs.{AreBest}
+use Rattle.ii_scorer.specs.declared.top_docs.TopDocs.{TopDocs}
+use Rattle.ii_scorer.specs.TopDocs.{AreBest}
 use Rattle.ii_segment_search.specs.Searcher.{HaveFields, total_living}
 
 -- one segment more has the fields of a query

@@ -5,7 +5,7 @@ ghost use Rattle.ii_segment_search.specs.Searcher.{HaveFields, total_living};
 ghost use Rattle.ii_ranking.specs.Scores.{IsScoreFault};
 ghost use Rattle.ii_ranking.specs.Segments.{segment_of, segments_damage, segments_scored};
 ghost use Rattle.ii_ranking.specs.Statistics.{statistics_of};
-ghost use Rattle.ii_ranking.specs.TopDocs.{AreBest};
+ghost use Rattle.ii_scorer.specs.TopDocs.{AreBest};
 ghost use Rattle.nequllpa_folder.specs.Explained.{IsExplained};
 ghost use Rattle.nequllpa_folder.specs.RowFormats.{is_json};
 

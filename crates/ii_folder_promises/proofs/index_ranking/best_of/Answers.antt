@@ -4,8 +4,8 @@ use Rattle.ii_index.specs.Searching.{SearcherState}
 use Rattle.ii_index.specs.Statistics.{token_statistics}
 use Rattle.ii_query_parser.specs.Queries.{has_fields}
 use Rattle.ii_ranking.specs.TokenScores.{token_score}
-use Rattle.ii_ranking.specs.TopDocs.{AreBest, scored_docs}
-use Rattle.ii_ranking.specs.declared.top_docs.TopDocs.{TopDocs}
+use Rattle.ii_scorer.specs.TopDocs.{AreBest, scored_docs}
+use Rattle.ii_scorer.specs.declared.top_docs.TopDocs.{TopDocs}
 use Rattle.ii_folder_promises.proofs.index_ranking.best_of.Goals as goal
 
 pub top_docs-requires : goal.top_docs-requires

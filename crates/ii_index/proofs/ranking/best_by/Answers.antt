@@ -1,7 +1,7 @@
 use Rattle.std.proofs.Common.{◌≡◌, ◌<◌, ◌^◌, List, None, ap, arith, map, subst, sym, ◌∙◌, Ok, Err}
 use Rattle.ii_ranking.specs.Scores.{IsScoreFault}
 use Rattle.ii_ranking.specs.Segments.{segment_of, segments_damage, segments_scored}
-use Rattle.ii_ranking.specs.TopDocs.{AreBest}
+use Rattle.ii_scorer.specs.TopDocs.{AreBest}
 use Rattle.ii_segment_search.specs.Searcher.{HaveFields, OpenSegmentState, SegmentsHold, total_living}
 use Rattle.ii_index.specs.Statistics.{query_statistics}
 use Rattle.ii_index.proofs.ranking.best_by.Goals as goal

@@ -1,8 +1,8 @@
 use Rattle.std.proofs.Common.{◌≡◌, ◌∙◌, ◌++◌, ℕ, List, Option, None, append-nil, append_assoc, ap, get_or, refl, subst, sym, rules}
 use Rattle.std.proofs.lemmas.List.{get_or_default}
-use Rattle.ii_ranking.specs.TopDocs.{scored_docs, with_score}
-use Rattle.ii_ranking.specs.TopNComputer.{KeepsBest}
-use Rattle.ii_ranking.proofs.TopLemmas.{scored_more}
+use Rattle.ii_scorer.specs.TopDocs.{scored_docs, with_score}
+use Rattle.ii_scorer.specs.TopNComputer.{KeepsBest}
+use Rattle.ii_scorer.proofs.TopLemmas.{scored_more}
 use Rattle.ii_ranking.proofs.ranking.push_scores.Goals as goal
 
 pub loop-place-preserved : goal.loop-place-preserved

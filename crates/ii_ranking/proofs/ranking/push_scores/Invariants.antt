@@ -1,6 +1,6 @@
 use Rattle.std.proofs.Common.{ℕ, ◌≡◌, ◌++◌, List, None, get_or}
-use Rattle.ii_ranking.specs.TopDocs.{scored_docs}
-use Rattle.ii_ranking.specs.TopNComputer.{KeepsBest}
+use Rattle.ii_scorer.specs.TopDocs.{scored_docs}
+use Rattle.ii_scorer.specs.TopNComputer.{KeepsBest}
 use Rattle.ii_ranking.proofs.ranking.push_scores.Given as goal
 
 abbrev pub invariant-loop-place : goal.invariant-loop-place

@@ -2,9 +2,9 @@ use Rattle.std.proofs.Common.{◌∙◌, ℕ, List, [], IfOk, ap, length, rules,
 use Rattle.std.proofs.lemmas.Result.{err_from_is_err_and}
 use Rattle.std.proofs.lemmas.List.FromFn.{length-map-range_with_len}
 use Rattle.ii_ranking.specs.Scores.{query_score, scored_in}
-use Rattle.ii_ranking.specs.TopDocs.{AreBest}
+use Rattle.ii_scorer.specs.TopDocs.{AreBest}
 use Rattle.ii_ranking.proofs.TokenLaws.{gives_best}
-use Rattle.ii_ranking.proofs.TopLemmas.{scored_rows}
+use Rattle.ii_scorer.proofs.TopLemmas.{scored_rows}
 use Rattle.ii_ranking.proofs.ranking.search.Goals as goal
 
 pub push_scores-pushed-requires : goal.push_scores-pushed-requires

@@ -2,7 +2,8 @@ use Rattle.std.proofs.Common.{◌≡◌, ◌∙◌, ◌<◌, ◌+◌, ℕ, List,
 use Rattle.std.proofs.lemmas.List.{drop_all}
 use Rattle.std.proofs.lemmas.List.FromFn.{get_or-map-range_with_len, length-map-range_with_len}
 use Rattle.ii_search.proofs.QueryLemmas.{and_deep, and_has_fields, or_deep, or_has_fields, query_at}
-use Rattle.ii_ranking.specs.Combinations.{Adds, unless}
+use Rattle.ii_ranking.specs.Combinations.{Adds}
+use Rattle.ii_scorer.specs.Combinations.{unless}
 use Rattle.ii_ranking.specs.declared.combination.Combination.TheVariants.{Either}
 use Rattle.ii_ranking.specs.Scores.{query_score, scored_in}
 use Rattle.ii_ranking.proofs.QueryScoreLemmas.{added_to_none, and_not_deep, and_not_other_fields, and_not_query, any_all, combined_alike, on_ok_then, phrase_query, refused_next}

@@ -3,7 +3,7 @@ use Rattle.std.specs.List.{range_with_len}
 use Rattle.std.proofs.lemmas.Result.{err_from_is_err_and}
 use Rattle.std.proofs.lemmas.List.FromFn.{length-map-range_with_len}
 use Rattle.ii_ranking.specs.Scores.{query_score, scored_in}
-use Rattle.ii_ranking.specs.TopNComputer.{KeepsBest}
+use Rattle.ii_scorer.specs.TopNComputer.{KeepsBest}
 use Rattle.ii_ranking.proofs.SegmentLemmas.{rows_scored}
 use Rattle.ii_ranking.proofs.segments.add_segment.Goals as goal
 

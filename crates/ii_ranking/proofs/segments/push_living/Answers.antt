@@ -3,9 +3,9 @@ use Rattle.std.proofs.lemmas.List.{get_or_default}
 use Rattle.ii_alive.specs.Alive.{rank}
 use Rattle.ii_segments.specs.Segments.{is_living}
 use Rattle.ii_ranking.specs.Segments.{living_row}
-use Rattle.ii_ranking.specs.TopDocs.{with_score}
-use Rattle.ii_ranking.specs.TopNComputer.{KeepsBest}
-use Rattle.ii_ranking.proofs.TopLemmas.{scored_more}
+use Rattle.ii_scorer.specs.TopDocs.{with_score}
+use Rattle.ii_scorer.specs.TopNComputer.{KeepsBest}
+use Rattle.ii_scorer.proofs.TopLemmas.{scored_more}
 use Rattle.ii_ranking.proofs.segments.push_living.Goals as goal
 
 pub loop-doc-preserved : goal.loop-doc-preserved

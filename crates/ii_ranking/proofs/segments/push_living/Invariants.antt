@@ -1,6 +1,6 @@
 use Rattle.std.proofs.Common.{ℕ, ◌≡◌, ◌++◌, List}
 use Rattle.ii_ranking.specs.Segments.{living_row}
-use Rattle.ii_ranking.specs.TopNComputer.{KeepsBest}
+use Rattle.ii_scorer.specs.TopNComputer.{KeepsBest}
 use Rattle.ii_ranking.proofs.segments.push_living.Given as goal
 
 abbrev pub invariant-loop-doc : goal.invariant-loop-doc

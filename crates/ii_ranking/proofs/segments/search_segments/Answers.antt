@@ -2,7 +2,7 @@ use Rattle.std.proofs.Common.{◌∙◌, ◌+◌, ◌++◌, ◌<◌, ◌≤◌, 
 use Rattle.std.proofs.lemmas.List.{drop_all, length-map}
 use Rattle.ii_ranking.specs.Scores.{query_score, scored_in}
 use Rattle.ii_ranking.specs.Segments.{segment_of, segment_scored}
-use Rattle.ii_ranking.specs.TopDocs.{AreBest}
+use Rattle.ii_scorer.specs.TopDocs.{AreBest}
 use Rattle.ii_ranking.proofs.SegmentLemmas.{KeepsRanking, next_segment, ranking_refused, ranks_all, ranks_one, segment_at}
 use Rattle.ii_ranking.proofs.SegmentTokenLaws.{gives_best_of_segments, memory_of_segments}
 use Rattle.ii_ranking.proofs.segments.search_segments.Goals as goal

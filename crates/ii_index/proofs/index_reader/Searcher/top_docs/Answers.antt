@@ -1,7 +1,7 @@
 use Rattle.std.proofs.Common.{◌≡◌, ◌∙◌, ℕ, List, None, Ok, ap, length, subst, sym}
 use Rattle.ii_ranking.specs.Scores.{IsScoreFault}
 use Rattle.ii_ranking.specs.Segments.{segments_damage, segments_scored}
-use Rattle.ii_ranking.specs.TopDocs.{AreBest}
+use Rattle.ii_scorer.specs.TopDocs.{AreBest}
 use Rattle.ii_segment_search.specs.Searcher.{AreFew, HaveFields, OpenSegmentState, SegmentsHold}
 use Rattle.ii_index.specs.Searching.{HaveReaders, SearcherState}
 use Rattle.ii_index.specs.Statistics.{index_statistics, query_statistics, query_terms, statistics_damage, token_statistics}

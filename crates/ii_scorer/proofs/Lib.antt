@@ -1,0 +1,7 @@
+pub mod OrderLemmas
+pub mod PartsLemmas
+pub mod PassLemmas
+pub mod ScorerLemmas
+pub mod SumLemmas
+pub mod TopLemmas
+mod TopNLemmas

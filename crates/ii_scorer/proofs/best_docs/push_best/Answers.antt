@@ -1,0 +1,64 @@
+use Rattle.std.proofs.Common.{◌≡◌, ◌∙◌, ◌++◌, ◌<◌, ◌≤◌, ℕ, arith, inl, rules, subst}
+use Rattle.ii_base.specs.declared.doc_id.TheConstants.{TERMINATED}
+use Rattle.ii_scorer.specs.BestDocs.{first_numbered}
+use Rattle.ii_scorer.specs.Scorers.{IsBelow, score_of}
+use Rattle.ii_scorer.specs.TopNComputer.{KeepsBest}
+use Rattle.ii_scorer.proofs.PassLemmas.{numbered_more, past_end, passes_to}
+use Rattle.ii_scorer.proofs.best_docs.push_best.Goals as goal
+
+pub returns-then-next-min-clause-kept : goal.returns-then-next-min-clause-kept
+returns-then-next-min-clause-kept g c = λ scored h.
+    let l = c.loop-doc in
+    let n = g.N.DocNumbers.numbering c.args.numbers.now in
+    let f = score_of (g.T.Scorer.state c.args.scorer.now) in
+    let next = c.seek_with_score-next.result in
+    let end = c.if-next-min.true in
+    let many = c.num_docs-num_docs.ensures in
+    let least = c.min.ensures in
+    passes_to n f scored l.computer c.least_score-least.result l.doc n.num_docs (search rules) l.invariant.inside
+    (λ d from inside. (
+      c.number.ensures.few d inside,
+      subst (IsBelow c.least_score-least.result) (l.invariant.alike d from) (c.seek_with_score-next.ensures.next.passed d from (past_end next n.num_docs d (omega (arith, end, many, least)) inside)),
+      λ k low. c.least_score-least.ensures k (n.number d) low (c.number.ensures.ascend d from inside),
+    ))
+    (l.invariant.kept scored h)
+
+pub loop-doc-preserved : goal.loop-doc-preserved
+loop-doc-preserved g c =
+    let l = c.loop-doc in
+    let n = g.N.DocNumbers.numbering c.args.numbers.now in
+    let f = score_of (g.T.Scorer.state c.args.scorer.now) in
+    let next = c.seek_with_score-next.result in
+    let up = c.seek_with_score-next.ensures.next.low in
+    let many = c.num_docs-num_docs.ensures in
+    let least = c.min.ensures in
+    let before = c.if-next-min.false in
+    let inside : next < n.num_docs = omega (arith, many, least, before) in
+    let low : next < TERMINATED = omega (arith, least, before) in
+    let sought : (d : ℕ) → l.doc ≤ d → score_of (g.T.Scorer.state c.seek_with_score-next.new.self) d ≡ f d = λ d from. c.seek_with_score-next.ensures.kept.alike d from ∙ l.invariant.alike d from in
+    record {
+      low = omega (arith, low);
+      inside = omega (arith, inside);
+      alike = λ d from. c.push_doc.ensures.moved.alike d (omega (arith, from)) ∙ sought d (omega (arith, from, up));
+      kept = λ scored h.
+          numbered_more n f (score_of (g.T.Scorer.state c.seek_with_score-next.new.self)) scored next c.push_doc.new.computer (sought next up)
+          (c.in_ok-push_doc.ensures.kept (scored ++ first_numbered n next f)
+          (passes_to n f scored l.computer c.least_score-least.result l.doc next (search rules) up
+          (λ d from below. (
+            c.number.ensures.few d (omega (arith, below, inside)),
+            subst (IsBelow c.least_score-least.result) (l.invariant.alike d from) (c.seek_with_score-next.ensures.next.passed d from (inl below)),
+            λ k less. c.least_score-least.ensures k (n.number d) less (c.number.ensures.ascend d from (omega (arith, below, inside))),
+          ))
+          (l.invariant.kept scored h)));
+      wanted = c.push_doc.ensures.wanted ∙ l.invariant.wanted;
+    }
+
+pub returns-clause-kept : goal.returns-clause-kept
+returns-clause-kept g c = λ scored h.
+    let l = c.loop-doc in
+    let n = g.N.DocNumbers.numbering c.args.numbers.now in
+    let many = c.num_docs-num_docs.ensures in
+    let over = c.loop-doc-test.false in
+    let within = l.invariant.inside in
+    let all : l.doc ≡ n.num_docs = omega (arith, many, over, within) in
+    subst (λ (k : ℕ). KeepsBest (scored ++ first_numbered n k (score_of (g.T.Scorer.state c.args.scorer.now))) l.computer) all (l.invariant.kept scored h)

@@ -1,0 +1,8 @@
+use Rattle.std.proofs.Common.{ℕ, None, refl}
+use Rattle.ii_scorer.specs.QueryScorers.{score_by_parts}
+use Rattle.ii_scorer.specs.declared.query_scorer.ScorerParts.TheVariants.{Nothing}
+use Rattle.ii_scorer.proofs.PartsLemmas.{row_is}
+use Rattle.ii_scorer.proofs.query_scorer.QueryScorer.nothing.Goals as goal
+
+pub returns : goal.returns
+returns g c = row_is (score_by_parts g.T.Scorer.state Nothing) (λ (d : ℕ). None) (λ d. refl) (λ d end. refl)

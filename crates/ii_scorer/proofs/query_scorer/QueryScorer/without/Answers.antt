@@ -1,0 +1,15 @@
+use Rattle.std.proofs.Common.{◌≡◌, ℕ, rules}
+use Rattle.ii_scorer.specs.Combinations.{unless}
+use Rattle.ii_scorer.specs.QueryScorers.{score_by_parts}
+use Rattle.ii_scorer.specs.Scorers.{score_of}
+use Rattle.ii_scorer.specs.declared.query_scorer.ScorerParts.TheVariants.{Without}
+use Rattle.ii_scorer.proofs.PartsLemmas.{row_is, unless_ends}
+use Rattle.ii_scorer.proofs.query_scorer.QueryScorer.without.Goals as goal
+
+pub returns-clause-scores : goal.returns-clause-scores
+returns-clause-scores g c =
+    let first : c.in_ok-first.first.value ≡ c.args.first = search rules in
+    let other : c.in_ok-other.other.value ≡ c.args.other = search rules in
+    row_is (score_by_parts g.T.Scorer.state (Without c.in_ok-first.first c.in_ok-other.other)) (λ (d : ℕ). unless (score_of c.args.first d) (score_of c.args.other d))
+    (λ d. (λ j. unless (score_of (first j) d) (score_of (other j) d)))
+    (λ d end. unless_ends (score_of c.args.first d) (score_of c.args.other d) (c.bound-most.ensures.bounded.ends d end))

@@ -1,0 +1,7 @@
+pub mod BestDocs
+pub mod Combinations
+pub mod QueryScorers
+pub mod ScorerDepths
+pub mod Scorers
+pub mod TopDocs
+pub mod TopNComputer

@@ -1,0 +1,416 @@
+//! Scorers that are combined from others.
+ghost use Rattle.std.specs.Prelude.{◌≡◌, ◌<◌, ◌≤◌, ◌-◌, ℕ, IfOk, Option, None, Some, get_or, if◌then◌else◌, length, min, nat_lt};
+ghost use Rattle.std.specs.List.{AllByRecursion, AllZip};
+ghost use Rattle.ii_io.specs.Faults.{OnlyMemory};
+ghost use Rattle.ii_base.specs.declared.doc_id.TheConstants.{TERMINATED};
+ghost use Rattle.ii_bm25.specs.declared.bm25.TheConstants.{SCORE_ONE};
+ghost use Rattle.ii_scorer.specs.Combinations.{any_of, each_of, either, unless};
+ghost use Rattle.ii_scorer.specs.QueryScorers.{PartsAreBounded, depth_of, score_by_parts};
+ghost use Rattle.ii_scorer.specs.Scorers.{AreBounded, IsBounded, IsNext, IsUpTo, KeepsFrom, if_at_least, score_of, scores_at, sums_after};
+
+use crate::combination::{both, either, if_at_least};
+use crate::scorer::Scorer;
+use ii_base::{DocId, Fault, TERMINATED};
+use ii_bm25::{SCORE_ONE, Score};
+use std::alloc::Global;
+use std::marker::Model;
+
+/// Gives the scores of the documents that a query matches. Its form is chosen at run time: no documents, those of one
+/// scorer, all below a number, those that each of some scorers matches, or at least one of them, or one and not another.
+#[cycle(query_scorer)]
+#[derive(Drop)]
+pub struct QueryScorer<T: Scorer> {
+    parts: ScorerParts<T>,
+    // no document scores more
+    most: Score,
+}
+
+#[cycle(query_scorer)]
+#[derive(Drop)]
+enum ScorerParts<T: Scorer> {
+    Nothing,
+    One(T),
+    All(DocId),
+    Each(Vec<QueryScorer<T>>),
+    // in ascending order of their greatest scores, with the sums of these: of the first, of the first two, and so on
+    Any(Vec<QueryScorer<T>>, Vec<Score>),
+    Without(Box<QueryScorer<T>>, Box<QueryScorer<T>>),
+}
+
+impl<T: Scorer> Model for QueryScorer<T> {
+    ghost use Rattle.ii_base.specs.declared.doc_id.TheConstants.{TERMINATED};
+    ghost use Rattle.ii_scorer.specs.Scorers.{ScorerState, scores_below};
+
+    ghost Value = { ScorerState };
+
+    ghost use Rattle.ii_scorer.specs.QueryScorers.{PartsAreBounded, depth_of, score_by_parts};
+
+    ghost view = { λ s. record { scores = scores_below TERMINATED (score_by_parts T.state s.parts); most = s.most; depth = depth_of s.parts } };
+
+    ghost invariant = { λ s. PartsAreBounded T.state s.most s.parts };
+
+    ghost size = { λ s. s.depth };
+
+    ghost use Rattle.ii_scorer.specs.ScorerDepths.{part_depth};
+    ghost use Rattle.std.proofs.Common.{arith};
+
+    ghost size_decreases = { λ s h. Prim.grind (arith, part_depth) };
+}
+
+impl<T: Scorer> QueryScorer<T> {
+    /// Returns a scorer of no documents.
+    pub fn nothing() -> QueryScorer<T>
+        ensures { (doc : ℕ) → score_of result doc ≡ None }
+    {
+        QueryScorer {
+            parts: ScorerParts::Nothing,
+            most: 0,
+        }
+    }
+
+    /// Returns a scorer of the documents of one scorer.
+    pub fn one(scorer: T) -> QueryScorer<T>
+        ensures { (doc : ℕ) → score_of result doc ≡ score_of (T.state scorer) doc }
+    {
+        let most = scorer.max_score();
+        QueryScorer {
+            parts: ScorerParts::One(scorer),
+            most,
+        }
+    }
+
+    /// Returns a scorer of all documents below `limit`, each of which scores 1.0. No document is `TERMINATED` or above.
+    pub fn all(limit: DocId) -> QueryScorer<T>
+        ensures { (doc : ℕ) → score_of result doc ≡ (if nat_lt doc (min limit TERMINATED) then Some SCORE_ONE else None) }
+    {
+        QueryScorer {
+            parts: ScorerParts::All(limit),
+            most: SCORE_ONE,
+        }
+    }
+
+    /// Returns a scorer of the documents that each of some scorers matches, with the sum of their scores; of none
+    /// without scorers.
+    pub fn each(scorers: Vec<QueryScorer<T>>) -> QueryScorer<T>
+        ensures { (doc : ℕ) → score_of result doc ≡ each_of (scores_at scorers.items doc) }
+    {
+        let most = sum_of_most(&scorers);
+        QueryScorer {
+            parts: ScorerParts::Each(scorers),
+            most,
+        }
+    }
+
+    /// Returns a scorer of the documents that at least one of some scorers matches, with the sum of the scores of those
+    /// that match. Fails only with `OutOfMemory`.
+    pub fn any(alloc: Global, scorers: Vec<QueryScorer<T>>) -> Result<QueryScorer<T>, Fault>
+        ensures scores { IfOk result (λ scorer. (doc : ℕ) → score_of scorer doc ≡ any_of (scores_at scorers.items doc)) }
+        ensures only { OnlyMemory result }
+    {
+        let mut parts = scorers;
+        parts.sort_unstable_by_key(|part| part.bound());
+        let sums = match sums_of_most(alloc, &parts) {
+            Ok(sums) => sums,
+            Err(fault) => return Err(fault),
+        };
+        let most = sum_of_most(&parts);
+        Ok(QueryScorer {
+            parts: ScorerParts::Any(parts, sums),
+            most,
+        })
+    }
+
+    /// Returns a scorer of the documents that `first` matches and `other` doesn't, with the scores of `first`. Fails only
+    /// with `OutOfMemory`.
+    pub fn without(
+        alloc: Global,
+        first: QueryScorer<T>,
+        other: QueryScorer<T>,
+    ) -> Result<QueryScorer<T>, Fault>
+        ensures scores { IfOk result (λ scorer. (doc : ℕ) → score_of scorer doc ≡ unless (score_of first doc) (score_of other doc)) }
+        ensures only { OnlyMemory result }
+    {
+        let most = first.bound();
+        let first = Box::new(alloc, first)?;
+        let other = Box::new(alloc, other)?;
+        Ok(QueryScorer {
+            parts: ScorerParts::Without(first, other),
+            most,
+        })
+    }
+
+    // Returns a score that no document exceeds.
+    fn bound(&self) -> Score
+        ensures most { result ≡ self.now.most }
+        ensures bounded { IsBounded self.now }
+    {
+        self.most
+    }
+
+    // Returns a document from `target` on, before which none scores `least`.
+    #[cycle(go_to)]
+    fn go_to(&mut self, target: DocId, least: Score) -> DocId
+        requires { target ≤ TERMINATED }
+        ensures next { IsNext target least (score_of self.old) result }
+        ensures kept { KeepsFrom target self.old self.new }
+    {
+        next_of(&mut self.parts, self.most, target, least)
+    }
+
+    // Returns what a document scores, if that is at least `least`.
+    #[cycle(score)]
+    fn score(&mut self, doc: DocId, least: Score) -> Option<Score>
+        requires { doc < TERMINATED }
+        ensures score { result ≡ if_at_least least (score_of self.old doc) }
+        ensures kept { KeepsFrom doc self.old self.new }
+    {
+        score_by(&mut self.parts, self.most, doc, least)
+    }
+}
+
+impl<T: Scorer> Scorer for QueryScorer<T> {
+    ghost state = { λ s. s };
+
+    fn max_score(&self) -> Score {
+        self.bound()
+    }
+
+    fn seek_with_score(&mut self, target: DocId, least: Score) -> DocId {
+        self.go_to(target, least)
+    }
+
+    fn score_at(&mut self, doc: DocId, least: Score) -> Option<Score> {
+        self.score(doc, least)
+    }
+}
+
+// Returns the sum of the greatest scores of some scorers.
+fn sum_of_most<T: Scorer>(parts: &Vec<QueryScorer<T>>) -> Score
+    ensures { AreBounded result parts.now.items }
+{
+    let mut sum: Score = 0;
+    let mut place = parts.len();
+    while place > 0 {
+        place -= 1;
+        sum = parts[place].bound().saturating_add(sum);
+    }
+    sum
+}
+
+// Returns the sums of the greatest scores of the first of some scorers, of the first two, and so on.
+fn sums_of_most<T: Scorer>(alloc: Global, parts: &Vec<QueryScorer<T>>) -> Result<Vec<Score>, Fault>
+    ensures sums { IfOk result (λ sums. sums.items ≡ sums_after 0 parts.now.items) }
+    ensures only { OnlyMemory result }
+{
+    let mut sums = Vec::new(alloc);
+    let mut sum: Score = 0;
+    for place in 0..parts.len() {
+        sum = sum.saturating_add(parts[place].bound());
+        sums.push(sum)?;
+    }
+    Ok(sums)
+}
+
+// Returns a document from `target` on, before which none scores `least` by parts of a scorer, by which none scores more
+// than `most`.
+#[cycle(go_to)]
+fn next_of<T: Scorer>(parts: &mut ScorerParts<T>, most: Score, target: DocId, least: Score) -> DocId
+    requires up_to { target ≤ TERMINATED }
+    requires bounded { PartsAreBounded T.state most parts.old }
+    ensures next { IsNext target least (score_by_parts T.state parts.old) result }
+    ensures alike { (doc : ℕ) → target ≤ doc → score_by_parts T.state parts.new doc ≡ score_by_parts T.state parts.old doc }
+    ensures depth { depth_of parts.new ≡ depth_of parts.old }
+    ensures bounded { PartsAreBounded T.state most parts.new }
+{
+    if most < least {
+        return TERMINATED;
+    }
+    match parts {
+        ScorerParts::Nothing => TERMINATED,
+        ScorerParts::One(scorer) => scorer.seek_with_score(target, least),
+        ScorerParts::All(limit) => next_of_all(*limit, target),
+        ScorerParts::Each(parts) => meet(parts, target),
+        ScorerParts::Any(parts, sums) => next_of_any(parts, sums, target, least),
+        ScorerParts::Without(first, _) => first.go_to(target, least),
+    }
+}
+
+// Returns the first document from `target` on that is below `limit`.
+fn next_of_all(limit: DocId, target: DocId) -> DocId
+    requires { target ≤ TERMINATED }
+    ensures { IsNext target 0 (λ doc. if nat_lt doc (min limit TERMINATED) then Some SCORE_ONE else None) result }
+{
+    if target < limit { target } else { TERMINATED }
+}
+
+// Moves scorers to a document, until one doesn't match it. Returns it if all may match, else a greater document; no
+// document between matches all.
+#[cycle(go_to)]
+fn meet<T: Scorer>(parts: &mut Vec<QueryScorer<T>>, target: DocId) -> DocId
+    requires { target ≤ TERMINATED }
+    ensures next { IsNext target 0 (λ doc. each_of (scores_at parts.old.items doc)) result }
+    ensures kept { AllZip (KeepsFrom target) parts.old.items parts.new.items }
+{
+    for place in 0..parts.len() {
+        let next = parts[place].go_to(target, 0);
+        if next > target {
+            return next;
+        }
+        if next == TERMINATED {
+            return next;
+        }
+    }
+    target
+}
+
+// Returns the first document from `target` on that one of those scorers may match without which no document scores
+// `least`: the first ones, of the least scores, don't reach it together.
+#[cycle(go_to)]
+fn next_of_any<T: Scorer>(
+    parts: &mut Vec<QueryScorer<T>>,
+    sums: &Vec<Score>,
+    target: DocId,
+    least: Score,
+) -> DocId
+    requires up_to { target ≤ TERMINATED }
+    requires bounded { AllByRecursion IsBounded parts.old.items }
+    requires sums { sums.now.items ≡ sums_after 0 parts.old.items }
+    ensures next { IsNext target least (λ doc. any_of (scores_at parts.old.items doc)) result }
+    ensures kept { AllZip (KeepsFrom target) parts.old.items parts.new.items }
+{
+    let mut next = TERMINATED;
+    for place in num_below(sums, least)..parts.len() {
+        let doc = parts[place].go_to(target, 0);
+        next = next.min(doc);
+    }
+    next
+}
+
+// Returns how many of the first sums are below a number.
+fn num_below(sums: &Vec<Score>, least: Score) -> usize
+    ensures within { result ≤ length sums.now.items }
+    ensures below { 0 < result → get_or sums.now.items (result - 1) 0 < least }
+{
+    let mut count = 0;
+    while count < sums.len() && sums[count] < least {
+        count += 1;
+    }
+    count
+}
+
+// Returns what a document scores by parts of a scorer, by which none scores more than `most`, if that is at least `least`.
+#[cycle(score)]
+fn score_by<T: Scorer>(
+    parts: &mut ScorerParts<T>,
+    most: Score,
+    doc: DocId,
+    least: Score,
+) -> Option<Score>
+    requires low { doc < TERMINATED }
+    requires bounded { PartsAreBounded T.state most parts.old }
+    ensures score { result ≡ if_at_least least (score_by_parts T.state parts.old doc) }
+    ensures alike { (d : ℕ) → doc ≤ d → score_by_parts T.state parts.new d ≡ score_by_parts T.state parts.old d }
+    ensures depth { depth_of parts.new ≡ depth_of parts.old }
+    ensures bounded { PartsAreBounded T.state most parts.new }
+{
+    match parts {
+        ScorerParts::Nothing => None,
+        ScorerParts::One(scorer) => scorer.score_at(doc, least),
+        ScorerParts::All(limit) => if_at_least(least, score_of_all(*limit, doc)),
+        ScorerParts::Each(parts) => if_at_least(least, score_of_each(parts, doc)),
+        ScorerParts::Any(parts, sums) => score_of_any(parts, sums, doc, least),
+        ScorerParts::Without(first, other) => score_without(first, other, doc, least),
+    }
+}
+
+// Returns what a document scores, if it is below `limit`.
+fn score_of_all(limit: DocId, doc: DocId) -> Option<Score>
+    ensures { result ≡ (if nat_lt doc (min limit TERMINATED) then Some SCORE_ONE else None) }
+{
+    if doc < limit.min(TERMINATED) {
+        return Some(SCORE_ONE);
+    }
+    None
+}
+
+// Returns what a document scores, if each of some scorers matches it.
+#[cycle(score)]
+fn score_of_each<T: Scorer>(parts: &mut Vec<QueryScorer<T>>, doc: DocId) -> Option<Score>
+    requires { doc < TERMINATED }
+    ensures score { result ≡ each_of (scores_at parts.old.items doc) }
+    ensures kept { AllZip (KeepsFrom doc) parts.old.items parts.new.items }
+{
+    if parts.is_empty() {
+        return None;
+    }
+    let mut sum = parts[0].score(doc, 0);
+    for place in 1..parts.len() {
+        if sum.is_none() {
+            return None;
+        }
+        let score = parts[place].score(doc, 0);
+        sum = both(sum, score);
+    }
+    sum
+}
+
+// Returns what a document scores by some scorers, of which one has to match it, if that is at least `least`. Those of
+// the greatest scores are asked first, and no more once the others don't reach it together.
+#[cycle(score)]
+fn score_of_any<T: Scorer>(
+    parts: &mut Vec<QueryScorer<T>>,
+    sums: &Vec<Score>,
+    doc: DocId,
+    least: Score,
+) -> Option<Score>
+    requires low { doc < TERMINATED }
+    requires bounded { AllByRecursion IsBounded parts.old.items }
+    requires sums { sums.now.items ≡ sums_after 0 parts.old.items }
+    ensures score { result ≡ if_at_least least (any_of (scores_at parts.old.items doc)) }
+    ensures kept { AllZip (KeepsFrom doc) parts.old.items parts.new.items }
+{
+    let mut sum = None;
+    let mut place = parts.len();
+    while place > 0 {
+        place -= 1;
+        if most_with(sum, sums[place]) < least {
+            return None;
+        }
+        let score = parts[place].score(doc, 0);
+        sum = either(score, sum);
+    }
+    if_at_least(least, sum)
+}
+
+// Returns the greatest score that a document may have by a score and parts that add at most so much.
+fn most_with(sum: Option<Score>, more: Score) -> Score
+    ensures { (score : Option ℕ) → IsUpTo more score → IsUpTo result (either score sum) }
+{
+    match sum {
+        Some(sum) => more.saturating_add(sum),
+        None => more,
+    }
+}
+
+// Returns what a document scores by `first`, if that is at least `least`, unless `other` matches it.
+#[cycle(score)]
+fn score_without<T: Scorer>(
+    first: &mut Box<QueryScorer<T>>,
+    other: &mut Box<QueryScorer<T>>,
+    doc: DocId,
+    least: Score,
+) -> Option<Score>
+    requires { doc < TERMINATED }
+    ensures score { result ≡ if_at_least least (unless (score_of first.old.value doc) (score_of other.old.value doc)) }
+    ensures first_kept { KeepsFrom doc first.old.value first.new.value }
+    ensures other_kept { KeepsFrom doc other.old.value other.new.value }
+{
+    let score = first.score(doc, least);
+    if score.is_none() {
+        return None;
+    }
+    if other.score(doc, 0).is_some() {
+        return None;
+    }
+    score
+}

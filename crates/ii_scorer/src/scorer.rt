@@ -1,0 +1,32 @@
+ghost use Rattle.std.specs.Prelude.{◌≡◌, ◌<◌, ◌≤◌, ℕ};
+ghost use Rattle.ii_base.specs.declared.doc_id.TheConstants.{TERMINATED};
+ghost use Rattle.ii_scorer.specs.Scorers.{IsBounded, IsNext, KeepsFrom, ScorerState, if_at_least, score_of};
+
+use ii_base::DocId;
+use ii_bm25::Score;
+
+/// Gives the scores of documents, which are asked for in ascending order.
+///
+/// Its model is what each document scores that wasn't passed, and a score that none exceeds.
+pub trait Scorer: Drop {
+    ghost state: { Self → ScorerState };
+
+    /// Returns a score that no document exceeds.
+    fn max_score(&self) -> Score
+        ensures most { result ≡ (state self.now).most }
+        ensures bounded { IsBounded (state self.now) };
+
+    /// Returns a document from `target` on, such that those before it score less than `least`; or `TERMINATED`, if
+    /// all from `target` on do. Passes at most the documents below `target`. The target must be at most
+    /// `TERMINATED`.
+    fn seek_with_score(&mut self, target: DocId, least: Score) -> DocId
+        requires { target ≤ TERMINATED }
+        ensures next { IsNext target least (score_of (state self.old)) result }
+        ensures kept { KeepsFrom target (state self.old) (state self.new) };
+
+    /// Returns what a document scores, if that is at least `least`. Passes at most the documents below it.
+    fn score_at(&mut self, doc: DocId, least: Score) -> Option<Score>
+        requires { doc < TERMINATED }
+        ensures score { result ≡ if_at_least least (score_of (state self.old) doc) }
+        ensures kept { KeepsFrom doc (state self.old) (state self.new) };
+}
