@@ -14,7 +14,7 @@ use Rattle.ii_ranking.specs.Scores.{entry_at}
 use Rattle.ii_scorer.proofs.SumLemmas.{either_none}
 
 -- below its first document a list has no entry
-none_below : (doc : ℕ) (es : List Entry) → IsAscending es → doc < doc_at es → entry_at es doc ≡ None
+pub none_below : (doc : ℕ) (es : List Entry) → IsAscending es → doc < doc_at es → entry_at es doc ≡ None
 none_below doc [] up low = refl
 none_below doc (e ∷ es) up low =
     let first = up.0 in

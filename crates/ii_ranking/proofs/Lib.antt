@@ -3,6 +3,7 @@ pub mod CountLaws
 pub mod EntryLemmas
 pub mod EntryTokens
 pub mod GatherLemmas
+pub mod LeafLemmas
 pub mod LocalScores
 pub mod OneIndexLaws
 pub mod MatchLaws

@@ -1,5 +1,6 @@
 -- Laws of the scores of phrases.
-use Rattle.std.proofs.Common.{◌≡◌, ◌∙◌, ℕ, ◌<◌, ◌≤◌, Bool, List, [], ◌∷◌, Option, drop, filter, length, refl, sym, ap, arith}
+use Rattle.std.proofs.Common.{◌≡◌, ◌∙◌, ℕ, ◌<◌, ◌≤◌, Bool, true, false, nat_eq, List, [], ◌∷◌, Option, drop, filter, length, refl, sym, ap, arith}
+use Rattle.std.proofs.lemmas.Bool.{eqb-true}
 use Rattle.std.proofs.lemmas.List.Elements.{filter_agree}
 use Rattle.std.specs.Option.{option_map, unwrap_or}
 use Rattle.ii_base.specs.declared.doc_id.TheConstants.{TERMINATED}
@@ -38,3 +39,19 @@ starts_here slop score_of doc count (e ∷ es) old now here low m is =
 pub next_up : (es later : List Entry) → IsAscending es → later ≡ drop 1 es → doc_at es < TERMINATED → doc_at es ≤ doc_at later
 next_up [] later up is low = absurd (omega (arith, low))
 next_up (e ∷ es) later up is low = let first = up.0 in rw is (omega (arith, first))
+
+-- what a document scores by the starts in its entry, once other terms moved up to it
+pub starts_moved : (slop : ℕ) (score_of : ℕ → ℕ) (from doc : ℕ) (es : List Entry) (old new : List PhrasePartState) → from ≤ doc → HaveMoved from old new → starts_score slop score_of new (entry_at es doc) ≡ starts_score slop score_of old (entry_at es doc)
+starts_moved slop score_of from doc [] old new up m = refl
+starts_moved slop score_of from doc (e ∷ es) old new up m = by (nat_eq e.doc doc) refl (starts_moved slop score_of from doc es old new up m)
+  where
+    by : (t : Bool) → nat_eq e.doc doc ≡ t → starts_score slop score_of new (entry_at es doc) ≡ starts_score slop score_of old (entry_at es doc) → starts_score slop score_of new (entry_at (e ∷ es) doc) ≡ starts_score slop score_of old (entry_at (e ∷ es) doc)
+    by true is later =
+        let same = eqb-true e.doc doc is in
+        rw is (ap (if_occurs score_of) (ap length (filter_agree (stand_near slop new e.doc) (stand_near slop old e.doc)
+        (λ start. any_alike (λ (back : ℕ). parts_have (is_near slop back start) new e.doc) (λ (back : ℕ). parts_have (is_near slop back start) old e.doc) (ways_back slop) (λ back. m.alike (is_near slop back start) e.doc (omega (arith, up, same)))) e.positions)))
+    by false is later = rw is later
+
+-- the same terms
+pub moved_same : (doc : ℕ) (old new : List PhrasePartState) → new ≡ old → HaveMoved doc old new
+moved_same doc old new same = record { alike = λ test d up. ap (λ (parts : List PhrasePartState). parts_have test parts d) same }

@@ -34,7 +34,7 @@ has_doc_above doc (e ∷ es) up high =
     rw (ne_eqb e.doc doc (λ same. omega (arith, first, below, high, same))) (has_doc_above doc es up.1 high)
 
 -- whether a document is the first from itself on
-first_from : (doc : ℕ) (new : List Entry) → IsAscending new → doc ≤ doc_at new → doc < TERMINATED → nat_eq (doc_at new) doc ≡ has_doc new doc
+pub first_from : (doc : ℕ) (new : List Entry) → IsAscending new → doc ≤ doc_at new → doc < TERMINATED → nat_eq (doc_at new) doc ≡ has_doc new doc
 first_from doc [] up low below = ne_eqb TERMINATED doc (λ same. omega (arith, below, same))
 first_from doc (e ∷ es) up low below = by (nat_eq e.doc doc) refl
   where
@@ -57,15 +57,15 @@ no_entry doc (e ∷ es) none = by (nat_eq e.doc doc) refl (no_entry doc es)
     by false test later = rw test (later (rw test at none))
 
 -- documents below this one don't matter
-entry_from : (doc : ℕ) (es : List Entry) → entry_at (from_doc doc es) doc ≡ entry_at es doc
-entry_from doc [] = refl
-entry_from doc (e ∷ es) =
-    elim (leb_tells doc e.doc) [
-      | inl h ↦ rw h.0 (by (nat_eq e.doc doc) refl (entry_from doc es))
-      | inr h ↦ rw (h.0, ne_eqb e.doc doc (λ same. omega (arith, h.1, same))) (entry_from doc es)
+pub entry_from : (target doc : ℕ) (es : List Entry) → target ≤ doc → entry_at (from_doc target es) doc ≡ entry_at es doc
+entry_from target doc [] up = refl
+entry_from target doc (e ∷ es) up =
+    elim (leb_tells target e.doc) [
+      | inl h ↦ rw h.0 (by (nat_eq e.doc doc) refl (entry_from target doc es up))
+      | inr h ↦ rw (h.0, ne_eqb e.doc doc (λ same. omega (arith, h.1, same, up))) (entry_from target doc es up)
     ]
   where
-    by : (t : Bool) → nat_eq e.doc doc ≡ t → entry_at (from_doc doc es) doc ≡ entry_at es doc → entry_at (e ∷ from_doc doc es) doc ≡ entry_at (e ∷ es) doc
+    by : (t : Bool) → nat_eq e.doc doc ≡ t → entry_at (from_doc target es) doc ≡ entry_at es doc → entry_at (e ∷ from_doc target es) doc ≡ entry_at (e ∷ es) doc
     by true test later = rw test refl
     by false test later = rw test later
 
@@ -81,7 +81,7 @@ pub entry_of : (doc : ℕ) (old new : List Entry) → IsAt doc old new → IsEnt
 entry_of doc old [] at = absurd (let low = at.below in let here = at.current in omega (arith, low, here))
 entry_of doc old (e ∷ es) at = record {
   entry = e;
-  found = sym (entry_from doc old) ∙ ap (λ (row : List Entry). entry_at row doc) (sym at.rest) ∙ ap (entry_at (e ∷ es)) (sym at.current) ∙ entry_here e es;
+  found = sym (entry_from doc doc old (omega arith)) ∙ ap (λ (row : List Entry). entry_at row doc) (sym at.rest) ∙ ap (entry_at (e ∷ es)) (sym at.current) ∙ entry_here e es;
   doc_is = at.current;
   freq = refl;
   positions = refl;

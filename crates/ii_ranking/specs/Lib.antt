@@ -1,4 +1,5 @@
 pub mod Combinations
+pub mod LeafScorers
 pub mod OneIndex
 pub mod Scores
 pub mod Segments

@@ -4,10 +4,10 @@ ghost use Rattle.ii_io.specs.Faults.{OnlyMemory};
 ghost use Rattle.ii_base.specs.declared.doc_id.TheConstants.{TERMINATED};
 ghost use Rattle.ii_bm25.specs.declared.bm25.TheConstants.{SCORE_ONE};
 ghost use Rattle.ii_ranking.specs.Combinations.{Adds, AreCombined, added_at, combined};
-ghost use Rattle.ii_scorer.specs.Combinations.{either};
 
 use ii_base::{DocId, Fault, TERMINATED};
 use ii_bm25::{SCORE_ONE, Score};
+use ii_scorer::{both, either};
 use std::alloc::Global;
 
 /// How two scores of a document become one.
@@ -32,27 +32,6 @@ fn combined(by: Combination, first: Option<Score>, other: Option<Score>) -> Opti
             None => first,
             Some(_) => None,
         },
-    }
-}
-
-// Returns what a document scores by two parts, of which one has to match.
-pub(crate) fn either(first: Option<Score>, other: Option<Score>) -> Option<Score>
-    ensures { result ≡ either first other }
-{
-    match (first, other) {
-        (None, other) => other,
-        (first, None) => first,
-        (Some(first), Some(other)) => Some(first.saturating_add(other)),
-    }
-}
-
-// Returns what a document scores by two parts, of which both have to match.
-fn both(first: Option<Score>, other: Option<Score>) -> Option<Score>
-    ensures { result ≡ combined Combination.Both first other }
-{
-    match (first, other) {
-        (Some(first), Some(other)) => Some(first.saturating_add(other)),
-        _ => None,
     }
 }
 

@@ -3,7 +3,11 @@
 #![tactic(auto)]
 
 pub mod combination;
+mod found_scorer;
 pub mod laws;
+mod leaf_scorer;
+mod opening;
+mod phrase_scorer;
 pub mod phrase_scores;
 pub mod range_scores;
 pub mod ranking;
@@ -11,15 +15,14 @@ pub mod scores;
 pub mod segments;
 pub mod shares;
 pub mod statistics;
+mod term_scorer;
 pub mod term_scores;
-pub mod top_docs;
-mod top_n_computer;
 
 pub use ii_bm25::{Bm25StatisticsProvider, SCORE_ONE, Score};
+pub use ii_scorer::TopDocs;
 pub use laws::{scores_are_of_tokens, scores_count_tokens, shares_add_up};
 pub use ranking::search;
 pub use scores::score_docs;
 pub use segments::{RankedSegment, search_segments};
 pub use shares::{Share, explain};
 pub use statistics::GatheredStatistics;
-pub use top_docs::TopDocs;

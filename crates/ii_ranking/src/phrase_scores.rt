@@ -9,6 +9,7 @@ ghost use Rattle.ii_bm25.specs.Statistics.{Statistics, idfs_of};
 ghost use Rattle.ii_fieldnorm.specs.Readers.{norms_of_ids};
 ghost use Rattle.ii_query.specs.Phrase.{IsUnread, parts_in};
 ghost use Rattle.ii_ranking.specs.Combinations.{Adds};
+ghost use Rattle.ii_ranking.specs.LeafScorers.{id_among};
 ghost use Rattle.ii_ranking.specs.Scores.{IsScoreFault, if_occurs, norm_id_in, norms_damage, parts_damage, parts_of, phrase_count, phrase_damage, phrase_score, scored_in};
 
 use crate::combination::add_at;
@@ -110,7 +111,7 @@ fn sum_of_idfs<S: Bm25StatisticsProvider>(
 }
 
 // Returns cursors over the other terms of a phrase.
-fn phrase_parts(
+pub(crate) fn phrase_parts(
     alloc: Global,
     index: &OpenIndex,
     others: &[PhraseTerm],
@@ -159,13 +160,14 @@ fn add_starts(
 }
 
 // Returns what a document scores in which a phrase begins so many times.
-fn score_of(
+pub(crate) fn score_of(
     weight: &Bm25Weight,
     norms: &Option<FieldNormReader>,
     doc: DocId,
     count: u32,
 ) -> Option<Score>
-    ensures { (ids : Option (List ℕ)) → norms.now ≡ option_map norms_of_ids ids → result ≡ if_occurs (bm25_score weight.now (norm_id_in ids doc)) count }
+    ensures among { result ≡ if_occurs (bm25_score weight.now (id_among norms.now doc)) count }
+    ensures ids { (ids : Option (List ℕ)) → norms.now ≡ option_map norms_of_ids ids → result ≡ if_occurs (bm25_score weight.now (norm_id_in ids doc)) count }
 {
     if count == 0 {
         return None;

@@ -11,12 +11,11 @@ ghost use Rattle.ii_scorer.specs.TopDocs.{AreBest, scored_docs};
 ghost use Rattle.ii_scorer.specs.TopNComputer.{KeepsBest};
 
 use crate::scores::score_docs;
-use crate::top_docs::TopDocs;
-use crate::top_n_computer::TopNComputer;
 use ii_base::{DocId, Fault};
 use ii_bm25::{Bm25StatisticsProvider, Score};
 use ii_query_parser::Query;
 use ii_reader::OpenIndex;
+use ii_scorer::{TopDocs, TopNComputer};
 use std::alloc::Global;
 
 /// Returns the best of the documents below a number that match a query, each with its score: the greatest score

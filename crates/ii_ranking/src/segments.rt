@@ -13,13 +13,12 @@ ghost use Rattle.ii_scorer.specs.TopDocs.{AreBest};
 ghost use Rattle.ii_scorer.specs.TopNComputer.{KeepsBest};
 
 use crate::scores::score_docs;
-use crate::top_docs::TopDocs;
-use crate::top_n_computer::TopNComputer;
 use ii_alive::AliveBits;
 use ii_base::{DocId, Fault};
 use ii_bm25::{Bm25StatisticsProvider, Score};
 use ii_query_parser::Query;
 use ii_reader::OpenIndex;
+use ii_scorer::{TopDocs, TopNComputer};
 use std::alloc::Global;
 
 /// An open segment whose documents are ranked: its index, and which of its documents are alive.

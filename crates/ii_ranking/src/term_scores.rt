@@ -11,6 +11,7 @@ ghost use Rattle.ii_fieldnorm.specs.Readers.{norms_of_ids};
 ghost use Rattle.ii_reader.specs.InvertedIndexReader.{IsRefusal};
 ghost use Rattle.ii_search.specs.Found.{docs_of_term};
 ghost use Rattle.ii_ranking.specs.Combinations.{Adds};
+ghost use Rattle.ii_ranking.specs.LeafScorers.{id_among};
 ghost use Rattle.ii_ranking.specs.Scores.{IsAt, IsScoreFault, entry_at, norm_id_in, norms_damage, scored_in, term_damage, term_score};
 
 use crate::combination::add_at;
@@ -68,7 +69,8 @@ pub(crate) fn norms_of(index: &OpenIndex, field: Field) -> Result<Option<FieldNo
 
 // Returns the norm id of a document, that of the norm 1 if the field has none for it.
 pub(crate) fn norm_id(norms: &Option<FieldNormReader>, doc: DocId) -> u8
-    ensures { (ids : Option (List ℕ)) → norms.now ≡ option_map norms_of_ids ids → result ≡ norm_id_in ids doc }
+    ensures among { result ≡ id_among norms.now doc }
+    ensures ids { (ids : Option (List ℕ)) → norms.now ≡ option_map norms_of_ids ids → result ≡ norm_id_in ids doc }
 {
     match norms {
         Some(norms) => {

@@ -1,5 +1,5 @@
 -- The documents of a scorer by their numbers in an index.
-use Rattle.std.specs.Prelude.{ℕ, Bool, List, Option, None, if◌then◌else◌}
+use Rattle.std.specs.Prelude.{ℕ, ◌<◌, ◌≤◌, ◌^◌, Bool, List, Option, None, if◌then◌else◌}
 use Rattle.ii_scorer.specs.TopDocs.{scored_by_number}
 
 -- how many documents there are, which of them count, and the number of each
@@ -7,6 +7,11 @@ pub record Numbering : Type 0 where
   pub num_docs : ℕ
   pub counts : ℕ → Bool
   pub number : ℕ → ℕ
+
+-- The numbers of documents ascend as they do, and have 32 bits.
+pub record AreNumbers (n : Numbering) : Type 0 where
+  pub ascend : (doc later : ℕ) → doc ≤ later → later < n.num_docs → n.number doc ≤ n.number later
+  pub fit : (doc : ℕ) → doc < n.num_docs → n.number doc < 2 ^ 32
 
 -- what a document scores, if it counts
 abbrev pub counted_score : Numbering → (ℕ → Option ℕ) → ℕ → Option ℕ

@@ -1,8 +1,8 @@
 //! The best of the documents that a scorer gives.
-ghost use Rattle.std.specs.Prelude.{◌≡◌, ◌<◌, ◌≤◌, ◌^◌, ◌++◌, ℕ, List, OnOk};
+ghost use Rattle.std.specs.Prelude.{◌≡◌, ◌≤◌, ◌<◌, ◌++◌, ℕ, List, OnOk};
 ghost use Rattle.ii_io.specs.Faults.{OnlyMemory};
 ghost use Rattle.ii_base.specs.declared.doc_id.TheConstants.{TERMINATED};
-ghost use Rattle.ii_scorer.specs.BestDocs.{Numbering, counted_score, numbered_docs};
+ghost use Rattle.ii_scorer.specs.BestDocs.{AreNumbers, Numbering, counted_score, numbered_docs};
 ghost use Rattle.ii_scorer.specs.Scorers.{KeepsFrom, score_of};
 ghost use Rattle.ii_scorer.specs.TopDocs.{with_score};
 ghost use Rattle.ii_scorer.specs.TopNComputer.{KeepsBest, MayBePassed};
@@ -21,12 +21,11 @@ pub trait DocNumbers {
     fn num_docs(&self) -> DocId
         ensures { result ≡ (numbering self.now).num_docs };
 
-    /// Returns the number of a document.
+    /// Returns the number of a document. All of them must have 32 bits, and ascend.
     fn number(&self, doc: DocId) -> DocId
-        requires { doc < (numbering self.now).num_docs }
-        ensures number { result ≡ (numbering self.now).number doc }
-        ensures ascend { (later : ℕ) → doc ≤ later → later < (numbering self.now).num_docs → result ≤ (numbering self.now).number later }
-        ensures few { (d : ℕ) → d < (numbering self.now).num_docs → (numbering self.now).number d < 2 ^ 32 };
+        requires inside { doc < (numbering self.now).num_docs }
+        requires numbers { AreNumbers (numbering self.now) }
+        ensures { result ≡ (numbering self.now).number doc };
 
     /// Returns whether a document counts.
     fn counts(&self, doc: DocId) -> bool
@@ -35,12 +34,14 @@ pub trait DocNumbers {
 }
 
 /// Adds the documents that count and have a score, each by its number with the score, to those of which the best are kept.
-/// Documents that score too little for that are passed. Fails only with `OutOfMemory`.
+/// Documents that score too little for that are passed. Their numbers must have 32 bits, and ascend. Fails only with
+/// `OutOfMemory`.
 pub fn push_best<T: Scorer, N: DocNumbers>(
     scorer: &mut T,
     numbers: &N,
     computer: &mut TopNComputer,
 ) -> Result<(), Fault>
+    requires { AreNumbers (N.numbering numbers.now) }
     ensures kept { (scored : List (ℕ × ℕ)) → KeepsBest scored computer.old → OnOk result (KeepsBest (scored ++ numbered_docs (N.numbering numbers.now) (score_of (T.state scorer.old))) computer.new) }
     ensures wanted { computer.new.top_n ≡ computer.old.top_n }
     ensures only { OnlyMemory result }
@@ -67,6 +68,7 @@ fn push_doc<T: Scorer, N: DocNumbers>(
     least: Score,
     computer: &mut TopNComputer,
 ) -> Result<(), Fault>
+    requires numbers { AreNumbers (N.numbering numbers.now) }
     requires inside { doc < (N.numbering numbers.now).num_docs }
     requires low { doc < TERMINATED }
     requires passes { (score : ℕ) → score < least → MayBePassed computer.old (score, (N.numbering numbers.now).number doc) }

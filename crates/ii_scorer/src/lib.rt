@@ -9,7 +9,7 @@ pub mod top_docs;
 pub mod top_n_computer;
 
 pub use best_docs::{DocNumbers, push_best};
-pub use combination::{both, either};
+pub use combination::{both, either, if_at_least};
 pub use query_scorer::QueryScorer;
 pub use scorer::Scorer;
 pub use top_docs::TopDocs;

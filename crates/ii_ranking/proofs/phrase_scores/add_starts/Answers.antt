@@ -48,7 +48,7 @@ loop-doc-preserved c =
       others_unread = rw rest (unread_after l.first.part.rest c.count_starts-count.new.others.items i.sound.ascending (λ current. counted.unread));
       moved = moved_on l.doc c.advance-doc.result parts (parts_in l.others.items) (parts_in c.count_starts-count.new.others.items) i.moved (record { alike = λ test d up. counted.others_alike test d (let here = i.doc_is in omega (arith, here, up)) }) next;
       adding = λ ids norms.
-          let score = c.score_of.ensures ids norms ∙ sym (starts_here c.args.slop (bm25_score weight (norm_id_in ids l.doc)) l.doc c.count_starts-count.result l.first.part.rest parts (parts_in l.others.items) i.doc_is c.loop-doc-test.true i.moved counted.count) in
+          let score = c.score_of.ensures.ids ids norms ∙ sym (starts_here c.args.slop (bm25_score weight (norm_id_in ids l.doc)) l.doc c.count_starts-count.result l.first.part.rest parts (parts_in l.others.items) i.doc_is c.loop-doc-test.true i.moved counted.count) in
           let is = c.add_at.ensures ∙ ap (λ (s : Option ℕ). added_at s l.doc l.scores.items) score in
           rw is (adds_one (λ (doc : ℕ) (found : Option Entry). starts_score c.args.slop (bm25_score weight (norm_id_in ids doc)) parts found) (λ doc. refl) l.doc c.args.first.now.part.rest l.first.part.rest c.advance-doc.new.self.part.rest c.args.scores.now.items l.scores.items
           i.doc_is c.loop-doc-test.true i.sound.ascending rest (i.adding ids norms));

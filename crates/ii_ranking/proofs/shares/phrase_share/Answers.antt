@@ -14,6 +14,6 @@ pub returns-clause-found : goal.returns-clause-found
 returns-clause-found g c =
     let st = g.S.Bm25StatisticsProvider.statistics c.args.statistics.now in
     let first = c.args.first.now in
-    let id = c.norm_id.ensures (body_of first.field c.args.index.now.fieldnorms) c.in_ok-norms.ensures.norms in
+    let id = c.norm_id.ensures.ids (body_of first.field c.args.index.now.fieldnorms) c.in_ok-norms.ensures.norms in
     ap (λ (share : ShareState). Some share) c.share_of_count.ensures
     ∙ counted_phrase c.args.index.now st first c.args.others.now c.args.slop c.args.doc (tree_of c.args.part.now) c.in_ok-norms.weight c.norm_id.result c.in_ok-count.count (c.in_ok-count.ensures.count st) c.if-count-eq0.false c.requires.part c.in_ok-norms.ensures.weight id

@@ -33,7 +33,7 @@ returns-clause-found g c =
     let norms = c.in_ok-norms.ensures.found ∙ ap (λ (field : ℕ). option_map norms_of_ids (body_of field index.fieldnorms)) c.field.ensures in
     ap (λ (share : ShareState). Some share) c.share_of_count.ensures
     ∙ counted_term index (g.S.Bm25StatisticsProvider.statistics c.args.statistics.now) term c.in_ok-cursor.cursor.rest c.args.doc c.in_ok-cursor.ensures.listed c.goes_to.new.cursor.rest (tree_of c.args.part.now) c.in_ok-weight.weight c.norm_id.result c.term_freq.result
-    (c.goes_to.ensures.here has) c.requires.part c.in_ok-weight.ensures.made (c.norm_id.ensures (body_of term.field index.fieldnorms) norms) c.term_freq.ensures.entry
+    (c.goes_to.ensures.here has) c.requires.part c.in_ok-weight.ensures.made (c.norm_id.ensures.ids (body_of term.field index.fieldnorms) norms) c.term_freq.ensures.entry
 
 pub returns-clause-sound : goal.returns-clause-sound
 returns-clause-sound g c = rw (c.in_ok-cursor.ensures.listed, ← c.field.ensures) c.in_ok-norms.ensures.sound

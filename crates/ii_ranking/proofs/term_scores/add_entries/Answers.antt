@@ -18,7 +18,7 @@ loop-doc-preserved c =
       sound = c.advance-doc.ensures.sound;
       adding = λ ids norms.
           let score : Some c.score-score.result ≡ option_map (λ (e : Entry). bm25_score weight (norm_id_in ids l.doc) e.term_freq) (entry_at l.cursor.rest l.doc) =
-          ap (λ (n : ℕ). Some n) (c.score-score.ensures.value ∙ ap (λ (id : ℕ). bm25_score weight id c.term_freq.result) (c.norm_id.ensures ids norms))
+          ap (λ (n : ℕ). Some n) (c.score-score.ensures.value ∙ ap (λ (id : ℕ). bm25_score weight id c.term_freq.result) (c.norm_id.ensures.ids ids norms))
           ∙ sym (count_here (bm25_score weight (norm_id_in ids l.doc)) l.doc c.term_freq.result l.cursor.rest i.doc_is c.loop-doc-test.true c.term_freq.ensures.entry)
           in
           let is = c.add_at.ensures ∙ ap (λ (s : Option ℕ). added_at s l.doc l.scores.items) score in

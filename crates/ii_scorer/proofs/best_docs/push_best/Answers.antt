@@ -1,4 +1,4 @@
-use Rattle.std.proofs.Common.{◌≡◌, ◌∙◌, ◌++◌, ◌<◌, ◌≤◌, ℕ, arith, inl, rules, subst}
+use Rattle.std.proofs.Common.{◌≡◌, ◌∙◌, ◌++◌, ◌<◌, ◌≤◌, ℕ, arith, inl, rules, subst, sym}
 use Rattle.ii_base.specs.declared.doc_id.TheConstants.{TERMINATED}
 use Rattle.ii_scorer.specs.BestDocs.{first_numbered}
 use Rattle.ii_scorer.specs.Scorers.{IsBelow, score_of}
@@ -17,9 +17,9 @@ returns-then-next-min-clause-kept g c = λ scored h.
     let least = c.min.ensures in
     passes_to n f scored l.computer c.least_score-least.result l.doc n.num_docs (search rules) l.invariant.inside
     (λ d from inside. (
-      c.number.ensures.few d inside,
+      c.requires.fit d inside,
       subst (IsBelow c.least_score-least.result) (l.invariant.alike d from) (c.seek_with_score-next.ensures.next.passed d from (past_end next n.num_docs d (omega (arith, end, many, least)) inside)),
-      λ k low. c.least_score-least.ensures k (n.number d) low (c.number.ensures.ascend d from inside),
+      λ k low. c.least_score-least.ensures k (n.number d) low (subst (λ (m : ℕ). m ≤ n.number d) (sym c.number.ensures) (c.requires.ascend l.doc d from inside)),
     ))
     (l.invariant.kept scored h)
 
@@ -45,9 +45,9 @@ loop-doc-preserved g c =
           (c.in_ok-push_doc.ensures.kept (scored ++ first_numbered n next f)
           (passes_to n f scored l.computer c.least_score-least.result l.doc next (search rules) up
           (λ d from below. (
-            c.number.ensures.few d (omega (arith, below, inside)),
+            c.requires.fit d (omega (arith, below, inside)),
             subst (IsBelow c.least_score-least.result) (l.invariant.alike d from) (c.seek_with_score-next.ensures.next.passed d from (inl below)),
-            λ k less. c.least_score-least.ensures k (n.number d) less (c.number.ensures.ascend d from (omega (arith, below, inside))),
+            λ k less. c.least_score-least.ensures k (n.number d) less (subst (λ (m : ℕ). m ≤ n.number d) (sym c.number.ensures) (c.requires.ascend l.doc d from (omega (arith, below, inside)))),
           ))
           (l.invariant.kept scored h)));
       wanted = c.push_doc.ensures.wanted ∙ l.invariant.wanted;

@@ -11,5 +11,5 @@ returns-clause-kept g c = λ scored h.
     let score = score_of (g.T.Scorer.state c.args.scorer.now) c.args.doc in
     let number = n.number c.args.doc in
     let counts : n.counts c.args.doc ≡ true = search rules in
-    rw counts (pushes_scored scored c.args.computer.now c.push_scored.new.self c.push_scored.result c.args.least number score c.score_at.result c.ranges.least.fits (c.number.ensures.few c.args.doc c.requires.inside) c.score_at.ensures.score c.requires.passes
-    (λ xs k. subst (λ (m : ℕ). OnOk c.push_scored.result (KeepsBest (xs ++ with_score c.score_at.result m) c.push_scored.new.self)) c.number.ensures.number (c.push_scored.ensures.kept xs k)) h)
+    rw counts (pushes_scored scored c.args.computer.now c.push_scored.new.self c.push_scored.result c.args.least number score c.score_at.result c.ranges.least.fits (c.requires.numbers.fit c.args.doc c.requires.inside) c.score_at.ensures.score c.requires.passes
+    (λ xs k. subst (λ (m : ℕ). OnOk c.push_scored.result (KeepsBest (xs ++ with_score c.score_at.result m) c.push_scored.new.self)) c.number.ensures (c.push_scored.ensures.kept xs k)) h)

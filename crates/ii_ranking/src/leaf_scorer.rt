@@ -1,0 +1,45 @@
+//! Scorers that aren't made of others.
+ghost use Rattle.ii_ranking.specs.LeafScorers.{leaf_state};
+
+use crate::found_scorer::FoundScorer;
+use crate::phrase_scorer::PhraseScorer;
+use crate::term_scorer::TermScorer;
+use ii_base::DocId;
+use ii_bm25::Score;
+use ii_scorer::Scorer;
+
+// Gives what documents score by a term, a phrase, or documents that each score 1.0.
+#[derive(Drop)]
+pub(crate) enum LeafScorer {
+    Term(TermScorer),
+    Phrase(PhraseScorer),
+    Found(FoundScorer),
+}
+
+impl Scorer for LeafScorer {
+    ghost state = { leaf_state };
+
+    fn max_score(&self) -> Score {
+        match self {
+            LeafScorer::Term(scorer) => scorer.max_score(),
+            LeafScorer::Phrase(scorer) => scorer.max_score(),
+            LeafScorer::Found(scorer) => scorer.max_score(),
+        }
+    }
+
+    fn seek_with_score(&mut self, target: DocId, least: Score) -> DocId {
+        match self {
+            LeafScorer::Term(scorer) => scorer.seek_with_score(target, least),
+            LeafScorer::Phrase(scorer) => scorer.seek_with_score(target, least),
+            LeafScorer::Found(scorer) => scorer.seek_with_score(target, least),
+        }
+    }
+
+    fn score_at(&mut self, doc: DocId, least: Score) -> Option<Score> {
+        match self {
+            LeafScorer::Term(scorer) => scorer.score_at(doc, least),
+            LeafScorer::Phrase(scorer) => scorer.score_at(doc, least),
+            LeafScorer::Found(scorer) => scorer.score_at(doc, least),
+        }
+    }
+}
