@@ -23,7 +23,7 @@ use Rattle.ii_docset.proofs.CursorLemmas.{doc_below, nothing_left}
 use Rattle.ii_docset.proofs.IntersectionLemmas.{doc_at-from_doc, has_doc-from_doc, has_doc_below}
 use Rattle.ii_fieldnorm.specs.Readers.{Norms, norms_of_ids}
 use Rattle.ii_scorer.specs.Scorers.{IsBounded, IsNext, IsPassed, IsUpTo, KeepsFrom, ScorerState, if_at_least, score_of, scores_below}
-use Rattle.ii_scorer.proofs.PartsLemmas.{row_alike, row_end, row_holds, row_next, row_score}
+use Rattle.ii_scorer.proofs.PartsLemmas.{row_alike, row_end, row_holds, row_is, row_next, row_score}
 use Rattle.ii_scorer.proofs.ScorerLemmas.{below_none}
 use Rattle.ii_ranking.specs.LeafScorers.{id_among, leaf_of}
 use Rattle.ii_ranking.specs.Scores.{entry_at, if_occurs, norm_id_in, parts_of, phrase_count, phrase_score, scored_in, term_score}
@@ -170,6 +170,9 @@ ids_among (Some ids) doc = by (nat_lt doc (length ids)) refl
     by false is = rw is (sym (outside ids doc (ltb-false doc (length ids) is)))
 
 -- ---- what was opened
+pub leaf_is : (f g : ℕ → Option ℕ) (most : ℕ) → ((doc : ℕ) → f doc ≡ g doc) → ((doc : ℕ) → TERMINATED ≤ doc → f doc ≡ None) → (doc : ℕ) → score_of (leaf_of f most) doc ≡ g doc
+leaf_is f g most same ends = row_is f g same (λ doc end. sym (same doc) ∙ ends doc end)
+
 pub term_opened : (index : OpenIndexState) (st : Statistics) (term : TermState) (es : List Entry) (norms : Option Norms) (w : Bm25State) → docs_of_term WithFreqs index term ≡ Ok es → norms ≡ option_map norms_of_ids (body_of term.field index.fieldnorms) → w ≡ bm25_weight (idfs_of st (term ∷ [])) st.num_docs (st.num_tokens term.field)
     → (doc : ℕ) → option_map (λ (e : Entry). bm25_score w (id_among norms doc) e.term_freq) (entry_at es doc) ≡ term_score (scored_in index st) term doc
 term_opened index st term es norms w listed found made doc =

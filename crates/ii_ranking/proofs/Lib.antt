@@ -6,6 +6,7 @@ pub mod GatherLemmas
 pub mod LeafLemmas
 pub mod LocalScores
 pub mod OneIndexLaws
+pub mod OpeningLemmas
 pub mod MatchLaws
 pub mod PhraseCountLaws
 pub mod PhraseScoreLemmas

@@ -1,13 +1,14 @@
 -- Laws of the best documents of several segments.
-use Rattle.std.proofs.Common.{◌≡◌, ◌∙◌, ℕ, suc, ◌+◌, ◌<◌, ◌≤◌, inl, inr, Bool, true, List, [], ◌∷◌, ◌++◌, Option, None, append_assoc, drop, get_or, if◌then◌else◌, length, map, sym, ap, arith}
+use Rattle.std.proofs.Common.{◌≡◌, ◌∙◌, IfErr, Result, Ok, Err, ℕ, suc, ◌+◌, ◌<◌, ◌≤◌, inl, inr, Bool, true, List, [], ◌∷◌, ◌++◌, Option, None, append_assoc, drop, get_or, if◌then◌else◌, length, map, sym, ap, arith}
 use Rattle.std.specs.List.{range_with_len}
 use Rattle.std.proofs.Math.Numerals.{add-one}
 use Rattle.std.proofs.Math.Seq.{drop-cons}
-use Rattle.std.proofs.lemmas.List.{append-nil, get_or-map, length-map}
+use Rattle.std.proofs.lemmas.List.{append-nil, get_or-map, length-map, take_all}
 use Rattle.std.proofs.lemmas.List.FromFn.{get_or-map-range_with_len}
 use Rattle.ii_io.specs.declared.faults.Fault.{Fault}
 use Rattle.ii_io.specs.declared.faults.Part.{Part}
 use Rattle.ii_alive.specs.Alive.{num_living, rank}
+use Rattle.ii_alive.proofs.RankLemmas.{rank_mono}
 use Rattle.ii_bm25.specs.Statistics.{Statistics}
 use Rattle.ii_query_parser.specs.declared.query.Query.{Query}
 use Rattle.ii_query_parser.specs.Queries.{has_fields}
@@ -79,3 +80,15 @@ segment_at segments i s inside is =
     drop-cons (map segment_of segments) i (segment_of s) (omega (arith, many, inside))
     ∙ ap (λ (t : OpenSegmentState). t ∷ drop (suc i) (map segment_of segments)) (get_or-map segment_of segments i s (segment_of s) inside ∙ ap segment_of (sym is))
     ∙ ap (λ (n : ℕ). segment_of s ∷ drop n (map segment_of segments)) (sym (add-one i))
+
+-- as many documents before another one are alive as in all, at most
+pub rank_within : (alive : List Bool) (doc : ℕ) → rank alive doc ≤ num_living alive
+rank_within alive doc =
+    let low = rank_mono alive doc (doc + length alive) (omega arith) in
+    let all : rank alive (doc + length alive) ≡ num_living alive = ap num_living (take_all (doc + length alive) alive (omega arith)) in
+    omega (arith, low, all)
+
+-- what follows from a fault
+pub err_then : {A : Type 0} {P Q : Fault → Type 0} (r : Result A Fault) → IfErr r P → ((fault : Fault) → P fault → Q fault) → IfErr r Q
+err_then (Ok x) holds next = tt
+err_then (Err fault) holds next = next fault holds

@@ -25,7 +25,11 @@ pub(crate) struct FoundScorer {
 
 impl FoundScorer {
     // Opens a cursor over the documents that match a query.
-    pub(crate) fn open(alloc: Global, index: &OpenIndex, query: &Query) -> Result<FoundScorer, Fault>
+    pub(crate) fn open(
+        alloc: Global,
+        index: &OpenIndex,
+        query: &Query,
+    ) -> Result<FoundScorer, Fault>
         requires fields { has_fields (length index.now.readers) query.now ≡ true }
         ensures scores { IfOk result (λ scorer. (doc : ℕ) → score_by_found scorer doc ≡ (if has_doc (opened_or_none (found_in index.now query.now)) doc then Some SCORE_ONE else None)) }
         ensures ends { IfOk result (λ scorer. (doc : ℕ) → TERMINATED ≤ doc → score_by_found scorer doc ≡ None) }

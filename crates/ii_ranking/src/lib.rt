@@ -2,10 +2,12 @@
 //! first. A score is that of BM25 for a term or a phrase, and the sum of the scores of the parts else.
 #![tactic(auto)]
 
+mod clauses;
 pub mod combination;
 mod found_scorer;
 pub mod laws;
 mod leaf_scorer;
+mod numbers;
 mod opening;
 mod phrase_scorer;
 pub mod phrase_scores;

@@ -12,13 +12,16 @@ ghost use Rattle.ii_ranking.specs.TokenScores.{FailsForMemory, GivesBest, tokens
 ghost use Rattle.ii_scorer.specs.TopDocs.{AreBest};
 ghost use Rattle.ii_scorer.specs.TopNComputer.{KeepsBest};
 
+use crate::clauses::has_few_clauses;
+use crate::numbers::LivingNumbers;
+use crate::opening::open_scorer;
 use crate::scores::score_docs;
 use ii_alive::AliveBits;
 use ii_base::{DocId, Fault};
 use ii_bm25::{Bm25StatisticsProvider, Score};
 use ii_query_parser::Query;
 use ii_reader::OpenIndex;
-use ii_scorer::{TopDocs, TopNComputer};
+use ii_scorer::{TopDocs, TopNComputer, push_best};
 use std::alloc::Global;
 
 /// An open segment whose documents are ranked: its index, and which of its documents are alive.
@@ -87,8 +90,35 @@ fn add_segment<S: Bm25StatisticsProvider>(
     ensures fault { IfErr result (IsScoreFault (query_damage index.now query.now)) }
     ensures memory { IfErr result (FailsForMemory query.now (length alive.now) index.now) }
 {
-    let scores = score_docs(alloc, index, alive.num_docs(), statistics, query)?;
+    let num_docs = alive.num_docs();
+    if has_few_clauses(query) {
+        return add_one_by_one(alloc, index, alive, base, statistics, query, computer);
+    }
+    let scores = score_docs(alloc, index, num_docs, statistics, query)?;
     push_living(alive, base, &scores, computer)?;
+    Ok(())
+}
+
+// Adds them one after the other, and passes those that score too little.
+fn add_one_by_one<S: Bm25StatisticsProvider>(
+    alloc: Global,
+    index: &OpenIndex,
+    alive: &AliveBits,
+    base: DocId,
+    statistics: &S,
+    query: &Query,
+    computer: &mut TopNComputer,
+) -> Result<(), Fault>
+    requires fields { has_fields (length index.now.readers) query.now ≡ true }
+    requires few { base + num_living alive.now < 2 ^ 32 }
+    ensures kept { (scored : List (ℕ × ℕ)) → KeepsBest scored computer.old → OnOk result (KeepsBest (scored ++ segment_scored base alive.now (query_score (scored_in index.now (S.statistics statistics.now)) query.now)) computer.new) }
+    ensures wanted { computer.new.top_n ≡ computer.old.top_n }
+    ensures sound { OnOk result (query_damage index.now query.now ≡ None) }
+    ensures fault { IfErr result (IsScoreFault (query_damage index.now query.now)) }
+{
+    let mut scorer = open_scorer(alloc, index, statistics, query)?;
+    let numbers = LivingNumbers { base, alive };
+    push_best(&mut scorer, &numbers, computer)?;
     Ok(())
 }
 

@@ -66,7 +66,9 @@ impl Scorer for TermScorer {
         if go_on(&mut self.cursor, doc) != doc {
             return None;
         }
-        let score = self.weight.score(norm_id(&self.norms, doc), self.cursor.term_freq());
+        let score = self
+            .weight
+            .score(norm_id(&self.norms, doc), self.cursor.term_freq());
         if_at_least(least, Some(score))
     }
 }
