@@ -18,7 +18,7 @@ use Rattle.ii_definitions.specs.declared.index_call.IndexCall.{IndexCall}
 use Rattle.ii_documents.specs.declared.faults.LineFault.{LineFault}
 use Rattle.ii_documents.specs.declared.faults.LineFault.TheVariants.{OutOfMemory}
 use Rattle.nequllpa_indexing.specs.Documents.{AddsLine, DocumentsState, IsLineFault}
-use Rattle.nequllpa_indexing.specs.KeyedLines.{AddsLines, AnswersWithKey, KeepsLast, KeyedLineState, KeyedLinesState, StopsAdding, TellsOfKey, content_key, has_key, key_of_calls, line_key, line_view, only_of, terms_of, texts_of, told_of_refusal, with_line, with_text}
+use Rattle.nequllpa_indexing.specs.KeyedLines.{AddsLines, AnswersWithKey, KeepsLast, KeyedLineState, KeyedLinesState, StopsAdding, TellsOfKey, content_key, line_has_key, key_of_calls, line_key, line_view, only_of, key_terms, line_texts, told_of_refusal, with_line, with_text}
 use Rattle.nequllpa_indexing.specs.declared.faults.InputFault.TheVariants.{Line}
 use Rattle.nequllpa_indexing.specs.declared.faults.LineRefusal.{LineRefusal}
 use Rattle.nequllpa_indexing.specs.declared.faults.LineRefusal.TheVariants.{Input}
@@ -104,12 +104,12 @@ one_key_more keys k key = by (list_any (same_key k) keys) (bytes_eq key k.items)
         ∙ or_comm (list_any (λ (x : Vec ℕ Global). bytes_eq key x.items) keys) (bytes_eq key k.items))
 
 module _ (later : List KeyedLineState) (line : KeyedLine) (keys new : List (Vec ℕ Global)) (kept : List KeyedLine) (k : Vec ℕ Global) (is : k.items ≡ line.key.items) (more : new ≡ insert_key same_key keys k) (h : KeepsLast later keys kept) where
-  keys_more : (key : List ℕ) → list_any (λ (x : Vec ℕ Global). bytes_eq key x.items) new ≡ list_any (has_key key) (line_view line ∷ later)
+  keys_more : (key : List ℕ) → list_any (λ (x : Vec ℕ Global). bytes_eq key x.items) new ≡ list_any (line_has_key key) (line_view line ∷ later)
   keys_more key =
       ap (list_any (λ (x : Vec ℕ Global). bytes_eq key x.items)) more ∙ one_key_more keys k key ∙ ap (λ (b : Bool). bytes_eq key k.items || b) (h.keys_are key)
-      ∙ ap (λ (y : List ℕ). bytes_eq key y || list_any (has_key key) later) is
+      ∙ ap (λ (y : List ℕ). bytes_eq key y || list_any (line_has_key key) later) is
 
-  here : list_any (has_key line.key.items) later ≡ list_any (same_key k) keys
+  here : list_any (line_has_key line.key.items) later ≡ list_any (same_key k) keys
   here = sym (h.keys_are line.key.items) ∙ ap (λ (y : List ℕ). list_any (λ (x : Vec ℕ Global). bytes_eq y x.items) keys) (sym is)
 
   -- a line with the key of a later one
@@ -125,10 +125,10 @@ module _ (later : List KeyedLineState) (line : KeyedLine) (keys new : List (Vec 
 
 -- ---- lines that are added one after the other
 abbrev pub texts : List KeyedLine → List (List ℕ)
-texts lines = texts_of (map line_view lines)
+texts lines = line_texts (map line_view lines)
 
 texts-append : (xs ys : List KeyedLine) → texts (xs ++ ys) ≡ texts xs ++ texts ys
-texts-append xs ys = ap texts_of (map-append line_view xs ys) ∙ map-append (λ (l : KeyedLineState). l.text) (map line_view xs) (map line_view ys)
+texts-append xs ys = ap line_texts (map-append line_view xs ys) ∙ map-append (λ (l : KeyedLineState). l.text) (map line_view xs) (map line_view ys)
 
 adds_then : (old mid new : DocumentsState) (lines : List (List ℕ)) (line : List ℕ) → AddsLines old mid lines → AddsLine mid new line → AddsLines old new (lines ++ line ∷ [])
 adds_then old mid new [] line adds more = (new, subst (λ (s : DocumentsState). AddsLine s new line) adds more, refl)
@@ -160,12 +160,12 @@ module _ (old mid new : DocumentsState) (all done rest : List KeyedLine) (line :
   }
 
 -- the keys of lines, and one more
-pub terms_more : (field : ℕ) (done : List KeyedLine) (line : KeyedLine) (keys more : List TermState) (key : TermState) (bytes : List ℕ) → keys ≡ terms_of field (map line_view done) → key ≡ record { field = field; value = bytes } → bytes ≡ line.key.items → more ≡ keys ++ key ∷ []
-    → more ≡ terms_of field (map line_view (done ++ line ∷ []))
+pub terms_more : (field : ℕ) (done : List KeyedLine) (line : KeyedLine) (keys more : List TermState) (key : TermState) (bytes : List ℕ) → keys ≡ key_terms field (map line_view done) → key ≡ record { field = field; value = bytes } → bytes ≡ line.key.items → more ≡ keys ++ key ∷ []
+    → more ≡ key_terms field (map line_view (done ++ line ∷ []))
 terms_more field done line keys more key bytes are is same pushed =
     pushed ∙ ap (λ (ts : List TermState). ts ++ key ∷ []) are
-    ∙ ap (λ (t : TermState). terms_of field (map line_view done) ++ t ∷ []) (is ∙ ap (λ (b : List ℕ). record { field = field; value = b }) same)
-    ∙ sym (ap (terms_of field) (map-append line_view done (line ∷ [])) ∙ map-append (λ (l : KeyedLineState). record { field = field; value = l.key }) (map line_view done) (line_view line ∷ []))
+    ∙ ap (λ (t : TermState). key_terms field (map line_view done) ++ t ∷ []) (is ∙ ap (λ (b : List ℕ). record { field = field; value = b }) same)
+    ∙ sym (ap (key_terms field) (map-append line_view done (line ∷ [])) ∙ map-append (λ (l : KeyedLineState). record { field = field; value = l.key }) (map line_view done) (line_view line ∷ []))
 
 -- an allocation failed before a line was added
 pub stops_before : (s : DocumentsState) (lines : List (List ℕ)) → StopsAdding OutOfMemory s s lines

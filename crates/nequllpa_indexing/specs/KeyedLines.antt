@@ -49,13 +49,13 @@ pub data KeyRefusal : Type 0 where
   no_key : KeyRefusal
 
 -- the key of a document, given the calls of its line
-abbrev pub key_in : (ℕ → List ℕ → List Word) → ℕ → Result (List Call) Refusal → Result (List ℕ) KeyRefusal
-key_in analyze field (Ok calls) = ok_or (key_of_calls analyze field calls) no_key
-key_in analyze field (Err refusal) = Err (no_document refusal)
+abbrev pub key_or_refusal : (ℕ → List ℕ → List Word) → ℕ → Result (List Call) Refusal → Result (List ℕ) KeyRefusal
+key_or_refusal analyze field (Ok calls) = ok_or (key_of_calls analyze field calls) no_key
+key_or_refusal analyze field (Err refusal) = Err (no_document refusal)
 
 -- the key of a line in a field, by the documents that it would be added to
 abbrev pub line_key : (ℕ → List ℕ → List Word) → DocumentsState → ℕ → List ℕ → Result (List ℕ) KeyRefusal
-line_key analyze s field line = key_in analyze field (line_calls_by s.unknown_keys s.floats s.schema 0 line)
+line_key analyze s field line = key_or_refusal analyze field (line_calls_by s.unknown_keys s.floats s.schema 0 line)
 
 -- ---- lines with keys
 -- a line and its key
@@ -106,21 +106,21 @@ pub record TakesLine (analyze : ℕ → List ℕ → List Word) (s : DocumentsSt
 
 -- ---- the last line of each key
 -- whether a line has a key
-abbrev pub has_key : List ℕ → KeyedLineState → Bool
-has_key key line = bytes_eq key line.key
+abbrev pub line_has_key : List ℕ → KeyedLineState → Bool
+line_has_key key line = bytes_eq key line.key
 
 -- the lines of which no later one has the same key
 abbrev pub last_of_each_key : List KeyedLineState → List KeyedLineState
 last_of_each_key [] = []
-last_of_each_key (line ∷ later) = if list_any (has_key line.key) later then last_of_each_key later else line ∷ last_of_each_key later
+last_of_each_key (line ∷ later) = if list_any (line_has_key line.key) later then last_of_each_key later else line ∷ last_of_each_key later
 
 -- the texts of lines
-abbrev pub texts_of : List KeyedLineState → List (List ℕ)
-texts_of lines = map (λ (line : KeyedLineState). line.text) lines
+abbrev pub line_texts : List KeyedLineState → List (List ℕ)
+line_texts lines = map (λ (line : KeyedLineState). line.text) lines
 
 -- the terms of the keys of lines
-abbrev pub terms_of : ℕ → List KeyedLineState → List TermState
-terms_of field lines = map (λ (line : KeyedLineState). record { field = field; value = line.key }) lines
+abbrev pub key_terms : ℕ → List KeyedLineState → List TermState
+key_terms field lines = map (λ (line : KeyedLineState). record { field = field; value = line.key }) lines
 
 -- Lines were added to documents, one after the other.
 abbrev pub AddsLines : DocumentsState → DocumentsState → List (List ℕ) → Type 0
@@ -142,5 +142,5 @@ pub record StopsAdding (fault : LineFault) (old new : DocumentsState) (lines : L
 
 -- Keys are those of some lines, and of these lines the last one of each key is kept, in reverse order.
 pub record KeepsLast (lines : List KeyedLineState) (keys : List (Vec ℕ Global)) (kept : List KeyedLine) : Type 0 where
-  pub keys_are : (key : List ℕ) → list_any (λ (k : Vec ℕ Global). bytes_eq key k.items) keys ≡ list_any (has_key key) lines
+  pub keys_are : (key : List ℕ) → list_any (λ (k : Vec ℕ Global). bytes_eq key k.items) keys ≡ list_any (line_has_key key) lines
   pub kept_are : map line_view (reverse kept) ≡ last_of_each_key lines

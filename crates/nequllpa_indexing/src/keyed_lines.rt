@@ -4,7 +4,7 @@ ghost use Rattle.std.specs.Str.{IsUtf8};
 ghost use Rattle.ii_base.specs.Words.{Word};
 ghost use Rattle.ii_definitions.specs.Tokens.{Call};
 ghost use Rattle.nequllpa_indexing.specs.FieldTokens.{tokens_by};
-ghost use Rattle.nequllpa_indexing.specs.KeyedLines.{AddsLines, KeepsLast, KeyedLineState, StopsAdding, TakesLine, key_of_calls, last_of_each_key, line_view, terms_of, texts_of, token_keys};
+ghost use Rattle.nequllpa_indexing.specs.KeyedLines.{AddsLines, KeepsLast, KeyedLineState, StopsAdding, TakesLine, key_of_calls, last_of_each_key, line_view, key_terms, line_texts, token_keys};
 
 use crate::documents::Documents;
 use crate::faults::{InputFault, LineRefusal};
@@ -111,9 +111,9 @@ impl KeyedLines {
     /// Returns the fault of the first line that isn't added, or `OutOfMemory`. The documents of the lines before it
     /// were then added.
     pub fn add_to(self, alloc: Global, documents: &mut Documents) -> Result<Vec<Term>, LineFault>
-        ensures added { OnOk result (AddsLines documents.old documents.new (texts_of (last_of_each_key self.lines))) }
-        ensures keys { IfOk result (λ keys. keys.items ≡ terms_of self.field (last_of_each_key self.lines)) }
-        ensures fault { IfErr result (λ e. StopsAdding e documents.old documents.new (texts_of (last_of_each_key self.lines))) }
+        ensures added { OnOk result (AddsLines documents.old documents.new (line_texts (last_of_each_key self.lines))) }
+        ensures keys { IfOk result (λ keys. keys.items ≡ key_terms self.field (last_of_each_key self.lines)) }
+        ensures fault { IfErr result (λ e. StopsAdding e documents.old documents.new (line_texts (last_of_each_key self.lines))) }
     {
         let KeyedLines { field, lines } = self;
         let lines = match last_of_each(alloc, lines) {
@@ -163,9 +163,9 @@ fn add_all(
     field: Field,
     lines: Vec<KeyedLine>,
 ) -> Result<Vec<Term>, LineFault>
-    ensures added { OnOk result (AddsLines documents.old documents.new (texts_of (map line_view lines.items))) }
-    ensures keys { IfOk result (λ keys. keys.items ≡ terms_of field (map line_view lines.items)) }
-    ensures fault { IfErr result (λ e. StopsAdding e documents.old documents.new (texts_of (map line_view lines.items))) }
+    ensures added { OnOk result (AddsLines documents.old documents.new (line_texts (map line_view lines.items))) }
+    ensures keys { IfOk result (λ keys. keys.items ≡ key_terms field (map line_view lines.items)) }
+    ensures fault { IfErr result (λ e. StopsAdding e documents.old documents.new (line_texts (map line_view lines.items))) }
 {
     let mut keys = Vec::new(alloc);
     for line in lines {
