@@ -51,12 +51,12 @@ PLACES = {
         'store_of', 'store_damages'},  # the same
     'nequllpa_indexing/src/documents.rt': {'push_line'},  # the list of calls couldn't grow
     'nequllpa_indexing/src/faults.rt': {'is_memory'},
+    'nequllpa_indexing/src/keyed_lines.rt': {'add_to', 'add_all'},  # a list of lines or keys, or a copy of a key, was refused
+    'nequllpa_indexing/src/line_keys.rt': {'no_memory'},  # the same of a line and its key
     'nequllpa_indexing/src/lines.rt': {'push_record'},  # the record of a line couldn't be built
     'nequllpa_merging/src/faults.rt': {'from'},
     'nequllpa_merging/src/stores.rt': {'store_fault'},  # stores couldn't be opened or merged for it
-    'nequllpa_writing/src/keyed_lines.rt': {
-        'add_to',  # a copy of a key, or a list of keys, was refused
-        'no_memory'},  # the same of a line and its key
+    'nequllpa_writing/src/indexing.rt': {'put_line'},  # a line with its place couldn't be built
     # The program prints `error 1` for any refused allocation, so a fault of a call that fails only with
     # `OutOfMemory` becomes the kit's error.
     'iiq/src/commands.rt': {'text_query', 'num_query'},

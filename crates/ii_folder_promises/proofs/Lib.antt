@@ -8,5 +8,6 @@ mod TokenOrderLaws
 mod WordScoreLaws
 mod SegmentLaws
 mod StoredFieldsLaws
+mod ReplacingLaws
 mod SegmentRankingLaws
 mod IndexRankingLaws

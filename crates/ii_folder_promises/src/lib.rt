@@ -11,6 +11,7 @@ pub mod index_texts;
 pub mod keys;
 pub mod merging;
 pub mod ranking;
+pub mod replacing;
 pub mod scorers;
 pub mod segments;
 pub mod stored_fields;

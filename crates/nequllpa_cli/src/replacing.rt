@@ -1,14 +1,13 @@
 //! Documents that replace others: those that have the same key.
 use crate::commands::{opened_at, status_of};
-use ii_base::{DocId, Fault, Term};
+use ii_base::{DocId, Term};
 use ii_segment_store::{
     CommitFault, SegmentFiles, WantedFiles, commit_changes, remove_slots, upgrade,
 };
 use ii_store::Folder;
 use ii_store::collect::collect;
-use nequllpa_folder::{AnswerFault, OpenedIndex, docs_to_delete};
+use nequllpa_folder::{AnswerFault, docs_with_keys};
 use nequllpa_writing::{Replacement, refuse_commit, settle, tell_added};
-use std::alloc::Global;
 use std::process::ExitCode;
 
 /// Deletes the documents of an index that have one of the keys, and adds those that replace them, all at once. Prints
@@ -65,43 +64,6 @@ fn replaced(
         Ok(()) => Ok(Ok(count)),
         Err(fault) => Ok(Err(refuse_commit(rt, path, fault)?)),
     }
-}
-
-// Returns the living documents that have one of these keys, segment by segment, in ascending order, each once.
-fn docs_with_keys(
-    alloc: Global,
-    opened: &OpenedIndex,
-    keys: &[Term],
-) -> Result<Vec<Vec<DocId>>, Fault> {
-    let mut all = docs_of_none(alloc, opened)?;
-    for key in keys {
-        let docs = docs_to_delete(alloc, opened, key)?;
-        append_each(&mut all, docs.as_slice())?;
-    }
-    for some in &mut all {
-        some.sort()?;
-        some.dedup();
-    }
-    Ok(all)
-}
-
-// Appends the documents of each segment to those that it has already.
-fn append_each(all: &mut Vec<Vec<DocId>>, docs: &[Vec<DocId>]) -> Result<(), Fault> {
-    for (place, some) in docs.iter().enumerate() {
-        if let Some(list) = all.get_mut(place) {
-            list.extend_from_slice(some.as_slice())?;
-        }
-    }
-    Ok(())
-}
-
-// Returns an empty list for each segment.
-fn docs_of_none(alloc: Global, opened: &OpenedIndex) -> Result<Vec<Vec<DocId>>, Fault> {
-    let mut all = Vec::new(alloc);
-    for _segment in opened.segments() {
-        all.push(Vec::new(alloc))?;
-    }
-    Ok(all)
 }
 
 /// Returns how many documents there are.

@@ -1,5 +1,5 @@
 -- Documents found by a search, and the positions of terms in them.
-use Rattle.std.proofs.Common.{◌≡◌, ◌≢◌, ◌∙◌, ◌==◌, ◌<◌, ◌≤◌, ◌+◌, ℕ, zero, suc, Bool, true, false, cond, List, [], ◌∷◌, ◌++◌, add-one, append-nil, append_assoc, get_or, map, take, drop, length, nat_le, Option, None, Some, refl, sym, ap, arith, length-append}
+use Rattle.std.proofs.Common.{◌≡◌, ◌≢◌, ◌∙◌, ◌==◌, ◌<◌, ◌≤◌, ◌+◌, ◌-◌, ℕ, zero, suc, Bool, true, false, cond, List, [], ◌∷◌, ◌++◌, add-one, append-nil, append_assoc, get_or, map, take, drop, length, nat_le, Option, None, Some, refl, sym, ap, arith, length-append}
 use Rattle.std.specs.List.{find}
 use Rattle.std.specs.Option.{option_map}
 use Rattle.std.specs.Prelude.{Vec, filter}
@@ -67,6 +67,25 @@ dead_past [] zero past = refl
 dead_past [] (suc doc) past = refl
 dead_past (b ∷ bs) zero past = absurd (omega (arith, past))
 dead_past (b ∷ bs) (suc doc) past = dead_past bs doc (omega (arith, past))
+
+pub lives_below : (alive : List Bool) (doc : ℕ) → is_living alive doc ≡ true → doc < length alive
+lives_below [] zero lives = absurd cc
+lives_below [] (suc doc) lives = absurd cc
+lives_below (b ∷ bs) zero lives = omega arith
+lives_below (b ∷ bs) (suc doc) lives = omega (arith, lives_below bs doc lives)
+
+-- no more documents are alive than there are
+few_living : (alive : List Bool) (least : ℕ) (es : List Entry) → least ≤ doc_at es → IsAscending es → length (living_of alive es) ≤ length alive - least
+few_living alive least [] low ascending = omega arith
+few_living alive least (e ∷ es) low ascending = by (is_living alive e.doc) refl (few_living alive (e.doc + 1) es (omega (arith, ascending.0)) ascending.1)
+  where
+    by : (b : Bool) → is_living alive e.doc ≡ b → length (living_of alive es) ≤ length alive - (e.doc + 1) → length (living_of alive (e ∷ es)) ≤ length alive - least
+    by true lives few = rw lives (omega (arith, low, few, lives_below alive e.doc lives))
+    by false dead few = rw dead (omega (arith, low, few))
+
+-- so those that were taken up to that number are all
+pub all_living : (alive : List Bool) (es : List Entry) (docs : List ℕ) → IsSound es → docs ≡ take (length alive) (living_of alive es) → docs ≡ living_of alive es
+all_living alive es docs sound is = is ∙ take_all (length alive) (living_of alive es) (omega (arith, few_living alive 0 es (omega arith) sound.ascending))
 
 none_past : (alive : List Bool) (es : List Entry) → IsAscending es → length alive ≤ doc_at es → living_of alive es ≡ []
 none_past alive [] ascending past = refl

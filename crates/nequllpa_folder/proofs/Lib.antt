@@ -4,5 +4,9 @@ mod IdsLemmas
 mod QueryLemmas
 mod WantedLemmas
 mod OpenLemmas
+mod OnceLemmas
+mod DeletingLemmas
+pub mod DeletingLaws
 mod RankingLemmas
+mod WorkedRows
 mod ShareTextLemmas

@@ -11,7 +11,7 @@ use Rattle.ii_io.specs.declared.faults.Part.{Part}
 use Rattle.ii_io.specs.Parts.{◌>>=◌}
 use Rattle.ii_base.specs.Entries.{Entry, document}
 use Rattle.ii_base.specs.Terms.{TermState}
-use Rattle.ii_base.specs.declared.schema.index_record_option.IndexRecordOption.TheVariants.{Basic, WithFreqsAndPositions}
+use Rattle.ii_base.specs.declared.schema.index_record_option.IndexRecordOption.TheVariants.{WithFreqsAndPositions}
 use Rattle.ii_docset.specs.Cursor.{IsAscending, IsSound}
 use Rattle.ii_reader.specs.InvertedIndexReader.{IsRefusal}
 use Rattle.ii_reader.specs.OpenIndex.{OpenIndexState, all_or_first}
@@ -22,7 +22,7 @@ use Rattle.ii_search.specs.Found.{docs_of_term, found_in}
 use Rattle.ii_query_parser.specs.Queries.{QueryTree, QueryTrees, all_below, any_of, each_of, has_fields, hold_for_all, holds_for_all, is_within, no_tree, nothing, one_phrase, one_phrase_prefix, one_range, one_term, phrase_is_within, tree, tree_of, without}
 use Rattle.ii_query_parser.proofs.PhrasePrefixLemmas.{fields_of_each}
 use Rattle.nequllpa_folder.specs.declared.finding.TermPositions.{TermPositions}
-use Rattle.nequllpa_folder.specs.Finding.{docs_with_term, first_docs, found_places, places_view, term_places, tree_terms, trees_terms, wanted_terms}
+use Rattle.nequllpa_folder.specs.Finding.{first_docs, found_places, places_view, term_places, tree_terms, trees_terms, wanted_terms}
 use Rattle.nequllpa_folder.proofs.FindingLemmas.{living_ascend, living_of}
 use Rattle.nequllpa_folder.specs.Positions.{positions_in_doc}
 
@@ -44,13 +44,6 @@ docs_found_ascend alive limit es docs sound docs_is = rw docs_is (living_ascend 
 
 pub docs_refused : (index : OpenIndexState) (alive : List Bool) (query : Query) (limit : ℕ) (fault : Fault) → IsRefusal (found_in index query) fault → IsRefusal (first_docs index alive query limit) fault
 docs_refused index alive query limit fault refused = refused_then (found_in index query) (λ (es : List Entry). Ok (take limit (living_of alive es))) fault refused
-
--- the living documents of a term
-pub term_docs : (index : OpenIndexState) (alive : List Bool) (term : TermState) (es : List Entry) (docs : List ℕ) → docs_of_term Basic index term ≡ Ok es → docs ≡ take 4294967295 (living_of alive es) → docs_with_term index alive term ≡ Ok docs
-term_docs index alive term es docs found docs_is = rw (found, docs_is) refl
-
-pub term_docs_refused : (index : OpenIndexState) (alive : List Bool) (term : TermState) (fault : Fault) → IsRefusal (docs_of_term Basic index term) fault → IsRefusal (docs_with_term index alive term) fault
-term_docs_refused index alive term fault refused = refused_then (docs_of_term Basic index term) (λ (es : List Entry). Ok (take 4294967295 (living_of alive es))) fault refused
 
 -- the positions of a term, by its list
 pub term_found : (index : OpenIndexState) (docs : List ℕ) (term : TermState) (es : List Entry) (places : List (Option (List ℕ))) → docs_of_term WithFreqsAndPositions index term ≡ Ok es → places ≡ map (positions_in_doc es) docs → term_places index docs term ≡ Ok places

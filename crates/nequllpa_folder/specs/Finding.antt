@@ -5,7 +5,7 @@ use Rattle.ii_io.specs.Parts.{◌>>=◌}
 use Rattle.ii_io.specs.declared.faults.Part.{Part}
 use Rattle.ii_base.specs.Entries.{docs_of}
 use Rattle.ii_base.specs.Terms.{TermState}
-use Rattle.ii_base.specs.declared.schema.index_record_option.IndexRecordOption.TheVariants.{Basic, WithFreqsAndPositions}
+use Rattle.ii_base.specs.declared.schema.index_record_option.IndexRecordOption.TheVariants.{WithFreqsAndPositions}
 use Rattle.ii_reader.specs.OpenIndex.{OpenIndexState, all_or_first}
 use Rattle.ii_query_parser.specs.declared.query.PhraseTerm.{PhraseTerm}
 use Rattle.ii_query_parser.specs.declared.query.Query.{Query}
@@ -48,12 +48,6 @@ abbrev pub first_docs : OpenIndexState → List Bool → Query → ℕ → Resul
 first_docs index alive query limit = do
   es ← found_in index query
   Ok (take limit (filter (is_living alive) (docs_of es)))
-
--- the first 2^32 - 1 living documents that have a term, or the first corrupt part of its list
-abbrev pub docs_with_term : OpenIndexState → List Bool → TermState → Result (List ℕ) Part
-docs_with_term index alive term = do
-  es ← docs_of_term Basic index term
-  Ok (take 4294967295 (filter (is_living alive) (docs_of es)))
 
 -- documents, and for each term its positions in each of them
 pub record FoundState : Type 0 where

@@ -1,3 +1,4 @@
+pub mod Deleting
 pub mod Documents
 pub mod Explained
 pub mod Faults

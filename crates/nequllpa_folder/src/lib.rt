@@ -25,7 +25,7 @@ pub mod stored_lines;
 pub mod stored_part;
 
 pub use checking::{Checked, DamageRows, check, counts_damage};
-pub use deleting::{docs_to_delete, docs_with_term};
+pub use deleting::{docs_to_delete, docs_with_keys, docs_with_term};
 pub use documents::{SegmentStore, are_stored, document, segment_stores};
 pub use faults::{AnswerFault, DocumentFault, OpenFault};
 pub use finding::{FoundPlaces, TermPositions, find_places, first_docs, wanted_terms};

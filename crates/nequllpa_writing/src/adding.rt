@@ -1,6 +1,5 @@
 //! The command `add`, but for what replaces documents of an index.
 use crate::indexing::{Intake, Kept, begun, take_inputs, target_of, tell_long_words};
-use crate::keyed_lines::KeyedLines;
 use crate::left_out::LeftOut;
 use crate::memory::{Budget, budget_given};
 use crate::merging::settle;
@@ -14,6 +13,7 @@ use ii_schema_text::TextSchema;
 use ii_segment_store::{SegmentFiles, load_latest};
 use ii_store::segments::load_meta;
 use ii_store::{Folder, IndexFault, StoreFault};
+use nequllpa_indexing::KeyedLines;
 use std::process::ExitCode;
 
 /// What became of the lines that `add` has read.

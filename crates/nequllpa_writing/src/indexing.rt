@@ -4,7 +4,6 @@ ghost use Rattle.ii_documents.specs.declared.floats.FloatNumbers.TheVariants as 
 ghost use Rattle.nequllpa_indexing.specs.Documents.{no_records};
 
 use crate::float_paths::float_path;
-use crate::keyed_lines::{KeyedLines, LineRefusal, no_memory};
 use crate::left_out::LeftOut;
 use crate::memory::{Budget, budget_given};
 use crate::messages::{NO, PROGRAM, REFUSED, refuse, refuse_file, refuse_path};
@@ -18,7 +17,7 @@ use ii_documents::{FloatNumbers, LineFault, LinePlace, ValueFault};
 use ii_schema_text::{SchemaFault, TextSchema, field_name_at, new_schema_text, read_text_schema};
 use ii_store::FolderLock;
 use ii_tokenizers::FieldTokenizers;
-use nequllpa_indexing::{Documents, InputFault, MAX_TOKEN_LEN, add_line};
+use nequllpa_indexing::{Documents, InputFault, KeyedLines, LineRefusal, MAX_TOKEN_LEN, add_line};
 use serde_json::Error as JsonError;
 use std::alloc::Global;
 use std::fs;
@@ -461,7 +460,10 @@ impl<'a> Intake<'a> {
         } = self;
         let mut documents = documents;
         let keys = match keyed {
-            Some(keyed) => keyed.add_to(alloc, &mut documents)?,
+            Some(keyed) => match keyed.add_to(alloc, &mut documents) {
+                Ok(keys) => keys,
+                Err(fault) => return Err(InputFault::Line(fault)),
+            },
             None => Vec::new(alloc),
         };
         Ok(Kept {
@@ -490,7 +492,7 @@ impl<'a> Intake<'a> {
         };
         match place.put_in(alloc, line, field) {
             Ok(object) => self.put_document(alloc, object.as_slice()),
-            Err(_) => Err(no_memory()),
+            Err(_) => Err(LineRefusal::Input(InputFault::Line(LineFault::OutOfMemory))),
         }
     }
 

@@ -4,7 +4,6 @@
 pub mod adding;
 mod float_paths;
 pub mod indexing;
-mod keyed_lines;
 pub mod left_out;
 mod memory;
 pub mod merging;
