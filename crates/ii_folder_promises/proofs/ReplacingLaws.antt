@@ -1,5 +1,5 @@
 -- The documents of keys in an index of two documents, and what is left of it.
-use Rattle.std.proofs.Common.{◌≡◌, ◌∙◌, ◌<◌, ◌&&◌, ℕ, Bool, true, false, List, [], ◌∷◌, Some, Result, Ok, Err, ap, filter, length, map, refl, subst, sym}
+use Rattle.std.proofs.Common.{◌≡◌, ◌∙◌, ◌<◌, ◌&&◌, ℕ, Bool, true, List, [], ◌∷◌, Some, Result, Ok, Err, ap, filter, length, map, refl, subst, sym}
 use Rattle.std.specs.Prelude.{replicate}
 use Rattle.std.specs.List.{AllZip, range_with_len}
 use Rattle.ii_io.specs.declared.faults.Part.{Part}

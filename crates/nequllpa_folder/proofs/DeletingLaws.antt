@@ -1,10 +1,9 @@
 -- The documents of terms, by the tokens that a segment holds.
-use Rattle.std.proofs.Common.{◌≡◌, ◌∙◌, ◌<◌, ◌&&◌, ◌||◌, ℕ, Bool, true, false, List, [], ◌∷◌, ◌++◌, Result, Ok, Err, ap, filter, length, nat_eq, refl, sym}
+use Rattle.std.proofs.Common.{◌≡◌, ◌∙◌, ◌<◌, ◌&&◌, ◌||◌, ℕ, Bool, true, false, List, [], ◌∷◌, Result, Ok, Err, ap, filter, length, nat_eq, refl, sym}
 use Rattle.std.specs.List.{AllByRecursion, list_any, range_with_len}
 use Rattle.std.proofs.lemmas.Bool.{eqb-true, lt-ltb}
 use Rattle.std.proofs.lemmas.List.Folds.{list_any-append}
 use Rattle.ii_io.specs.declared.faults.Part.{Part}
-use Rattle.ii_io.specs.Parts.{◌>>=◌}
 use Rattle.ii_base.specs.Entries.{Entry, docs_of}
 use Rattle.ii_base.specs.Schema.{SchemaEntry}
 use Rattle.ii_base.specs.Terms.{TermState}
@@ -19,7 +18,7 @@ use Rattle.ii_search.specs.Found.{docs_of_term, tree_found}
 use Rattle.ii_search.proofs.FoundLemmas.{gives_matches}
 use Rattle.ii_segments.specs.Segments.{is_living}
 use Rattle.nequllpa_folder.specs.Deleting.{docs_of_terms, docs_with_term, docs_with_terms, has_one_of, is_among}
-use Rattle.nequllpa_folder.proofs.DeletingLemmas.{IsFirst, first_of}
+use Rattle.nequllpa_folder.proofs.DeletingLemmas.{first_of}
 
 -- ---- the documents of one term
 one_of_docs : (es : List Entry) (doc : ℕ) → is_among (docs_of es) doc ≡ has_doc es doc

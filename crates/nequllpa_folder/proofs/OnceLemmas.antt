@@ -1,12 +1,11 @@
 -- Documents in ascending order, each once.
-use Rattle.std.proofs.Common.{◌≡◌, ◌∙◌, ◌<◌, ◌≤◌, ◌+◌, ◌&&◌, ◌||◌, ℕ, zero, suc, Bool, true, false, List, [], ◌∷◌, ap, arith, filter, inl, inr, length, nat_eq, refl, sym}
+use Rattle.std.proofs.Common.{◌≡◌, ◌∙◌, ◌<◌, ◌≤◌, ◌+◌, ◌||◌, ℕ, zero, suc, Bool, true, false, List, [], ◌∷◌, ap, arith, filter, inl, inr, length, nat_eq, refl, sym}
 use Rattle.std.specs.Prelude.{◌⊎◌, ⊤, slice_index}
-use Rattle.std.specs.List.{AllByRecursion, dedup, dedup_from, list_any, range_with_len}
+use Rattle.std.specs.List.{AllByRecursion, dedup, dedup_from, range_with_len}
 use Rattle.std.specs.List.Sorted.{IsPermutation, IsSorted, IsStrictlyIncreasing}
 use Rattle.std.specs.Ordering.{nat_cmp}
 use Rattle.std.proofs.Math.Dec.{eqb}
 use Rattle.std.proofs.lemmas.List.Sorted.{list_any-IsPermutation}
-use Rattle.std.proofs.lemmas.List.Filters.{dedup_is}
 use Rattle.std.proofs.lemmas.Map.Keys.{IsStrictlyIncreasing-dedup}
 use Rattle.std.proofs.lemmas.Bool.{eq-eqb, eqb-true, eqb-false}
 use Rattle.nequllpa_folder.specs.Deleting.{is_among}

@@ -1,5 +1,4 @@
 use Rattle.std.proofs.Common.{◌≡◌, ◌∙◌, ◌∷◌, [], ℕ, List, Some, Vec, Global, ap, map, subst}
-use Rattle.ii_base.specs.Terms.{TermState}
 use Rattle.ii_segment_store.specs.Changes.{changed_index}
 use Rattle.ii_segment_store.specs.Contents.{files_contents, index_contents}
 use Rattle.nequllpa_indexing.specs.KeyedLines.{AddsLines, KeyedLinesState, key_terms, last_of_each_key, line_texts}

@@ -1,4 +1,4 @@
-use Rattle.std.proofs.Common.{◌<◌, List, Vec, length, rules, ℕ}
+use Rattle.std.proofs.Common.{◌<◌, Vec, length, rules, ℕ}
 use Rattle.std.specs.declared.alloc.Global.{Global}
 use Rattle.nequllpa_folder.specs.Deleting.{docs_with_term}
 use Rattle.nequllpa_folder.specs.declared.opened.Opened.{Opened}
