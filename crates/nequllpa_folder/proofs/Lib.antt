@@ -5,4 +5,5 @@ mod QueryLemmas
 mod WantedLemmas
 mod OpenLemmas
 mod RankingLemmas
+mod TotalsLemmas
 mod ShareTextLemmas
