@@ -1,13 +1,15 @@
 -- Open segments that hold an index have the numbers of its documents and tokens.
-use Rattle.std.proofs.Common.{◌≡◌, ◌∙◌, ℕ, ◌+◌, ◌-◌, ◌^◌, ◌<◌, ◌≤◌, Bool, true, List, [], ◌∷◌, ◌++◌, Option, None, Result, Ok, Err, IfOk, Vec, Global, ap, arith, filter, get_or, length, map, min, refl, subst, sym}
+use Rattle.std.proofs.Common.{◌≡◌, ◌∙◌, ℕ, ◌+◌, ◌-◌, ◌^◌, ◌<◌, ◌≤◌, Bool, true, List, [], ◌∷◌, ◌++◌, None, Result, Ok, Err, Vec, Global, ap, arith, filter, get_or, length, map, min, refl, subst, sym}
 use Rattle.std.specs.Prelude.{sum}
 use Rattle.std.specs.List.{AllByRecursion, flat_map, range_with_len}
+use Rattle.std.proofs.lemmas.List.{length-map, map-append}
 use Rattle.std.proofs.lemmas.List.Concat.{flat_map-cons}
 use Rattle.std.proofs.lemmas.List.FromFn.{get_or-map-range_with_len, length-map-range_with_len}
 use Rattle.std.proofs.lemmas.List.Sums.{sum_by-append}
 use Rattle.std.proofs.lemmas.Bool.{lt-ltb}
 use Rattle.std.proofs.lemmas.Grind.{same_number_lists}
-use Rattle.ii_alive.specs.Alive.{num_living}
+use Rattle.ii_alive.specs.Alive.{num_living, rank}
+use Rattle.ii_base.specs.Entries.{Entry, docs_of}
 use Rattle.ii_base.specs.Schema.{SchemaEntry}
 use Rattle.ii_base.specs.Terms.{TermState}
 use Rattle.ii_base.specs.declared.doc_id.TheConstants.{TERMINATED}
@@ -18,24 +20,34 @@ use Rattle.ii_io.specs.declared.faults.Fault.{Fault}
 use Rattle.ii_io.specs.declared.faults.Part.{Part}
 use Rattle.ii_query_parser.specs.declared.query.Query.{Query}
 use Rattle.ii_query_parser.specs.declared.query.Query.TheVariants.{Term}
-use Rattle.ii_query_parser.specs.Queries.{QueryTree, covers_docs, has_fields, matches, tree_covers, tree_matches}
+use Rattle.ii_query_parser.specs.Queries.{QueryTree, covers_docs, matches, tree_covers, tree_matches}
 use Rattle.ii_query_parser.proofs.QueryLemmas.{term_fields, term_positions, term_tree}
 use Rattle.ii_ranking.specs.TokenScores.{GivesBest, token_score, tokens_scored}
 use Rattle.ii_scorer.specs.TopDocs.{scored_docs}
 use Rattle.ii_scorer.specs.declared.top_docs.TopDocs.{TopDocs}
 use Rattle.ii_ranking.proofs.OneIndexLaws.{segments_score_as_one}
-use Rattle.ii_segment_search.specs.Searcher.{AreFew, GivesNumber, MayAsk, OpenSegmentState, Reaches, SegmentHolds, SegmentsHold, total_living}
-use Rattle.ii_segments.specs.Segments.{AreSegmentTokens, Segment, index_tokens, living_counts, num_docs_of}
+use Rattle.ii_ranking.specs.Scores.{damage_of}
+use Rattle.ii_search.specs.Found.{found_in}
+use Rattle.ii_search.proofs.FoundLemmas.{gives_matches}
+use Rattle.ii_segment_search.specs.SegmentSearch.{found_in_segments}
+use Rattle.ii_segment_search.specs.Searcher.{AreFew, GivesNumber, MayAsk, OpenSegmentState, Reaches, SegmentsHold, found_from, total_living}
+use Rattle.ii_segment_search.proofs.FindLaws.{finds_in_segments}
+use Rattle.ii_docset.specs.Intersection.{has_doc}
+use Rattle.ii_living_docs.proofs.FoundLemmas.{living_found}
+use Rattle.ii_segments.specs.Segments.{AreSegmentTokens, Segment, index_tokens, living_counts, living_docs, living_entries, num_docs_of}
 use Rattle.ii_segments.proofs.CountLaws.{counts_of_segments}
 use Rattle.ii_segment_store.specs.Contents.{SegmentContents}
 use Rattle.nequllpa_merging.specs.HeldSegments.{HoldSegments, HoldsSegment}
-use Rattle.nequllpa_merging.specs.OpenedSegments.{OpenedSegmentState, opened_from, totals_by_file}
+use Rattle.nequllpa_merging.specs.OpenedSegments.{OpenedSegmentState, opened_from}
 use Rattle.nequllpa_merging.proofs.OpenLemmas.{opened_for, parts_of, segment_held, segment_opens}
 use Rattle.ii_index.specs.Deletes.{has_term}
-use Rattle.ii_index.specs.Ranking.{CountsDocs, CountsTerms, SearcherHolds, segment_counts}
+use Rattle.ii_index.specs.Ranking.{CountsDocs, SearcherHolds, segment_counts}
 use Rattle.ii_index.specs.Searching.{SearcherState, segment_totals}
-use Rattle.ii_index.specs.Statistics.{counts_damage, doc_freq_in, index_statistics, num_docs_with, num_tokens_of, query_terms, token_statistics, tokens_in}
-use Rattle.ii_index.proofs.StatisticsLaws.{AreSameFor, same_tokens}
+use Rattle.ii_index.specs.Statistics.{counts_damage, index_statistics, num_docs_with, num_tokens_of, token_statistics}
+use Rattle.ii_statistics.specs.Listed.{AreListed, IsListed}
+use Rattle.ii_statistics.specs.Statistics.{AreSameFor, doc_freq_in, num_found, query_terms, terms_damage}
+use Rattle.ii_statistics.proofs.DamageLemmas.{sound_both}
+use Rattle.ii_statistics.proofs.StatisticsLaws.{same_tokens}
 
 -- ---- numbers of tokens
 module _ (entries : List SchemaEntry) where
@@ -110,6 +122,73 @@ reaches entries query opened ss few hold covers = record {
   covers = covers;
 }
 
+-- ---- what a query finds in segments that hold tokens
+module _ (entries : List SchemaEntry) (query : Query) (ask : MayAsk entries query) where
+  -- The documents of a query are found.
+  record FindsHeld (base : ℕ) (opened : List OpenSegmentState) : Type 0 where
+    es : List Entry
+    is : found_from query base opened ≡ Ok es
+
+  finds_held : (base : ℕ) (opened : List OpenSegmentState) (ss : List Segment) → SegmentsHold entries opened ss → FindsHeld base opened
+  finds_held base [] [] hold = record { es = []; is = refl }
+  finds_held base [] (s ∷ ss) hold = elim hold [ ]
+  finds_held base (o ∷ os) [] hold = elim hold [ ]
+  finds_held base (o ∷ os) (s ∷ ss) hold =
+      let first = gives_matches entries (length s.alive) o.index s.tokens query hold.0.index ask.fields ask.positions in
+      let later = finds_held (base + num_living o.alive) os ss hold.1 in
+      record { es = living_entries base o.alive first.es ++ later.es; is = rw (first.is, later.is) refl }
+
+  -- so none is damaged
+  pub held_sound : (opened : List OpenSegmentState) (ss : List Segment) → SegmentsHold entries opened ss → damage_of (found_from query 0 opened) ≡ None
+  held_sound opened ss hold = ap damage_of (finds_held 0 opened ss hold).is
+
+  -- Those that are listed are exactly those that match.
+  record FindsDocs (base : ℕ) (opened : List OpenSegmentState) (ss : List Segment) : Type 0 where
+    es : List Entry
+    is : found_from query base opened ≡ Ok es
+    docs : docs_of es ≡ found_in_segments query base ss
+
+  ok_same : (xs ys : List Entry) (r : Result (List Entry) Part) → r ≡ Ok xs → r ≡ Ok ys → xs ≡ ys
+  ok_same xs ys r first second = let both : Ok xs ≡ Ok ys = sym first ∙ second in cc
+
+  finds_docs : (base : ℕ) (opened : List OpenSegmentState) (ss : List Segment) → SegmentsHold entries opened ss → AllByRecursion (IsListed query) opened → FindsDocs base opened ss
+  finds_docs base [] [] hold listed = record { es = []; is = refl; docs = refl }
+  finds_docs base [] (s ∷ ss) hold listed = elim hold [ ]
+  finds_docs base (o ∷ os) [] hold listed = elim hold [ ]
+  finds_docs base (o ∷ os) (s ∷ ss) hold listed =
+      let es = listed.0.es in
+      let gives = gives_matches entries (length s.alive) o.index s.tokens query hold.0.index ask.fields ask.positions in
+      let same : gives.es ≡ es = ok_same gives.es es (found_in o.index query) gives.is listed.0.found in
+      let exact : (doc : ℕ) → has_doc es doc ≡ matches query s.tokens doc = λ doc. ap (λ (fs : List Entry). has_doc fs doc) (sym same) ∙ gives.exact doc in
+      let later = finds_docs (base + num_living o.alive) os ss hold.1 listed.1 in
+      let living = living_entries base o.alive es in
+      let flags = hold.0.alive in
+      let here = living_found base o.alive (matches query s.tokens) es listed.0.ascending exact
+      ∙ ap (λ (a : List Bool). map (λ (doc : ℕ). base + rank a doc) (filter (matches query s.tokens) (living_docs a))) flags in
+      let others = later.docs ∙ ap (λ (a : List Bool). found_in_segments query (base + num_living a) ss) flags in
+      record {
+        es = living ++ later.es;
+        is = rw (listed.0.found, later.is) refl;
+        docs = map-append (λ (e : Entry). e.doc) living later.es ∙ (λ j. here j ++ others j);
+      }
+
+  -- and so many
+  pub listed_number : (opened : List OpenSegmentState) (ss : List Segment) → SegmentsHold entries opened ss → AllByRecursion (IsListed query) opened → Reaches query ss → num_found (found_from query 0 opened) ≡ length (filter (matches query (index_tokens ss)) (range_with_len 0 (num_docs_of ss)))
+  listed_number opened ss hold listed reach =
+      let found = finds_docs 0 opened ss hold listed in
+      ap num_found found.is ∙ sym (length-map found.es (λ (e : Entry). e.doc)) ∙ ap length found.docs
+      ∙ ap length (sym (finds_in_segments entries query ss reach.limit (each_token entries opened ss hold) reach.living reach.each reach.covers))
+
+-- a query for a term may be asked
+term_asked : (entries : List SchemaEntry) (term : TermState) → term.field < length entries → MayAsk entries (Term term)
+term_asked entries term known = record { fields = term_fields (length entries) term ∙ lt-ltb term.field (length entries) known; positions = term_positions entries term }
+
+-- the documents of terms are not damaged
+pub terms_held_sound : (entries : List SchemaEntry) (opened : List OpenSegmentState) (ss : List Segment) → SegmentsHold entries opened ss → (terms : List TermState) → AllByRecursion (λ (t : TermState). t.field < length entries) terms → terms_damage opened terms ≡ None
+terms_held_sound entries opened ss hold [] known = refl
+terms_held_sound entries opened ss hold (t ∷ terms) known =
+    sound_both (damage_of (found_from (Term t) 0 opened)) (terms_damage opened terms) (held_sound entries (Term t) (term_asked entries t known.0) opened ss hold) (terms_held_sound entries opened ss hold terms known.1)
+
 module _ (entries : List SchemaEntry) (s : SearcherState) (n : ℕ) (ts : List IndexToken) (h : SearcherHolds entries s n ts) where
   -- the number of documents
   pub docs_held : total_living s.segments ≡ n
@@ -146,7 +225,7 @@ module _ (entries : List SchemaEntry) (s : SearcherState) (n : ℕ) (ts : List I
   docs_counted few term result known gives = by result (gives ask (reaches entries (Term term) s.segments h.segments few h.hold covers))
     where
       ask : MayAsk entries (Term term)
-      ask = record { fields = term_fields (length entries) term ∙ lt-ltb term.field (length entries) known; positions = term_positions entries term }
+      ask = term_asked entries term known
 
       covers : covers_docs TERMINATED (Term term) ≡ true
       covers = ap (tree_covers TERMINATED) (term_tree term)
@@ -157,6 +236,13 @@ module _ (entries : List SchemaEntry) (s : SearcherState) (n : ℕ) (ts : List I
           ∙ ap (λ (many : ℕ). length (filter (matches (Term term) ts) (range_with_len 0 many))) h.have.num_docs
           ∙ ap length (filter_alike (matches (Term term) ts) (has_term term ts) (range_with_len 0 n) (term_matches term))
       by (Err fault) is = is
+
+  -- the documents of terms that are listed
+  pub docs_listed : (few : AreFew s.segments) (terms : List TermState) → AllByRecursion (λ (t : TermState). t.field < length entries) terms → AllByRecursion (AreListed s.segments) terms
+      → AllByRecursion (λ (t : TermState). doc_freq_in s.segments t ≡ num_docs_with n ts t) terms
+  docs_listed few [] known listed = tt
+  docs_listed few (t ∷ terms) known listed =
+      (docs_counted few t (Ok (doc_freq_in s.segments t)) known.0 (λ ask reach. listed_number entries (Term t) ask s.segments h.segments h.hold listed.0 reach), docs_listed few terms known.1 listed.1)
 
   -- the best documents by the tokens of segments are those by the tokens of the index
   pub best_held : (a : Statistics) (query : Query) (docs : TopDocs) (result : Result (Vec (ℕ × ℕ) Global) Fault) → a.num_docs ≡ n → AllByRecursion (AreSameFor a (token_statistics n ts)) (query_terms query) → MayAsk entries query

@@ -3,11 +3,7 @@ mod DeleteLaws
 mod DeleteLemmas
 mod TokenLaws
 mod SegmentLemmas
-mod TermLemmas
-mod StatisticsLaws
-mod CountLemmas
 mod HeldLemmas
-mod TermCountLemmas
 mod TotalsLemmas
 mod OpenLemmas
 mod IndexLemmas

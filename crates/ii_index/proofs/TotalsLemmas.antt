@@ -1,11 +1,11 @@
 -- Numbers of tokens that are added up, and the first damage of counts.
-use Rattle.std.proofs.Common.{◌≡◌, ◌∙◌, ℕ, ◌+◌, ◌-◌, ◌^◌, ◌<◌, ◌≤◌, List, [], ◌∷◌, Option, None, Some, Result, Ok, Err, Vec, Global, ap, arith, drop, get_or, length, map, min, refl, sym}
+use Rattle.std.proofs.Common.{◌≡◌, ◌∙◌, ℕ, ◌+◌, ◌-◌, ◌^◌, ◌<◌, ◌≤◌, List, [], ◌∷◌, Option, None, Some, Result, ap, arith, drop, get_or, length, map, min, sym}
 use Rattle.std.proofs.lemmas.List.{drop_all, length-map}
 use Rattle.ii_io.specs.declared.faults.Part.{Part}
 use Rattle.ii_ranking.specs.Scores.{first_of}
 use Rattle.ii_index.specs.Searching.{totals_view}
 use Rattle.ii_index.specs.Statistics.{counts_damage, damage_in, num_tokens_of, tokens_in}
-use Rattle.ii_index.proofs.CountLemmas.{mapped_at}
+use Rattle.ii_statistics.proofs.CountLemmas.{mapped_at}
 use Rattle.ii_index.proofs.OpenLemmas.{SegmentTotals}
 
 module _ (all : List SegmentTotals) where

@@ -1,6 +1,6 @@
 -- Open segments that hold an index, and the numbers of its documents.
 use Rattle.std.specs.Prelude.{◌≡◌, ℕ, List, Option, length, map, sum, Result, Ok, Err}
-use Rattle.std.specs.List.{AllByRecursion, range_with_len}
+use Rattle.std.specs.List.{range_with_len}
 use Rattle.ii_io.specs.declared.faults.Fault.{Fault}
 use Rattle.ii_io.specs.declared.faults.Fault.TheVariants.{OutOfMemory}
 use Rattle.ii_io.specs.declared.faults.Part.{Part}
@@ -14,7 +14,7 @@ use Rattle.ii_segment_search.specs.Searcher.{SegmentsHold}
 use Rattle.ii_segments.specs.Segments.{Segment, living_counts}
 use Rattle.ii_index.specs.Searching.{SearcherState}
 use Rattle.ii_index.specs.Segments.{HaveTokens}
-use Rattle.ii_index.specs.Statistics.{doc_freq_in, num_docs_with, statistics_damage}
+use Rattle.ii_index.specs.Statistics.{num_docs_with, statistics_damage}
 
 -- the numbers of tokens that the living documents of a segment have in each of n fields
 abbrev pub segment_counts : ℕ → Segment → Result (List ℕ) Part
@@ -31,11 +31,6 @@ pub record SearcherHolds (entries : List SchemaEntry) (searcher : SearcherState)
 abbrev pub CountsDocs : ℕ → List IndexToken → TermState → Result ℕ Fault → Type 0
 CountsDocs n ts term (Ok m) = m ≡ num_docs_with n ts term
 CountsDocs n ts term (Err fault) = fault ≡ OutOfMemory
-
--- The documents that segments have for terms are those of n documents with these tokens; their count fails only with OutOfMemory.
-abbrev pub CountsTerms : {A : Type 0} → SearcherState → ℕ → List IndexToken → List TermState → Result A Fault → Type 0
-CountsTerms s n ts terms (Ok counted) = AllByRecursion (λ (t : TermState). doc_freq_in s.segments t ≡ num_docs_with n ts t) terms
-CountsTerms s n ts terms (Err fault) = fault ≡ OutOfMemory
 
 -- the first damaged part of what the best documents of a query need: of the numbers for it, then of what its scores need
 abbrev pub best_damage : SearcherState → Query → Option Part

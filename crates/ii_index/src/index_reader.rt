@@ -1,12 +1,12 @@
 //! Reads the segments of an index.
-ghost use Rattle.std.specs.Prelude.{◌≡◌, ◌<◌, ◌-◌, ◌^◌, ℕ, List, None, Ok, IfErr, IfOk, OnOk, length, map, min, true};
+ghost use Rattle.std.specs.Prelude.{◌≡◌, ◌<◌, ℕ, List, None, Ok, IfErr, IfOk, OnOk, length, map, true};
 ghost use Rattle.ii_base.specs.Entries.{Entry};
 ghost use Rattle.ii_base.specs.Schema.{SchemaEntry};
 ghost use Rattle.ii_base.specs.declared.doc_id.TheConstants.{TERMINATED};
 ghost use Rattle.ii_definitions.specs.Tokens.{IndexToken};
 ghost use Rattle.ii_index.specs.Ranking.{CountsDocs, SearcherHolds, best_damage};
 ghost use Rattle.ii_index.specs.Searching.{HaveReaders, totals_view};
-ghost use Rattle.ii_index.specs.Statistics.{counts_damage, doc_freq_in, index_statistics, num_tokens_of, token_statistics};
+ghost use Rattle.ii_index.specs.Statistics.{counts_damage, index_statistics, token_statistics};
 ghost use Rattle.ii_living_docs.specs.Chain.{chained};
 ghost use Rattle.ii_query_parser.specs.Queries.{covers_docs, has_fields};
 ghost use Rattle.ii_query_parser.specs.declared.query.Query.TheVariants as queries;
@@ -17,14 +17,15 @@ ghost use Rattle.ii_scorer.specs.TopDocs.{AreBest, scored_docs};
 ghost use Rattle.ii_reader.specs.InvertedIndexReader.{IsRefusal};
 ghost use Rattle.ii_segment_search.specs.Searcher.{GivesFound, GivesNumber, MayAsk, Reaches, SegmentsHold, found_from, living_rest, total_living};
 ghost use Rattle.ii_segments.specs.Segments.{Segment};
+ghost use Rattle.ii_statistics.specs.Statistics.{doc_freq_in};
 
 use crate::ranking::best_by;
-use crate::statistics::statistics_of;
 use crate::totals::{SegmentTotals, damaged_counts, sum_of_tokens};
 use ii_base::{DocId, Fault, Field, Part, Term};
 use ii_query_parser::Query;
 use ii_ranking::{Score, TopDocs};
 use ii_segment_search::{Searcher as SegmentSearcher, SegmentsCursor};
+use ii_statistics::FieldTokens;
 use std::alloc::Global;
 use std::marker::Model;
 
@@ -95,6 +96,16 @@ impl Model for Searcher {
     ghost invariant = { λ s. HaveReaders s.num_fields s.segments };
 }
 
+impl FieldTokens for Searcher {
+    ghost use Rattle.ii_index.specs.Statistics.{searcher_tokens};
+
+    ghost by_field = { searcher_tokens };
+
+    fn num_tokens(&self, field: Field) -> u64 {
+        sum_of_tokens(self.num_tokens.as_slice(), field)
+    }
+}
+
 impl Searcher {
     // Returns a searcher of open segments.
     pub(crate) fn new(
@@ -110,13 +121,6 @@ impl Searcher {
             num_fields,
             num_tokens,
         }
-    }
-
-    // Returns the sum of the tokens of all segments in a field, at most 2^64 - 1.
-    pub(crate) fn sum_of_tokens(&self, field: Field) -> u64
-        ensures { result ≡ min (2 ^ 64 - 1) (num_tokens_of self.now.num_tokens field) }
-    {
-        sum_of_tokens(self.num_tokens.as_slice(), field)
     }
 
     // Returns the first damaged part of the counts of segments.
@@ -204,11 +208,11 @@ impl Searcher {
         ensures holds { (entries : List SchemaEntry) (n : ℕ) (ts : List IndexToken) → SearcherHolds entries self.now n ts → MayAsk entries query.now → covers_docs TERMINATED query.now ≡ true
             → GivesBest docs.now (scored_docs n (token_score entries ts (token_statistics n ts) query.now)) result }
     {
-        let statistics = match statistics_of(alloc, self, query) {
-            Ok(statistics) => statistics,
-            Err(fault) => return Err(fault),
-        };
-        match best_by(alloc, self.segments.segments(), &statistics, query, docs) {
+        match self.damaged_counts() {
+            Some(part) => return Err(Fault::Damaged(part)),
+            None => (),
+        }
+        match best_by(alloc, self.segments.segments(), self, query, docs) {
             Ok(best) => Ok(best),
             Err(fault) => Err(fault),
         }

@@ -11,10 +11,8 @@ pub mod index_reader;
 pub mod index_writer;
 pub mod locked_folder;
 mod opening;
-mod query_terms;
 mod ranking;
 mod segments;
-mod statistics;
 mod totals;
 
 pub use faults::IndexError;

@@ -9,4 +9,5 @@ mod DeletingLemmas
 pub mod DeletingLaws
 mod RankingLemmas
 mod WorkedRows
+mod TotalsLemmas
 mod ShareTextLemmas

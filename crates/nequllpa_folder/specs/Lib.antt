@@ -4,6 +4,8 @@ pub mod Explained
 pub mod Faults
 pub mod Finding
 pub mod Ids
+pub mod LivingTokens
+pub mod OpenedNumbers
 pub mod OpenedSegments
 pub mod Positions
 pub mod RowFormats

@@ -3,8 +3,8 @@ ghost use Rattle.std.specs.Prelude.{◌≡◌, IfOk, None, map, string_bytes};
 ghost use Rattle.std.specs.List.{All, AllZip, Contains};
 ghost use Rattle.ii_io.specs.Faults.{OnlyMemory};
 ghost use Rattle.ii_ranking.specs.Segments.{segment_of, segments_damage, segments_scored};
-ghost use Rattle.ii_ranking.specs.Statistics.{statistics_of};
 ghost use Rattle.ii_segment_search.specs.Searcher.{HaveFields};
+ghost use Rattle.ii_statistics.specs.Statistics.{query_statistics};
 ghost use Rattle.nequllpa_folder.specs.Explained.{IsExplained};
 ghost use Rattle.nequllpa_folder.specs.RowFormats.{is_json};
 
@@ -12,8 +12,9 @@ use crate::row_format::RowFormat;
 use crate::share_rows::push_shares;
 use ii_base::{DocId, Fault, Schema};
 use ii_explanation::explain_segments;
-use ii_ranking::{GatheredStatistics, RankedSegment, Score};
+use ii_ranking::{RankedSegment, Score};
 use ii_search::Query;
+use ii_statistics::QueryStatistics;
 use std::alloc::Global;
 
 /// Returns for each of some documents with their scores, as `search_segments` returns them, what its score is made of,
@@ -23,13 +24,13 @@ pub(crate) fn explanations(
     schema: &Schema,
     format: RowFormat,
     segments: &[RankedSegment<'_>],
-    statistics: &GatheredStatistics,
+    statistics: &QueryStatistics<'_>,
     query: &Query,
     best: &[(Score, DocId)],
 ) -> Result<Vec<String>, Fault>
     requires fields { HaveFields query.now (map segment_of segments.now) }
-    requires scored { All (Contains (segments_scored (statistics_of statistics.now) query.now 0 (map segment_of segments.now))) best.now }
-    ensures explained { IfOk result (λ texts. AllZip (IsExplained (statistics_of statistics.now) query.now (map segment_of segments.now) (is_json format) schema.now) best.now (map string_bytes texts.items)) }
+    requires scored { All (Contains (segments_scored (query_statistics statistics.now) query.now 0 (map segment_of segments.now))) best.now }
+    ensures explained { IfOk result (λ texts. AllZip (IsExplained (query_statistics statistics.now) query.now (map segment_of segments.now) (is_json format) schema.now) best.now (map string_bytes texts.items)) }
     ensures only { segments_damage query.now (map segment_of segments.now) ≡ None → OnlyMemory result }
 {
     let mut texts = Vec::new(alloc);
@@ -46,13 +47,13 @@ fn explanation(
     schema: &Schema,
     format: RowFormat,
     segments: &[RankedSegment<'_>],
-    statistics: &GatheredStatistics,
+    statistics: &QueryStatistics<'_>,
     query: &Query,
     best: (Score, DocId),
 ) -> Result<String, Fault>
     requires fields { HaveFields query.now (map segment_of segments.now) }
-    requires scored { Contains (segments_scored (statistics_of statistics.now) query.now 0 (map segment_of segments.now)) best }
-    ensures explained { IfOk result (λ text. IsExplained (statistics_of statistics.now) query.now (map segment_of segments.now) (is_json format) schema.now best (string_bytes text)) }
+    requires scored { Contains (segments_scored (query_statistics statistics.now) query.now 0 (map segment_of segments.now)) best }
+    ensures explained { IfOk result (λ text. IsExplained (query_statistics statistics.now) query.now (map segment_of segments.now) (is_json format) schema.now best (string_bytes text)) }
     ensures only { segments_damage query.now (map segment_of segments.now) ≡ None → OnlyMemory result }
 {
     let (_, number) = best;

@@ -443,7 +443,7 @@ fn write_field<W: Write>(
         out,
         ": {} terms, {} tokens",
         num_terms(alloc, opened, field)?,
-        num_tokens(opened, field)?
+        num_tokens(alloc, opened, field)?
     )?;
     Ok(())
 }
@@ -464,11 +464,11 @@ pub(crate) fn num_terms(
 }
 
 // Returns the number of tokens that the living documents have in a field.
-pub(crate) fn num_tokens(opened: &OpenedIndex, field: Field) -> Result<u64, Fault> {
+pub(crate) fn num_tokens(alloc: Global, opened: &OpenedIndex, field: Field) -> Result<u64, Fault> {
     let mut tokens = 0u64;
     for segment in opened.segments() {
         if (field.field_id() as usize) < segment.schema().num_fields() {
-            tokens = tokens.saturating_add(segment.num_tokens(field)?);
+            tokens = tokens.saturating_add(segment.num_tokens(alloc, field)?);
         }
     }
     Ok(tokens)

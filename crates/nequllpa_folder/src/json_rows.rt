@@ -83,7 +83,7 @@ pub(crate) fn write_field_json<W: Write>(
     requires { field < length opened.now.schema }
 {
     let terms = num_terms(alloc, opened, field)?;
-    let tokens = num_tokens(opened, field)?;
+    let tokens = num_tokens(alloc, opened, field)?;
     let entry = opened.entry(field);
     write!(out, "{{\"number\":{},\"field\":", field.field_id())?;
     write_quoted(alloc, out, entry.name())?;

@@ -7,6 +7,7 @@ pub mod deleting;
 pub mod documents;
 mod explaining;
 pub mod faults;
+mod field_totals;
 pub mod finding;
 pub mod ids;
 pub mod inspecting;

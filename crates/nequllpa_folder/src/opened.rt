@@ -1,5 +1,5 @@
 //! An open index.
-ghost use Rattle.std.specs.Prelude.{◌≡◌, ◌<◌, ℕ, IfErr, IfOk, IfSome, IsSomeAnd, List, None, Ok, Some, if◌then◌else◌, length, slice_get};
+ghost use Rattle.std.specs.Prelude.{◌≡◌, ◌<◌, ◌⊎◌, ℕ, IfErr, IfOk, IfSome, IsSomeAnd, List, None, Ok, Some, if◌then◌else◌, length, slice_get};
 ghost use Rattle.std.specs.Option.{option_map};
 ghost use Rattle.ii_alive.specs.Alive.{num_living, rank};
 ghost use Rattle.ii_io.specs.Composite.{composite};
@@ -15,13 +15,15 @@ ghost use Rattle.ii_reader.specs.OpenIndex.{IndexHolds, index_of_files};
 ghost use Rattle.ii_schema_text.specs.SchemaText.{TextSchemaState, text_schema, tokenized_schema};
 ghost use Rattle.ii_query_parser.specs.QueryTexts.{field_named};
 ghost use Rattle.ii_store.specs.Index.{view};
+ghost use Rattle.nequllpa_folder.specs.LivingTokens.{counted_tokens, has_deletes, living_tokens};
 ghost use Rattle.nequllpa_folder.specs.Stored.{HoldsTokens, IsOpenRefusal, IsSchemaRefusal, IsTextSchemaRefusal, readers_of};
 
 use crate::faults::OpenFault;
 use bytes::Bytes;
 use ii_alive::AliveBits;
 use ii_base::{DocId, Fault, Field, FieldEntry, Part, Schema};
-use ii_counts::{CountReader, CountReaders};
+use ii_counts::CountReaders;
+use ii_counts_merger::{CountsSource, count_tokens};
 use ii_doc_store::{StoreOpenFault, StoreReader};
 use ii_query_parser::field_named;
 use ii_reader::{InvertedIndexReader, OpenIndex, open_index_with_norms};
@@ -185,7 +187,9 @@ impl Opened {
     }
 
     /// Returns whether a document was deleted.
-    pub fn has_deletes(&self) -> bool {
+    pub fn has_deletes(&self) -> bool
+        ensures { result ≡ has_deletes self.now.alive }
+    {
         self.alive.num_living() < self.alive.num_docs()
     }
 
@@ -199,22 +203,34 @@ impl Opened {
         None
     }
 
-    /// Returns the number of tokens that the living documents have in a field. Returns `Damaged(TokenCount)` if
-    /// it isn't known from the file of counts.
-    pub fn num_tokens(&self, field: Field) -> Result<u64, Fault>
+    /// Returns the number of tokens that the living documents have in a field. Once a document was deleted, only the
+    /// file of counts tells it.
+    ///
+    /// # Errors
+    ///
+    /// `Damaged(TokenCount)` if a document was deleted, and there is no file of counts, or it doesn't have a count for
+    /// each document in the field; `OutOfMemory` if an allocation fails.
+    pub fn num_tokens(&self, alloc: Global, field: Field) -> Result<u64, Fault>
         requires { field < length self.now.schema }
+        ensures ok { IfOk result (λ n. living_tokens field self.now.index self.now.counts self.now.alive ≡ Some n) }
+        ensures err { IfErr result (λ e. (e ≡ Fault.OutOfMemory) ⊎ ((e ≡ Fault.Damaged Part.TokenCount) × (living_tokens field self.now.index self.now.counts self.now.alive ≡ None))) }
     {
         if !self.has_deletes() {
             return Ok(self.reader(field).total_num_tokens());
         }
+        self.counted_tokens(alloc, field)
+    }
+
+    // Returns the number of tokens that the living documents have in a field, by the file of counts.
+    fn counted_tokens(&self, alloc: Global, field: Field) -> Result<u64, Fault>
+        ensures ok { IfOk result (λ n. counted_tokens field self.now.counts self.now.alive ≡ Some n) }
+        ensures err { IfErr result (λ e. (e ≡ Fault.OutOfMemory) ⊎ ((e ≡ Fault.Damaged Part.TokenCount) × (counted_tokens field self.now.counts self.now.alive ≡ None))) }
+    {
         let Some(counts) = &self.counts else {
             return Err(Fault::Damaged(Part::TokenCount));
         };
-        match counts.get_field(field, self.alive.num_docs()) {
-            Ok(Some(reader)) => Ok(sum_of_living(reader, &self.alive)),
-            Ok(None) => Err(Fault::Damaged(Part::TokenCount)),
-            Err(fault) => Err(fault),
-        }
+        let alive = &self.alive;
+        count_tokens(alloc, field, CountsSource { counts, alive })
     }
 
     /// Returns the number of documents, deleted ones included.
@@ -280,27 +296,6 @@ pub fn is_living(alive: &AliveBits, doc: DocId) -> bool
         return false;
     }
     alive.is_alive(doc)
-}
-
-// Returns the sum of the numbers of tokens of living documents.
-fn sum_of_living(counts: CountReader, alive: &AliveBits) -> u64 {
-    let mut counts = counts;
-    let mut sum = 0u64;
-    for doc in 0..counts.num_docs() {
-        sum = sum.saturating_add(count_if_living(&mut counts, alive, doc));
-    }
-    sum
-}
-
-// Returns the number of tokens of a document, 0 if it isn't alive.
-fn count_if_living(counts: &mut CountReader, alive: &AliveBits, doc: DocId) -> u64
-    requires { doc < length counts.old.counts }
-    ensures { counts.new.counts ≡ counts.old.counts }
-{
-    if !is_living(alive, doc) {
-        return 0;
-    }
-    u64::from(counts.count(doc))
 }
 
 /// Reads the schema of an index. Returns `SchemaBytes` if the bytes aren't UTF-8, and `Schema` if the text is

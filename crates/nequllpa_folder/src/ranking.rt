@@ -1,19 +1,21 @@
 //! Writes the best documents that a search finds.
-ghost use Rattle.std.specs.Prelude.{◌≡◌, ◌+◌, ◌<◌, ◌^◌, IfErr, IfOk, IfSome, None, OnOk, length, map, string_bytes, true};
-ghost use Rattle.std.specs.List.{AllZip};
+ghost use Rattle.std.specs.Prelude.{◌≡◌, ◌-◌, ◌<◌, ◌^◌, IfErr, IfOk, None, OnOk, length, map, min, string_bytes, true};
+ghost use Rattle.std.specs.List.{AllZip, list_all};
+ghost use Rattle.ii_io.specs.Faults.{OnlyMemory};
+ghost use Rattle.ii_query_parser.specs.Queries.{has_fields};
 ghost use Rattle.ii_segment_search.specs.Searcher.{HaveFields, total_living};
 ghost use Rattle.ii_ranking.specs.Scores.{IsScoreFault};
 ghost use Rattle.ii_ranking.specs.Segments.{segment_of, segments_damage, segments_scored};
-ghost use Rattle.ii_ranking.specs.Statistics.{statistics_of};
 ghost use Rattle.ii_scorer.specs.TopDocs.{AreBest};
-ghost use Rattle.nequllpa_folder.specs.Explained.{IsExplained};
+ghost use Rattle.ii_statistics.specs.Statistics.{query_statistics, ranking_damage, segments_statistics};
+ghost use Rattle.nequllpa_folder.specs.Explained.{AreExplained, IsExplained};
+ghost use Rattle.nequllpa_folder.specs.OpenedNumbers.{best_damage, may_rank, open_segment, opened_scored, rankable, totals_of};
 ghost use Rattle.nequllpa_folder.specs.RowFormats.{is_json};
 
-use crate::deleting::docs_with_term;
 use crate::documents::{document, segment_stores};
 use crate::explaining::explanations;
 use crate::faults::AnswerFault;
-use crate::finding::wanted_terms;
+use crate::field_totals::{FieldTotals, field_totals};
 use crate::ids::{IdSource, ids_of};
 use crate::inspecting::count_all;
 use crate::listing::write_id;
@@ -22,11 +24,12 @@ use crate::opened_index::OpenedIndex;
 use crate::places::SourceLines;
 use crate::row_format::RowFormat;
 use crate::stored_part::{StoredPart, StoredParts, words_for};
-use ii_base::{Fault, Field, Schema, Term};
+use ii_base::{Fault, Schema};
 use ii_docset::DocId;
 use ii_explanation::push_score;
-use ii_ranking::{GatheredStatistics, RankedSegment, Score, TopDocs, search_segments};
+use ii_ranking::{RankedSegment, Score, TopDocs, search_segments};
 use ii_search::Query;
+use ii_statistics::{QueryStatistics, statistics_of};
 use std::alloc::Global;
 use std::io::Write;
 
@@ -103,28 +106,126 @@ struct Best {
     explanations: Vec<String>,
 }
 
-// Returns the best documents that match a query.
+// Returns the best documents that match a query, by the exact numbers of all living documents; none if a segment doesn't
+// have a field of the query, or there are 2^32 living documents or more.
+//
+// Returns the first damaged part of what is needed: of the numbers of tokens, of the documents of each term of the query,
+// and then of what the scores need, segment by segment; or `OutOfMemory`.
 fn best_docs(
     alloc: Global,
     opened: &OpenedIndex,
     query: &Query,
     how: &BestListing<'_, '_>,
-) -> Result<Best, Fault> {
-    let statistics = statistics_of(alloc, opened, query)?;
-    let best = match sources_of(alloc, opened, query) {
-        Ok(Some(sources)) => {
-            let best = best_of(alloc, opened.schema(), &sources, &statistics, query, how);
-            drop(sources);
-            best
+) -> Result<Best, Fault>
+    ensures best { IfOk result (λ best. AreBest (record { limit = how.now.limit; offset = 0 }) (opened_scored (rankable query.now opened.now.segments.items) query.now) best.docs.items) }
+    ensures explained { how.now.with_explanations ≡ true → IfOk result (λ best. AreExplained (rankable query.now opened.now.segments.items) query.now (is_json how.now.format) opened.now.schema best.docs.items (map string_bytes best.explanations.items)) }
+    ensures sound { OnOk result (best_damage (rankable query.now opened.now.segments.items) query.now ≡ None) }
+    ensures fault { IfErr result (IsScoreFault (best_damage (rankable query.now opened.now.segments.items) query.now)) }
+{
+    let segments = rankable(opened.segments(), query);
+    best_of_segments(alloc, opened.schema(), segments, query, how)
+}
+
+// Returns the segments that are ranked: all, or none if they can't be.
+fn rankable<'a>(segments: &'a [Opened], query: &Query) -> &'a [Opened]
+    ensures ranked { result.now ≡ rankable query.now segments.now }
+    ensures may { may_rank query.now result.now ≡ true }
+{
+    let (ranked, _) = segments.split_at(num_rankable(segments, query));
+    ranked
+}
+
+// Returns how many segments are ranked: all, or none if they can't be.
+fn num_rankable(segments: &[Opened], query: &Query) -> usize
+    ensures { result ≡ length (rankable query.now segments.now) }
+{
+    if !have_fields(segments, query) {
+        return 0;
+    }
+    if num_living(segments) > u64::from(u32::MAX) {
+        return 0;
+    }
+    segments.len()
+}
+
+// Returns whether each segment has the fields of a query.
+fn have_fields(segments: &[Opened], query: &Query) -> bool
+    ensures { result ≡ list_all (λ o. has_fields (length o.index.readers) query.now) segments.now }
+{
+    for place in 0..segments.len() {
+        let segment = &segments[place];
+        // that there is a reader for each field of the schema, for the proof
+        let _index = segment.index();
+        if !query.has_fields(segment.schema()) {
+            return false;
         }
-        Ok(None) => Ok(Best {
-            docs: Vec::new(alloc),
-            explanations: Vec::new(alloc),
-        }),
-        Err(fault) => Err(fault),
+    }
+    true
+}
+
+// Returns how many documents of segments are alive, at most 2^64 - 1.
+fn num_living(segments: &[Opened]) -> u64
+    ensures { result ≡ min (2 ^ 64 - 1) (total_living (map open_segment segments.now)) }
+{
+    let mut total = 0u64;
+    for place in 0..segments.len() {
+        total = total.saturating_add(u64::from(segments[place].num_living()));
+    }
+    total
+}
+
+// Returns the best documents of segments that can be ranked.
+fn best_of_segments(
+    alloc: Global,
+    schema: &Schema,
+    segments: &[Opened],
+    query: &Query,
+    how: &BestListing<'_, '_>,
+) -> Result<Best, Fault>
+    requires { may_rank query.now segments.now ≡ true }
+    ensures best { IfOk result (λ best. AreBest (record { limit = how.now.limit; offset = 0 }) (opened_scored segments.now query.now) best.docs.items) }
+    ensures explained { how.now.with_explanations ≡ true → IfOk result (λ best. AreExplained segments.now query.now (is_json how.now.format) schema.now best.docs.items (map string_bytes best.explanations.items)) }
+    ensures sound { OnOk result (best_damage segments.now query.now ≡ None) }
+    ensures fault { IfErr result (IsScoreFault (best_damage segments.now query.now)) }
+{
+    let totals = match field_totals(alloc, segments, query) {
+        Ok(totals) => totals,
+        Err(fault) => return Err(fault),
     };
-    drop(statistics);
-    best
+    let ranked = match sources_of(alloc, segments) {
+        Ok(ranked) => ranked,
+        Err(fault) => return Err(fault),
+    };
+    match best_by(alloc, schema, ranked.as_slice(), &totals, query, how) {
+        Ok(best) => Ok(best),
+        Err(fault) => Err(fault),
+    }
+}
+
+// Returns the best documents of segments, by their exact numbers, given those of their tokens.
+fn best_by(
+    alloc: Global,
+    schema: &Schema,
+    segments: &[RankedSegment<'_>],
+    totals: &FieldTotals,
+    query: &Query,
+    how: &BestListing<'_, '_>,
+) -> Result<Best, Fault>
+    requires fields { HaveFields query.now (map segment_of segments.now) }
+    requires few { total_living (map segment_of segments.now) < 2 ^ 32 }
+    ensures best { IfOk result (λ best. AreBest (record { limit = how.now.limit; offset = 0 }) (segments_scored (segments_statistics (totals_of totals.now) (map segment_of segments.now)) query.now 0 (map segment_of segments.now)) best.docs.items) }
+    ensures explained { how.now.with_explanations ≡ true → IfOk result (λ best. AllZip (IsExplained (segments_statistics (totals_of totals.now) (map segment_of segments.now)) query.now (map segment_of segments.now) (is_json how.now.format) schema.now) best.docs.items (map string_bytes best.explanations.items)) }
+    ensures sound { OnOk result (ranking_damage (map segment_of segments.now) query.now ≡ None) }
+    ensures fault { IfErr result (IsScoreFault (ranking_damage (map segment_of segments.now) query.now)) }
+{
+    let statistics = match statistics_of(alloc, segments, totals, query) {
+        Ok(statistics) => statistics,
+        Err(fault) => return Err(fault),
+    };
+    match best_of(alloc, schema, segments, &statistics, query, how) {
+        Ok(best) => Ok(best),
+        Err(fault) => Err(fault),
+    }
 }
 
 // Returns the best documents of segments that match a query.
@@ -132,14 +233,14 @@ fn best_of(
     alloc: Global,
     schema: &Schema,
     segments: &[RankedSegment<'_>],
-    statistics: &GatheredStatistics,
+    statistics: &QueryStatistics<'_>,
     query: &Query,
     how: &BestListing<'_, '_>,
 ) -> Result<Best, Fault>
     requires fields { HaveFields query.now (map segment_of segments.now) }
     requires few { total_living (map segment_of segments.now) < 2 ^ 32 }
-    ensures best { IfOk result (λ best. AreBest (record { limit = how.now.limit; offset = 0 }) (segments_scored (statistics_of statistics.now) query.now 0 (map segment_of segments.now)) best.docs.items) }
-    ensures explained { how.now.with_explanations ≡ true → IfOk result (λ best. AllZip (IsExplained (statistics_of statistics.now) query.now (map segment_of segments.now) (is_json how.now.format) schema.now) best.docs.items (map string_bytes best.explanations.items)) }
+    ensures best { IfOk result (λ best. AreBest (record { limit = how.now.limit; offset = 0 }) (segments_scored (query_statistics statistics.now) query.now 0 (map segment_of segments.now)) best.docs.items) }
+    ensures explained { how.now.with_explanations ≡ true → IfOk result (λ best. AllZip (IsExplained (query_statistics statistics.now) query.now (map segment_of segments.now) (is_json how.now.format) schema.now) best.docs.items (map string_bytes best.explanations.items)) }
     ensures sound { OnOk result (segments_damage query.now (map segment_of segments.now) ≡ None) }
     ensures fault { IfErr result (IsScoreFault (segments_damage query.now (map segment_of segments.now))) }
 {
@@ -157,116 +258,26 @@ fn best_of(
     })
 }
 
-// Returns the segments, or `None` if one of them lacks a field of the query, or they have too many documents.
-fn sources_of<'a>(
-    alloc: Global,
-    opened: &'a OpenedIndex,
-    query: &Query,
-) -> Result<Option<Vec<RankedSegment<'a>>>, Fault>
-    ensures fields { IfOk result (λ found. IfSome found (λ sources. HaveFields query.entry.now (map segment_of sources.items))) }
-    ensures few { IfOk result (λ found. IfSome found (λ sources. total_living (map segment_of sources.items) < 2 ^ 32)) }
+// Returns segments to rank.
+fn sources_of<'a>(alloc: Global, segments: &'a [Opened]) -> Result<Vec<RankedSegment<'a>>, Fault>
+    ensures same { IfOk result (λ sources. map segment_of sources.items ≡ map open_segment segments.now) }
+    ensures only { OnlyMemory result }
 {
     let mut sources = Vec::new(alloc);
-    let mut total: u32 = 0;
-    for segment in opened.segments() {
-        if !query.has_fields(segment.schema()) {
-            return Ok(None);
-        }
-        let Some(more) = total.checked_add(segment.num_living()) else {
-            return Ok(None);
-        };
-        sources.push(source_of(segment))?;
-        total = more;
+    for place in 0..segments.len() {
+        sources.push(source_of(&segments[place]))?;
     }
-    Ok(Some(sources))
+    Ok(sources)
 }
 
 // Returns a segment to rank.
 fn source_of(segment: &Opened) -> RankedSegment<'_>
-    ensures index { result.index.now ≡ segment.entry.now.index }
-    ensures alive { result.alive.now ≡ segment.entry.now.alive }
+    ensures { segment_of result ≡ open_segment segment.now }
 {
     RankedSegment {
         index: segment.index(),
         alive: segment.alive(),
     }
-}
-
-// Returns the numbers of the living documents that the scores of a query need.
-fn statistics_of(
-    alloc: Global,
-    opened: &OpenedIndex,
-    query: &Query,
-) -> Result<GatheredStatistics, Fault> {
-    let terms = wanted_terms(alloc, query)?;
-    let mut num_docs: u64 = 0;
-    for segment in opened.segments() {
-        num_docs = num_docs.saturating_add(u64::from(segment.num_living()));
-    }
-    let num_tokens = num_tokens_of(alloc, opened, &terms)?;
-    let mut statistics = GatheredStatistics::new(alloc, num_docs, num_tokens);
-    for term in &terms {
-        let doc_freq = living_doc_freq(alloc, opened, term)?;
-        statistics.add_term(alloc, term, doc_freq)?;
-    }
-    Ok(statistics)
-}
-
-// Returns for each field how many tokens the living documents have in it; 0 for a field of none of the terms.
-fn num_tokens_of(alloc: Global, opened: &OpenedIndex, terms: &[&Term]) -> Result<Vec<u64>, Fault> {
-    let mut num_tokens = Vec::new(alloc);
-    for id in 0..opened.schema().num_fields() {
-        let field = Field::from_field_id(id as u32);
-        let mut total: u64 = 0;
-        if is_field_of_one(field, terms) {
-            total = tokens_in(opened, field)?;
-        }
-        num_tokens.push(total)?;
-    }
-    Ok(num_tokens)
-}
-
-// Returns whether a field is that of one of some terms.
-fn is_field_of_one(field: Field, terms: &[&Term]) -> bool {
-    for term in terms {
-        if term.field() == field {
-            return true;
-        }
-    }
-    false
-}
-
-// Returns how many tokens the living documents of all segments have in a field.
-fn tokens_in(opened: &OpenedIndex, field: Field) -> Result<u64, Fault> {
-    let mut total: u64 = 0;
-    for segment in opened.segments() {
-        if (field.field_id() as usize) < segment.schema().num_fields() {
-            total = total.saturating_add(segment.num_tokens(field)?);
-        }
-    }
-    Ok(total)
-}
-
-// Returns how many living documents have a term.
-fn living_doc_freq(alloc: Global, opened: &OpenedIndex, term: &Term) -> Result<u64, Fault> {
-    let mut total: u64 = 0;
-    for segment in opened.segments() {
-        total = total.saturating_add(doc_freq_in(alloc, segment, term)?);
-    }
-    Ok(total)
-}
-
-// Returns how many living documents of a segment have a term.
-fn doc_freq_in(alloc: Global, segment: &Opened, term: &Term) -> Result<u64, Fault> {
-    let field = term.field();
-    if field.field_id() as usize >= segment.schema().num_fields() {
-        return Ok(0);
-    }
-    if !segment.has_deletes() {
-        return Ok(u64::from(segment.reader(field).doc_freq(term)));
-    }
-    let docs = docs_with_term(alloc, segment.index(), segment.alive(), term)?;
-    Ok(docs.len() as u64)
 }
 
 // Returns the id of each of the best documents, an empty text if it has none.

@@ -3,7 +3,7 @@ use Rattle.std.proofs.lemmas.List.{drop_all, map-append}
 use Rattle.ii_ranking.specs.Segments.{segment_of}
 use Rattle.ii_segment_search.specs.Searcher.{OpenSegmentState}
 use Rattle.ii_ranking.specs.declared.segments.RankedSegment.{RankedSegment}
-use Rattle.ii_index.proofs.CountLemmas.{dropped_at}
+use Rattle.ii_statistics.proofs.CountLemmas.{dropped_at}
 use Rattle.ii_index.proofs.ranking.ranked_segments.Goals as goal
 
 pub loop-place-preserved : goal.loop-place-preserved

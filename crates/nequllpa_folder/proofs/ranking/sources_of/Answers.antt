@@ -1,26 +1,30 @@
-use Rattle.std.proofs.Common.{◌≡◌, ◌∙◌, ◌+◌, List, ap, arith, length, map, rules, sym, true}
-use Rattle.ii_alive.specs.Alive.{num_living}
-use Rattle.ii_query_parser.specs.Queries.{has_fields}
-use Rattle.ii_ranking.specs.declared.segments.RankedSegment.{RankedSegment}
+use Rattle.std.proofs.Common.{◌∙◌, ◌+◌, List, [], ◌∷◌, ◌++◌, append-nil, append_assoc, ap, drop, map, sym}
+use Rattle.std.proofs.lemmas.List.{drop_all, map-append}
 use Rattle.ii_ranking.specs.Segments.{segment_of}
-use Rattle.ii_segment_search.specs.Searcher.{total_living}
-use Rattle.nequllpa_folder.proofs.RankingLemmas.{fields_pushed, living_pushed}
+use Rattle.ii_ranking.specs.declared.segments.RankedSegment.{RankedSegment}
+use Rattle.ii_segment_search.specs.Searcher.{OpenSegmentState}
+use Rattle.ii_statistics.proofs.CountLemmas.{dropped_at}
+use Rattle.nequllpa_folder.specs.OpenedNumbers.{open_segment}
+use Rattle.nequllpa_folder.specs.declared.opened.Opened.{Opened}
 use Rattle.nequllpa_folder.proofs.ranking.sources_of.Goals as goal
 
-pub loop-segment-preserved : goal.loop-segment-preserved
-loop-segment-preserved c =
-    let l = c.loop-segment in
-    let query = c.args.query.now in
-    let s = c.source_of.result in
-    let pushed = c.in_ok-push.ensures.items in
-    let fields : has_fields (length s.index.now.readers) query ≡ true = search rules in
-    let alive = ap num_living c.source_of.ensures.alive in
-    let sum : c.in-Some.more ≡ l.total + num_living s.alive.now = search (rules, alive) in
-    record {
-      fields = rw pushed (fields_pushed query l.sources.items s l.invariant.fields fields);
-      few = search rules;
-      living = sum ∙ ap (λ n. n + num_living s.alive.now) l.invariant.living ∙ sym (living_pushed l.sources.items s) ∙ ap (λ (ss : List RankedSegment). total_living (map segment_of ss)) (sym pushed);
-    }
+pub loop-place-preserved : goal.loop-place-preserved
+loop-place-preserved c =
+    let l = c.loop-place in
+    let all = c.args.segments.now in
+    let left : List OpenSegmentState = map open_segment (drop (l.place + 1) all) in
+    let made = c.source_of.result in
+    let at = dropped_at all l.place c.index-segments-place.result c.loop-place-test.true c.index-segments-place.is in
+    let same = c.source_of.ensures in
+    ap (λ (row : List RankedSegment). map segment_of row ++ left) c.in_ok-push.ensures.items
+    ∙ ap (λ (row : List OpenSegmentState). row ++ left) (map-append segment_of l.sources.items (made ∷ []))
+    ∙ append_assoc (map segment_of l.sources.items) (segment_of made ∷ []) left
+    ∙ (λ j. map segment_of l.sources.items ++ same j ∷ left)
+    ∙ ap (λ (row : List Opened). map segment_of l.sources.items ++ map open_segment row) (sym at)
+    ∙ l.invariant
 
-pub returns-clause-few : goal.returns-clause-few
-returns-clause-few c = let few = c.loop-segment.invariant.few in let living = c.loop-segment.invariant.living in omega (arith, few, living)
+pub returns-clause-same : goal.returns-clause-same
+returns-clause-same c =
+    let l = c.loop-place in
+    let ranked = map segment_of l.sources.items in
+    sym (append-nil ranked) ∙ ap (λ (row : List Opened). ranked ++ map open_segment row) (sym (drop_all l.place c.args.segments.now c.loop-place-test.false)) ∙ l.invariant

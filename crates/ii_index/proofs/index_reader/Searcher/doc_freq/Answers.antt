@@ -5,8 +5,8 @@ use Rattle.ii_query_parser.specs.declared.query.Query.TheVariants.{Term}
 use Rattle.ii_ranking.specs.Scores.{IsScoreFault, damage_of}
 use Rattle.ii_segment_search.specs.Searcher.{AreFew, GivesNumber, MayAsk, Reaches, found_from}
 use Rattle.ii_index.specs.Searching.{SearcherState}
-use Rattle.ii_index.specs.Statistics.{doc_freq_in}
-use Rattle.ii_index.proofs.TermCountLemmas.{counted_found, refused_found}
+use Rattle.ii_statistics.specs.Statistics.{doc_freq_in}
+use Rattle.ii_statistics.proofs.DamageLemmas.{counted_found, refused_found}
 use Rattle.ii_index.proofs.HeldLemmas.{docs_counted}
 use Rattle.ii_index.proofs.index_reader.Searcher.doc_freq.Goals as goal
 
