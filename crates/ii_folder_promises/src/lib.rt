@@ -4,6 +4,7 @@
 
 pub mod block_files;
 pub mod damage;
+pub mod explanations;
 pub mod folder;
 pub mod index;
 pub mod index_ranking;

@@ -1,0 +1,36 @@
+//! What the scores of the best documents are made of.
+ghost use Rattle.std.specs.Prelude.{◌≡◌, ◌-◌, ◌<◌, ◌^◌, IfOk, IfSome, map, min};
+ghost use Rattle.std.specs.List.{sum_by};
+ghost use Rattle.ii_ranking.specs.Segments.{segment_of};
+ghost use Rattle.ii_ranking.specs.declared.shares.Share.{Share};
+ghost use Rattle.ii_segment_search.specs.Searcher.{HaveFields, total_living};
+
+use ii_explanation::explain_segments;
+use ii_ram::{Fault, Query};
+use ii_ranking::{GatheredStatistics, RankedSegment, Score, Share, TopDocs, search_segments};
+use std::alloc::Global;
+
+/// The shares of each of the best documents of segments add up to the score with which it is returned, at most
+/// 2^64 - 1. Returns the score and the shares of the best document at `place`, or `None` if there are fewer.
+pub fn the_shares_of_the_best_add_up<'q>(
+    alloc: Global,
+    segments: &[RankedSegment<'_>],
+    statistics: &GatheredStatistics,
+    query: &'q Query,
+    limit: usize,
+    place: usize,
+) -> Result<Option<(Score, Vec<Share<'q>>)>, Fault>
+    requires fields { HaveFields query.now (map segment_of segments.now) }
+    requires few { total_living (map segment_of segments.now) < 2 ^ 32 }
+    ensures { IfOk result (λ found. IfSome found (λ r. min (2 ^ 64 - 1) r.0 ≡ min (2 ^ 64 - 1) (sum_by (λ (s : Share). s.score) r.1.items))) }
+{
+    let docs = TopDocs::with_limit(limit);
+    let best = search_segments(alloc, segments, statistics, query, &docs)?;
+    if place >= best.len() {
+        return Ok(None);
+    }
+    let (score, number) = best[place];
+    drop(best);
+    let shares = explain_segments(alloc, segments, statistics, query, number)?;
+    Ok(Some((score, shares)))
+}
