@@ -51,14 +51,14 @@ spends_all before (suc place) n reader s low =
     omega arith
 
 -- a block is decoded at most once
-one_of : (n : ℕ) → decodes_of n ≤ 1
-one_of zero = omega arith
-one_of (suc n) = omega arith
+pub decodes_most : (n : ℕ) → decodes_of n ≤ 1
+decodes_most zero = omega arith
+decodes_most (suc n) = omega arith
 
 pub one_block : (values : List ℕ) (block padding : ℕ) (old new : BlockDecoderState) → Loads values block padding old new → new.decodes ≤ old.decodes + 1
 one_block values block padding old new loads =
     let more = loads.decodes in
-    let one = one_of (length (block_of values block)) in
+    let one = decodes_most (length (block_of values block)) in
     omega arith
 
 pub one_freqs : (o : Option (List ℕ)) (block : ℕ) (old new : BlockDecoderState) → LoadsFreqs o block old new → new.decodes ≤ old.decodes + 1

@@ -1,18 +1,18 @@
 -- Counts of living documents: one document, one segment and one field after the other.
-use Rattle.std.proofs.Common.{inl, inr, ◌≡◌, ℕ, zero, suc, ◌+◌, ◌-◌, ◌<◌, ◌≤◌, ◌==◌, Bool, true, false, List, [], ◌∷◌, ◌++◌, drop, get_or, length, map, refl, sym, ap, ◌∙◌, subst, arith, append_assoc, length-append, ⊎_elim}
+use Rattle.std.proofs.Common.{inl, inr, ◌≡◌, ℕ, zero, suc, ◌+◌, ◌-◌, ◌<◌, ◌≤◌, ◌==◌, Bool, true, false, List, [], ◌∷◌, ◌++◌, get_or, length, map, refl, sym, ap, ◌∙◌, subst, arith, append_assoc, length-append, ⊎_elim}
 use Rattle.std.specs.Prelude.{◌⊎◌, filter, slice_index, unwrap_or}
 use Rattle.std.specs.List.{AllByRecursion, range_with_len}
 use Rattle.std.proofs.lemmas.Bool.{cases_lt, eqb-false, eqb-true}
-use Rattle.std.proofs.lemmas.List.{drop_more, get_or-map, get_or_past, length-map}
-use Rattle.std.proofs.lemmas.List.FromFn.{length-range_with_len}
+use Rattle.std.proofs.lemmas.List.{get_or_past, length-map}
 use Rattle.ii_io.specs.declared.faults.Fault.{Fault}
 use Rattle.ii_io.specs.declared.faults.Fault.TheVariants.{Damaged, OutOfMemory}
 use Rattle.ii_io.specs.declared.faults.Part.TheVariants.{TokenCount}
-use Rattle.ii_alive.specs.Alive.{num_living, rank}
+use Rattle.ii_alive.specs.Alive.{num_living}
 use Rattle.ii_alive.proofs.RankLemmas.{living_cons}
 use Rattle.ii_counts.specs.CountsWriter.{count_at, first_counts}
 use Rattle.ii_segments.specs.Segments.{is_living, living_docs}
-use Rattle.ii_segments.proofs.CountLaws.{map_all, ranks_of_living}
+use Rattle.ii_segments.proofs.CountLaws.{living_length, map_all}
+use Rattle.ii_definitions.proofs.ListLaws.{all_drop, mapped_at}
 use Rattle.ii_counts_merger.specs.CountsSources.{CountsSourceState, HasCounts, HasRows, HaveCounts, SetsRow, num_merged_docs, counts_of_source, living_row, merged_row, merged_rows, opened_counts}
 use Rattle.ii_counts_merger.specs.declared.counts_source.CountsSource.{CountsSource}
 
@@ -34,26 +34,13 @@ module _ (alive : List Bool) (f : ℕ → ℕ) (n doc : ℕ) (low : doc < n) (be
   next_dead dead = rw dead at from_here
 
 -- ---- segments
-pub source_at : (xs : List CountsSource) (i : ℕ) (x : CountsSource) → i < length xs → x ≡ get_or xs i x → drop i (map opened_counts xs) ≡ opened_counts x ∷ drop (i + 1) (map opened_counts xs)
-source_at xs i x inside is =
-    drop_more (map opened_counts xs) i (opened_counts x) (omega (arith, inside, length-map xs opened_counts))
-    ∙ ap (λ (s : CountsSourceState). s ∷ drop (i + 1) (map opened_counts xs)) (get_or-map opened_counts xs i x (opened_counts x) inside ∙ ap opened_counts (sym is))
-
-all_drop : {X : Type 0} (P : X → Type 0) (i : ℕ) (xs : List X) → AllByRecursion P xs → AllByRecursion P (drop i xs)
-all_drop P zero xs all = all
-all_drop P (suc i) [] all = tt
-all_drop P (suc i) (x ∷ xs) all = all_drop P i xs all.1
-
 each_source : (P : CountsSourceState → Type 0) (xs : List CountsSource) (i : ℕ) (x : CountsSource) → i < length xs → x ≡ get_or xs i x → AllByRecursion P (map opened_counts xs) → P (opened_counts x)
-each_source P xs i x inside is all = (subst (AllByRecursion P) (source_at xs i x inside is) (all_drop P i (map opened_counts xs) all)).0
+each_source P xs i x inside is all = (subst (AllByRecursion P) (mapped_at opened_counts xs i x inside is) (all_drop P i (map opened_counts xs) all)).0
 
 pub one_damaged : (field : ℕ) (xs : List CountsSource) (i : ℕ) (x : CountsSource) (e : Fault) → i < length xs → x ≡ get_or xs i x → (e ≡ OutOfMemory) ⊎ ((e ≡ Damaged TokenCount) × ¬ HasCounts field (opened_counts x))
     → (e ≡ OutOfMemory) ⊎ ((e ≡ Damaged TokenCount) × ¬ AllByRecursion (HasCounts field) (map opened_counts xs))
 one_damaged field xs i x e inside is (inl memory) = inl memory
 one_damaged field xs i x e inside is (inr damaged) = inr (damaged.0, λ all. damaged.1 (each_source (HasCounts field) xs i x inside is all))
-
-living_length : (alive : List Bool) → length (living_docs alive) ≡ num_living alive
-living_length alive = sym (length-map (living_docs alive) (λ (d : ℕ). 0 + rank alive d)) ∙ ap length (ranks_of_living 0 alive) ∙ length-range_with_len 0 (num_living alive)
 
 -- no more documents are alive than there are
 pub few_living : (alive : List Bool) → num_living alive ≤ length alive

@@ -12,8 +12,8 @@ use Rattle.ii_doc_store.specs.declared.faults.StoreDamage.{StoreDamage}
 use Rattle.ii_doc_store.specs.StoreFormat.{store_bytes}
 use Rattle.ii_doc_store.specs.StoreReader.{HoldsDocuments, document_of, num_docs}
 use Rattle.ii_doc_store.specs.StoreWriter.{HasStored, StoreWriterState, WroteStore}
-use Rattle.ii_segments.specs.Segments.{is_living}
-use Rattle.ii_segments.proofs.CountLaws.{living_within}
+use Rattle.ii_segments.specs.Segments.{is_living, living_docs}
+use Rattle.ii_segments.proofs.CountLaws.{living_length, living_within}
 use Rattle.ii_doc_store_merger.specs.declared.faults.StoreMergeFault.{StoreMergeFault}
 use Rattle.ii_doc_store_merger.specs.declared.faults.StoreMergeFault.TheVariants.{Damaged, DocumentLen, NumDocs, Output}
 use Rattle.ii_doc_store_merger.specs.declared.store_source.StoreSource.{StoreSource}
@@ -21,6 +21,10 @@ use Rattle.ii_doc_store_merger.specs.StoreSources.{FitsFlags, IsMergedStore, IsS
 
 abbrev Reads : StoreSourceState → List (List ℕ) → Type 0
 Reads s ds = documents_of_source s ≡ Ok ds
+
+-- as many documents are merged as are alive
+pub documents_length : (d : SegmentDocuments) → length (living_documents d) ≡ num_living d.alive
+documents_length d = length-map (living_docs d.alive) (λ (doc : ℕ). get_or d.documents doc []) ∙ living_length d.alive
 
 -- ---- one store more
 read_more : (ss : List StoreSourceState) (each : List (List (List ℕ))) (s : StoreSourceState) (ds : List (List ℕ)) → AllZip Reads ss each → Reads s ds → AllZip Reads (ss ++ s ∷ []) (each ++ ds ∷ [])

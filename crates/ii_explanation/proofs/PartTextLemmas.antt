@@ -1,26 +1,16 @@
 -- The text of a part of a query.
-use Rattle.std.proofs.Common.{◌≡◌, ◌≢◌, ◌∙◌, ℕ, zero, suc, ◌+◌, ◌-◌, List, [], ◌∷◌, ◌++◌, Option, None, Some, Result, Ok, Err, OnOk, MatchOption, if◌then◌else◌, add-one, ap, append_assoc, codes, refl, sym}
+use Rattle.std.proofs.Common.{◌≡◌, ◌≢◌, ◌∙◌, ℕ, zero, suc, ◌+◌, ◌-◌, List, [], ◌∷◌, ◌++◌, Option, None, Some, Result, Ok, Err, OnOk, MatchOption, if◌then◌else◌, add-one, ap, append_assoc, codes, sym}
 use Rattle.std.specs.List.{repeat}
 use Rattle.std.specs.Result.{is_ok}
 use Rattle.std.proofs.lemmas.List.{append-nil}
 use Rattle.ii_base.specs.ValueTypes.{code_of}
 use Rattle.ii_base.specs.declared.schema.value_type.ValueType.{ValueType}
-use Rattle.ii_base.specs.declared.schema.value_type.ValueType.TheVariants as types
 use Rattle.ii_base.specs.Terms.{TermState}
 use Rattle.ii_query_parser.specs.declared.query.PhraseTerm.{PhraseTerm}
 use Rattle.ii_term_text.specs.KeyTexts.{text_of_key, type_of_letter}
+use Rattle.ii_term_text.proofs.KeyLaws.{letter_type}
 use Rattle.ii_term_text.proofs.KeyLemmas.{no_letter}
 use Rattle.ii_explanation.specs.PartTexts.{last_distance, later_terms, phrase_text}
-
-letter_type : (t : ValueType) → type_of_letter (code_of t) ≡ Some t
-letter_type types.Str = refl
-letter_type types.U64 = refl
-letter_type types.I64 = refl
-letter_type types.Bool = refl
-letter_type types.Date = refl
-letter_type types.Bytes = refl
-letter_type types.Json = refl
-letter_type types.IpAddr = refl
 
 -- the type that has a letter
 pub type_found : (letter : ℕ) (found : Option ValueType) → MatchOption found ((t : ValueType) → code_of t ≢ letter) (λ t. code_of t ≡ letter) → found ≡ type_of_letter letter

@@ -25,6 +25,7 @@ use Rattle.ii_ranking.proofs.ShareLemmas.{shares_add_up}
 use Rattle.ii_scorer.proofs.TopLemmas.{scored_more}
 use Rattle.ii_segments.specs.Segments.{is_living}
 use Rattle.ii_segment_search.specs.Searcher.{HaveFields, OpenSegmentState, total_living}
+use Rattle.ii_segment_search.proofs.SearchLemmas.{total_more}
 use Rattle.ii_explanation.specs.Explanations.{AreSharesAt}
 
 -- living documents with the same rank are the same
@@ -134,11 +135,6 @@ pub only_memory_at : (query : Query) (segments before after : List OpenSegmentSt
 only_memory_at query segments before after s (Ok shares) whole sound fault = tt
 only_memory_at query segments before after s (Err e) whole sound fault = only_memory (query_damage s.index query) e (sound_at query segments before after s whole sound) fault
 
--- one segment more
-living_more : (ss : List OpenSegmentState) (t : OpenSegmentState) → total_living (ss ++ t ∷ []) ≡ total_living ss + num_living t.alive
-living_more [] t = omega arith
-living_more (x ∷ ss) t = let rest = living_more ss t in omega (arith, rest)
-
 -- the living documents of one segment more
 pub living_next : (segments : List RankedSegment) (i : ℕ) (s : RankedSegment) → i < length segments → s ≡ get_or segments i s → total_living (take (i + 1) (map segment_of segments)) ≡ total_living (take i (map segment_of segments)) + num_living s.alive.now
 living_next segments i s inside is =
@@ -146,7 +142,7 @@ living_next segments i s inside is =
     let many = length-map segments segment_of in
     let here : get_or all i (segment_of s) ≡ segment_of s = get_or-map segment_of segments i s (segment_of s) inside ∙ ap segment_of (sym is) in
     ap total_living (ap (λ (n : ℕ). take n all) (add-one i) ∙ take-suc all i (segment_of s) (omega (arith, many, inside)) ∙ ap (λ (t : OpenSegmentState). take i all ++ t ∷ []) here)
-    ∙ living_more (take i all) (segment_of s)
+    ∙ total_more (take i all) (segment_of s)
 
 -- ---- the sum of the shares
 module _ (statistics : Statistics) (query : Query) (all : List OpenSegmentState) where
@@ -179,7 +175,7 @@ module _ (statistics : Statistics) (query : Query) (all : List OpenSegmentState)
   segments_add (s ∷ left) before base whole base_is =
       let next : all ≡ (before ++ s ∷ []) ++ left = whole ∙ sym (append_assoc before (s ∷ []) left) in
       All-append AddsUp (segment_scored base s.alive (query_score (scored_in s.index statistics) query)) (segments_scored statistics query (base + num_living s.alive) left) (segment_adds before left s base whole base_is (length s.alive))
-      (segments_add left (before ++ s ∷ []) (base + num_living s.alive) next (let more = living_more before s in omega (arith, more, base_is)))
+      (segments_add left (before ++ s ∷ []) (base + num_living s.alive) next (let more = total_more before s in omega (arith, more, base_is)))
 
   -- the shares of each document that has a score add up to it
   pub shares_of_each : All AddsUp (segments_scored statistics query 0 all)

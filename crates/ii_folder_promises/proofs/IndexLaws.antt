@@ -1,7 +1,6 @@
 -- How many documents the segments of an index have.
-use Rattle.std.proofs.Common.{◌≡◌, ◌∙◌, ◌+◌, ◌≤◌, ℕ, Bool, true, false, List, [], ◌∷◌, ◌++◌, Option, None, Some, IfSome, arith, ap, not, refl, subst, sym}
+use Rattle.std.proofs.Common.{◌≡◌, ◌∙◌, ◌+◌, ◌≤◌, ℕ, Bool, true, false, List, [], ◌∷◌, Option, None, Some, IfSome, arith, ap, not, refl, subst, sym}
 use Rattle.ii_alive.specs.Alive.{num_living}
-use Rattle.ii_alive.proofs.RankLemmas.{all_living}
 use Rattle.ii_directory.specs.Directory.{Files}
 use Rattle.ii_base.specs.Schema.{SchemaEntry}
 use Rattle.ii_base.specs.Terms.{TermState}
@@ -12,12 +11,11 @@ use Rattle.ii_index.specs.Searching.{SearcherState}
 use Rattle.ii_index.specs.Index.{FlushedState, IndexWriterState}
 use Rattle.ii_index.specs.Pending.{HasPending, HoldsFlushedIf}
 use Rattle.ii_index.specs.Segments.{HaveTokens, HoldsIndexOf, no_documents, segment_of, with_tokens}
-use Rattle.ii_segment_search.proofs.LocalLaws.{docs_of_both}
 use Rattle.ii_schema_text.specs.SchemaText.{TextSchemaState}
 use Rattle.ii_segment_store.specs.Contents.{index_contents}
 use Rattle.ii_tokenizers.specs.Tokenizers.{analyzed_in}
 use Rattle.ii_segment_search.specs.Searcher.{OpenSegmentState, SegmentsHold, total_living}
-use Rattle.ii_segments.specs.Segments.{Segment, index_tokens, num_docs_of}
+use Rattle.ii_segments.specs.Segments.{Segment, num_docs_of}
 use Rattle.nequllpa_indexing.specs.Documents.{DocumentsState}
 
 same_living : (entries : List SchemaEntry) (opened : List OpenSegmentState) (ss : List Segment) → SegmentsHold entries opened ss → total_living opened ≡ num_docs_of ss

@@ -9,6 +9,7 @@ use Rattle.std.proofs.lemmas.List.Elements.{All-append, All-from_recursion, All-
 use Rattle.std.proofs.lemmas.List.Sorted.{All-permutation, Contains-permutation, length_permutation}
 use Rattle.ii_io.specs.declared.faults.Fault.{Fault}
 use Rattle.ii_io.specs.declared.faults.Fault.TheVariants.{OutOfMemory}
+use Rattle.ii_io.specs.Faults.{OnlyMemory}
 use Rattle.ii_base.specs.Schema.{SchemaEntry}
 use Rattle.ii_definitions.specs.Tokens.{IndexToken}
 use Rattle.ii_indexing.specs.RamFiles.{IsRamFault}
@@ -130,6 +131,11 @@ module _ (limit num_docs : ℕ) (score_of : ℕ → Option ℕ) (best : List (�
               → length (with_score (score_of doc) doc ++ flat_map (λ (d : ℕ). with_score (score_of d) d) docs) ≡ length (filter (λ (d : ℕ). is_some (score_of d)) (doc ∷ docs))
           by None is later = rw is later
           by (Some score) is later = rw is (ap suc later)
+
+-- the best, or no memory
+pub given_best : (limit : ℕ) (scored : List (ℕ × ℕ)) (r : Result (Vec (ℕ × ℕ) Global) Fault) → IfOk r (λ best. AreBest (record { limit = limit; offset = 0 }) scored best.items) → OnlyMemory r → GivesBest (record { limit = limit; offset = 0 }) scored r
+given_best limit scored (Ok best) are only = are
+given_best limit scored (Err fault) are only = only
 
 module _ (limit num_docs : ℕ) (score_of : ℕ → Option ℕ) where
   -- what is returned

@@ -1,12 +1,12 @@
 //! What the scores of the best documents are made of.
-ghost use Rattle.std.specs.Prelude.{◌≡◌, ◌-◌, ◌<◌, ◌^◌, IfOk, IfSome, map, min};
+ghost use Rattle.std.specs.Prelude.{◌≡◌, ◌-◌, ◌<◌, ◌^◌, IfErr, IfOk, IfSome, map, min};
 ghost use Rattle.std.specs.List.{sum_by};
 ghost use Rattle.ii_ranking.specs.Segments.{segment_of};
 ghost use Rattle.ii_ranking.specs.declared.shares.Share.{Share};
 ghost use Rattle.ii_segment_search.specs.Searcher.{HaveFields, total_living};
 
 use ii_explanation::explain_segments;
-use ii_ram::{Fault, Query};
+use ii_ram::{DocId, Fault, Query};
 use ii_ranking::{GatheredStatistics, RankedSegment, Score, Share, TopDocs, search_segments};
 use std::alloc::Global;
 
@@ -33,4 +33,27 @@ pub fn the_shares_of_the_best_add_up<'q>(
     drop(best);
     let shares = explain_segments(alloc, segments, statistics, query, number)?;
     Ok(Some((score, shares)))
+}
+
+/// Once a search over segments returned, the shares of a document fail only with `OutOfMemory`. Returns `None` if the
+/// search fails.
+pub fn what_was_found_is_explained<'q>(
+    alloc: Global,
+    segments: &[RankedSegment<'_>],
+    statistics: &GatheredStatistics,
+    query: &'q Query,
+    number: DocId,
+) -> Option<Result<Vec<Share<'q>>, Fault>>
+    requires fields { HaveFields query.now (map segment_of segments.now) }
+    requires few { total_living (map segment_of segments.now) < 2 ^ 32 }
+    ensures { IfSome result (λ shares. IfErr shares (λ e. e ≡ Fault.OutOfMemory)) }
+{
+    let docs = TopDocs::with_limit(1);
+    match search_segments(alloc, segments, statistics, query, &docs) {
+        Ok(best) => {
+            drop(best);
+            Some(explain_segments(alloc, segments, statistics, query, number))
+        }
+        Err(_) => None,
+    }
 }

@@ -1,11 +1,14 @@
-//! Scorers of two parts.
-ghost use Rattle.std.specs.Prelude.{◌≡◌, ◌+◌, ◌-◌, ◌^◌, ◌<◌, ℕ, IfOk, Some, min};
+//! Scorers of two parts, and the best documents of any scorer.
+ghost use Rattle.std.specs.Prelude.{◌≡◌, ◌+◌, ◌-◌, ◌^◌, ◌<◌, ◌≤◌, ◌⊎◌, ℕ, IfOk, Some, filter, is_some, length, min};
+ghost use Rattle.std.specs.List.{All, Contains, range_with_len};
+ghost use Rattle.ii_io.specs.Faults.{OnlyMemory};
 ghost use Rattle.ii_scorer.specs.Scorers.{score_of};
 
 use ii_base::{DocId, Fault};
 use ii_bm25::Score;
-use ii_scorer::{QueryScorer, Scorer};
+use ii_scorer::{DocNumbers, QueryScorer, Scorer, TopDocs, push_best};
 use std::alloc::Global;
+use std::marker::Model;
 
 /// Returns the first document that may score `least` by two scorers together: a document before it that both match
 /// scores less by them in sum.
@@ -25,4 +28,49 @@ pub fn unions_pass_what_scores_less<T: Scorer>(
         Err(fault) => return Err(fault),
     };
     Ok(union.seek_with_score(0, least))
+}
+
+// The first documents, all of which count, each by its own number.
+struct FirstDocs {
+    num_docs: DocId,
+}
+
+impl DocNumbers for FirstDocs {
+    ghost use Rattle.std.specs.Prelude.{true};
+
+    ghost numbering = { λ docs. record { num_docs = docs.num_docs; counts = λ _. true; number = λ doc. doc } };
+
+    fn num_docs(&self) -> DocId {
+        self.num_docs
+    }
+
+    fn number(&self, doc: DocId) -> DocId {
+        doc
+    }
+
+    fn counts(&self, _doc: DocId) -> bool {
+        true
+    }
+}
+
+/// Of any scorer the best of the first documents are returned, though those that score too little are passed: each
+/// with its score, as many as have a score but at most `limit`, and no other document scores more than one of them.
+/// This fails only with `OutOfMemory`.
+pub fn the_best_of_a_scorer_are_kept<T: Scorer>(
+    alloc: Global,
+    scorer: &mut T,
+    num_docs: DocId,
+    limit: usize,
+) -> Result<Vec<(Score, DocId)>, Fault>
+    ensures scores { IfOk result (λ best. All (λ (b : ℕ × ℕ). (b.1 < num_docs) × (score_of (T.state scorer.old) b.1 ≡ Some b.0)) best.items) }
+    ensures many { IfOk result (λ best. length best.items ≡ min limit (length (filter (λ (doc : ℕ). is_some (score_of (T.state scorer.old) doc)) (range_with_len 0 num_docs)))) }
+    ensures greatest { IfOk result (λ best. (doc score : ℕ) → doc < num_docs → score_of (T.state scorer.old) doc ≡ Some score → Contains best.items (score, doc) ⊎ All (λ (b : ℕ × ℕ). score ≤ b.0) best.items) }
+    ensures only { OnlyMemory result }
+{
+    let docs = TopDocs::with_limit(limit);
+    let mut computer = docs.computer(alloc);
+    match push_best(scorer, &FirstDocs { num_docs }, &mut computer) {
+        Ok(()) => docs.best_of(computer),
+        Err(fault) => Err(fault),
+    }
 }

@@ -19,7 +19,8 @@ use Rattle.ii_index.proofs.DeleteLaws.{docs_left, kept_before, marked, marked_se
 use Rattle.ii_index.proofs.DeleteLemmas.{holds_left}
 use Rattle.ii_index.proofs.IndexLemmas.{same_holds}
 use Rattle.ii_index.proofs.PendingLemmas.{have_both, without_both, zip_both, zip_length}
-use Rattle.ii_segment_search.proofs.LocalLaws.{any_local, docs_of_both}
+use Rattle.ii_segment_search.proofs.LocalLaws.{any_local}
+use Rattle.ii_segments.proofs.MergeLaws.{docs_of_both}
 use Rattle.ii_segments.proofs.CountLaws.{living_within}
 use Rattle.ii_segment_store.specs.Commits.{HoldsOldOr}
 use Rattle.ii_segment_store.specs.Changes.{index_without, segments_without, without}

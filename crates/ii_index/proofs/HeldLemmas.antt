@@ -44,7 +44,7 @@ use Rattle.ii_index.specs.Deletes.{has_term}
 use Rattle.ii_index.specs.Ranking.{CountsDocs, SearcherHolds, segment_counts}
 use Rattle.ii_index.specs.Searching.{SearcherState, segment_totals}
 use Rattle.ii_index.specs.Statistics.{counts_damage, index_statistics, num_docs_with, num_tokens_of, token_statistics}
-use Rattle.ii_statistics.specs.Listed.{AreListed, IsListed}
+use Rattle.ii_statistics.specs.Listed.{IsListedInEach, IsListed}
 use Rattle.ii_statistics.specs.Statistics.{AreSameFor, doc_freq_in, num_found, query_terms, terms_damage}
 use Rattle.ii_statistics.proofs.DamageLemmas.{sound_both}
 use Rattle.ii_statistics.proofs.StatisticsLaws.{same_tokens}
@@ -238,7 +238,7 @@ module _ (entries : List SchemaEntry) (s : SearcherState) (n : ℕ) (ts : List I
       by (Err fault) is = is
 
   -- the documents of terms that are listed
-  pub docs_listed : (few : AreFew s.segments) (terms : List TermState) → AllByRecursion (λ (t : TermState). t.field < length entries) terms → AllByRecursion (AreListed s.segments) terms
+  pub docs_listed : (few : AreFew s.segments) (terms : List TermState) → AllByRecursion (λ (t : TermState). t.field < length entries) terms → AllByRecursion (IsListedInEach s.segments) terms
       → AllByRecursion (λ (t : TermState). doc_freq_in s.segments t ≡ num_docs_with n ts t) terms
   docs_listed few [] known listed = tt
   docs_listed few (t ∷ terms) known listed =

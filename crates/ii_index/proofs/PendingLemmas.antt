@@ -21,10 +21,10 @@ use Rattle.ii_documents.specs.JsonLines.{Refusal, line_calls_by, too_long, too_m
 use Rattle.ii_documents.specs.declared.floats.FloatNumbers.TheVariants as floats
 use Rattle.ii_documents.proofs.NumberLaws.{all_of_doc, of_doc, renumbered}
 use Rattle.ii_index.specs.Index.{AreReadBy, FlushedState}
-use Rattle.ii_index.specs.Pending.{ArePending, AreWritten, HoldsFlushed, HoldsFlushedIf, IsWrittenSegment, document_tokens, tokens_if, with_segments}
+use Rattle.ii_index.specs.Pending.{ArePending, AreWritten, HoldsFlushed, IsWrittenSegment, document_tokens, tokens_if, with_segments}
 use Rattle.ii_index.specs.Segments.{HaveLines, HaveTokens, HoldsIndexOf, after, segment_of, with_tokens}
 use Rattle.ii_index.proofs.IndexLemmas.{same_holds, zip_more}
-use Rattle.ii_segment_search.proofs.LocalLaws.{docs_of_both}
+use Rattle.ii_segments.proofs.MergeLaws.{docs_of_both}
 use Rattle.ii_segment_store.specs.Changes.{segments_without}
 use Rattle.ii_segment_store.specs.Contents.{IndexContents, SegmentContents, all_contents, files_contents, index_contents, list_contents, segment_in, with_segment}
 use Rattle.ii_segment_store.specs.Pending.{FollowsFlags, IsPending}

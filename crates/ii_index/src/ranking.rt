@@ -11,7 +11,7 @@ ghost use Rattle.ii_ranking.specs.TokenScores.{GivesBest, tokens_scored};
 ghost use Rattle.ii_scorer.specs.TopDocs.{AreBest};
 ghost use Rattle.ii_segment_search.specs.Searcher.{AreFew, HaveFields, SegmentsHold};
 ghost use Rattle.ii_segments.specs.Segments.{Segment};
-ghost use Rattle.ii_statistics.specs.Listed.{AreListed};
+ghost use Rattle.ii_statistics.specs.Listed.{IsListedInEach};
 ghost use Rattle.ii_statistics.specs.Statistics.{query_terms, ranking_damage, segments_statistics};
 
 use crate::index_reader::Searcher;
@@ -33,7 +33,7 @@ pub(crate) fn best_by(
     requires fields { HaveFields query.now segments.now }
     requires few { AreFew segments.now }
     ensures best { IfOk result (λ best. AreBest docs.now (segments_scored (segments_statistics (searcher_tokens tokens.now) segments.now) query.now 0 segments.now) best.items) }
-    ensures listed { OnOk result (AllByRecursion (AreListed segments.now) (query_terms query.now)) }
+    ensures listed { OnOk result (AllByRecursion (IsListedInEach segments.now) (query_terms query.now)) }
     ensures sound { OnOk result (ranking_damage segments.now query.now ≡ None) }
     ensures fault { IfErr result (IsScoreFault (ranking_damage segments.now query.now)) }
     // where the segments hold tokens
@@ -61,7 +61,7 @@ fn best_of_ranked(
     requires fields { HaveFields query.now (map segment_of segments.now) }
     requires few { AreFew (map segment_of segments.now) }
     ensures best { IfOk result (λ best. AreBest docs.now (segments_scored (segments_statistics (searcher_tokens tokens.now) (map segment_of segments.now)) query.now 0 (map segment_of segments.now)) best.items) }
-    ensures listed { OnOk result (AllByRecursion (AreListed (map segment_of segments.now)) (query_terms query.now)) }
+    ensures listed { OnOk result (AllByRecursion (IsListedInEach (map segment_of segments.now)) (query_terms query.now)) }
     ensures sound { OnOk result (ranking_damage (map segment_of segments.now) query.now ≡ None) }
     ensures fault { IfErr result (IsScoreFault (ranking_damage (map segment_of segments.now) query.now)) }
     // where the segments hold tokens

@@ -1,10 +1,10 @@
 -- Segments one after the other, and the fields that are merged from them.
-use Rattle.std.proofs.Common.{inl, inr, ◌≡◌, ℕ, zero, suc, ◌+◌, ◌-◌, ◌^◌, ◌<◌, ◌≤◌, ◌==◌, Bool, true, false, List, [], ◌∷◌, ◌++◌, drop, get_or, length, map, Option, Some, None, Result, Ok, Err, is_err, refl, sym, ap, ◌∙◌, subst, arith, append_assoc, length-append, nat_eq, true≢false, ⊎_elim}
+use Rattle.std.proofs.Common.{inl, inr, ◌≡◌, ℕ, zero, suc, ◌+◌, ◌-◌, ◌^◌, ◌<◌, ◌≤◌, ◌==◌, Bool, true, false, List, [], ◌∷◌, ◌++◌, drop, get_or, length, map, Option, Some, None, Result, Ok, Err, refl, sym, ap, ◌∙◌, subst, arith, append_assoc, length-append, nat_eq, ⊎_elim}
 use Rattle.std.specs.Prelude.{◌⊎◌, ◌||◌, IfSome, IsSomeAnd, OnOk, is_some, nat_le, nat_lt, slice_get}
 use Rattle.std.specs.List.{AllByRecursion, find, list_any}
 use Rattle.std.specs.Option.{option_map}
 use Rattle.std.proofs.lemmas.Bool.{cases_lt, eqb-true, eqb-false, le-leb, lt-ltb, ne_eqb}
-use Rattle.std.proofs.lemmas.List.{drop_more, get_or-map, length-map, map-append}
+use Rattle.std.proofs.lemmas.List.{map-append}
 use Rattle.ii_io.specs.declared.faults.Fault.{Fault}
 use Rattle.ii_io.specs.declared.faults.Fault.TheVariants.{Damaged, OutOfMemory}
 use Rattle.ii_io.specs.declared.composite_file.place.BodyStart.{BodyStart}
@@ -24,7 +24,7 @@ use Rattle.ii_fieldnorm.specs.Readers.{Norms, norms_of_ids}
 use Rattle.ii_layout.proofs.BoundLemmas.{all_push}
 use Rattle.ii_reader.specs.InvertedIndexReader.{InvertedIndexReaderState}
 use Rattle.ii_reader.specs.OpenIndex.{FieldReaderHolds}
-use Rattle.ii_recorder.specs.IndexBodies.{AddsBodies, CountsFailures, IndexBodiesState, LacksField}
+use Rattle.ii_recorder.specs.IndexBodies.{AddsBodies, IndexBodiesState, LacksField}
 use Rattle.ii_recorder.specs.Terms.{FieldBodies}
 use Rattle.ii_segments.specs.Segments.{Segment}
 use Rattle.ii_merger.specs.MergeSources.{FieldSourceState, living_in_sources}
@@ -34,22 +34,12 @@ use Rattle.ii_merger.specs.MergedTerm.{CoversBelow}
 use Rattle.ii_merger.specs.SourcesHold.{SourceHolds, SourcesHold, WroteField}
 use Rattle.ii_merger.specs.declared.merge_source.MergeSource.{MergeSource}
 use Rattle.ii_definitions.proofs.GroupedLaws.{count_none}
+use Rattle.ii_definitions.proofs.ListLaws.{all_drop, mapped_at}
 use Rattle.std.proofs.Math.Bool.{or-false}
-
--- the next segment, and those after it
-pub segment_at : (xs : List MergeSource) (i : ℕ) (x : MergeSource) → i < length xs → x ≡ get_or xs i x → drop i (map opened_segment xs) ≡ opened_segment x ∷ drop (i + 1) (map opened_segment xs)
-segment_at xs i x inside is =
-    drop_more (map opened_segment xs) i (opened_segment x) (omega (arith, inside, length-map xs opened_segment))
-    ∙ ap (λ (s : MergeSourceState). s ∷ drop (i + 1) (map opened_segment xs)) (get_or-map opened_segment xs i x (opened_segment x) inside ∙ ap opened_segment (sym is))
-
-pub all_drop : {X : Type 0} (P : X → Type 0) (i : ℕ) (xs : List X) → AllByRecursion P xs → AllByRecursion P (drop i xs)
-all_drop P zero xs all = all
-all_drop P (suc i) [] all = tt
-all_drop P (suc i) (x ∷ xs) all = all_drop P i xs all.1
 
 -- what holds of all segments holds of the next one
 pub each_segment : (P : MergeSourceState → Type 0) (xs : List MergeSource) (i : ℕ) (x : MergeSource) → i < length xs → x ≡ get_or xs i x → AllByRecursion P (map opened_segment xs) → P (opened_segment x)
-each_segment P xs i x inside is all = (subst (AllByRecursion P) (segment_at xs i x inside is) (all_drop P i (map opened_segment xs) all)).0
+each_segment P xs i x inside is all = (subst (AllByRecursion P) (mapped_at opened_segment xs i x inside is) (all_drop P i (map opened_segment xs) all)).0
 
 -- a field of the next segment
 pub field_at : (field : ℕ) (xs : List MergeSource) (i : ℕ) (x : MergeSource) (own : FieldSourceState) (before : List FieldSourceState) → i < length xs → x ≡ get_or xs i x → slice_get x.index.now.readers field ≡ Some own.reader → own.alive ≡ x.alive.now
@@ -58,7 +48,7 @@ field_at field xs i x own before inside is reader alive all =
     let here : own ≡ field_of_segment field (opened_segment x) = rw (reader, ← alive) refl in
     append_assoc before (own ∷ []) (field_sources field (drop (i + 1) (map opened_segment xs)))
     ∙ ap (λ (s : FieldSourceState). before ++ s ∷ field_sources field (drop (i + 1) (map opened_segment xs))) here
-    ∙ ap (λ (ss : List MergeSourceState). before ++ field_sources field ss) (sym (segment_at xs i x inside is))
+    ∙ ap (λ (ss : List MergeSourceState). before ++ field_sources field ss) (sym (mapped_at opened_segment xs i x inside is))
     ∙ all
 
 pub same_living : (field : ℕ) (ss : List MergeSourceState) → living_in_sources (field_sources field ss) ≡ all_living ss

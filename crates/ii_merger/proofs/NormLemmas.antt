@@ -1,5 +1,5 @@
 -- The norms of living documents, one segment and one field after the other.
-use Rattle.std.proofs.Common.{inl, inr, ◌≡◌, ℕ, zero, suc, ◌+◌, ◌-◌, ◌^◌, ◌<◌, ◌≤◌, ◌==◌, Bool, true, false, List, [], ◌∷◌, ◌++◌, drop, get_or, length, map, Option, Some, None, refl, sym, ap, ◌∙◌, subst, arith, append_assoc, true≢false, length-append, Result, Ok, Err, ⊎_elim}
+use Rattle.std.proofs.Common.{inl, inr, ◌≡◌, ℕ, zero, suc, ◌+◌, ◌-◌, ◌^◌, ◌<◌, ◌≤◌, ◌==◌, Bool, true, false, List, [], ◌∷◌, ◌++◌, drop, get_or, length, map, Option, Some, None, refl, sym, ap, ◌∙◌, subst, arith, append_assoc, true≢false, length-append, Result, Err, ⊎_elim}
 use Rattle.std.specs.Prelude.{◌⊎◌, IfSome, IsSomeAnd, filter, if◌then◌else◌, slice_get, slice_index, unwrap_or}
 use Rattle.std.specs.List.{AllByRecursion, enumerate_from, flat_map, range_with_len}
 use Rattle.std.proofs.lemmas.Bool.{eq-eqb, le-leb, ne_eqb}
@@ -16,10 +16,9 @@ use Rattle.std.specs.Io.KnownBytes.{Appends}
 use Rattle.ii_base.specs.Schema.{SchemaEntry, keeps_norms}
 use Rattle.ii_fieldnorm.specs.Buffers.{norm_fields}
 use Rattle.ii_fieldnorm.specs.Norms.{id_of_norm}
-use Rattle.ii_alive.specs.Alive.{num_living, rank}
-use Rattle.ii_segments.proofs.CountLaws.{ranks_of_living}
+use Rattle.ii_segments.proofs.CountLaws.{living_length}
 use Rattle.ii_definitions.specs.Postings.{doc_count}
-use Rattle.std.proofs.lemmas.List.FromFn.{length-map-range_with_len, length-range_with_len}
+use Rattle.std.proofs.lemmas.List.FromFn.{length-map-range_with_len}
 use Rattle.ii_io.specs.declared.faults.Part.{Part}
 use Rattle.ii_segments.specs.Segments.{Segment, index_tokens, is_living, living_docs, living_norms, num_docs_of}
 use Rattle.ii_segments.specs.SegmentLaws.{CountsOfSegments}
@@ -326,9 +325,6 @@ in_memory_written old new bodies bytes empty now h =
     subst (λ (o : Option (List ℕ)). Appends o (Some bytes) (written_composite bodies)) empty (subst (λ (o : Option (List ℕ)). Appends old.contents o (written_composite bodies)) now h.wrote.appends)
 
 -- ---- the norms that were written
-living_length : (alive : List Bool) → length (living_docs alive) ≡ num_living alive
-living_length alive = sym (length-map (living_docs alive) (λ (d : ℕ). 0 + rank alive d)) ∙ ap length (ranks_of_living 0 alive) ∙ length-range_with_len 0 (num_living alive)
-
 merged_length : (field : ℕ) (ss : List MergeSourceState) → length (merged_ids field ss) ≡ all_living ss
 merged_length field [] = refl
 merged_length field (s ∷ ss) =

@@ -1,16 +1,10 @@
 -- Sources one after the other.
 use Rattle.std.proofs.Common.{◌≡◌, ℕ, zero, suc, ◌+◌, ◌<◌, ◌≤◌, Option, None, List, [], ◌∷◌, drop, get_or, length, map, refl, sym, ap, ◌∙◌, arith}
-use Rattle.std.proofs.lemmas.List.{drop_more, get_or-map, length-map}
+use Rattle.std.proofs.lemmas.List.{get_or-map, length-map}
 use Rattle.ii_alive.specs.Alive.{num_living}
 use Rattle.ii_termstore.specs.declared.term_info.TermInfo.{TermInfo}
 use Rattle.ii_merger.specs.MergeSources.{FieldSourceState, source_info, source_of, living_in_sources}
 use Rattle.ii_merger.specs.declared.field_source.FieldSource.{FieldSource}
-
--- the next source, and those after it
-pub source_at : (xs : List FieldSource) (i : ℕ) (x : FieldSource) → i < length xs → x ≡ get_or xs i x → drop i (map source_of xs) ≡ source_of x ∷ drop (i + 1) (map source_of xs)
-source_at xs i x inside is =
-    drop_more (map source_of xs) i (source_of x) (omega (arith, inside, length-map xs source_of))
-    ∙ ap (λ (s : FieldSourceState). s ∷ drop (i + 1) (map source_of xs)) (get_or-map source_of xs i x (source_of x) inside ∙ ap source_of (sym is))
 
 -- the info of a key in the next source
 pub info_at : (key : List ℕ) (xs : List FieldSource) (infos : List (Option TermInfo)) (i : ℕ) (x : FieldSource) → i < length xs → x ≡ get_or xs i x → infos ≡ map (source_info key) (map source_of xs) → get_or infos i None ≡ source_info key (source_of x)

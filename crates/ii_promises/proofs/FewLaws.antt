@@ -1,21 +1,16 @@
 -- Few tokens of few fields exceed no limit.
-use Rattle.std.proofs.Common.{inl, inr, ◌≡◌, ℕ, ◌≤◌, ◌<◌, ◌^◌, List, length, Result, arith}
+use Rattle.std.proofs.Common.{inl, inr, ◌≡◌, ℕ, ◌≤◌, List, length, Result, arith}
 use Rattle.std.specs.Prelude.{◌⊎◌, IfErr}
 use Rattle.ii_io.specs.declared.faults.Fault.{Fault}
 use Rattle.ii_io.specs.declared.faults.Fault.TheVariants.{OutOfMemory}
 use Rattle.ii_base.specs.Schema.{SchemaEntry}
 use Rattle.ii_definitions.specs.Tokens.{IndexToken}
 use Rattle.ii_postings_writer.proofs.SizeLemmas.{AreFew, few_are_within, length-file-lt, length-positions_body-le, length-postings_body-le, length-terms-le}
-use Rattle.ii_io.specs.CountingWriter.{IsFull}
 use Rattle.ii_indexing.specs.IndexFiles.{HaveNoRoom}
 use Rattle.ii_indexing.specs.RamFiles.{IsRamFault, empty_file}
 use Rattle.ii_reader.specs.OpenIndex.{OpenIndexState}
+use Rattle.ii_ram.proofs.NoTokens.{room}
 use Rattle.ii_ram.proofs.WithinLimits.{memory_within}
-
--- an empty file has room for fewer bytes than 2^64
-room : (size : ℕ) → size < 2 ^ 64 → IsFull empty_file size → ⊥
-room size low (inl past) = absurd (omega (arith, low, past))
-room size low (inr most) = absurd (omega (arith, most))
 
 -- few tokens of few fields have room
 few_have_room : (es : List SchemaEntry) (ts : List IndexToken) → length es ≤ 100000 → AreFew ts → HaveNoRoom es empty_file empty_file empty_file ts → ⊥

@@ -1,9 +1,7 @@
 -- The bounds of an index's blocks, by its norms.
-use Rattle.std.proofs.Common.{◌≡◌, ◌∙◌, ◌*◌, ◌+◌, ◌/◌, ◌%◌, ◌<◌, ◌≤◌, ◌&&◌, if◌then◌else◌, ◌∷◌, ℕ, zero, suc, Bool, true, false, List, [], Option, None, Some, Ok, Err, get_or, length, map, refl, sym, ap, subst, arith}
+use Rattle.std.proofs.Common.{◌≡◌, ◌∙◌, ◌*◌, ◌+◌, ◌/◌, ◌%◌, ◌<◌, ◌≤◌, ◌&&◌, if◌then◌else◌, ◌∷◌, ℕ, zero, suc, Bool, true, false, List, [], Option, None, Some, Ok, length, map, refl, sym, ap, subst, arith}
 use Rattle.std.specs.Prelude.{IfNone, IfOk, IfSome, IsSomeAnd, MatchOption, Result, ok_or, slice_get, slice_index}
-use Rattle.std.specs.List.{range_with_len}
 use Rattle.std.specs.Option.{option_map}
-use Rattle.std.proofs.lemmas.Option.{get_or_from_slice_get}
 use Rattle.ii_io.specs.declared.faults.Fault.{Fault}
 use Rattle.ii_io.specs.declared.faults.Part.{Part}
 use Rattle.ii_io.specs.declared.faults.Part.TheVariants.{Documents, Frequencies, Skip}
@@ -17,25 +15,18 @@ use Rattle.ii_base.specs.Options.{has_freq}
 use Rattle.ii_layout.specs.Documents.{documents_at, skip_entry}
 use Rattle.ii_layout.specs.Frequencies.{freqs_if, has_freqs}
 use Rattle.ii_layout.specs.Postings.{Postings}
-use Rattle.ii_layout.specs.SkipList.{SkipEntry, SkipList, no_entry, skip_list}
+use Rattle.ii_layout.specs.SkipList.{SkipEntry, SkipList, skip_list}
 use Rattle.ii_layout.specs.TermList.{docs_and_freqs}
-use Rattle.ii_layout.specs.WrittenBounds.{HasTrueBounds}
 use Rattle.ii_layout.proofs.BlockDocs.{get_or-block_of, length-block_of}
 use Rattle.ii_termstore.specs.declared.term_info.TermInfo.{TermInfo}
 use Rattle.ii_termdict.specs.Dictionary.{info_under}
 use Rattle.ii_definitions.specs.Files.{bytes_in}
-use Rattle.ii_check.specs.declared.validation.Validation.{Validation}
 use Rattle.ii_reader.specs.Bounds.{bounds_of, bounds_read, entry_bounds}
 use Rattle.ii_reader.specs.BlockSegmentPostings.{BlockSegmentPostingsState}
 use Rattle.ii_reader.specs.InvertedIndexReader.{InvertedIndexReaderState, OpensBlocks, if_they_lie, lies_in}
 use Rattle.ii_reader.specs.OpenIndex.{OpenIndexState}
 use Rattle.ii_ram.specs.TrueBounds.{IndexHasTrueBounds}
-
-abbrev fine : {A : Type 0} → A → Result A Part
-fine x = Ok x
-
-inside_ok : {A : Type 0} (x y : A) → fine x ≡ Ok y → x ≡ y
-inside_ok x y is = cc
+use Rattle.ii_ram.proofs.BoundLaws.{fine, inside_ok}
 
 lain : {A : Type 0} (lies : Bool) (found : Result A Part) (x : A) → if_they_lie lies found ≡ Ok x → found ≡ Ok x
 lain true found x is = is

@@ -1,5 +1,5 @@
 -- Texts whose tokens are in order, and calls of single values, are taken.
-use Rattle.std.proofs.Common.{◌≡◌, ℕ, zero, suc, ◌+◌, ◌-◌, ◌≤◌, ◌<◌, ◌==◌, Bool, true, false, ◌&&◌, List, [], ◌∷◌, ◌++◌, length, map, max, nat_eq, Option, Some, None, refl, sym, ap, ◌∙◌, subst, arith, length-append, append-nil, true≢false, inl, inr}
+use Rattle.std.proofs.Common.{◌≡◌, ℕ, zero, suc, ◌+◌, ◌-◌, ◌≤◌, ◌<◌, ◌==◌, Bool, true, false, ◌&&◌, List, [], ◌∷◌, ◌++◌, length, map, max, nat_eq, Option, Some, None, refl, sym, ap, ◌∙◌, subst, arith, length-append, true≢false, inl, inr}
 use Rattle.std.specs.Prelude.{◌⊎◌, bytes_eq, filter, fold, if◌then◌else◌, nat_le, nat_lt, slice_index, unwrap_or}
 use Rattle.std.specs.List.{AllByRecursion, find, sum_by}
 use Rattle.std.proofs.lemmas.Bool.{eq-eqb, eqb-true, le-ltb, leb-true, lt-leb, ne_eqb}
@@ -12,8 +12,8 @@ use Rattle.ii_base.specs.Entries.{Entry}
 use Rattle.ii_base.specs.Options.{downgrade, has_freq, has_positions}
 use Rattle.ii_base.specs.Words.{Word}
 use Rattle.ii_json.specs.LeafVisit.{first_fault}
+use Rattle.ii_indexing.proofs.PieceLaws.{tokens_with}
 use Rattle.ii_definitions.proofs.ListLaws.{all_both, all_weaker}
-use Rattle.ii_definitions.proofs.PieceLaws.{tokens_after-append}
 use Rattle.ii_definitions.specs.Cut.{cut_entry}
 use Rattle.ii_definitions.specs.Postings.{field_count, grouped, is_at, kind_of, tokens_at, with_token}
 use Rattle.ii_definitions.specs.Tokens.{IndexToken, Piece, begin_after, end_after, is_same_group, kept_words, max_token_len, piece_tokens, piece_tokens_from, text_at, tokens_after, value_token, word_token}
@@ -180,9 +180,6 @@ pub record Stand (ps : List Piece) : Type 0 where
 pub stand_first : Stand []
 stand_first = record { seen = λ doc field. tt; groups = λ q. omega arith; begins = λ q. omega arith; keys = tt }
 
-tokens_next : (ps : List Piece) (p : Piece) → tokens_after [] (ps ++ p ∷ []) ≡ tokens_after [] ps ++ piece_tokens ps p
-tokens_next ps p = tokens_after-append [] ps (p ∷ []) ∙ ap (λ (us : List IndexToken). tokens_after [] ps ++ us) (append-nil (piece_tokens ps p))
-
 tokens_of_text : (ps : List Piece) (p : Piece) → p.is_text ≡ true → piece_tokens ps p ≡ map (word_token p (begin_after ps p)) (kept_words p.words)
 tokens_of_text ps p is = ap (λ (b : Bool). piece_tokens_from b (begin_after ps p) p) is
 
@@ -256,12 +253,12 @@ module _ (ps : List Piece) (p : Piece) (stand : Stand ps) (orderly : IsOrderlyPi
     seen = λ doc field.
         let t = text_at doc field [] [] in
         let most = begin_after (ps ++ p ∷ []) t in
-        subst (AllByRecursion (IsBeforeIn doc field most)) (sym (tokens_next ps p))
+        subst (AllByRecursion (IsBeforeIn doc field most)) (sym (tokens_with ps p))
         (all_both (IsBeforeIn doc field most) (tokens_after [] ps) (piece_tokens ps p)
         (all_weaker (IsBeforeIn doc field (begin_after ps t)) (IsBeforeIn doc field most) (tokens_after [] ps) (λ u before d f. omega (arith, before d f, (begin_next ps p t).0)) (stand.seen doc field)) (new_seen doc field));
-    groups = λ q. omega (arith, stand.groups q, many_words q, ap length (tokens_next ps p), length-append (tokens_after [] ps) (piece_tokens ps p));
+    groups = λ q. omega (arith, stand.groups q, many_words q, ap length (tokens_with ps p), length-append (tokens_after [] ps) (piece_tokens ps p));
     begins = λ q. omega (arith, stand.begins q, (begin_next ps p q).1, spans_next ps p);
-    keys = subst (AllByRecursion (λ (t : IndexToken). length t.key ≤ 1000000)) (sym (tokens_next ps p)) (all_both (λ (t : IndexToken). length t.key ≤ 1000000) (tokens_after [] ps) (piece_tokens ps p) stand.keys new_keys);
+    keys = subst (AllByRecursion (λ (t : IndexToken). length t.key ≤ 1000000)) (sym (tokens_with ps p)) (all_both (λ (t : IndexToken). length t.key ≤ 1000000) (tokens_after [] ps) (piece_tokens ps p) stand.keys new_keys);
   }
 
   -- the piece is taken
@@ -269,7 +266,7 @@ module _ (ps : List Piece) (p : Piece) (stand : Stand ps) (orderly : IsOrderlyPi
   piece_taken option few_positions few = ap (λ (path : Option (List ℕ)). first_fault (own_path_fault (known_paths ps) path) (piece_fault_from p.is_text option ps (tokens_after [] ps) p)) orderly.path ∙ by orderly.kind
     where
       fewer : length (tokens_after [] ps) + length (piece_tokens ps p) < u32_max
-      fewer = omega (arith, few, ap length (tokens_next ps p), length-append (tokens_after [] ps) (piece_tokens ps p))
+      fewer = omega (arith, few, ap length (tokens_with ps p), length-append (tokens_after [] ps) (piece_tokens ps p))
 
       by : IsOrderlyText p ⊎ IsShortValue p → piece_fault_from p.is_text option ps (tokens_after [] ps) p ≡ None
       by (inr value) =

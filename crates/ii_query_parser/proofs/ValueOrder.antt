@@ -88,10 +88,6 @@ same_order p q r s less more = by (nat_lt p q) refl
     by true is = sym (lt-ltb r s (less (ltb-true p q is)))
     by false is = sym (le-ltb r s (more (ltb-false p q is)))
 
-flipped_low : (z : ℤ) → FitsSigned w64 z → flipped z < 2 ^ 64
-flipped_low (pos n) fit = let f = fit.sfits in omega (arith, f)
-flipped_low (negsuc n) fit = let f = fit.sfits in omega (arith, f)
-
 flipped_order : (a b : ℤ) → FitsSigned w64 a → FitsSigned w64 b → nat_lt (flipped a) (flipped b) ≡ int_lt a b
 flipped_order (pos m) (pos n) first other = same_order (2 ^ 63 + m) (2 ^ 63 + n) m n (λ is. omega (arith, is)) (λ is. omega (arith, is))
 flipped_order (pos m) (negsuc n) first other = le-ltb (2 ^ 63 + m) (2 ^ 63 - suc n) (omega arith)
@@ -103,7 +99,7 @@ flipped_order (negsuc m) (negsuc n) first other =
 
 -- those of signed numbers
 pub i64_order : (a b : ℤ) → FitsSigned w64 a → FitsSigned w64 b → is_less (u64_bytes (flipped a)) (u64_bytes (flipped b)) ≡ int_lt a b
-i64_order a b first other = u64_order (flipped a) (flipped b) (flipped_low a first) (flipped_low b other) ∙ flipped_order a b first other
+i64_order a b first other = u64_order (flipped a) (flipped b) (flipped_small a first) (flipped_small b other) ∙ flipped_order a b first other
 
 -- those of booleans
 pub bool_order : (a b : Bool) → is_less (u64_bytes (number_of_bool a)) (u64_bytes (number_of_bool b)) ≡ (not a && b)

@@ -17,10 +17,10 @@ use Rattle.ii_termstore.specs.declared.term_info.TermInfo.{TermInfo}
 use Rattle.ii_termdict.specs.Dictionary.{TermEntry, dictionary, info_under}
 use Rattle.ii_definitions.specs.Fields.{option_of}
 use Rattle.ii_definitions.specs.Files.{bytes_in}
-use Rattle.ii_definitions.specs.TrueBounds.{HasTrueTerms, HaveTrueBounds}
+use Rattle.ii_definitions.specs.TrueBounds.{HasTrueTerms}
 use Rattle.ii_check.specs.declared.validation.Validation.TheVariants.{Complete}
 use Rattle.ii_reader.specs.InvertedIndexReader.{InvertedIndexReaderState, reader_over, trusted_reader}
-use Rattle.ii_reader.specs.OpenIndex.{IndexBodies, OpenIndexState, all_or_first, field_readers, reader_if, reader_of_bodies, reader_of_field, trusted_index}
+use Rattle.ii_reader.specs.OpenIndex.{IndexBodies, OpenIndexState, all_or_first, field_readers, reader_if, reader_of_field, trusted_index}
 use Rattle.ii_ram.specs.TrueBounds.{IndexHasTrueBounds, OpensTrueBounds}
 
 -- The field of a schema that gave a result.
@@ -30,10 +30,11 @@ record Gave {A : Type 0} (give : ℕ × SchemaEntry → Result A Part) (n : ℕ)
   gave : give (n + i, entry) ≡ Ok x
 
 -- what is well
-abbrev fine : {A : Type 0} → A → Result A Part
+abbrev pub fine : {A : Type 0} → A → Result A Part
 fine x = Ok x
 
-inside_ok : {A : Type 0} (x y : A) → fine x ≡ Ok y → x ≡ y
+-- it has one value
+pub inside_ok : {A : Type 0} (x y : A) → fine x ≡ Ok y → x ≡ y
 inside_ok x y is = cc
 
 -- results that are all well

@@ -55,7 +55,7 @@ no_bodies : (part : FieldBodies → List ℕ) (es : List SchemaEntry) → file_b
 no_bodies part es = ap (map (λ (field : ℕ). record { field = field; bytes = part (token_bodies es [] field) })) (none_with_terms (fields_of es))
 
 -- an empty file has room for `size` bytes
-room : (size : ℕ) → size < 2 ^ 64 → IsFull empty_file size → ⊥
+pub room : (size : ℕ) → size < 2 ^ 64 → IsFull empty_file size → ⊥
 room size low (inl past) = absurd (omega (arith, low, past))
 room size low (inr most) = absurd (omega (arith, most))
 

@@ -10,7 +10,7 @@ use Rattle.ii_query_parser.specs.declared.query.Query.{Query}
 use Rattle.ii_query_parser.specs.Queries.{covers_docs, keeps_positions}
 use Rattle.ii_segments.specs.Segments.{AreSegmentTokens, Segment, index_tokens, is_living, living_docs, num_docs_of}
 use Rattle.ii_segments.proofs.CountLaws.{ranks_of_living}
-use Rattle.ii_segment_search.proofs.LocalLaws.{docs_of_both}
+use Rattle.ii_segments.proofs.MergeLaws.{docs_of_both}
 use Rattle.ii_ranking.specs.OneIndex.{SegmentsScoreAsOne}
 use Rattle.ii_ranking.specs.Segments.{living_score, segment_scored}
 use Rattle.ii_ranking.specs.TokenScores.{token_score, tokens_scored}

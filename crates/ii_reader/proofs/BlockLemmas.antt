@@ -17,6 +17,7 @@ use Rattle.ii_check.specs.FreqReading.{freq_reading, freq_reading_of}
 use Rattle.ii_check.specs.CheckedPostings.{AreReadFreqs, AreLastFreqs, CheckedPostingsState, HasDocuments, HoldsBlock, HoldsFreqs, IsAtBlock, Loads, LoadsBlock, LoadsFreqs, is_read, new_decoder}
 use Rattle.ii_check.specs.DecodedBlocks.{AreDecoded, AscendWithin, DecodesLast, LogsBlock, LogsFreqs, logged}
 use Rattle.ii_check.proofs.DecodedBlocksLaws.{decoded_on, later_last}
+use Rattle.ii_check.proofs.SpentLemmas.{decodes_most}
 use Rattle.ii_reader.specs.Bounds.{bounds_of, bounds_read}
 use Rattle.ii_reader.specs.BlockSegmentPostings.{AreEntries, BlockSegmentPostingsState, GoesTo, IsLazy, IsLoaded, doc_in_block, first_decodes, first_freqs, freqs_of_block, freq_in_block}
 
@@ -92,10 +93,6 @@ freq_within o docs block idx some within =
 pub freqs_loaded : (o : Option (List ℕ)) (before block : ℕ) (old new : BlockDecoderState) → HoldsFreqs o before old → LoadsFreqs o block old new → HoldsFreqs o block new
 freqs_loaded None before block old new held loads = loads ∙ held
 freqs_loaded (Some freqs) before block old new held loads = loads.holds
-
-pub decodes_most : (n : ℕ) → decodes_of n ≤ 1
-decodes_most zero = omega arith
-decodes_most (suc n) = omega arith
 
 -- a block that comes once more is the empty one
 no_more : (values : List ℕ) (n before block : ℕ) → length values ≡ n → block ≡ min (before + 1) (n / 128 + 1) → block ≡ before → length (block_of values block) ≡ 0

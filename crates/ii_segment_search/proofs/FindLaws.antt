@@ -10,7 +10,8 @@ use Rattle.ii_query_parser.specs.Queries.{covers_docs, matches}
 use Rattle.ii_segments.specs.Segments.{AreSegmentTokens, Segment, index_tokens, is_living, living_docs, num_docs_of}
 use Rattle.ii_segments.proofs.CountLaws.{ranks_of_living}
 use Rattle.ii_segment_search.specs.SegmentSearch.{FindsInSegments, found_in_segments}
-use Rattle.ii_segment_search.proofs.LocalLaws.{docs_of_both, search_is_local}
+use Rattle.ii_segment_search.proofs.LocalLaws.{search_is_local}
+use Rattle.ii_segments.proofs.MergeLaws.{docs_of_both}
 use Rattle.ii_definitions.proofs.ListLaws.{range_append}
 
 filter_of_map : {A B : Type 0} (f : A → B) (p : B → Bool) (xs : List A) → filter p (map f xs) ≡ map f (filter (λ (x : A). p (f x)) xs)

@@ -117,10 +117,6 @@ module _ (entries : List SchemaEntry) (field : ℕ) (key : List ℕ) where
       by true some = ap (λ (b : Bool). b && list_any p ts) (text_of_some p at ts typed some)
       by false none = rw none (and_none (are_of_texts (tokens_at field key ts)) ∙ sym (and_none (is_key_of_text_in entries field key)))
 
-pub docs_of_both : (xs ys : List Segment) → num_docs_of (xs ++ ys) ≡ num_docs_of xs + num_docs_of ys
-docs_of_both [] ys = omega arith
-docs_of_both (x ∷ xs) ys = omega (arith, docs_of_both xs ys)
-
 -- ---- the parts of a query
 module _ (entries : List SchemaEntry) (before after : List Segment) (s : Segment) (doc : ℕ) where
   abbrev all : List IndexToken

@@ -3,8 +3,8 @@ use Rattle.std.proofs.Common.{◌≡◌, ℕ, zero, suc, ◌+◌, ◌<◌, ◌�
 use Rattle.std.specs.Prelude.{filter, slice_index, sum, sum_by}
 use Rattle.std.specs.List.{AllByRecursion, flat_map, range_with_len}
 use Rattle.std.proofs.lemmas.Bool.{cases_lt, eq-eqb, eqb-false, eqb-true, ne_eqb}
-use Rattle.std.proofs.lemmas.List.{map-append}
-use Rattle.std.proofs.lemmas.List.FromFn.{get_or-map-range_with_len}
+use Rattle.std.proofs.lemmas.List.{length-map, map-append}
+use Rattle.std.proofs.lemmas.List.FromFn.{get_or-map-range_with_len, length-range_with_len}
 use Rattle.std.proofs.lemmas.List.Sums.{sum-map, sum_by-append, sum_by-cons}
 use Rattle.std.proofs.lemmas.Simd.{map-map}
 use Rattle.ii_fieldnorm.specs.Norms.{id_of_norm}
@@ -82,6 +82,10 @@ ranks_of_living base (b ∷ bs) = by b (later_ranks base b bs (ranks_of_living (
     by false others =
         let all : num_living bs ≡ num_living (false ∷ bs) = omega (arith, living_cons false bs) in
         others ∙ ap (λ (d : ℕ). range_with_len d (num_living bs)) start ∙ ap (range_with_len base) all
+
+-- as many documents are alive as there are living ones
+pub living_length : (alive : List Bool) → length (living_docs alive) ≡ num_living alive
+living_length alive = sym (length-map (living_docs alive) (λ (d : ℕ). 0 + rank alive d)) ∙ ap length (ranks_of_living 0 alive) ∙ length-range_with_len 0 (num_living alive)
 
 -- ---- counts of documents
 -- a document that no token has

@@ -176,7 +176,8 @@ tokens_below limit earlier (p ∷ ps) before =
     all_append (λ (t : IndexToken). t.doc < limit) (piece_tokens earlier p) (tokens_after (earlier ++ p ∷ []) ps)
     (piece_below limit (begin_after earlier p) p before.0 p.is_text) (tokens_below limit (earlier ++ p ∷ []) ps before.1)
 
-shift_none : (ts : List IndexToken) → map (shift 0) ts ≡ ts
+-- numbers that nothing is added to
+pub shift_none : (ts : List IndexToken) → map (shift 0) ts ≡ ts
 shift_none [] = refl
 shift_none (t ∷ ts) = let none : 0 + t.doc ≡ t.doc = omega arith in ap (λ (d : ℕ). record t { doc = d } ∷ map (shift 0) ts) none ∙ ap (λ (l : List IndexToken). t ∷ l) (shift_none ts)
 

@@ -36,7 +36,12 @@ from_shift a b (s ∷ ss) =
     ∙ ap (λ (us : List IndexToken). map (shift a) own ++ us) (from_shift a (b + n) ss)
     ∙ sym (map-append (shift a) own (tokens_from (b + n) ss))
 
--- the tokens of segments one after the other
+-- the documents of segments one after the other
+pub docs_of_both : (xs ys : List Segment) → num_docs_of (xs ++ ys) ≡ num_docs_of xs + num_docs_of ys
+docs_of_both [] ys = omega arith
+docs_of_both (x ∷ xs) ys = omega (arith, docs_of_both xs ys)
+
+-- and their tokens
 pub from_append : (base : ℕ) (ss us : List Segment) → tokens_from base (ss ++ us) ≡ tokens_from base ss ++ tokens_from (base + num_docs_of ss) us
 from_append base [] us = ap (λ (m : ℕ). tokens_from m us) (omega arith)
 from_append base (s ∷ ss) us =

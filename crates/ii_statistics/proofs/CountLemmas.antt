@@ -3,11 +3,12 @@ use Rattle.std.proofs.Common.{◌≡◌, ◌∙◌, ◌⊎◌, inl, inr, ℕ, su
 use Rattle.std.specs.List.{AllByRecursion}
 use Rattle.std.specs.Cmp.Lexicographic.{bytes_decides}
 use Rattle.std.proofs.Math.Seq.{drop-cons}
-use Rattle.std.proofs.lemmas.List.{drop_all, get_or-map, length-map}
+use Rattle.std.proofs.lemmas.List.{drop_all, length-map}
 use Rattle.std.proofs.lemmas.Bool.{and_parts, eq-eqb, eqb-true}
 use Rattle.ii_base.specs.Terms.{TermState}
+use Rattle.ii_definitions.proofs.ListLaws.{mapped_at}
 use Rattle.ii_segment_search.specs.Searcher.{OpenSegmentState}
-use Rattle.ii_statistics.specs.Statistics.{AreSameFor, CountsState, counts_of, counts_view, doc_freq_in, freq_of, query_statistics, segments_statistics, tokens_of}
+use Rattle.ii_statistics.specs.Statistics.{AreSameFor, CountsState, counts_of_term, counts_view, doc_freq_in, freq_of, query_statistics, segments_statistics, tokens_of}
 use Rattle.ii_statistics.specs.declared.statistics.QueryStatistics.{QueryStatistics}
 use Rattle.ii_statistics.specs.declared.statistics.TermCounts.{TermCounts}
 
@@ -34,29 +35,29 @@ same_test x t same = rw (eq-eqb x.field t.field (ap (λ (s : TermState). s.field
 
 module _ (by_field : ℕ → ℕ) (segments : List OpenSegmentState) where
   -- the first number of documents with the key of a term is that of the term
-  freq_found : (all : List TermState) (t : TermState) → IsIn t all → freq_of (map (counts_of by_field segments) all) t.field t.value ≡ doc_freq_in segments t
+  freq_found : (all : List TermState) (t : TermState) → IsIn t all → freq_of (map (counts_of_term by_field segments) all) t.field t.value ≡ doc_freq_in segments t
   freq_found [] t inside = absurd inside
   freq_found (x ∷ xs) t inside = by (λ later. freq_found xs t later) ((x.field == t.field) && bytes_eq x.value t.value) refl inside
     where
-      by : (IsIn t xs → freq_of (map (counts_of by_field segments) xs) t.field t.value ≡ doc_freq_in segments t) → (b : Bool) → ((x.field == t.field) && bytes_eq x.value t.value) ≡ b → IsIn t (x ∷ xs)
-          → freq_of (map (counts_of by_field segments) (x ∷ xs)) t.field t.value ≡ doc_freq_in segments t
+      by : (IsIn t xs → freq_of (map (counts_of_term by_field segments) xs) t.field t.value ≡ doc_freq_in segments t) → (b : Bool) → ((x.field == t.field) && bytes_eq x.value t.value) ≡ b → IsIn t (x ∷ xs)
+          → freq_of (map (counts_of_term by_field segments) (x ∷ xs)) t.field t.value ≡ doc_freq_in segments t
       by others true is inside = rw is (ap (doc_freq_in segments) (same_terms x t is))
       by others false is (inl same) = absurd (true≢false (sym (same_test x t same) ∙ is))
       by others false is (inr later) = rw is (others later)
 
   -- the first number of tokens of a field is that of the field
-  tokens_found : (all : List TermState) (t : TermState) → IsIn t all → tokens_of (map (counts_of by_field segments) all) t.field ≡ by_field t.field
+  tokens_found : (all : List TermState) (t : TermState) → IsIn t all → tokens_of (map (counts_of_term by_field segments) all) t.field ≡ by_field t.field
   tokens_found [] t inside = absurd inside
   tokens_found (x ∷ xs) t inside = by (λ later. tokens_found xs t later) (x.field == t.field) refl inside
     where
-      by : (IsIn t xs → tokens_of (map (counts_of by_field segments) xs) t.field ≡ by_field t.field) → (b : Bool) → (x.field == t.field) ≡ b → IsIn t (x ∷ xs)
-          → tokens_of (map (counts_of by_field segments) (x ∷ xs)) t.field ≡ by_field t.field
+      by : (IsIn t xs → tokens_of (map (counts_of_term by_field segments) xs) t.field ≡ by_field t.field) → (b : Bool) → (x.field == t.field) ≡ b → IsIn t (x ∷ xs)
+          → tokens_of (map (counts_of_term by_field segments) (x ∷ xs)) t.field ≡ by_field t.field
       by others true is inside = rw is (ap by_field (eqb-true x.field t.field is))
       by others false is (inl same) = absurd (true≢false (sym (eq-eqb x.field t.field (ap (λ (u : TermState). u.field) same)) ∙ is))
       by others false is (inr later) = rw is (others later)
 
   -- what was counted for terms is what the segments have
-  pub counted_same : (q : QueryStatistics) (terms : List TermState) → map counts_view q.terms.items ≡ map (counts_of by_field segments) terms → AllByRecursion (AreSameFor (query_statistics q) (segments_statistics by_field segments)) terms
+  pub counted_same : (q : QueryStatistics) (terms : List TermState) → map counts_view q.terms.items ≡ map (counts_of_term by_field segments) terms → AllByRecursion (AreSameFor (query_statistics q) (segments_statistics by_field segments)) terms
   counted_same q terms are = each_in (AreSameFor (query_statistics q) (segments_statistics by_field segments)) terms (λ t inside. record {
     num_tokens = ap (λ (cs : List CountsState). tokens_of cs t.field) are ∙ tokens_found terms t inside;
     doc_freq = ap (λ (cs : List CountsState). freq_of cs t.field t.value) are ∙ freq_found terms t inside;
@@ -65,13 +66,6 @@ module _ (by_field : ℕ → ℕ) (segments : List OpenSegmentState) where
 -- ---- what is at a place
 pub dropped_at : {A : Type 0} (xs : List A) (i : ℕ) (x : A) → i < length xs → x ≡ get_or xs i x → drop i xs ≡ x ∷ drop (i + 1) xs
 dropped_at xs i x inside is = drop-cons xs i x inside ∙ ap (λ y. y ∷ drop (suc i) xs) (sym is) ∙ ap (λ (n : ℕ). x ∷ drop n xs) (sym (add-one i))
-
-pub mapped_at : {A B : Type 0} (f : A → B) (xs : List A) (i : ℕ) (x : A) → i < length xs → x ≡ get_or xs i x → drop i (map f xs) ≡ f x ∷ drop (i + 1) (map f xs)
-mapped_at f xs i x inside is =
-    let many = length-map xs f in
-    drop-cons (map f xs) i (f x) (omega (arith, many, inside))
-    ∙ ap (λ y. y ∷ drop (suc i) (map f xs)) (get_or-map f xs i x (f x) inside ∙ ap f (sym is))
-    ∙ ap (λ (n : ℕ). f x ∷ drop n (map f xs)) (sym (add-one i))
 
 counts_at : (cs : List TermCounts) (i : ℕ) (c : TermCounts) → i < length cs → c ≡ get_or cs i c → drop i (map counts_view cs) ≡ counts_view c ∷ drop (i + 1) (map counts_view cs)
 counts_at cs i c inside is = mapped_at counts_view cs i c inside is

@@ -3,7 +3,6 @@ use Rattle.std.proofs.Common.{◌≡◌, ◌∙◌, inl, inr, ℕ, zero, suc, �
 use Rattle.std.specs.List.{AllByRecursion}
 use Rattle.std.proofs.lemmas.List.{length-map}
 use Rattle.std.proofs.lemmas.List.Filters.{length-filter_both}
-use Rattle.std.proofs.lemmas.List.FromFn.{length-range_with_len}
 use Rattle.ii_alive.specs.Alive.{num_living, rank}
 use Rattle.ii_base.specs.Entries.{Entry}
 use Rattle.ii_base.specs.Terms.{TermState}
@@ -24,16 +23,13 @@ use Rattle.ii_reader.specs.InvertedIndexReader.{IsRefusal}
 use Rattle.ii_reader.specs.OpenIndex.{OpenIndexState}
 use Rattle.ii_search.specs.Found.{combined, docs_of_term, found_in, tree_found}
 use Rattle.ii_segments.specs.Segments.{entry_at_rank, is_living, living_docs, living_entries}
-use Rattle.ii_segments.proofs.CountLaws.{ranks_of_living}
+use Rattle.ii_segments.proofs.CountLaws.{living_length}
 use Rattle.ii_segment_search.specs.Searcher.{HaveFields, OpenSegmentState, found_from, total_living}
 use Rattle.ii_statistics.specs.Listed.{CountsLiving, HaveField, IsListed}
 use Rattle.ii_statistics.specs.Statistics.{num_found, query_terms}
 use Rattle.ii_statistics.proofs.TermLemmas.{terms_below}
 
 -- ---- how many they are
-fewer : {A : Type 0} (p : A → Bool) (xs : List A) → length (filter p xs) ≤ length xs
-fewer p xs = let both = length-filter_both p (λ x. not (p x)) (λ x. refl) xs in omega (arith, both)
-
 many_living : (base : ℕ) (alive : List Bool) (es : List Entry) → length (living_entries base alive es) ≡ alive_in alive es
 many_living base alive es = length-map (filter (λ (e : Entry). is_living alive e.doc) es) (entry_at_rank base alive)
 
@@ -45,9 +41,8 @@ living_few alive es up =
     let kept = filter (has_doc es) (living_docs alive) in
     let same : alive_in alive es ≡ length kept =
     sym (many_living 0 alive es) ∙ sym (length-map (living_entries 0 alive es) (λ (e : Entry). e.doc)) ∙ ap length found ∙ length-map kept number in
-    let all : length (living_docs alive) ≡ num_living alive = sym (length-map (living_docs alive) number) ∙ ap length (ranks_of_living 0 alive) ∙ length-range_with_len 0 (num_living alive) in
-    let less = fewer (has_doc es) (living_docs alive) in
-    omega (arith, same, all, less)
+    let less = length-filter_both (has_doc es) (λ x. not (has_doc es x)) (λ x. refl) (living_docs alive) in
+    omega (arith, same, living_length alive, less)
 
 -- ---- one segment after the other
 module _ (query : Query) where

@@ -9,8 +9,8 @@ use Rattle.ii_io.specs.declared.faults.Part.{Part}
 use Rattle.ii_query_parser.specs.declared.query.Query.TheVariants.{Term}
 use Rattle.ii_ranking.specs.Scores.{IsScoreFault, damage_of, first_of}
 use Rattle.ii_segment_search.specs.Searcher.{OpenSegmentState, found_from}
-use Rattle.ii_statistics.specs.Listed.{AreListed, HaveField}
-use Rattle.ii_statistics.specs.Statistics.{CountsState, counts_of, terms_damage}
+use Rattle.ii_statistics.specs.Listed.{IsListedInEach, HaveField}
+use Rattle.ii_statistics.specs.Statistics.{CountsState, counts_of_term, terms_damage}
 use Rattle.ii_statistics.proofs.DamageLemmas.{damaged_before}
 
 module _ (by_field : ℕ → ℕ) (segments : List OpenSegmentState) where
@@ -22,10 +22,10 @@ module _ (by_field : ℕ → ℕ) (segments : List OpenSegmentState) where
   pub record IsCounting (all left : List TermState) (counts : List CountsState) : Type 0 where
     pub taken : List TermState
     pub whole : taken ++ left ≡ all
-    pub counted : counts ≡ map (counts_of by_field segments) taken
+    pub counted : counts ≡ map (counts_of_term by_field segments) taken
     pub sound : terms_damage segments left ≡ terms_damage segments all
     pub fields : AllByRecursion IsKnown left
-    pub listed : AllByRecursion (AreListed segments) taken
+    pub listed : AllByRecursion (IsListedInEach segments) taken
 
   module _ (all : List TermState) where
     pub counting_first : (counts : List CountsState) → counts ≡ [] → AllByRecursion IsKnown all → IsCounting all all counts
@@ -41,14 +41,14 @@ module _ (by_field : ℕ → ℕ) (segments : List OpenSegmentState) where
       damage_at : first_of (damage_of (found_from (Term t) 0 segments)) (terms_damage segments rest) ≡ terms_damage segments all
       damage_at = sym (ap (terms_damage segments) at) ∙ h.sound
 
-      pub counting_next : (new : List CountsState) (c : CountsState) → new ≡ counts ++ c ∷ [] → c ≡ counts_of by_field segments t → damage_of (found_from (Term t) 0 segments) ≡ None → AreListed segments t → IsCounting all rest new
+      pub counting_next : (new : List CountsState) (c : CountsState) → new ≡ counts ++ c ∷ [] → c ≡ counts_of_term by_field segments t → damage_of (found_from (Term t) 0 segments) ≡ None → IsListedInEach segments t → IsCounting all rest new
       counting_next new c pushed is sound listed = record {
         taken = h.taken ++ t ∷ [];
         whole = append_assoc h.taken (t ∷ []) rest ∙ ap (λ (ts : List TermState). h.taken ++ ts) (sym at) ∙ h.whole;
-        counted = pushed ∙ (λ j. h.counted j ++ is j ∷ []) ∙ sym (map-append (counts_of by_field segments) h.taken (t ∷ []));
+        counted = pushed ∙ (λ j. h.counted j ++ is j ∷ []) ∙ sym (map-append (counts_of_term by_field segments) h.taken (t ∷ []));
         sound = sym (ap (λ (d : Option Part). first_of d (terms_damage segments rest)) sound) ∙ damage_at;
         fields = fields_at.1;
-        listed = all_both (AreListed segments) h.taken (t ∷ []) h.listed (listed, tt);
+        listed = all_both (IsListedInEach segments) h.taken (t ∷ []) h.listed (listed, tt);
       }
 
       pub counting_refused : (fault : Fault) → IsScoreFault (damage_of (found_from (Term t) 0 segments)) fault → IsScoreFault (terms_damage segments all) fault
@@ -59,11 +59,11 @@ module _ (by_field : ℕ → ℕ) (segments : List OpenSegmentState) where
       taken_all : h.taken ≡ all
       taken_all = sym (append-nil h.taken) ∙ ap (λ (ts : List TermState). h.taken ++ ts) (sym none) ∙ h.whole
 
-      pub counted_all : counts ≡ map (counts_of by_field segments) all
-      counted_all = h.counted ∙ ap (map (counts_of by_field segments)) taken_all
+      pub counted_all : counts ≡ map (counts_of_term by_field segments) all
+      counted_all = h.counted ∙ ap (map (counts_of_term by_field segments)) taken_all
 
       pub sound_all : terms_damage segments all ≡ None
       sound_all = sym h.sound ∙ ap (terms_damage segments) none
 
-      pub listed_all : AllByRecursion (AreListed segments) all
-      listed_all = subst (AllByRecursion (AreListed segments)) taken_all h.listed
+      pub listed_all : AllByRecursion (IsListedInEach segments) all
+      listed_all = subst (AllByRecursion (IsListedInEach segments)) taken_all h.listed

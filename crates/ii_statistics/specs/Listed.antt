@@ -29,5 +29,5 @@ pub record IsListed (query : Query) (s : OpenSegmentState) : Type 0 where
   pub ascending : IsAscending es
 
 -- Each segment lists the documents of a term.
-abbrev pub AreListed : List OpenSegmentState → TermState → Type 0
-AreListed segments term = AllByRecursion (IsListed (Term term)) segments
+abbrev pub IsListedInEach : List OpenSegmentState → TermState → Type 0
+IsListedInEach segments term = AllByRecursion (IsListed (Term term)) segments

@@ -77,8 +77,8 @@ abbrev pub counts_view : TermCounts → CountsState
 counts_view c = record { term = c.term.now; doc_freq = c.doc_freq; num_tokens = c.num_tokens }
 
 -- what is counted of a term
-abbrev pub counts_of : (ℕ → ℕ) → List OpenSegmentState → TermState → CountsState
-counts_of num_tokens segments term = record { term = term; doc_freq = doc_freq_in segments term; num_tokens = num_tokens term.field }
+abbrev pub counts_of_term : (ℕ → ℕ) → List OpenSegmentState → TermState → CountsState
+counts_of_term num_tokens segments term = record { term = term; doc_freq = doc_freq_in segments term; num_tokens = num_tokens term.field }
 
 -- the number of documents of the first term with a field and a key; none without one
 abbrev pub freq_of : List CountsState → ℕ → List ℕ → ℕ

@@ -10,7 +10,7 @@ ghost use Rattle.ii_reader.specs.InvertedIndexReader.{IsRefusal};
 ghost use Rattle.ii_search.specs.Found.{docs_of_term};
 ghost use Rattle.ii_segment_search.specs.Searcher.{found_from, total_living};
 ghost use Rattle.ii_segments.specs.Segments.{is_living};
-ghost use Rattle.ii_statistics.specs.Listed.{AreListed, CountsLiving, HaveField};
+ghost use Rattle.ii_statistics.specs.Listed.{IsListedInEach, CountsLiving, HaveField};
 ghost use Rattle.ii_statistics.specs.Statistics.{doc_freq_in};
 
 use ii_alive::AliveBits;
@@ -28,7 +28,7 @@ pub(crate) fn doc_freq(segments: &[RankedSegment<'_>], term: &Term) -> Result<u6
     requires field { HaveField (map segment_of segments.now) term.now.field }
     requires few { total_living (map segment_of segments.now) < 2 ^ 32 }
     ensures counted { IfOk result (λ n. n ≡ doc_freq_in (map segment_of segments.now) term.now) }
-    ensures listed { OnOk result (AreListed (map segment_of segments.now) term.now) }
+    ensures listed { OnOk result (IsListedInEach (map segment_of segments.now) term.now) }
     ensures fault { IfErr result (IsScoreFault (damage_of (found_from (queries.Term term.now) 0 (map segment_of segments.now)))) }
 {
     let mut total = 0u64;

@@ -5,8 +5,8 @@ ghost use Rattle.ii_base.specs.Terms.{TermState};
 ghost use Rattle.ii_ranking.specs.Scores.{IsScoreFault};
 ghost use Rattle.ii_ranking.specs.Segments.{segment_of};
 ghost use Rattle.ii_segment_search.specs.Searcher.{HaveFields, total_living};
-ghost use Rattle.ii_statistics.specs.Listed.{AreListed, HaveField};
-ghost use Rattle.ii_statistics.specs.Statistics.{AreSameFor, counts_of, counts_view, query_statistics, query_terms, segments_statistics, terms_damage};
+ghost use Rattle.ii_statistics.specs.Listed.{IsListedInEach, HaveField};
+ghost use Rattle.ii_statistics.specs.Statistics.{AreSameFor, counts_of_term, counts_view, query_statistics, query_terms, segments_statistics, terms_damage};
 
 use crate::doc_freqs::doc_freq;
 use crate::field_tokens::FieldTokens;
@@ -95,7 +95,7 @@ pub fn statistics_of<'q, N: FieldTokens>(
     requires few { total_living (map segment_of segments.now) < 2 ^ 32 }
     ensures docs { IfOk result (λ s. (query_statistics s).num_docs ≡ total_living (map segment_of segments.now)) }
     ensures same { IfOk result (λ s. AllByRecursion (AreSameFor (query_statistics s) (segments_statistics (N.by_field tokens.now) (map segment_of segments.now))) (query_terms query.now)) }
-    ensures listed { OnOk result (AllByRecursion (AreListed (map segment_of segments.now)) (query_terms query.now)) }
+    ensures listed { OnOk result (AllByRecursion (IsListedInEach (map segment_of segments.now)) (query_terms query.now)) }
     ensures sound { OnOk result (terms_damage (map segment_of segments.now) (query_terms query.now) ≡ None) }
     ensures fault { IfErr result (IsScoreFault (terms_damage (map segment_of segments.now) (query_terms query.now))) }
 {
@@ -134,8 +134,8 @@ fn count_terms<'q, N: FieldTokens>(
 ) -> Result<Vec<TermCounts<'q>>, Fault>
     requires fields { AllByRecursion (λ (t : TermState). HaveField (map segment_of segments.now) t.field) (map (λ t. t.now) terms.now) }
     requires few { total_living (map segment_of segments.now) < 2 ^ 32 }
-    ensures counted { IfOk result (λ v. map counts_view v.items ≡ map (counts_of (N.by_field tokens.now) (map segment_of segments.now)) (map (λ t. t.now) terms.now)) }
-    ensures listed { OnOk result (AllByRecursion (AreListed (map segment_of segments.now)) (map (λ t. t.now) terms.now)) }
+    ensures counted { IfOk result (λ v. map counts_view v.items ≡ map (counts_of_term (N.by_field tokens.now) (map segment_of segments.now)) (map (λ t. t.now) terms.now)) }
+    ensures listed { OnOk result (AllByRecursion (IsListedInEach (map segment_of segments.now)) (map (λ t. t.now) terms.now)) }
     ensures sound { OnOk result (terms_damage (map segment_of segments.now) (map (λ t. t.now) terms.now) ≡ None) }
     ensures fault { IfErr result (IsScoreFault (terms_damage (map segment_of segments.now) (map (λ t. t.now) terms.now))) }
 {

@@ -11,6 +11,7 @@ use Rattle.ii_base.specs.Words.{Word}
 use Rattle.ii_counts.specs.CountsWriter.{SetsCount, count_at, first_counts, is_limit}
 use Rattle.ii_definitions.specs.Postings.{doc_count}
 use Rattle.ii_definitions.specs.Tokens.{Call, Content, IndexToken, Piece, begin_after, call_pieces, content_pieces, kept_words, leaf_pieces, leaves, piece_tokens, piece_tokens_from, text, tokens_after, value, word_token, words}
+use Rattle.ii_definitions.proofs.ListLaws.{all_both}
 use Rattle.ii_definitions.proofs.PieceLaws.{tokens_after-append}
 use Rattle.ii_segments.specs.HoldCounts.{HasManyTokens, field_counts}
 use Rattle.ii_segments.specs.Segments.{doc_counts}
@@ -27,10 +28,6 @@ IsPieceOf doc field p = (p.doc ≡ doc) × (p.field ≡ field)
 abbrev pub IsTokenOf : ℕ → ℕ → IndexToken → Type 0
 IsTokenOf doc field t = (t.doc ≡ doc) × (t.field ≡ field)
 
-both_all : {A : Type 0} (P : A → Type 0) (xs ys : List A) → AllByRecursion P xs → AllByRecursion P ys → AllByRecursion P (xs ++ ys)
-both_all P [] ys one two = two
-both_all P (x ∷ xs) ys one two = (one.0, both_all P xs ys one.1 two)
-
 module _ (analyze : List ℕ → List Word) (doc field : ℕ) where
   leaf_of : (l : List ℕ × Leaf) → AllByRecursion (IsPieceOf doc field) (leaf_pieces analyze doc field l)
   leaf_of (path, text_leaf t) = ((refl, refl), tt)
@@ -39,7 +36,7 @@ module _ (analyze : List ℕ → List Word) (doc field : ℕ) where
 
   leaves_of : (ls : List (List ℕ × Leaf)) → AllByRecursion (IsPieceOf doc field) (flat_map (leaf_pieces analyze doc field) ls)
   leaves_of [] = tt
-  leaves_of (l ∷ ls) = both_all (IsPieceOf doc field) (leaf_pieces analyze doc field l) (flat_map (leaf_pieces analyze doc field) ls) (leaf_of l) (leaves_of ls)
+  leaves_of (l ∷ ls) = all_both (IsPieceOf doc field) (leaf_pieces analyze doc field l) (flat_map (leaf_pieces analyze doc field) ls) (leaf_of l) (leaves_of ls)
 
   pub content_of : (c : Content) → AllByRecursion (IsPieceOf doc field) (content_pieces analyze (record { doc = doc; field = field; content = c }) c)
   content_of (text t) = ((refl, refl), tt)
@@ -58,7 +55,7 @@ module _ (analyze : List ℕ → List Word) (doc field : ℕ) where
   pieces_tokens_of : (earlier ps : List Piece) → AllByRecursion (IsPieceOf doc field) ps → AllByRecursion (IsTokenOf doc field) (tokens_after earlier ps)
   pieces_tokens_of earlier [] all = tt
   pieces_tokens_of earlier (p ∷ ps) all =
-      both_all (IsTokenOf doc field) (piece_tokens earlier p) (tokens_after (earlier ++ p ∷ []) ps) (piece_tokens_of p (begin_after earlier p) p.is_text all.0) (pieces_tokens_of (earlier ++ p ∷ []) ps all.1)
+      all_both (IsTokenOf doc field) (piece_tokens earlier p) (tokens_after (earlier ++ p ∷ []) ps) (piece_tokens_of p (begin_after earlier p) p.is_text all.0) (pieces_tokens_of (earlier ++ p ∷ []) ps all.1)
 
 pub call_tokens_of : (analyze : List ℕ → List Word) (earlier : List Piece) (c : Call) → AllByRecursion (IsTokenOf c.doc c.field) (tokens_after earlier (call_pieces analyze c))
 call_tokens_of analyze earlier c = pieces_tokens_of analyze c.doc c.field earlier (call_pieces analyze c) (content_of analyze c.doc c.field c.content)

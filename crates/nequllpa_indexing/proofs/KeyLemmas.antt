@@ -166,7 +166,3 @@ terms_more field done line keys more key bytes are is same pushed =
     pushed ∙ ap (λ (ts : List TermState). ts ++ key ∷ []) are
     ∙ ap (λ (t : TermState). key_terms field (map line_view done) ++ t ∷ []) (is ∙ ap (λ (b : List ℕ). record { field = field; value = b }) same)
     ∙ sym (ap (key_terms field) (map-append line_view done (line ∷ [])) ∙ map-append (λ (l : KeyedLineState). record { field = field; value = l.key }) (map line_view done) (line_view line ∷ []))
-
--- an allocation failed before a line was added
-pub stops_before : (s : DocumentsState) (lines : List (List ℕ)) → StopsAdding OutOfMemory s s lines
-stops_before s lines = record { done = []; rest = lines; all = refl; added = refl; why = inl refl }

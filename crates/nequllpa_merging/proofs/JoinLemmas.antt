@@ -15,6 +15,7 @@ use Rattle.ii_segment_store.specs.Joins.{first_contents, last_contents}
 use Rattle.ii_segment_store.proofs.JoinLaws.{splits}
 use Rattle.ii_segments.specs.Segments.{Segment, index_tokens, merged, num_docs_of}
 use Rattle.ii_segments.specs.SegmentLaws.{MergeKeeps}
+use Rattle.ii_segments.proofs.MergeLaws.{docs_of_both}
 use Rattle.nequllpa_merging.specs.HeldSegments.{HoldSegments, HoldsSegment}
 use Rattle.nequllpa_merging.specs.Joins.{HoldsIndex, HoldsSameIndex}
 use Rattle.nequllpa_merging.proofs.LoopLemmas.{zip_more}
@@ -39,17 +40,12 @@ zip_drop R (suc n) [] (y ∷ ys) all = absurd all
 zip_drop R (suc n) (x ∷ xs) [] all = absurd all
 zip_drop R (suc n) (x ∷ xs) (y ∷ ys) all = zip_drop R n xs ys all.1
 
--- the documents of segments in two parts
-docs_append : (ss us : List Segment) → num_docs_of (ss ++ us) ≡ num_docs_of ss + num_docs_of us
-docs_append [] us = omega arith
-docs_append (s ∷ ss) us = let later = docs_append ss us in omega (arith, later)
-
 -- with the last segments in one
 joined_docs : (first : ℕ) (ss : List Segment) → num_docs_of (take first ss ++ merged (drop first ss) ∷ []) ≡ num_docs_of ss
 joined_docs first ss =
-    let front = docs_append (take first ss) (merged (drop first ss) ∷ []) in
+    let front = docs_of_both (take first ss) (merged (drop first ss) ∷ []) in
     let one = all_living (num_docs_of (drop first ss)) in
-    let whole = docs_append (take first ss) (drop first ss) in
+    let whole = docs_of_both (take first ss) (drop first ss) in
     let same = ap num_docs_of (take-append-drop first ss) in
     omega (arith, front, one, whole, same)
 

@@ -4,7 +4,7 @@ use Rattle.std.specs.Prelude.{slice_get, slice_index}
 use Rattle.std.specs.List.{AllByRecursion, AllZip}
 use Rattle.std.specs.Option.{option_map}
 use Rattle.std.proofs.lemmas.List.Sums.{sum_by-cons}
-use Rattle.std.proofs.lemmas.List.{drop_more, get_or-map, length-map, map-append}
+use Rattle.std.proofs.lemmas.List.{length-map, map-append}
 use Rattle.ii_io.specs.declared.faults.Fault.{Fault}
 use Rattle.ii_io.specs.declared.faults.Fault.TheVariants.{Damaged, OutOfMemory}
 use Rattle.ii_io.specs.declared.faults.Part.{Part}
@@ -22,20 +22,10 @@ use Rattle.nequllpa_merging.specs.declared.faults.MergeFault.{MergeFault}
 use Rattle.nequllpa_merging.specs.declared.faults.MergeFault.TheVariants as faults
 use Rattle.nequllpa_merging.specs.declared.opening.OpenedSegment.{OpenedSegment}
 
--- the next item, and those after it
-pub item_at : {A B : Type 0} (f : A → B) (xs : List A) (i : ℕ) (x : A) → i < length xs → x ≡ get_or xs i x → drop i (map f xs) ≡ f x ∷ drop (i + 1) (map f xs)
-item_at f xs i x inside is =
-    drop_more (map f xs) i (f x) (omega (arith, inside, length-map xs f))
-    ∙ ap (λ (y : _). y ∷ drop (i + 1) (map f xs)) (get_or-map f xs i x (f x) inside ∙ ap f (sym is))
-
 pub each_item : {A B : Type 0} (P : B → Type 0) (f : A → B) (xs : List A) (i : ℕ) (x : A) → i < length xs → x ≡ get_or xs i x → AllByRecursion P (map f xs) → P (f x)
 each_item P f [] i x inside is all = absurd (omega (arith, inside))
 each_item P f (y ∷ xs) zero x inside is all = subst (λ (z : _). P (f z)) (sym is) all.0
 each_item P f (y ∷ xs) (suc i) x inside is all = each_item P f xs i x (omega (arith, inside)) is all.1
-
-pub all_weaker : {A : Type 0} (P Q : A → Type 0) (xs : List A) → ((x : A) → P x → Q x) → AllByRecursion P xs → AllByRecursion Q xs
-all_weaker P Q [] weaker all = tt
-all_weaker P Q (x ∷ xs) weaker all = (weaker x all.0, all_weaker P Q xs weaker all.1)
 
 -- the number of tokens of the next segment, and those after it
 pub total_cons : (field : ℕ) (o : OpenedSegmentState) (os : List OpenedSegmentState) → total_of field (o ∷ os) ≡ slice_index o.num_tokens field + total_of field os
@@ -48,7 +38,7 @@ sources_more xs i x made new y inside is pushed same so_far =
     let rest = map merge_source (drop (i + 1) (map opened_view xs)) in
     ap (λ (ys : List MergeSource). map opened_segment ys ++ rest) pushed ∙ ap (λ (ss : List MergeSourceState). ss ++ rest) (map-append opened_segment made (y ∷ []))
     ∙ append_assoc (map opened_segment made) (opened_segment y ∷ []) rest ∙ ap (λ (s : MergeSourceState). map opened_segment made ++ s ∷ rest) same
-    ∙ ap (λ (os : List OpenedSegmentState). map opened_segment made ++ map merge_source os) (sym (item_at opened_view xs i x inside is)) ∙ so_far
+    ∙ ap (λ (os : List OpenedSegmentState). map opened_segment made ++ map merge_source os) (sym (mapped_at opened_view xs i x inside is)) ∙ so_far
 
 -- the counts of the first segments, before those of the others
 abbrev pub after_counts : List CountsSourceState → Option (List CountsSourceState) → Option (List CountsSourceState)
@@ -70,7 +60,7 @@ counts_more xs i x made new found y all inside is pushed some has so_far =
     ∙ ap (λ (ss : List CountsSourceState). after_counts ss (counts_sources os)) (map-append opened_counts made (y ∷ []))
     ∙ by (map opened_counts made) (opened_counts y) (counts_sources os)
     ∙ ap (λ (o : Option CountsSourceState). after_counts (map opened_counts made) (with_first o (counts_sources os))) own
-    ∙ ap (λ (ps : List OpenedSegmentState). after_counts (map opened_counts made) (counts_sources ps)) (sym (item_at opened_view xs i x inside is)) ∙ so_far
+    ∙ ap (λ (ps : List OpenedSegmentState). after_counts (map opened_counts made) (counts_sources ps)) (sym (mapped_at opened_view xs i x inside is)) ∙ so_far
   where
     by : (done : List CountsSourceState) (s : CountsSourceState) (rest : Option (List CountsSourceState)) → after_counts (done ++ s ∷ []) rest ≡ after_counts done (with_first (Some s) rest)
     by done s None = refl
@@ -82,7 +72,7 @@ pub counts_none : (xs : List OpenedSegment) (i : ℕ) (x : OpenedSegment) (made 
 counts_none xs i x made found all inside is none has so_far =
     let own : None ≡ counts_source_if x.counts (opened_view x) = ap (option_map opened_counts) (sym none) ∙ has in
     ap (λ (o : Option CountsSourceState). after_counts (map opened_counts made) (with_first o (counts_sources (drop (i + 1) (map opened_view xs))))) own
-    ∙ ap (λ (ps : List OpenedSegmentState). after_counts (map opened_counts made) (counts_sources ps)) (sym (item_at opened_view xs i x inside is)) ∙ so_far
+    ∙ ap (λ (ps : List OpenedSegmentState). after_counts (map opened_counts made) (counts_sources ps)) (sym (mapped_at opened_view xs i x inside is)) ∙ so_far
 
 -- Segments that were opened of those taken from a list.
 pub record IsOpening (entries : List SchemaEntry) (all taken rest : List StoredSegment) (made : List OpenedSegment) : Type 0 where

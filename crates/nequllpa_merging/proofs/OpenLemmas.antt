@@ -26,7 +26,8 @@ use Rattle.ii_segment_store.specs.Contents.{SegmentContents}
 use Rattle.ii_segments.specs.HoldCounts.{field_counts}
 use Rattle.ii_segments.specs.Segments.{Segment, index_tokens, living_counts, living_docs, living_tokens}
 use Rattle.ii_segments.proofs.CountLaws.{counts_of_segments}
-use Rattle.ii_segments.proofs.MergeLaws.{all_alive, shift}
+use Rattle.ii_segments.proofs.DocumentLaws.{shift_none}
+use Rattle.ii_segments.proofs.MergeLaws.{all_alive}
 use Rattle.nequllpa_merging.specs.HeldSegments.{HasCountsOf, HoldSegments, HoldsSegment, IsOpenedFor, OpenedHold, OpenedHolds}
 use Rattle.nequllpa_merging.specs.MergedSegments.{counts_source}
 use Rattle.nequllpa_merging.specs.OpenedSegments.{OpenedSegmentState, OpensFrom, bodies_of_counts, living_total, living_totals, opened_from, opened_view, tokens_of_reader}
@@ -144,16 +145,12 @@ all_true [] is = refl
 all_true (true ∷ bs) is = ap (λ (cs : List Bool). true ∷ cs) (all_true bs (omega (arith, is, living_cons true bs)))
 all_true (false ∷ bs) is = absurd (omega (arith, is, living_cons false bs, few_living bs))
 
-unshifted : (ts : List IndexToken) → map (shift 0) ts ≡ ts
-unshifted [] = refl
-unshifted (t ∷ ts) = let same : 0 + t.doc ≡ t.doc = omega arith in ap (λ (d : ℕ). (record t { doc = d }) ∷ map (shift 0) ts) same ∙ ap (λ (us : List IndexToken). t ∷ us) (unshifted ts)
-
 -- its tokens are those of an index of it alone
 pub all_tokens : (s : Segment) → num_living s.alive ≡ length s.alive → AllByRecursion (λ (t : IndexToken). t.doc < length s.alive) s.tokens → index_tokens (s ∷ []) ≡ s.tokens
 all_tokens s all below =
     append-nil (living_tokens 0 s)
     ∙ ap (λ (alive : List Bool). living_tokens 0 (record { alive = alive; tokens = s.tokens })) (all_true s.alive all)
-    ∙ all_alive 0 (length s.alive) s.tokens below ∙ unshifted s.tokens
+    ∙ all_alive 0 (length s.alive) s.tokens below ∙ shift_none s.tokens
 
 pub all_counted : (field : ℕ) (s : Segment) → num_living s.alive ≡ length s.alive → AllByRecursion (λ (t : IndexToken). t.doc < length s.alive) s.tokens → field_count field s.tokens ≡ sum (living_counts field s)
 all_counted field s all below =

@@ -7,9 +7,6 @@ use Rattle.std.proofs.lemmas.Bool.{leb-false, leb-true, lt-leb, ltb-false, ltb-t
 use Rattle.std.proofs.lemmas.List.Sums.{sum_by-append, sum_by-cons, sum_by-take-drop}
 use Rattle.nequllpa_merging.specs.MergePolicy.{IsSettled, MergeSettles, SettledAreFew, first_fitting, first_outgrown, is_outgrown}
 
-sum_first : (n : ℕ) (ns : List ℕ) → sum (n ∷ ns) ≡ n + sum ns
-sum_first n ns = sum_by-cons (λ (x : ℕ). x) n ns
-
 -- a row with the numbers from a place on in one
 abbrev in_one : ℕ → List ℕ → List ℕ
 in_one first counts = take first counts ++ sum (drop first counts) ∷ []
@@ -18,7 +15,7 @@ in_one first counts = take first counts ++ sum (drop first counts) ∷ []
 same_sum : (first : ℕ) (counts : List ℕ) → sum (in_one first counts) ≡ sum counts
 same_sum first counts =
     let parts = sum_by-append (λ (x : ℕ). x) (take first counts) (sum (drop first counts) ∷ []) in
-    let one = sum_first (sum (drop first counts)) [] in
+    let one = sum_by-cons (λ (x : ℕ). x) (sum (drop first counts)) [] in
     let whole = sum_by-take-drop (λ (x : ℕ). x) counts first in
     omega (arith, parts, one, whole)
 
@@ -71,7 +68,7 @@ doubles [] settled = omega arith
 doubles (n ∷ []) settled = omega arith
 doubles (n ∷ m ∷ row) settled =
     let more = more_than n m row settled.0 in
-    let whole = sum_first n (m ∷ row) in
+    let whole = sum_by-cons (λ (x : ℕ). x) n (m ∷ row) in
     let fewer = doubles (m ∷ row) settled.1 in
     let twice : 2 ^ length (n ∷ m ∷ row) ≡ 2 * 2 ^ length (m ∷ row) = pow-succ' 2 (length (m ∷ row)) in
     omega (arith, more, whole, fewer, twice)

@@ -5,12 +5,9 @@ use Rattle.std.specs.List.{AllByRecursion, AllZip, list_any}
 use Rattle.std.specs.Option.{option_map}
 use Rattle.std.proofs.lemmas.Bool.{eq-eqb, eqb-true}
 use Rattle.std.proofs.lemmas.List.{get_or-map, length-map, map-append, take_all, take_more}
-use Rattle.std.proofs.lemmas.List.FromFn.{length-range_with_len}
 use Rattle.std.proofs.lemmas.Option.{slice_get-get_or}
 use Rattle.ii_io.specs.declared.faults.Fault.TheVariants.{OutOfMemory}
-use Rattle.ii_alive.specs.Alive.{num_living, rank}
-use Rattle.ii_segments.specs.Segments.{living_docs}
-use Rattle.ii_segments.proofs.CountLaws.{ranks_of_living}
+use Rattle.ii_alive.specs.Alive.{num_living}
 use Rattle.ii_doc_store.specs.declared.checkpoint.Checkpoint.{Checkpoint}
 use Rattle.ii_doc_store.specs.declared.faults.StoreDamage.{StoreDamage}
 use Rattle.ii_doc_store.specs.declared.faults.StoreDamage.TheVariants.{Index}
@@ -20,7 +17,7 @@ use Rattle.ii_doc_store.specs.StoreReader.{HoldsDocuments, index_of, num_docs}
 use Rattle.ii_doc_store_merger.specs.declared.faults.StoreMergeFault.TheVariants as merges
 use Rattle.ii_doc_store_merger.specs.declared.store_source.StoreSource.{StoreSource}
 use Rattle.ii_doc_store_merger.specs.StoreSources.{FitsFlags, SegmentDocuments, SourceHolds, StoreSourceState, documents_of_segments, living_documents, opened_store}
-use Rattle.ii_doc_store_merger.proofs.MergeLemmas.{holds_given, undamaged}
+use Rattle.ii_doc_store_merger.proofs.MergeLemmas.{documents_length, holds_given, undamaged}
 use Rattle.nequllpa_merging.specs.declared.faults.MergeFault.{MergeFault}
 use Rattle.nequllpa_merging.specs.declared.faults.MergeFault.TheVariants as faults
 use Rattle.nequllpa_merging.specs.declared.opening.OpenedSegment.{OpenedSegment}
@@ -179,9 +176,6 @@ abbrev pub living_in : List StoredFile → ℕ
 living_in [] = 0
 living_in (f ∷ fs) = num_living f.alive + living_in fs
 
-living_length : (d : SegmentDocuments) → length (living_documents d) ≡ num_living d.alive
-living_length d = length-map (living_docs d.alive) (λ (doc : ℕ). get_or d.documents doc []) ∙ sym (length-map (living_docs d.alive) (λ (k : ℕ). 0 + rank d.alive k)) ∙ ap length (ranks_of_living 0 d.alive) ∙ length-range_with_len 0 (num_living d.alive)
-
 pub documents_count : (fs : List StoredFile) (ds : List SegmentDocuments) → AllZip HoldsStored fs ds → length (documents_of_segments ds) ≡ living_in fs
 documents_count [] [] hold = refl
 documents_count [] (d ∷ ds) hold = absurd hold
@@ -189,7 +183,7 @@ documents_count (f ∷ fs) [] hold = absurd hold
 documents_count (f ∷ fs) (d ∷ ds) hold =
     let rest = documents_count fs ds hold.1 in
     let same = ap num_living hold.0.alive in
-    omega (arith, length-append (living_documents d) (documents_of_segments ds), living_length d, rest, same)
+    omega (arith, length-append (living_documents d) (documents_of_segments ds), documents_length d, rest, same)
 
 -- ---- files of some documents
 abbrev pub HoldsCount : StoredFile → ℕ → Type 0

@@ -1,7 +1,9 @@
 use Rattle.std.proofs.Common.{◌∙◌, ◌++◌, ◌+◌, List, ℕ, drop, map, sym, ap, subst, append_assoc}
 use Rattle.std.specs.List.{AllByRecursion}
 use Rattle.ii_counts_merger.specs.CountsSources.{CountsSourceState, HasCounts, living_row, merged_row, opened_counts}
-use Rattle.ii_counts_merger.proofs.RowLemmas.{one_damaged, source_at}
+use Rattle.ii_counts_merger.proofs.RowLemmas.{one_damaged}
+use Rattle.ii_counts_merger.specs.CountsSources.{opened_counts}
+use Rattle.ii_definitions.proofs.ListLaws.{mapped_at}
 use Rattle.ii_counts_merger.proofs.rows.merged_row.Goals as goal
 
 pub returns-in-Err-clause-fault : goal.returns-in-Err-clause-fault
@@ -14,7 +16,7 @@ loop-place-preserved c =
     let all = map opened_counts c.args.sources.now in
     let place = c.loop-place.place in
     let s = opened_counts c.index-sources-place.result in
-    let at = source_at c.args.sources.now place c.index-sources-place.result c.loop-place-test.true c.index-sources-place.is in
+    let at = mapped_at opened_counts c.args.sources.now place c.index-sources-place.result c.loop-place-test.true c.index-sources-place.is in
     let h = c.loop-place.invariant in
     record {
       added = ap (λ (xs : List ℕ). xs ++ merged_row field (drop (place + 1) all)) c.in_default.ensures.ok

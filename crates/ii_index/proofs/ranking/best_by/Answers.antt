@@ -6,7 +6,7 @@ use Rattle.ii_ranking.specs.TokenScores.{tokens_scored}
 use Rattle.ii_scorer.specs.TopDocs.{AreBest}
 use Rattle.ii_segment_search.specs.Searcher.{AreFew, HaveFields, OpenSegmentState, SegmentsHold}
 use Rattle.ii_index.specs.Statistics.{searcher_tokens}
-use Rattle.ii_statistics.specs.Listed.{AreListed}
+use Rattle.ii_statistics.specs.Listed.{IsListedInEach}
 use Rattle.ii_statistics.specs.Statistics.{query_terms, ranking_damage, segments_statistics}
 use Rattle.ii_index.proofs.ranking.best_by.Goals as goal
 
@@ -28,7 +28,7 @@ returns-in-Ok-best_of_ranked-clause-best c =
 pub returns-in-Ok-best_of_ranked-clause-listed : goal.returns-in-Ok-best_of_ranked-clause-listed
 returns-in-Ok-best_of_ranked-clause-listed c =
     let same : map segment_of c.as_slice.result.now ≡ c.args.segments.now = ap (map segment_of) c.as_slice.ensures.value ∙ c.in-Ok.ensures.same in
-    subst (λ (os : List OpenSegmentState). AllByRecursion (AreListed os) (query_terms c.args.query.now)) same c.in-Ok-best_of_ranked.ensures.listed
+    subst (λ (os : List OpenSegmentState). AllByRecursion (IsListedInEach os) (query_terms c.args.query.now)) same c.in-Ok-best_of_ranked.ensures.listed
 
 pub returns-in-Ok-best_of_ranked-clause-sound : goal.returns-in-Ok-best_of_ranked-clause-sound
 returns-in-Ok-best_of_ranked-clause-sound c =

@@ -10,7 +10,8 @@ use Rattle.ii_termstore.specs.declared.term_info.TermInfo.{TermInfo}
 use Rattle.ii_merger.specs.MergeSources.{entries_under, source_damage, list_under, source_of, living_in_sources}
 use Rattle.ii_merger.specs.MergedTerm.{CoversBelow, IsPushFault, IsReadableEntry, LieBetween, Merges, skip_of}
 use Rattle.ii_merger.proofs.MergeLemmas.{merges_ends, merges_norms}
-use Rattle.ii_merger.proofs.SourceLemmas.{info_at, none_after, numbers_fit, source_at}
+use Rattle.ii_merger.proofs.SourceLemmas.{info_at, none_after, numbers_fit}
+use Rattle.ii_definitions.proofs.ListLaws.{mapped_at}
 use Rattle.ii_merger.proofs.TermMergeLemmas.{IsMergingTerm, closing_fault, closing_writing, merging_all, merging_fault, merging_next, sound_term}
 use Rattle.ii_merger.proofs.merging.merge_term.Goals as goal
 
@@ -19,7 +20,7 @@ merge_list-requires-clause-numbered g c =
     let all = map source_of c.args.sources.now in
     let place = c.loop-place.place in
     let s = c.index-sources-place.result in
-    numbers_fit all (drop place all) (drop (place + 1) all) (source_of s) c.loop-place.base TERMINATED c.loop-place.invariant.merging.base_is (source_at c.args.sources.now place s c.loop-place-test.true c.index-sources-place.is) c.requires.few
+    numbers_fit all (drop place all) (drop (place + 1) all) (source_of s) c.loop-place.base TERMINATED c.loop-place.invariant.merging.base_is (mapped_at source_of c.args.sources.now place s c.loop-place-test.true c.index-sources-place.is) c.requires.few
 
 pub merge_list-requires-clause-covered : goal.merge_list-requires-clause-covered
 merge_list-requires-clause-covered g c doc low =
@@ -27,7 +28,7 @@ merge_list-requires-clause-covered g c doc low =
     let place = c.loop-place.place in
     let s = c.index-sources-place.result in
     let h = c.loop-place.invariant.merging in
-    let fits = numbers_fit all (drop place all) (drop (place + 1) all) (source_of s) c.loop-place.base (living_in_sources all) h.base_is (source_at c.args.sources.now place s c.loop-place-test.true c.index-sources-place.is) (omega arith) in
+    let fits = numbers_fit all (drop place all) (drop (place + 1) all) (source_of s) c.loop-place.base (living_in_sources all) h.base_is (mapped_at source_of c.args.sources.now place s c.loop-place-test.true c.index-sources-place.is) (omega arith) in
     let norms = merges_norms c.args.term.key.now c.args.term.kind c.args.serializer.now.index.now c.loop-place.begun c.loop-place.serializer.index.now h.done h.merges in
     subst (λ (n : Option Norms). CoversBelow n (living_in_sources all)) (sym norms) c.requires.covered doc (omega (arith, low, fits))
 
@@ -50,14 +51,14 @@ returns-in-Err-clause-fault g c initial field tokens norms ts writing =
     let own = subst (λ (o : Option TermInfo). IsPushFault (source_damage kind s.alive (list_under kind s o)) (skip_of first.field.term.mode kind) kind (h.done ++ living_entries c.loop-place.base s.alive (entries_under kind s o)) c.in-Err.fault) info
     (c.in-Err.ensures.fault first h.done c.requires.start h.merges) in
     merging_fault key kind first all (drop place all) c.loop-place.begun c.loop-place.base c.loop-place.serializer.index.now h s (drop (place + 1) all) c.in-Err.fault initial tokens norms ts
-    (source_at c.args.sources.now place c.index-sources-place.result c.loop-place-test.true c.index-sources-place.is) c.requires.kind own
+    (mapped_at source_of c.args.sources.now place c.index-sources-place.result c.loop-place-test.true c.index-sources-place.is) c.requires.kind own
 
 pub overflow_add-base : goal.overflow_add-base
 overflow_add-base g c =
     let all = map source_of c.args.sources.now in
     let place = c.loop-place.place in
     let s = c.index-sources-place.result in
-    let fits = numbers_fit all (drop place all) (drop (place + 1) all) (source_of s) c.loop-place.base TERMINATED c.loop-place.invariant.merging.base_is (source_at c.args.sources.now place s c.loop-place-test.true c.index-sources-place.is) c.requires.few in
+    let fits = numbers_fit all (drop place all) (drop (place + 1) all) (source_of s) c.loop-place.base TERMINATED c.loop-place.invariant.merging.base_is (mapped_at source_of c.args.sources.now place s c.loop-place-test.true c.index-sources-place.is) c.requires.few in
     omega (arith, fits, c.num_living-base.ensures)
 
 pub loop-place-preserved : goal.loop-place-preserved
@@ -77,7 +78,7 @@ loop-place-preserved g c =
     let readable = subst (λ (o : Option TermInfo). AllByRecursion (IsReadableEntry kind) (living_entries base s.alive (entries_under kind s o))) info c.in-Ok.ensures.readable in
     let sound = sym (ap (λ (o : Option TermInfo). source_damage kind s.alive (list_under kind s o)) info) ∙ c.in-Ok.ensures.sound in
     let next = merging_next key kind first all (drop place all) c.loop-place.begun base c.loop-place.serializer.index.now h s (drop (place + 1) all) c.in-Ok.begun new
-    (source_at c.args.sources.now place c.index-sources-place.result c.loop-place-test.true c.index-sources-place.is) merges docs readable sound in
+    (mapped_at source_of c.args.sources.now place c.index-sources-place.result c.loop-place-test.true c.index-sources-place.is) merges docs readable sound in
     record {
       same = c.merge_list.ensures.same_reference ∙ c.loop-place.invariant.same;
       merging = subst (λ (n : ℕ). IsMergingTerm key kind first all (drop (place + 1) all) c.in-Ok.begun (base + n) new) (sym c.num_living-base.ensures) next;

@@ -2,7 +2,7 @@ use Rattle.std.proofs.Common.{◌∙◌, ◌++◌, ◌+◌, List, ℕ, drop, map
 use Rattle.std.specs.List.{AllByRecursion}
 use Rattle.ii_merger.specs.MergedIndex.{MergeSourceState, opened_segment}
 use Rattle.ii_merger.specs.MergedNorms.{HasAllNorms, living_ids, merged_ids}
-use Rattle.ii_merger.proofs.IndexMergeLemmas.{segment_at}
+use Rattle.ii_definitions.proofs.ListLaws.{mapped_at}
 use Rattle.ii_merger.proofs.NormLemmas.{one_damaged}
 use Rattle.ii_merger.proofs.norms.push_all_norms.Goals as goal
 
@@ -16,7 +16,7 @@ loop-place-preserved c =
     let all = map opened_segment c.args.sources.now in
     let place = c.loop-place.place in
     let s = opened_segment c.index-sources-place.result in
-    let at = segment_at c.args.sources.now place c.index-sources-place.result c.loop-place-test.true c.index-sources-place.is in
+    let at = mapped_at opened_segment c.args.sources.now place c.index-sources-place.result c.loop-place-test.true c.index-sources-place.is in
     let h = c.loop-place.invariant in
     record {
       added = ap (λ (xs : List ℕ). xs ++ merged_ids field (drop (place + 1) all)) c.in_default.ensures.ok

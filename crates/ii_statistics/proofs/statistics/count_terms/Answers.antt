@@ -3,9 +3,9 @@ use Rattle.std.proofs.lemmas.List.{drop_all, length-map, map-append}
 use Rattle.ii_base.specs.Terms.{TermState}
 use Rattle.ii_query_parser.specs.declared.query.Query.TheVariants.{Term}
 use Rattle.ii_ranking.specs.Segments.{segment_of}
-use Rattle.ii_statistics.specs.Statistics.{counts_of, counts_view}
+use Rattle.ii_statistics.specs.Statistics.{counts_of_term, counts_view}
 use Rattle.ii_statistics.specs.declared.statistics.TermCounts.{TermCounts}
-use Rattle.ii_statistics.proofs.CountLemmas.{mapped_at}
+use Rattle.ii_definitions.proofs.ListLaws.{mapped_at}
 use Rattle.ii_statistics.proofs.ListedLemmas.{listed_sound}
 use Rattle.ii_statistics.proofs.TermCountLemmas.{counted_all, counting_next, counting_refused, field_next, listed_all, sound_all}
 use Rattle.ii_statistics.proofs.statistics.count_terms.Goals as goal
@@ -35,7 +35,7 @@ loop-place-preserved g c =
     let made : TermCounts = record { term = c.index-terms-place.result; doc_freq = c.in-Ok.num_docs; num_tokens = c.num_tokens-num_tokens.result } in
     let freq = c.in-Ok.ensures.counted in
     let number = c.num_tokens-num_tokens.ensures ∙ ap by_field c.field.ensures in
-    let is : counts_view made ≡ counts_of by_field segments t = λ j. record { term = t; doc_freq = freq j; num_tokens = number j } in
+    let is : counts_view made ≡ counts_of_term by_field segments t = λ j. record { term = t; doc_freq = freq j; num_tokens = number j } in
     let pushed = ap (map counts_view) c.in_ok-push.ensures.items ∙ map-append counts_view l.counted.items (made ∷ []) in
     counting_next by_field segments all (drop l.place all) (drop (l.place + 1) all) (map counts_view l.counted.items) t at l.invariant (map counts_view c.push.new.self.items) (counts_view made) pushed is
     (listed_sound (Term t) 0 segments c.in-Ok.ensures.listed) c.in-Ok.ensures.listed

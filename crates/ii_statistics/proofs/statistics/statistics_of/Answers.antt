@@ -3,8 +3,8 @@ use Rattle.std.specs.List.{AllByRecursion}
 use Rattle.ii_base.specs.Terms.{TermState}
 use Rattle.ii_ranking.specs.Scores.{IsScoreFault}
 use Rattle.ii_ranking.specs.Segments.{segment_of}
-use Rattle.ii_statistics.specs.Listed.{AreListed, HaveField}
-use Rattle.ii_statistics.specs.Statistics.{counts_of, query_terms, terms_damage}
+use Rattle.ii_statistics.specs.Listed.{IsListedInEach, HaveField}
+use Rattle.ii_statistics.specs.Statistics.{counts_of_term, query_terms, terms_damage}
 use Rattle.ii_statistics.proofs.CountLemmas.{counted_same}
 use Rattle.ii_statistics.proofs.ListedLemmas.{terms_known}
 use Rattle.ii_statistics.proofs.statistics.statistics_of.Goals as goal
@@ -20,13 +20,13 @@ returns-in-Ok-count_terms-clause-same g c =
     let segments = map segment_of c.args.segments.now in
     let by_field = g.N.FieldTokens.by_field c.args.tokens.now in
     let same : map (λ t. t.now) c.as_slice.result.now ≡ query_terms c.args.query.now = ap (map (λ t. t.now)) c.as_slice.ensures.value ∙ c.in-Ok.ensures.terms in
-    counted_same by_field segments (record { num_docs = c.num_living.result; terms = c.in-Ok-count_terms.terms }) (query_terms c.args.query.now) (c.in-Ok-count_terms.ensures.counted ∙ ap (map (counts_of by_field segments)) same)
+    counted_same by_field segments (record { num_docs = c.num_living.result; terms = c.in-Ok-count_terms.terms }) (query_terms c.args.query.now) (c.in-Ok-count_terms.ensures.counted ∙ ap (map (counts_of_term by_field segments)) same)
 
 pub returns-in-Ok-count_terms-clause-listed : goal.returns-in-Ok-count_terms-clause-listed
 returns-in-Ok-count_terms-clause-listed g c =
     let segments = map segment_of c.args.segments.now in
     let same : map (λ t. t.now) c.as_slice.result.now ≡ query_terms c.args.query.now = ap (map (λ t. t.now)) c.as_slice.ensures.value ∙ c.in-Ok.ensures.terms in
-    subst (AllByRecursion (AreListed segments)) same c.in-Ok-count_terms.ensures.listed
+    subst (AllByRecursion (IsListedInEach segments)) same c.in-Ok-count_terms.ensures.listed
 
 pub returns-in-Ok-count_terms-clause-sound : goal.returns-in-Ok-count_terms-clause-sound
 returns-in-Ok-count_terms-clause-sound g c =

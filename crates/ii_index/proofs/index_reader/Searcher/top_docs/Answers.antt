@@ -10,7 +10,7 @@ use Rattle.ii_index.specs.Searching.{HaveReaders, SearcherState}
 use Rattle.ii_index.specs.Statistics.{index_statistics, searcher_tokens}
 use Rattle.ii_index.proofs.HeldLemmas.{best_held, counts_sound, docs_held, docs_listed, held_same, reaches}
 use Rattle.ii_index.proofs.OpenLemmas.{have_fields}
-use Rattle.ii_statistics.specs.Listed.{AreListed}
+use Rattle.ii_statistics.specs.Listed.{IsListedInEach}
 use Rattle.ii_statistics.specs.Statistics.{query_terms, ranking_damage, segments_statistics, terms_damage}
 use Rattle.ii_statistics.proofs.DamageLemmas.{some_damage}
 use Rattle.ii_statistics.proofs.TermLemmas.{terms_below}
@@ -53,7 +53,7 @@ returns-in-Ok-clause-holds c = λ entries n ts holds ask covers.
     let few = subst AreFew (ap (λ (s : SearcherState). s.segments) c.self.view_is) c.segments.ensures.few in
     let terms = query_terms query in
     let known = terms_below (length entries) query ask.fields in
-    let listed = subst (λ (os : List OpenSegmentState). AllByRecursion (AreListed os) terms) opened c.in-Ok.ensures.listed in
+    let listed = subst (λ (os : List OpenSegmentState). AllByRecursion (IsListedInEach os) terms) opened c.in-Ok.ensures.listed in
     let same = held_same entries s n ts holds terms known (docs_listed entries s n ts holds few terms known listed) in
     let given = c.in-Ok.ensures.holds entries holds.segments (subst (λ (os : List OpenSegmentState). SegmentsHold entries os holds.segments) (sym opened) holds.hold) ask.fields in
     let gives = subst (λ (os : List OpenSegmentState). GivesBest c.args.docs.now (tokens_scored entries (segments_statistics (searcher_tokens s) os) query 0 holds.segments) (Ok c.in-Ok.best)) opened given in
