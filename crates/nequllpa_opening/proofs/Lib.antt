@@ -1,0 +1,3 @@
+mod DocumentLemmas
+mod IdsLemmas
+mod OpenLemmas
