@@ -1,3 +1,3 @@
 mod DocumentLemmas
 mod IdsLemmas
-mod OpenLemmas
+pub mod OpenLemmas

@@ -6,7 +6,8 @@ use Rattle.ii_query_parser.specs.declared.query.Query.{Query}
 use Rattle.ii_query_parser.specs.Queries.{matches}
 use Rattle.nequllpa_opening.specs.declared.opened.Opened.{Opened}
 
-zip_push : {A B : Type 0} (R : A → B → Type 0) (xs : List A) (ys : List B) (x : A) (y : B) → AllZip R xs ys → R x y → AllZip R (xs ++ x ∷ []) (ys ++ y ∷ [])
+-- one pair more
+pub zip_push : {A B : Type 0} (R : A → B → Type 0) (xs : List A) (ys : List B) (x : A) (y : B) → AllZip R xs ys → R x y → AllZip R (xs ++ x ∷ []) (ys ++ y ∷ [])
 zip_push R [] [] x y zip holds = (holds, tt)
 zip_push R [] (b ∷ ys) x y zip holds = absurd zip
 zip_push R (a ∷ xs) [] x y zip holds = absurd zip

@@ -10,6 +10,7 @@ use Rattle.ii_io.specs.Parts.{◌>>=◌}
 use Rattle.ii_base.specs.Entries.{Entry, docs_of}
 use Rattle.ii_base.specs.Terms.{TermState}
 use Rattle.ii_base.specs.declared.schema.index_record_option.IndexRecordOption.TheVariants.{Basic}
+use Rattle.ii_definitions.proofs.ListLaws.{all_both}
 use Rattle.ii_docset.specs.Cursor.{IsSound}
 use Rattle.ii_reader.specs.InvertedIndexReader.{InvertedIndexReaderState, IsRefusal}
 use Rattle.ii_reader.specs.OpenIndex.{OpenIndexState, all_or_first}
@@ -55,10 +56,6 @@ term_below index alive term docs (Ok es) is with_term =
 term_below index alive term docs (Err part) is with_term = absurd (let same : ◌≡◌ {A = Result (List ℕ) Part} (Err part) (Ok docs) = rw is at with_term in cc)
 
 -- ---- those of one term after the other
-all_both : {A : Type 0} (P : A → Type 0) (xs ys : List A) → AllByRecursion P xs → AllByRecursion P ys → AllByRecursion P (xs ++ ys)
-all_both P [] ys one two = two
-all_both P (x ∷ xs) ys one two = (one.0, all_both P xs ys one.1 two)
-
 -- Documents are those of a term, and then others.
 pub record IsFirst (index : OpenIndexState) (alive : List Bool) (term : TermState) (others : Result (List ℕ) Part) (docs : List ℕ) : Type 0 where
   pub first : List ℕ

@@ -6,6 +6,7 @@ use Rattle.std.proofs.lemmas.Grind.{flat_map-append}
 use Rattle.std.proofs.lemmas.List.{append-nil, map-append}
 use Rattle.ii_ranking.specs.declared.shares.Share.{Share}
 use Rattle.ii_ranking.specs.Shares.{ShareState, share_of}
+use Rattle.nequllpa_opening.proofs.OpenLemmas.{zip_push}
 
 -- joined texts: the first one, and then each after a comma
 pub joined : (f : ShareState → List ℕ) (x : ShareState) (xs : List ShareState) → join_with_byte 44 (map f (x ∷ xs)) ≡ f x ++ flat_map (λ (s : ShareState). 44 ∷ f s) xs
@@ -24,13 +25,6 @@ texts_more f shares i s inside is =
     ap (λ (row : List Share). flat_map f (map share_of row)) (ap (λ (n : ℕ). take n shares) (add-one i) ∙ take-suc shares i s inside ∙ ap (λ (t : Share). take i shares ++ t ∷ []) (sym is))
     ∙ ap (flat_map f) (map-append share_of (take i shares) (s ∷ [])) ∙ flat_map-append f (map share_of (take i shares)) (share_of s ∷ [])
     ∙ ap (λ (text : List ℕ). flat_map f (map share_of (take i shares)) ++ text) (append-nil (f (share_of s)))
-
--- one pair more
-zip_push : {A B : Type 0} (R : A → B → Type 0) (xs : List A) (ys : List B) (x : A) (y : B) → AllZip R xs ys → R x y → AllZip R (xs ++ x ∷ []) (ys ++ y ∷ [])
-zip_push R [] [] x y all here = (here, tt)
-zip_push R [] (z ∷ ys) x y all here = absurd all
-zip_push R (z ∷ xs) [] x y all here = absurd all
-zip_push R (z ∷ xs) (w ∷ ys) x y all here = (all.0, zip_push R xs ys x y all.1 here)
 
 -- the next pair of a document and its text
 pub zip_next : (R : ℕ × ℕ → List ℕ → Type 0) (best : List (ℕ × ℕ)) (i : ℕ) (texts new : List (String Global)) (text : String Global) → i < length best → new ≡ texts ++ text ∷ [] → AllZip R (take i best) (map string_bytes texts)
