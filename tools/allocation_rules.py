@@ -44,16 +44,16 @@ PLACES = {
     'ii_folder_promises/src/stored_lines.rt': {'stored_lines_come_back', 'merged_lines_come_back', 'line_of', 'copied'},  # a store, or a copy of a line
     'ii_folder_promises/src/stored_fields.rt': {'stored_fields_come_back'},  # a store couldn't be shared
     'ii_index/src/faults.rt': {'from'},
-    'nequllpa_folder/src/faults.rt': {'is_memory', 'from'},
-    'nequllpa_folder/src/opened.rt': {'documents_fault'},  # stored documents couldn't be opened for it
-    'nequllpa_folder/src/stored_lines.rt': {
-        'from', 'memory',
-        'store_of', 'store_damages'},  # the same
+    'nequllpa_opening/src/faults.rt': {'is_memory', 'from'},
+    'nequllpa_opening/src/opened.rt': {'documents_fault'},  # stored documents couldn't be opened for it
     'nequllpa_indexing/src/documents.rt': {'push_line'},  # the list of calls couldn't grow
     'nequllpa_indexing/src/faults.rt': {'is_memory'},
     'nequllpa_indexing/src/keyed_lines.rt': {'add_to', 'add_all'},  # a list of lines or keys, or a copy of a key, was refused
     'nequllpa_indexing/src/line_keys.rt': {'no_memory'},  # the same of a line and its key
     'nequllpa_indexing/src/lines.rt': {'push_record'},  # the record of a line couldn't be built
+    'nequllpa_inspecting/src/stored_lines.rt': {
+        'from', 'memory',
+        'store_of', 'store_damages'},  # stored documents couldn't be opened for it
     'nequllpa_merging/src/faults.rt': {'from'},
     'nequllpa_merging/src/stores.rt': {'store_fault'},  # stores couldn't be opened or merged for it
     'nequllpa_writing/src/indexing.rt': {'put_line'},  # a line with its place couldn't be built

@@ -1,8 +1,8 @@
 -- The document with a number, and its shares.
-use Rattle.std.proofs.Common.{◌≡◌, ◌∙◌, ℕ, zero, suc, ◌+◌, ◌<◌, ◌≤◌, inl, inr, Bool, true, false, List, [], ◌∷◌, ◌++◌, Option, None, Some, Result, Ok, Err, Vec, Global, IfErr, IfOk, add-one, ap, append_assoc, arith, drop, get_or, if◌then◌else◌, length, map, nat_lt, refl, subst, sym, take}
+use Rattle.std.proofs.Common.{◌≡◌, ◌∙◌, ℕ, zero, suc, ◌+◌, ◌-◌, ◌<◌, ◌≤◌, inl, inr, Bool, true, false, List, [], ◌∷◌, ◌++◌, Option, None, Some, Result, Ok, Err, Vec, Global, IfErr, IfOk, add-one, ap, append_assoc, arith, drop, get_or, if◌then◌else◌, length, map, nat_lt, refl, subst, sym, take}
 use Rattle.std.proofs.Math.Seq.{take-suc}
 use Rattle.std.specs.List.{All, Contains}
-use Rattle.std.proofs.lemmas.Bool.{ltb-false, ltb-true}
+use Rattle.std.proofs.lemmas.Bool.{le-ltb, lt-ltb, ltb-false, ltb-true}
 use Rattle.std.proofs.lemmas.List.{get_or-map, length-map, take-append-drop}
 use Rattle.std.proofs.lemmas.List.Elements.{All-append, All-contains, All-from_recursion, All-nil}
 use Rattle.ii_alive.specs.Alive.{num_living, rank}
@@ -26,7 +26,7 @@ use Rattle.ii_scorer.proofs.TopLemmas.{scored_more}
 use Rattle.ii_segments.specs.Segments.{is_living}
 use Rattle.ii_segment_search.specs.Searcher.{HaveFields, OpenSegmentState, total_living}
 use Rattle.ii_segment_search.proofs.SearchLemmas.{total_more}
-use Rattle.ii_explanation.specs.Explanations.{AreSharesAt}
+use Rattle.ii_explanation.specs.Explanations.{AreSharesAt, number_damage}
 
 -- living documents with the same rank are the same
 same_doc : (alive : List Bool) (a b : ℕ) → is_living alive a ≡ true → is_living alive b ≡ true → rank alive a ≡ rank alive b → a ≡ b
@@ -99,6 +99,28 @@ pub no_place : (statistics : Statistics) (q : QueryTree) (segments : List OpenSe
 no_place statistics q segments number shares high = λ before after s doc whole living number_is.
     let low = below_all segments before after s doc whole living in
     absurd (omega (arith, low, number_is, high))
+
+-- ---- what is damaged of a document's segment
+-- the segment after others has the numbers from that of its first document on
+damage_in_place : (query : Query) (segments before after : List OpenSegmentState) (s : OpenSegmentState) (number k : ℕ) → segments ≡ before ++ s ∷ after → number ≡ total_living before + k → k < num_living s.alive
+    → number_damage query number segments ≡ query_damage s.index query
+damage_in_place query segments [] after s number k whole number_is low =
+    let here : nat_lt number (num_living s.alive) ≡ true = lt-ltb number (num_living s.alive) (omega (arith, number_is, low)) in
+    ap (number_damage query number) whole ∙ rw here refl
+damage_in_place query segments (x ∷ before) after s number k whole number_is low =
+    let later : nat_lt number (num_living x.alive) ≡ false = le-ltb number (num_living x.alive) (omega (arith, number_is)) in
+    ap (number_damage query number) whole ∙ rw later (damage_in_place query (before ++ s ∷ after) before after s (number - num_living x.alive) k refl (omega (arith, number_is)) low)
+
+-- what the segment that has a document says of its damage
+pub damage_at : (query : Query) (segments : List OpenSegmentState) (number : ℕ) (s : OpenSegmentState) (doc : ℕ) → IsDocAt segments number s doc → number_damage query number segments ≡ query_damage s.index query
+damage_at query segments number s doc at = damage_in_place query segments at.before at.after s number (rank s.alive doc) at.whole at.number_is (rank_below s.alive doc at.living)
+
+-- a number that no document has
+pub none_damaged : (query : Query) (segments : List OpenSegmentState) (number : ℕ) → total_living segments ≤ number → number_damage query number segments ≡ None
+none_damaged query [] number high = refl
+none_damaged query (x ∷ segments) number high =
+    let later : nat_lt number (num_living x.alive) ≡ false = le-ltb number (num_living x.alive) (omega (arith, high)) in
+    rw later (none_damaged query segments (number - num_living x.alive) (omega (arith, high)))
 
 -- ---- a place among the segments
 -- the segments around one

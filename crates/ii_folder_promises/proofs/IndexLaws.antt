@@ -17,12 +17,7 @@ use Rattle.ii_tokenizers.specs.Tokenizers.{analyzed_in}
 use Rattle.ii_segment_search.specs.Searcher.{OpenSegmentState, SegmentsHold, total_living}
 use Rattle.ii_segments.specs.Segments.{Segment, num_docs_of}
 use Rattle.nequllpa_indexing.specs.Documents.{DocumentsState}
-
-same_living : (entries : List SchemaEntry) (opened : List OpenSegmentState) (ss : List Segment) → SegmentsHold entries opened ss → total_living opened ≡ num_docs_of ss
-same_living entries [] [] hold = refl
-same_living entries [] (s ∷ ss) hold = elim hold [ ]
-same_living entries (o ∷ os) [] hold = elim hold [ ]
-same_living entries (o ∷ os) (s ∷ ss) hold = omega (arith, ap num_living hold.0.alive, same_living entries os ss hold.1)
+use Rattle.ii_index.proofs.HeldLemmas.{same_living}
 
 -- open segments have as many documents as the index that they hold
 pub all_counted : (entries : List SchemaEntry) (s : SearcherState) (n : ℕ) (ts : List IndexToken) → SearcherHolds entries s n ts → total_living s.segments ≡ n

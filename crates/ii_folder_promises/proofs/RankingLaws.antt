@@ -5,13 +5,14 @@ use Rattle.std.specs.List.{All, Contains, flat_map, range_with_len}
 use Rattle.std.proofs.lemmas.Bool.{ltb-false, ltb-true}
 use Rattle.std.proofs.lemmas.List.{get_or_default, get_or-take, length-take}
 use Rattle.std.proofs.lemmas.List.Concat.{flat_map-cons}
-use Rattle.std.proofs.lemmas.List.Elements.{All-append, All-from_recursion, All-nil, All-take, Contains-append_left, Contains-append_right, filter_agree}
+use Rattle.std.proofs.lemmas.List.Elements.{All-append, All-from_recursion, All-nil, All-take, filter_agree}
 use Rattle.std.proofs.lemmas.List.Sorted.{All-permutation, Contains-permutation, length_permutation}
 use Rattle.ii_io.specs.declared.faults.Fault.{Fault}
 use Rattle.ii_io.specs.declared.faults.Fault.TheVariants.{OutOfMemory}
 use Rattle.ii_io.specs.Faults.{OnlyMemory}
 use Rattle.ii_base.specs.Schema.{SchemaEntry}
 use Rattle.ii_definitions.specs.Tokens.{IndexToken}
+use Rattle.ii_index.proofs.ScoredLemmas.{scored_there}
 use Rattle.ii_indexing.specs.RamFiles.{IsRamFault}
 use Rattle.ii_ranking.specs.TokenScores.{GivesBest}
 use Rattle.ii_scorer.specs.TopDocs.{AreBest, Precedes, scored_docs, with_score}
@@ -66,22 +67,6 @@ module _ (score_of : ℕ → Option ℕ) where
       (subst (All (IsScored (n + 1))) (sym (scored_more (λ (doc : ℕ). doc) n score_of))
       (All-append (IsScored (n + 1)) (scored_docs n score_of) (with_score (score_of n) n) (λ k d inside. let own = all_scored n k d inside in (omega (arith, own.0), own.1)) (one_scored n (score_of n) refl)))
 
-  -- each document that has a score is there
-  all_there : (n doc score : ℕ) → doc < n → score_of doc ≡ Some score → Contains (scored_docs n score_of) (score, doc)
-  all_there zero doc score below is = absurd (omega (arith, below))
-  all_there (suc n) doc score below is =
-      let more : n + 1 ≡ suc n = omega arith in
-      subst (λ (k : ℕ). Contains (scored_docs k score_of) (score, doc)) more
-      (subst (λ (row : List (ℕ × ℕ)). Contains row (score, doc)) (sym (scored_more (λ (d : ℕ). d) n score_of)) (by (λ low. all_there n doc score low is) (nat_lt doc n) refl))
-    where
-      by : (doc < n → Contains (scored_docs n score_of) (score, doc)) → (t : Bool) → nat_lt doc n ≡ t → Contains (scored_docs n score_of ++ with_score (score_of n) n) (score, doc)
-      by earlier true low = Contains-append_left (scored_docs n score_of) (with_score (score_of n) n) (score, doc) (earlier (ltb-true doc n low))
-      by earlier false high =
-          let up = ltb-false doc n high in
-          let last : doc ≡ n = omega (arith, below, up) in
-          Contains-append_right (scored_docs n score_of) (with_score (score_of n) n) (score, doc)
-          (subst (λ (d : ℕ). Contains (with_score (score_of d) d) (score, doc)) last (rw is (0, omega arith, refl)))
-
 module _ (limit num_docs : ℕ) (score_of : ℕ → Option ℕ) (best : List (ℕ × ℕ)) (b : AreBest (record { limit = limit; offset = 0 }) (scored_docs num_docs score_of) best) where
   -- each of the best has its score
   pub best_scored : All (IsScored score_of num_docs) best
@@ -89,7 +74,7 @@ module _ (limit num_docs : ℕ) (score_of : ℕ → Option ℕ) (best : List (�
 
   -- a document that isn't among the best doesn't score more than one of them
   pub best_greatest : (doc score : ℕ) → doc < num_docs → score_of doc ≡ Some score → Contains best (score, doc) ⊎ All (λ (a : ℕ × ℕ). score ≤ a.0) best
-  best_greatest doc score below is = at (Contains-permutation (scored_docs num_docs score_of) b.ranked (score, doc) b.are_ranked.same (all_there score_of num_docs doc score below is))
+  best_greatest doc score below is = at (Contains-permutation (scored_docs num_docs score_of) b.ranked (score, doc) b.are_ranked.same (scored_there score_of num_docs doc score below is))
     where
       at : Contains b.ranked (score, doc) → Contains best (score, doc) ⊎ All (λ (a : ℕ × ℕ). score ≤ a.0) best
       at (k, inside, here) = by (nat_lt k limit) refl

@@ -19,11 +19,11 @@ use Rattle.ii_segment_store.specs.declared.stored_segments.StoredSegment.{Stored
 use Rattle.ii_segment_store.specs.declared.stored_segments.StoredSegments.{StoredSegments}
 use Rattle.ii_segments.specs.Segments.{is_living}
 use Rattle.ii_store.specs.declared.faults.IndexFault.{IndexFault}
-use Rattle.nequllpa_folder.specs.Deleting.{docs_with_terms, has_one_of, key_docs_in_each}
-use Rattle.nequllpa_folder.specs.OpenedSegments.{OpensAs}
-use Rattle.nequllpa_folder.specs.Stored.{HoldsTokens}
-use Rattle.nequllpa_folder.specs.declared.opened.Opened.{Opened}
-use Rattle.nequllpa_folder.proofs.DeletingLaws.{key_docs_held}
+use Rattle.nequllpa_searching.specs.Deleting.{docs_with_terms, has_one_of, key_docs_in_each}
+use Rattle.nequllpa_opening.specs.OpenedSegments.{OpensAs}
+use Rattle.nequllpa_opening.specs.Stored.{HoldsTokens}
+use Rattle.nequllpa_opening.specs.declared.opened.Opened.{Opened}
+use Rattle.nequllpa_searching.proofs.DeletingLaws.{key_docs_held}
 use Rattle.nequllpa_indexing.specs.Documents.{DocumentsState}
 use Rattle.nequllpa_indexing.specs.FieldTokens.{tokens_by}
 use Rattle.nequllpa_indexing.specs.KeyedLines.{AddsLines}

@@ -7,7 +7,7 @@ use Rattle.ii_definitions.specs.Tokens.{IndexToken}
 use Rattle.ii_directory.specs.Directory.{Files}
 use Rattle.ii_schema_text.specs.SchemaText.{text_schema}
 use Rattle.ii_segment_store.specs.Contents.{SegmentContents, as_index, index_contents}
-use Rattle.nequllpa_folder.specs.Stored.{HoldsTokens}
+use Rattle.nequllpa_opening.specs.Stored.{HoldsTokens}
 use Rattle.nequllpa_indexing.specs.Documents.{DocumentsState}
 use Rattle.nequllpa_indexing.specs.FieldTokens.{tokens_by}
 use Rattle.nequllpa_indexing.specs.KeyedLines.{AddsLines, KeyedLineState}

@@ -1,11 +1,13 @@
 //! What the scores of the best documents are made of.
-ghost use Rattle.std.specs.Prelude.{◌≡◌, ◌-◌, ◌<◌, ◌^◌, IfErr, IfOk, IfSome, map, min};
+ghost use Rattle.std.specs.Prelude.{◌≡◌, ◌-◌, ◌<◌, ◌^◌, IfErr, IfOk, IfSome, map, min, true};
 ghost use Rattle.std.specs.List.{sum_by};
+ghost use Rattle.ii_query_parser.specs.Queries.{has_fields};
 ghost use Rattle.ii_ranking.specs.Segments.{segment_of};
 ghost use Rattle.ii_ranking.specs.declared.shares.Share.{Share};
 ghost use Rattle.ii_segment_search.specs.Searcher.{HaveFields, total_living};
 
 use ii_explanation::explain_segments;
+use ii_index::Searcher;
 use ii_ram::{DocId, Fault, Query};
 use ii_ranking::{GatheredStatistics, RankedSegment, Score, Share, TopDocs, search_segments};
 use std::alloc::Global;
@@ -56,4 +58,27 @@ pub fn what_was_found_is_explained<'q>(
         }
         Err(_) => None,
     }
+}
+
+/// The shares of each of the best documents of an index add up to the score with which it is returned, at most
+/// 2^64 - 1. Returns the score and the shares of the best document at `place`, or `None` if there are fewer.
+pub fn the_shares_of_the_best_of_an_index_add_up<'q>(
+    alloc: Global,
+    searcher: &Searcher,
+    query: &'q Query,
+    limit: usize,
+    place: usize,
+) -> Result<Option<(Score, Vec<Share<'q>>)>, Fault>
+    requires { has_fields searcher.now.num_fields query.now ≡ true }
+    ensures { IfOk result (λ found. IfSome found (λ r. min (2 ^ 64 - 1) r.0 ≡ min (2 ^ 64 - 1) (sum_by (λ (s : Share). s.score) r.1.items))) }
+{
+    let docs = TopDocs::with_limit(limit);
+    let best = searcher.top_docs(alloc, query, &docs)?;
+    if place >= best.len() {
+        return Ok(None);
+    }
+    let (score, number) = best[place];
+    drop(best);
+    let shares = searcher.explain(alloc, query, number)?;
+    Ok(Some((score, shares)))
 }

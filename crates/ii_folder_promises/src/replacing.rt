@@ -7,8 +7,9 @@ use ii_base::{DocId, Term};
 use ii_segment_store::{commit_changes, load_segments};
 use ii_store::Directory;
 use ii_tokenizers::FieldAnalyzers;
-use nequllpa_folder::{OpenedIndex, docs_with_keys};
 use nequllpa_indexing::{Documents, KeyedLines};
+use nequllpa_opening::OpenedIndex;
+use nequllpa_searching::docs_with_keys;
 use std::alloc::Global;
 
 /// Three lines with the keys `b`, `c` and `b` replace the second of two documents, of which the first has the key `a`

@@ -1,7 +1,7 @@
 -- Open segments that hold an index have the numbers of its documents and tokens.
-use Rattle.std.proofs.Common.{◌≡◌, ◌∙◌, ℕ, ◌+◌, ◌-◌, ◌^◌, ◌<◌, ◌≤◌, Bool, true, List, [], ◌∷◌, ◌++◌, None, Result, Ok, Err, Vec, Global, ap, arith, filter, get_or, length, map, min, refl, subst, sym}
+use Rattle.std.proofs.Common.{◌≡◌, ◌∙◌, ℕ, ◌+◌, ◌-◌, ◌^◌, ◌<◌, ◌≤◌, Bool, true, false, List, [], ◌∷◌, ◌++◌, Option, None, Some, Result, Ok, Err, Vec, Global, ap, arith, filter, get_or, if◌then◌else◌, length, map, min, nat_lt, refl, subst, sym}
 use Rattle.std.specs.Prelude.{sum}
-use Rattle.std.specs.List.{AllByRecursion, flat_map, range_with_len}
+use Rattle.std.specs.List.{AllByRecursion, Contains, flat_map, range_with_len}
 use Rattle.std.proofs.lemmas.List.{length-map, map-append}
 use Rattle.std.proofs.lemmas.List.Concat.{flat_map-cons}
 use Rattle.std.proofs.lemmas.List.FromFn.{get_or-map-range_with_len, length-map-range_with_len}
@@ -16,17 +16,22 @@ use Rattle.ii_base.specs.declared.doc_id.TheConstants.{TERMINATED}
 use Rattle.ii_bm25.specs.Statistics.{Statistics}
 use Rattle.ii_definitions.specs.Postings.{field_count}
 use Rattle.ii_definitions.specs.Tokens.{IndexToken}
+use Rattle.ii_explanation.specs.Explanations.{number_damage}
 use Rattle.ii_io.specs.declared.faults.Fault.{Fault}
+use Rattle.ii_io.specs.declared.faults.Fault.TheVariants.{OutOfMemory}
 use Rattle.ii_io.specs.declared.faults.Part.{Part}
 use Rattle.ii_query_parser.specs.declared.query.Query.{Query}
 use Rattle.ii_query_parser.specs.declared.query.Query.TheVariants.{Term}
-use Rattle.ii_query_parser.specs.Queries.{QueryTree, covers_docs, matches, tree_covers, tree_matches}
+use Rattle.ii_query_parser.specs.Queries.{QueryTree, covers_docs, has_fields, matches, tree_covers, tree_matches}
 use Rattle.ii_query_parser.proofs.QueryLemmas.{term_fields, term_positions, term_tree}
 use Rattle.ii_ranking.specs.TokenScores.{GivesBest, token_score, tokens_scored}
 use Rattle.ii_scorer.specs.TopDocs.{scored_docs}
 use Rattle.ii_scorer.specs.declared.top_docs.TopDocs.{TopDocs}
 use Rattle.ii_ranking.proofs.OneIndexLaws.{segments_score_as_one}
-use Rattle.ii_ranking.specs.Scores.{damage_of}
+use Rattle.ii_ranking.proofs.SegmentTokenLaws.{same_segments}
+use Rattle.ii_ranking.proofs.TokenLaws.{memory_alone}
+use Rattle.ii_ranking.specs.Scores.{IsScoreFault, damage_of, first_of, query_damage}
+use Rattle.ii_ranking.specs.Segments.{segments_scored}
 use Rattle.ii_search.specs.Found.{found_in}
 use Rattle.ii_search.proofs.FoundLemmas.{gives_matches}
 use Rattle.ii_segment_search.specs.SegmentSearch.{found_in_segments}
@@ -46,8 +51,10 @@ use Rattle.ii_index.specs.Searching.{SearcherState, segment_totals}
 use Rattle.ii_index.specs.Statistics.{counts_damage, index_statistics, num_docs_with, num_tokens_of, token_statistics}
 use Rattle.ii_statistics.specs.Listed.{IsListedInEach, IsListed}
 use Rattle.ii_statistics.specs.Statistics.{AreSameFor, doc_freq_in, num_found, query_terms, terms_damage}
-use Rattle.ii_statistics.proofs.DamageLemmas.{sound_both}
+use Rattle.ii_statistics.proofs.DamageLemmas.{only_memory, sound_both}
 use Rattle.ii_statistics.proofs.StatisticsLaws.{same_tokens}
+use Rattle.ii_statistics.proofs.TermLemmas.{terms_below}
+use Rattle.ii_index.proofs.ScoredLemmas.{scored_there}
 
 -- ---- numbers of tokens
 module _ (entries : List SchemaEntry) where
@@ -101,7 +108,8 @@ each_token entries [] (s ∷ ss) hold = elim hold [ ]
 each_token entries (o ∷ os) [] hold = elim hold [ ]
 each_token entries (o ∷ os) (s ∷ ss) hold = (hold.0.tokens, each_token entries os ss hold.1)
 
-same_living : (entries : List SchemaEntry) (opened : List OpenSegmentState) (ss : List Segment) → SegmentsHold entries opened ss → total_living opened ≡ num_docs_of ss
+-- open segments have as many documents as the segments whose tokens they hold
+pub same_living : (entries : List SchemaEntry) (opened : List OpenSegmentState) (ss : List Segment) → SegmentsHold entries opened ss → total_living opened ≡ num_docs_of ss
 same_living entries [] [] hold = refl
 same_living entries [] (s ∷ ss) hold = elim hold [ ]
 same_living entries (o ∷ os) [] hold = elim hold [ ]
@@ -189,6 +197,18 @@ terms_held_sound entries opened ss hold [] known = refl
 terms_held_sound entries opened ss hold (t ∷ terms) known =
     sound_both (damage_of (found_from (Term t) 0 opened)) (terms_damage opened terms) (held_sound entries (Term t) (term_asked entries t known.0) opened ss hold) (terms_held_sound entries opened ss hold terms known.1)
 
+-- nor is the segment of a document
+number_memory : (entries : List SchemaEntry) (query : Query) → has_fields (length entries) query ≡ true → (fault : Fault) (number : ℕ) (opened : List OpenSegmentState) (ss : List Segment) → SegmentsHold entries opened ss
+    → AllByRecursion (λ (s : Segment). length s.alive ≤ TERMINATED) ss → IsScoreFault (number_damage query number opened) fault → fault ≡ OutOfMemory
+number_memory entries query fields fault number [] ss hold few is = only_memory None fault refl is
+number_memory entries query fields fault number (o ∷ os) [] hold few is = elim hold [ ]
+number_memory entries query fields fault number (o ∷ os) (s ∷ ss) hold few is =
+    by (λ later. number_memory entries query fields fault (number - num_living o.alive) os ss hold.1 few.1 later) (nat_lt number (num_living o.alive)) is
+  where
+    by : (IsScoreFault (number_damage query (number - num_living o.alive) os) fault → fault ≡ OutOfMemory) → (here : Bool) → IsScoreFault (if here then query_damage o.index query else number_damage query (number - num_living o.alive) os) fault → fault ≡ OutOfMemory
+    by others true damage = memory_alone entries (length s.alive) o.index s.tokens query fault hold.0.index (let own = few.0 in omega (arith, own)) fields damage
+    by others false damage = others damage
+
 module _ (entries : List SchemaEntry) (s : SearcherState) (n : ℕ) (ts : List IndexToken) (h : SearcherHolds entries s n ts) where
   -- the number of documents
   pub docs_held : total_living s.segments ≡ n
@@ -244,14 +264,31 @@ module _ (entries : List SchemaEntry) (s : SearcherState) (n : ℕ) (ts : List I
   docs_listed few (t ∷ terms) known listed =
       (docs_counted few t (Ok (doc_freq_in s.segments t)) known.0 (λ ask reach. listed_number entries (Term t) ask s.segments h.segments h.hold listed.0 reach), docs_listed few terms known.1 listed.1)
 
+  -- the documents that have a score by the tokens of segments are those by the tokens of the index
+  row_held : (a : Statistics) (query : Query) → a.num_docs ≡ n → AllByRecursion (AreSameFor a (token_statistics n ts)) (query_terms query) → MayAsk entries query → Reaches query h.segments
+      → tokens_scored entries a query 0 h.segments ≡ scored_docs n (token_score entries ts (token_statistics n ts) query)
+  row_held a query many same ask reach =
+      let b = token_statistics n ts in
+      same_tokens a b many query same entries 0 h.segments
+      ∙ segments_score_as_one entries b query h.segments (each_token entries s.segments h.segments h.hold) ask.positions reach
+      ∙ ap (λ (us : List IndexToken). scored_docs (num_docs_of h.segments) (token_score entries us b query)) h.have.tokens
+      ∙ ap (λ (many : ℕ). scored_docs many (token_score entries ts b query)) h.have.num_docs
+
   -- the best documents by the tokens of segments are those by the tokens of the index
   pub best_held : (a : Statistics) (query : Query) (docs : TopDocs) (result : Result (Vec (ℕ × ℕ) Global) Fault) → a.num_docs ≡ n → AllByRecursion (AreSameFor a (token_statistics n ts)) (query_terms query) → MayAsk entries query
       → Reaches query h.segments → GivesBest docs (tokens_scored entries a query 0 h.segments) result → GivesBest docs (scored_docs n (token_score entries ts (token_statistics n ts) query)) result
   best_held a query docs result many same ask reach gives =
-      let b = token_statistics n ts in
-      let row : tokens_scored entries a query 0 h.segments ≡ scored_docs n (token_score entries ts b query) =
-      same_tokens a b many query same entries 0 h.segments
-      ∙ segments_score_as_one entries b query h.segments (each_token entries s.segments h.segments h.hold) ask.positions reach
-      ∙ ap (λ (us : List IndexToken). scored_docs (num_docs_of h.segments) (token_score entries us b query)) h.have.tokens
-      ∙ ap (λ (many : ℕ). scored_docs many (token_score entries ts b query)) h.have.num_docs in
-      subst (λ (scored : List (ℕ × ℕ)). GivesBest docs scored result) row gives
+      subst (λ (scored : List (ℕ × ℕ)). GivesBest docs scored result) (row_held a query many same ask reach) gives
+
+  -- a document that has a score by the tokens of the index has it in its segment
+  pub doc_held : (a : Statistics) (query : Query) (doc score : ℕ) → a.num_docs ≡ n → AllByRecursion (AreSameFor a (token_statistics n ts)) (query_terms query) → MayAsk entries query → Reaches query h.segments → doc < n
+      → token_score entries ts (token_statistics n ts) query doc ≡ Some score → Contains (segments_scored a query 0 s.segments) (score, doc)
+  doc_held a query doc score many same ask reach below is =
+      subst (λ (scored : List (ℕ × ℕ)). Contains scored (score, doc)) (sym (same_segments entries a query ask.fields 0 s.segments h.segments h.hold ∙ row_held a query many same ask reach))
+      (scored_there (token_score entries ts (token_statistics n ts) query) n doc score below is)
+
+  -- what its shares need is not damaged
+  pub shares_memory : (few : AreFew s.segments) (query : Query) (ask : MayAsk entries query) (doc : ℕ) (fault : Fault) → IsScoreFault (first_of (terms_damage s.segments (query_terms query)) (number_damage query doc s.segments)) fault → fault ≡ OutOfMemory
+  shares_memory few query ask doc fault is =
+      let sound = terms_held_sound entries s.segments h.segments h.hold (query_terms query) (terms_below (length entries) query ask.fields) in
+      number_memory entries query ask.fields fault doc s.segments h.segments h.hold (short entries s.segments h.segments h.hold few.each) (subst (λ (d : Option Part). IsScoreFault (first_of d (number_damage query doc s.segments)) fault) sound is)

@@ -3,7 +3,8 @@ mod DeleteLaws
 mod DeleteLemmas
 mod TokenLaws
 mod SegmentLemmas
-mod HeldLemmas
+pub mod ScoredLemmas
+pub mod HeldLemmas
 mod TotalsLemmas
 mod OpenLemmas
 mod IndexLemmas

@@ -306,18 +306,6 @@ adds_line s d e line read were adds files flushed k us h =
     subst (λ (x : DocumentsState). ArePending s files flushed x (k + 1) (us ++ document_tokens s k line)) (sym adds.4)
     (pending_more s d adds.0 line adds.1 (calls_below d.schema d.num_docs d.calls were) (line_calls s d line adds.0 read adds.2) files flushed k us h)
 
--- what is stored of documents, with what is stored of one more
-pub have_more : (d e : DocumentsState) (line : List ℕ) → HaveLines d.num_docs d.lines → AddsLine d e line → HaveLines e.num_docs e.lines
-have_more d e line have adds = subst (λ (x : DocumentsState). HaveLines x.num_docs x.lines) (sym adds.4) (more d.lines adds.1 have adds.3)
-  where
-    more : (old new : Option (List (List ℕ))) → HaveLines d.num_docs old → AddsRecord d.stored d.schema line old new → HaveLines (d.num_docs + 1) new
-    more None new have records = subst (HaveLines (d.num_docs + 1)) (sym records) tt
-    more (Some rs) new have records = subst (HaveLines (d.num_docs + 1)) (sym records.3) (omega (arith, length-append rs (records.0 ∷ []), have))
-
--- they are still read by the schema
-pub read_more : (s : TextSchemaState) (d e : DocumentsState) (line : List ℕ) → AreReadBy s d → AddsLine d e line → AreReadBy s e
-read_more s d e line read adds = subst (AreReadBy s) (sym adds.4) (record { schema = read.schema; stored = read.stored; unknown_keys = read.unknown_keys; floats = read.floats })
-
 -- segments that were written hold what they hold
 pub written_hold : (entries : List SchemaEntry) (cs : List SegmentContents) (ss : List Segment) → AllZip (IsWrittenSegment entries) cs ss → HoldSegments entries cs ss
 written_hold entries [] [] written = tt

@@ -12,6 +12,7 @@ use Rattle.ii_base.specs.Schema.{SchemaEntry}
 use Rattle.ii_base.specs.declared.doc_id.TheConstants.{TERMINATED}
 use Rattle.ii_base.specs.declared.schema.index_record_option.IndexRecordOption.TheVariants.{Basic}
 use Rattle.ii_docset.specs.Cursor.{IsAscending, IsSound, doc_at}
+use Rattle.ii_docset.proofs.CursorLemmas.{doc_below}
 use Rattle.ii_io.specs.Parts.{◌>>=◌}
 use Rattle.ii_io.specs.declared.faults.Fault.{Fault}
 use Rattle.ii_io.specs.declared.faults.Part.{Part}
@@ -43,10 +44,6 @@ pub record IsTaking (limit : ℕ) (all rest : List Entry) (doc : ℕ) (before do
 pub taking_first : (limit : ℕ) (es : List Entry) (doc : ℕ) (docs : List ℕ) → doc ≡ doc_at es → IsSound es → IsTaking limit es es doc docs docs
 taking_first limit es doc docs here sound = record { here = here; sound = sound; whole = refl }
 
-at_most : (es : List Entry) → IsAscending es → doc_at es ≤ TERMINATED
-at_most [] ascending = omega arith
-at_most (e ∷ es) ascending = omega (arith, ascending.0, at_most es ascending.1)
-
 pub taking_next : (limit : ℕ) (all rest now : List Entry) (doc next : ℕ) (before docs more : List ℕ) → doc < min limit TERMINATED → more ≡ docs ++ doc ∷ [] → now ≡ drop 1 rest → next ≡ doc_at now → IsSound now
     → IsTaking limit all rest doc before docs → IsTaking limit all now next before more
 taking_next limit all [] now doc next before docs more low more_is now_is next_is sound h = absurd (omega (arith, low, h.here))
@@ -73,7 +70,7 @@ none_left limit [] ascending high = refl
 none_left limit (e ∷ es) ascending high = by (nat_lt e.doc limit) refl (none_left limit es ascending.1 (omega (arith, ascending.0, high)))
   where
     by : (b : Bool) → nat_lt e.doc limit ≡ b → below limit es ≡ [] → below limit (e ∷ es) ≡ []
-    by true low rest = absurd (omega (arith, high, ltb-true e.doc limit low, ascending.0, at_most es ascending.1))
+    by true low rest = absurd (omega (arith, high, ltb-true e.doc limit low, ascending.0, doc_below es ascending.1))
     by false not_low rest = rw not_low rest
 
 pub taking_ended : (limit : ℕ) (all rest : List Entry) (doc : ℕ) (before docs : List ℕ) → min limit TERMINATED ≤ doc → IsTaking limit all rest doc before docs → docs ≡ before ++ below limit all
@@ -85,7 +82,7 @@ taking_ended limit all rest doc before docs end h =
 all_below : (es : List Entry) → IsAscending es → below TERMINATED es ≡ docs_of es
 all_below [] ascending = refl
 all_below (e ∷ es) ascending =
-    let low : nat_lt e.doc TERMINATED ≡ true = lt-ltb e.doc TERMINATED (omega (arith, ascending.0, at_most es ascending.1)) in
+    let low : nat_lt e.doc TERMINATED ≡ true = lt-ltb e.doc TERMINATED (omega (arith, ascending.0, doc_below es ascending.1)) in
     rw low (ap (λ (ds : List ℕ). e.doc ∷ ds) (all_below es ascending.1))
 
 reached_below : (scope : Scope) (d : DeleteState) (es : List Entry) → IsAscending es → below (limit_in scope d) es ≡ reached_of scope d (docs_of es)

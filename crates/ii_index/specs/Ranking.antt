@@ -1,5 +1,6 @@
 -- Open segments that hold an index, and the numbers of its documents.
-use Rattle.std.specs.Prelude.{◌≡◌, ℕ, List, Option, length, map, sum, Result, Ok, Err}
+use Rattle.std.specs.Prelude.{◌≡◌, ℕ, List, Option, Some, length, map, sum, Result, Ok, Err, Vec}
+use Rattle.std.specs.Global.{Global}
 use Rattle.std.specs.List.{range_with_len}
 use Rattle.ii_io.specs.declared.faults.Fault.{Fault}
 use Rattle.ii_io.specs.declared.faults.Fault.TheVariants.{OutOfMemory}
@@ -8,8 +9,11 @@ use Rattle.ii_base.specs.Schema.{SchemaEntry}
 use Rattle.ii_base.specs.Terms.{TermState}
 use Rattle.ii_definitions.specs.Tokens.{IndexToken}
 use Rattle.ii_query_parser.specs.declared.query.Query.{Query}
+use Rattle.ii_explanation.specs.Explanations.{number_damage}
 use Rattle.ii_ranking.specs.Scores.{first_of}
 use Rattle.ii_ranking.specs.Segments.{segments_damage}
+use Rattle.ii_ranking.specs.Shares.{share_of, total}
+use Rattle.ii_ranking.specs.declared.shares.Share.{Share}
 use Rattle.ii_segment_search.specs.Searcher.{SegmentsHold}
 use Rattle.ii_segments.specs.Segments.{Segment, living_counts}
 use Rattle.ii_index.specs.Searching.{SearcherState}
@@ -35,3 +39,12 @@ CountsDocs n ts term (Err fault) = fault ≡ OutOfMemory
 -- the first damaged part of what the best documents of a query need: of the numbers for it, then of what its scores need
 abbrev pub best_damage : SearcherState → Query → Option Part
 best_damage s query = first_of (statistics_damage s query) (segments_damage query s.segments)
+
+-- the first damaged part of what the shares of the document with a number need: of the numbers for the query, then of the document's segment
+abbrev pub shares_damage : SearcherState → Query → ℕ → Option Part
+shares_damage s query number = first_of (statistics_damage s query) (number_damage query number s.segments)
+
+-- Shares add up to a score; an explanation fails only with OutOfMemory.
+abbrev pub AddUpTo : ℕ → Result (Vec Share Global) Fault → Type 0
+AddUpTo score (Ok shares) = total (map share_of shares.items) ≡ Some score
+AddUpTo score (Err fault) = fault ≡ OutOfMemory

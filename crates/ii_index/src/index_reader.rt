@@ -1,17 +1,20 @@
 //! Reads the segments of an index.
-ghost use Rattle.std.specs.Prelude.{◌≡◌, ◌<◌, ℕ, List, None, Ok, IfErr, IfOk, OnOk, length, map, true};
+ghost use Rattle.std.specs.Prelude.{◌≡◌, ◌<◌, ℕ, List, None, Ok, IfErr, IfOk, OnOk, Some, length, map, true};
+ghost use Rattle.std.specs.List.{Contains};
 ghost use Rattle.ii_base.specs.Entries.{Entry};
 ghost use Rattle.ii_base.specs.Schema.{SchemaEntry};
 ghost use Rattle.ii_base.specs.declared.doc_id.TheConstants.{TERMINATED};
 ghost use Rattle.ii_definitions.specs.Tokens.{IndexToken};
-ghost use Rattle.ii_index.specs.Ranking.{CountsDocs, SearcherHolds, best_damage};
+ghost use Rattle.ii_explanation.specs.Explanations.{AreSharesAt};
+ghost use Rattle.ii_index.specs.Ranking.{AddUpTo, CountsDocs, SearcherHolds, best_damage, shares_damage};
 ghost use Rattle.ii_index.specs.Searching.{HaveReaders, totals_view};
 ghost use Rattle.ii_index.specs.Statistics.{counts_damage, index_statistics, token_statistics};
 ghost use Rattle.ii_living_docs.specs.Chain.{chained};
-ghost use Rattle.ii_query_parser.specs.Queries.{covers_docs, has_fields};
+ghost use Rattle.ii_query_parser.specs.Queries.{covers_docs, has_fields, tree_of};
 ghost use Rattle.ii_query_parser.specs.declared.query.Query.TheVariants as queries;
 ghost use Rattle.ii_ranking.specs.Scores.{IsScoreFault, damage_of};
 ghost use Rattle.ii_ranking.specs.Segments.{segments_scored};
+ghost use Rattle.ii_ranking.specs.Shares.{share_of, total};
 ghost use Rattle.ii_ranking.specs.TokenScores.{GivesBest, token_score};
 ghost use Rattle.ii_scorer.specs.TopDocs.{AreBest, scored_docs};
 ghost use Rattle.ii_reader.specs.InvertedIndexReader.{IsRefusal};
@@ -19,11 +22,11 @@ ghost use Rattle.ii_segment_search.specs.Searcher.{GivesFound, GivesNumber, MayA
 ghost use Rattle.ii_segments.specs.Segments.{Segment};
 ghost use Rattle.ii_statistics.specs.Statistics.{doc_freq_in};
 
-use crate::ranking::best_by;
+use crate::ranking::{best_by, shares_by};
 use crate::totals::{SegmentTotals, damaged_counts, sum_of_tokens};
 use ii_base::{DocId, Fault, Field, Part, Term};
 use ii_query_parser::Query;
-use ii_ranking::{Score, TopDocs};
+use ii_ranking::{Score, Share, TopDocs};
 use ii_segment_search::{Searcher as SegmentSearcher, SegmentsCursor};
 use ii_statistics::FieldTokens;
 use std::alloc::Global;
@@ -214,6 +217,49 @@ impl Searcher {
         }
         match best_by(alloc, self.segments.segments(), self, query, docs) {
             Ok(best) => Ok(best),
+            Err(fault) => Err(fault),
+        }
+    }
+
+    /// Returns what the score of a document is made of, given its number: a share for each part of the query that the
+    /// document matches, in the order of the query; nothing for what is excluded, and nothing at all if no document has
+    /// the number or the document doesn't match. The shares add up to the score with which `top_docs` returns the
+    /// document.
+    ///
+    /// ```
+    /// for (score, doc) in &searcher.top_docs(alloc, &query, &TopDocs::with_limit(3))? {
+    ///     println!(rt; "{doc}: {score}")?;
+    ///     for share in &searcher.explain(alloc, &query, *doc)? {
+    ///         println!(rt; "    {} of {} occurrences", share.score, share.count)?;
+    ///     }
+    /// }
+    /// ```
+    ///
+    /// # Errors
+    ///
+    /// `Damaged` with the first corrupt part: of the counts of a segment, then of the documents of each term of the
+    /// query, then of what the scores need in the segment that has the document; `OutOfMemory` if an allocation fails.
+    pub fn explain<'q>(
+        &self,
+        alloc: Global,
+        query: &'q Query,
+        doc: DocId,
+    ) -> Result<Vec<Share<'q>>, Fault>
+        requires { has_fields self.now.num_fields query.now ≡ true }
+        ensures shares { IfOk result (λ shares. AreSharesAt (index_statistics self.now) (tree_of query.now) self.now.segments doc (map share_of shares.items)) }
+        ensures sum { (score : ℕ) → Contains (segments_scored (index_statistics self.now) query.now 0 self.now.segments) (score, doc) → IfOk result (λ shares. total (map share_of shares.items) ≡ Some score) }
+        ensures sound { OnOk result (shares_damage self.now query.now doc ≡ None) }
+        ensures fault { IfErr result (IsScoreFault (shares_damage self.now query.now doc)) }
+        // where the segments hold an index
+        ensures holds { (entries : List SchemaEntry) (n : ℕ) (ts : List IndexToken) → SearcherHolds entries self.now n ts → MayAsk entries query.now → covers_docs TERMINATED query.now ≡ true
+            → (score : ℕ) → doc < n → token_score entries ts (token_statistics n ts) query.now doc ≡ Some score → AddUpTo score result }
+    {
+        match self.damaged_counts() {
+            Some(part) => return Err(Fault::Damaged(part)),
+            None => (),
+        }
+        match shares_by(alloc, self.segments.segments(), self, query, doc) {
+            Ok(shares) => Ok(shares),
             Err(fault) => Err(fault),
         }
     }

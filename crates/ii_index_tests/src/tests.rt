@@ -445,6 +445,48 @@ fn ranked(alloc: Global, index: &Index<MemoryDirectory>, row: &Ranked) -> Result
     Ok(text)
 }
 
+// Queries, and of each of their best documents how many shares its score has, and what they leave of it.
+static EXPLAINED: [Ranked; 5] = [
+    ("sea", 9, 0, "2:1:0,0:1:0,of 9:0"),
+    ("the OR sea", 9, 0, "2:2:0,0:2:0,1:1:0,of 9:0"),
+    ("\"old sea\" OR bird", 9, 0, "2:1:0,1:1:0,of 9:0"),
+    ("the NOT bird", 1, 1, "0:1:0,of 9:0"),
+    ("storm", 9, 0, "of 9:0"),
+];
+
+// Lists the best documents that match a text, with the number of shares of their scores and what these leave of them;
+// and the number of shares of a document that isn't there.
+fn explained(alloc: Global, index: &Index<MemoryDirectory>, row: &Ranked) -> Result<String, Fail> {
+    let reader = index.reader(alloc)?;
+    let searcher = reader.searcher();
+    let query = index.parse_query(alloc, &[Field::from_field_id(0)], row.0)?;
+    let docs = TopDocs::with_limit(row.1).and_offset(row.2);
+    let best = searcher.top_docs(alloc, &query, &docs)?;
+    let mut text = String::new(alloc);
+    for (score, doc) in &best {
+        let shares = searcher.explain(alloc, &query, *doc)?;
+        let left = shares
+            .iter()
+            .fold(*score, |left, share| left.wrapping_sub(share.score));
+        write!(text, "{doc}:{}:{left},", shares.len())?;
+    }
+    let none = searcher.explain(alloc, &query, 9)?;
+    write!(text, "of 9:{}", none.len())?;
+    Ok(text)
+}
+
+#[test]
+fn shares_add_up_to_the_scores(rt: HostRuntime) -> Result<(), Fail> {
+    for place in 0..5 {
+        let writer = committed(rt.alloc(), place)?;
+        for row in &EXPLAINED {
+            let found = explained(rt.alloc(), writer.index(), row)?;
+            assert!(rt; found.as_str() == row.3);
+        }
+    }
+    Ok(())
+}
+
 #[test]
 fn the_best_documents_come_first(rt: HostRuntime) -> Result<(), Fail> {
     for place in 0..5 {

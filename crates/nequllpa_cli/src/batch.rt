@@ -5,7 +5,7 @@ use crate::searching::{Wanted, write_wanted};
 use crate::timing::Timing;
 use clap::ArgMatches;
 use ii_base::Field;
-use nequllpa_folder::{AnswerFault, OpenedIndex, quoted};
+use nequllpa_opening::{AnswerFault, OpenedIndex, quoted};
 use nequllpa_writing::{NO, REFUSED, refuse_file};
 use std::io::{self, BufRead, BufReader, BufWriter, Write};
 use std::process::ExitCode;

@@ -9,10 +9,10 @@ use ii_store::{
     Directory, DirectoryFault, Folder, IndexFault, IndexMeta, Kind, Name, SalvagedFile,
     SalvagedIndex, SegmentComponent, SegmentMeta, StoreFault, StoredIndex, salvage,
 };
-use nequllpa_folder::{
-    Checked, DamageRow, DamageRows, DamagedBlock, RowFormat, check, counts_damage, schema_of,
-    store_damages,
+use nequllpa_inspecting::{
+    Checked, DamageRow, DamageRows, DamagedBlock, check, counts_damage, store_damages,
 };
+use nequllpa_opening::{RowFormat, schema_of};
 use nequllpa_writing::{NO, len_of_files, refuse_path, tell_no_index};
 use std::fmt::Display;
 use std::io::{self, BufWriter, Write};

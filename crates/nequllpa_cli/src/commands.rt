@@ -5,10 +5,10 @@ use clap::ArgMatches;
 use ii_base::{Field, Term};
 use ii_segment_store::{StoredSegment, StoredSegments, WantedFiles};
 use ii_store::{Kind, SegmentComponent};
-use nequllpa_folder::{
-    AnswerFault, OpenedIndex, RowFormat, TermChoice, term_of, write_fields, write_postings,
-    write_stats, write_stats_json, write_terms,
+use nequllpa_inspecting::{
+    TermChoice, term_of, write_fields, write_postings, write_stats, write_stats_json, write_terms,
 };
+use nequllpa_opening::{AnswerFault, OpenedIndex, RowFormat};
 use nequllpa_writing::{NO, PROGRAM, REFUSED, loaded_at, refuse, refuse_path};
 use std::io::{self, BufWriter, Write};
 use std::process::ExitCode;

@@ -6,7 +6,8 @@ use ii_base::{DocId, Term};
 use ii_segment_store::{CommitFault, WantedFiles, commit_changes, remove_slots, upgrade};
 use ii_store::Folder;
 use ii_store::collect::collect;
-use nequllpa_folder::{AnswerFault, OpenedIndex, docs_to_delete};
+use nequllpa_opening::{AnswerFault, OpenedIndex};
+use nequllpa_searching::docs_to_delete;
 use nequllpa_writing::{REFUSED, refuse_commit, target_of};
 use std::process::ExitCode;
 

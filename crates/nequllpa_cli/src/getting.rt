@@ -3,9 +3,8 @@ use crate::commands::format_given;
 use clap::ArgMatches;
 use ii_store::segments::load_meta;
 use ii_store::{Folder, IndexFault, IndexMeta, StoreFault};
-use nequllpa_folder::{
-    DocumentFault, RowFormat, SegmentStore, StoredLines, StoredLinesFault, document, load_lines,
-};
+use nequllpa_inspecting::{StoredLines, StoredLinesFault, load_lines};
+use nequllpa_opening::{DocumentFault, RowFormat, SegmentStore, document};
 use nequllpa_writing::{NO, PROGRAM, REFUSED, refuse, refuse_path, tell_no_index};
 use std::io::{self, BufWriter, Write};
 use std::process::ExitCode;

@@ -1,6 +1,6 @@
 //! Reads lines of files again.
 use ii_base::Fault;
-use nequllpa_folder::SourceLines;
+use nequllpa_searching::SourceLines;
 use std::alloc::Global;
 use std::fs::{self, File};
 use std::os::unix::fs::FileExt;

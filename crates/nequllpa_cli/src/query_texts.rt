@@ -2,7 +2,7 @@
 use ii_base::{Fault, Field, TextAnalyzer, TokenStream};
 use ii_query_parser::{QueryParserError, UserInputAst, parse, unknown_field_name};
 use ii_tokenizers::{FieldAnalyzers, FieldTokenizer};
-use nequllpa_folder::OpenedIndex;
+use nequllpa_opening::OpenedIndex;
 use nequllpa_writing::{PROGRAM, refuse_path};
 use std::alloc::{AllocError, Global};
 

@@ -6,7 +6,8 @@ use ii_segment_store::{
 };
 use ii_store::Folder;
 use ii_store::collect::collect;
-use nequllpa_folder::{AnswerFault, docs_with_keys};
+use nequllpa_opening::AnswerFault;
+use nequllpa_searching::docs_with_keys;
 use nequllpa_writing::{Replacement, refuse_commit, settle, tell_added};
 use std::process::ExitCode;
 

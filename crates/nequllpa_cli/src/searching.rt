@@ -10,9 +10,11 @@ use clap::ArgMatches;
 use ii_base::{Field, ValueType};
 use ii_query_parser::Query;
 use ii_segment_store::WantedFiles;
-use nequllpa_folder::{
-    AnswerFault, BestListing, CountFormat, IdSource, Listing, MarkStyle, OpenedIndex, RowFormat,
-    SourceLines, StoredPart, are_stored, id_source, stores_ids, write_best, write_count,
+use nequllpa_opening::{
+    AnswerFault, IdSource, OpenedIndex, RowFormat, are_stored, id_source, stores_ids,
+};
+use nequllpa_searching::{
+    BestListing, CountFormat, Listing, MarkStyle, SourceLines, StoredPart, write_best, write_count,
     write_listing,
 };
 use nequllpa_writing::{PROGRAM, REFUSED, refuse};

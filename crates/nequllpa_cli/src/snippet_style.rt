@@ -1,6 +1,6 @@
 //! How the command `search` marks words in snippets.
 use clap::ArgMatches;
-use nequllpa_folder::MarkStyle;
+use nequllpa_searching::MarkStyle;
 use std::fs;
 
 /// Returns how words are marked: as HTML in JSON, which --batch prints too, otherwise as --color says. `None` if it has

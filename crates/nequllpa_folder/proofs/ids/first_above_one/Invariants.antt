@@ -1,7 +1,0 @@
-use Rattle.std.proofs.Common.{◌≡◌}
-use Rattle.nequllpa_folder.specs.Ids.{first_above_one as the_first_above_one}
-use Rattle.nequllpa_folder.proofs.IdsLemmas.{left_above_one}
-use Rattle.nequllpa_folder.proofs.ids.first_above_one.Given as goal
-
-abbrev pub invariant-loop-doc : goal.invariant-loop-doc
-invariant-loop-doc l = left_above_one l.norms l.alive l.doc ≡ the_first_above_one l.norms l.alive

@@ -1,7 +1,0 @@
-use Rattle.std.proofs.Common.{drop}
-use Rattle.nequllpa_folder.proofs.OpenLemmas.{AreFewer}
-use Rattle.nequllpa_folder.proofs.opened_index.most_docs.Given as goal
-
--- the segments before the index have no more documents
-abbrev pub invariant-loop-segment : goal.invariant-loop-segment
-invariant-loop-segment l = AreFewer l.segments.items l.most (drop l.segment-index l.segments.items)

@@ -1,8 +1,0 @@
-use Rattle.std.proofs.Common.{◌≡◌, ◌∷◌, ◌++◌, flat_map, map, take}
-use Rattle.std.specs.String.{string_bytes}
-use Rattle.ii_ranking.specs.Shares.{share_of, ShareState}
-use Rattle.nequllpa_folder.specs.ShareTexts.{share_object}
-use Rattle.nequllpa_folder.proofs.share_rows.push_objects.Given as goal
-
-abbrev pub invariant-loop-share : goal.invariant-loop-share
-invariant-loop-share l = string_bytes l.text ≡ string_bytes l.initial.text ++ flat_map (λ (s : ShareState). 44 ∷ share_object l.schema s) (map share_of (take l.share-index l.others))

@@ -1,0 +1,3 @@
+mod DocumentLemmas
+mod IdsLemmas
+pub mod OpenLemmas
