@@ -26,7 +26,8 @@ use Rattle.ii_segment_store.specs.Commits.{HoldsOldOr}
 use Rattle.ii_segment_store.specs.Changes.{index_without, segments_without, without}
 use Rattle.ii_segment_store.specs.Contents.{IndexContents, SegmentContents, index_contents}
 use Rattle.ii_segments.specs.Segments.{Segment, index_tokens, is_living, num_docs_of}
-use Rattle.ii_segments.proofs.MergeLaws.{all_alive, below, shift}
+use Rattle.ii_segments.proofs.DocumentLaws.{shift_none}
+use Rattle.ii_segments.proofs.MergeLaws.{all_alive, below}
 use Rattle.ii_store.specs.declared.faults.IndexFault.{IndexFault}
 use Rattle.nequllpa_merging.specs.HeldSegments.{HoldSegments, HoldsSegment}
 
@@ -200,12 +201,6 @@ module _ (entries : List SchemaEntry) (deletes : List DeleteState) (n : ℕ) (ts
   changed_or_not new is each written have reached (inr result) h = inr (changed new is each written have reached result h)
 
 -- ---- without deletes
-shift_none : (ts : List IndexToken) → map (shift 0) ts ≡ ts
-shift_none [] = refl
-shift_none (t ∷ ts) =
-    let same : 0 + t.doc ≡ t.doc = omega arith in
-    ap (λ (m : ℕ). (record t { doc = m }) ∷ map (shift 0) ts) same ∙ ap (λ (us : List IndexToken). t ∷ us) (shift_none ts)
-
 all_true : (n : ℕ) → map (λ (doc : ℕ). true) (range_with_len 0 n) ≡ replicate n true
 all_true n = ext_get_or false (map (λ (doc : ℕ). true) (range_with_len 0 n)) (replicate n true) (many ∙ sym (length-replicate n true)) at
   where

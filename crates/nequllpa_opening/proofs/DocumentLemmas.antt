@@ -5,15 +5,16 @@ use Rattle.std.specs.Borrow.{Bor}
 use Rattle.std.specs.List.{AllZip, range_with_len}
 use Rattle.std.proofs.lemmas.Bool.{cases_lt, le-ltb, lt-ltb}
 use Rattle.std.proofs.lemmas.List.{drop_all, drop_more, get_or-append_right, get_or-map, get_or_append_left, length-map}
-use Rattle.std.proofs.lemmas.List.FromFn.{get_or-range_with_len, length-range_with_len}
+use Rattle.std.proofs.lemmas.List.FromFn.{get_or-range_with_len}
 use Rattle.ii_alive.specs.Alive.{num_living, rank}
 use Rattle.ii_alive.proofs.RankLemmas.{rank_strict}
 use Rattle.ii_segments.specs.Segments.{is_living, living_docs}
-use Rattle.ii_segments.proofs.CountLaws.{living_within, ranks_of_living}
+use Rattle.ii_segments.proofs.CountLaws.{living_length, living_within, ranks_of_living}
 use Rattle.ii_doc_store.specs.declared.checkpoint.Checkpoint.{Checkpoint}
 use Rattle.ii_doc_store.specs.declared.faults.StoreDamage.{StoreDamage}
 use Rattle.ii_doc_store.specs.declared.faults.StoreDamage.TheVariants.{Index}
 use Rattle.ii_doc_store.specs.StoreReader.{HoldsDocuments, StoreReaderState, document_of, index_of, num_docs}
+use Rattle.ii_doc_store_merger.proofs.MergeLemmas.{documents_length}
 use Rattle.ii_doc_store_merger.specs.StoreSources.{SegmentDocuments, documents_of_segments, living_documents}
 use Rattle.nequllpa_opening.specs.declared.documents.SegmentStore.{SegmentStore}
 use Rattle.nequllpa_opening.specs.declared.faults.DocumentFault.{DocumentFault}
@@ -23,9 +24,6 @@ use Rattle.nequllpa_opening.specs.Documents.{HoldsDocumentsOf, StoredSegmentStat
 -- ---- the number of a living document
 ranks : (alive : List Bool) → map (λ (d : ℕ). 0 + rank alive d) (living_docs alive) ≡ range_with_len 0 (num_living alive)
 ranks alive = ranks_of_living 0 alive
-
-pub many_living : (alive : List Bool) → length (living_docs alive) ≡ num_living alive
-many_living alive = sym (length-map (living_docs alive) (λ (d : ℕ). 0 + rank alive d)) ∙ ap length (ranks alive) ∙ length-range_with_len 0 (num_living alive)
 
 filter_holds : (p : ℕ → Bool) (xs : List ℕ) (i d : ℕ) → i < length (filter p xs) → p (get_or (filter p xs) i d) ≡ true
 filter_holds p [] i d low = absurd (omega (arith, low))
@@ -39,7 +37,7 @@ filter_holds p (x ∷ xs) i d low = by (p x) refl i low (filter_holds p xs)
 rank_at : (alive : List Bool) (n : ℕ) → n < num_living alive → rank alive (slice_index (living_docs alive) n) ≡ n
 rank_at alive n low =
     let f : ℕ → ℕ = λ d. 0 + rank alive d in
-    let few : n < length (living_docs alive) = omega (arith, low, many_living alive) in
+    let few : n < length (living_docs alive) = omega (arith, low, living_length alive) in
     let at : get_or (map f (living_docs alive)) n 0 ≡ f (get_or (living_docs alive) n 0) = get_or-map f (living_docs alive) n 0 0 few in
     let is = ap (λ (xs : List ℕ). get_or xs n 0) (ranks alive) ∙ get_or-range_with_len 0 (num_living alive) n 0 low in
     omega (arith, at, is)
@@ -47,7 +45,7 @@ rank_at alive n low =
 pub selected : (alive : List Bool) (n doc : ℕ) → n < num_living alive → is_living alive doc ≡ true → rank alive doc ≡ n → slice_index (living_docs alive) n ≡ doc
 selected alive n doc low living at =
     let other = slice_index (living_docs alive) n in
-    let also : is_living alive other ≡ true = filter_holds (is_living alive) (range_with_len 0 (length alive)) n 0 (omega (arith, low, many_living alive)) in
+    let also : is_living alive other ≡ true = filter_holds (is_living alive) (range_with_len 0 (length alive)) n 0 (omega (arith, low, living_length alive)) in
     let same = rank_at alive n low in
     ⊎_elim (λ less. absurd (omega (arith, rank_strict alive other doc also less, same, at)))
     (λ more. ⊎_elim (λ less. absurd (omega (arith, rank_strict alive doc other living less, same, at))) (λ least. omega (arith, more, least)) (cases_lt doc other)) (cases_lt other doc)
@@ -75,18 +73,15 @@ each_stored place (Some r) documents doc low h =
     let found : document_of r.bytes r.checkpoints doc ≡ Ok (get_or documents doc []) = subst (λ (c : List Checkpoint). document_of r.bytes c doc ≡ Ok (get_or documents doc [])) known (held.each doc low) in
     rw (lt-ltb doc (num_docs r.checkpoints) (omega (arith, low, many)), found) refl
 
-living_length : (d : SegmentDocuments) → length (living_documents d) ≡ num_living d.alive
-living_length d = length-map (living_docs d.alive) (λ (doc : ℕ). get_or d.documents doc []) ∙ many_living d.alive
-
 in_segment : (place : ℕ) (s : StoredSegmentState) (d : SegmentDocuments) (n : ℕ) → n < num_living s.alive → HoldsDocumentsOf s d → document_in_segment place s n ≡ Ok (get_or (living_documents d) n [])
 in_segment place s d n low h =
     let doc = slice_index (living_docs s.alive) n in
-    let living : is_living s.alive doc ≡ true = filter_holds (is_living s.alive) (range_with_len 0 (length s.alive)) n 0 (omega (arith, low, many_living s.alive)) in
+    let living : is_living s.alive doc ≡ true = filter_holds (is_living s.alive) (range_with_len 0 (length s.alive)) n 0 (omega (arith, low, living_length s.alive)) in
     let inside = living_within s.alive doc living in
     let same = ap length h.alive in
     let count = h.count in
     let found = each_stored place s.store d.documents doc (omega (arith, inside, same, count)) h.store in
-    let few : n < length (living_docs d.alive) = omega (arith, low, many_living s.alive, ap (λ (a : List Bool). length (living_docs a)) h.alive) in
+    let few : n < length (living_docs d.alive) = omega (arith, low, living_length s.alive, ap (λ (a : List Bool). length (living_docs a)) h.alive) in
     let is : get_or (living_documents d) n [] ≡ get_or d.documents (get_or (living_docs d.alive) n 0) [] = get_or-map (λ (k : ℕ). get_or d.documents k []) (living_docs d.alive) n 0 [] few in
     found ∙ ap (λ (a : List Bool). Ok (get_or d.documents (slice_index (living_docs a) n) [])) h.alive ∙ ap (λ (x : List ℕ). Ok x) (sym is)
 
@@ -97,7 +92,7 @@ all_stored place (s ∷ ss) [] n hold low = absurd hold
 all_stored place (s ∷ ss) (d ∷ ds) n hold low = ⊎_elim here (λ high. there high (all_stored (place + 1) ss ds (n - num_living s.alive) hold.1)) (cases_lt n (num_living s.alive))
   where
     many : length (living_documents d) ≡ num_living s.alive
-    many = living_length d ∙ ap num_living (sym hold.0.alive)
+    many = documents_length d ∙ ap num_living (sym hold.0.alive)
 
     here : n < num_living s.alive → document_from place (s ∷ ss) n ≡ Ok (get_or (living_documents d ++ documents_of_segments ds) n [])
     here small =

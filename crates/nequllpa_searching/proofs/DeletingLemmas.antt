@@ -17,8 +17,9 @@ use Rattle.ii_reader.specs.OpenIndex.{OpenIndexState, all_or_first}
 use Rattle.ii_reader.proofs.IndexLemmas.{in_front, in_front_of_none, one_more}
 use Rattle.ii_search.specs.Found.{docs_of_term, docs_under}
 use Rattle.ii_segments.specs.Segments.{is_living}
+use Rattle.ii_segments.proofs.CountLaws.{living_within}
 use Rattle.nequllpa_searching.specs.Deleting.{docs_of_terms, docs_with_term, docs_with_terms, is_among}
-use Rattle.nequllpa_searching.proofs.FindingLemmas.{all_living, lives_below, living_of}
+use Rattle.nequllpa_searching.proofs.FindingLemmas.{all_living, living_of}
 use Rattle.nequllpa_searching.proofs.QueryLemmas.{refused_then}
 
 -- ---- the living documents of a term
@@ -45,7 +46,7 @@ living_below alive [] = tt
 living_below alive (d ∷ ds) = by (is_living alive d) refl (living_below alive ds)
   where
     by : (b : Bool) → is_living alive d ≡ b → AllByRecursion (λ (doc : ℕ). doc < length alive) (filter (is_living alive) ds) → AllByRecursion (λ (doc : ℕ). doc < length alive) (filter (is_living alive) (d ∷ ds))
-    by true lives rest = rw lives (lives_below alive d lives, rest)
+    by true lives rest = rw lives (living_within alive d lives, rest)
     by false dead rest = rw dead rest
 
 term_below : (index : OpenIndexState) (alive : List Bool) (term : TermState) (docs : List ℕ) (found : Result (List Entry) Part) → docs_of_term Basic index term ≡ found → docs_with_term index alive term ≡ Ok docs → AllByRecursion (λ (doc : ℕ). doc < length alive) docs

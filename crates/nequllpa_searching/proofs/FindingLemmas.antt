@@ -9,6 +9,7 @@ use Rattle.std.proofs.Math.Seq.{drop-cons}
 use Rattle.std.proofs.lemmas.Bool.{leb-true, leb-false}
 use Rattle.std.proofs.lemmas.List.{map-append, take_all, take_at}
 use Rattle.ii_segments.specs.Segments.{is_living}
+use Rattle.ii_segments.proofs.CountLaws.{living_within}
 use Rattle.ii_base.specs.declared.doc_id.TheConstants.{TERMINATED}
 use Rattle.ii_base.specs.Entries.{Entry, docs_of, document}
 use Rattle.ii_docset.specs.Cursor.{IsAscending, IsSound, doc_at, from_doc, positions_at}
@@ -68,19 +69,13 @@ dead_past [] (suc doc) past = refl
 dead_past (b ∷ bs) zero past = absurd (omega (arith, past))
 dead_past (b ∷ bs) (suc doc) past = dead_past bs doc (omega (arith, past))
 
-pub lives_below : (alive : List Bool) (doc : ℕ) → is_living alive doc ≡ true → doc < length alive
-lives_below [] zero lives = absurd cc
-lives_below [] (suc doc) lives = absurd cc
-lives_below (b ∷ bs) zero lives = omega arith
-lives_below (b ∷ bs) (suc doc) lives = omega (arith, lives_below bs doc lives)
-
 -- no more documents are alive than there are
 few_living : (alive : List Bool) (least : ℕ) (es : List Entry) → least ≤ doc_at es → IsAscending es → length (living_of alive es) ≤ length alive - least
 few_living alive least [] low ascending = omega arith
 few_living alive least (e ∷ es) low ascending = by (is_living alive e.doc) refl (few_living alive (e.doc + 1) es (omega (arith, ascending.0)) ascending.1)
   where
     by : (b : Bool) → is_living alive e.doc ≡ b → length (living_of alive es) ≤ length alive - (e.doc + 1) → length (living_of alive (e ∷ es)) ≤ length alive - least
-    by true lives few = rw lives (omega (arith, low, few, lives_below alive e.doc lives))
+    by true lives few = rw lives (omega (arith, low, few, living_within alive e.doc lives))
     by false dead few = rw dead (omega (arith, low, few))
 
 -- so those that were taken up to that number are all
