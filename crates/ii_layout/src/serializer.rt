@@ -255,7 +255,8 @@ impl PackedBlocks {
     }
 }
 
-// Packs a full block, and adds its skip entry.
+// Packs a full block, and adds its skip entry: the last document and the width of the documents, and with term
+// frequencies their width, their sum if the entry has it, and the block's bounds.
 fn write_block(
     skip_info: IndexRecordOption,
     block: &Block,
@@ -280,69 +281,17 @@ fn write_block(
     let (num_bits, bytes) = block_encoder.compress_block_sorted(block.doc_ids(), last_doc);
     skip_write.write_doc(block.last_doc(), num_bits)?;
     postings_write.extend_from_slice(bytes)?;
-    write_block_freqs(
-        skip_info,
-        block,
-        bounds,
-        block_encoder,
-        skip_write,
-        postings_write,
-    )
-}
-
-// Packs the term frequencies of a full block, if it has any, and adds their part of its skip entry.
-fn write_block_freqs(
-    skip_info: IndexRecordOption,
-    block: &Block,
-    bounds: &BlockBounds,
-    block_encoder: &mut BlockEncoder,
-    skip_write: &mut SkipSerializer,
-    postings_write: &mut Vec<u8>,
-) -> Result<(), Fault>
-    requires covered { AllByRecursion (Covers bounds.now) block.now.docs }
-    requires freqs { AreBlockFreqs skip_info block.now.freqs }
-    requires open { skip_write.old.closed ≡ false }
-    ensures skip { OnOk result (skip_write.new ≡ record { bytes = skip_write.old.bytes ++ freq_part bounds.now skip_info block.now.docs block.now.freqs; closed = false }) }
-    ensures postings { OnOk result (postings_write.new.items ≡ postings_write.old.items ++ packed_freqs skip_info block.now.freqs) }
-    ensures only { OnlyMemory result }
-{
     if !skip_info.has_freq() {
         return Ok(());
     }
     let (num_bits, bytes) = block_encoder.compress_block_unsorted(block.term_freqs(), true);
-    write_freq_part(skip_info, num_bits, block, bounds, skip_write)?;
     postings_write.extend_from_slice(bytes)?;
-    Ok(())
-}
-
-// Adds the part of a skip entry after the document: the width of the term frequencies, their sum, and the
-// block's bounds.
-fn write_freq_part(
-    skip_info: IndexRecordOption,
-    tf_num_bits: u8,
-    block: &Block,
-    bounds: &BlockBounds,
-    skip_write: &mut SkipSerializer,
-) -> Result<(), Fault>
-    requires covered { AllByRecursion (Covers bounds.now) block.now.docs }
-    requires width { tf_num_bits ≡ unsorted_width true block.now.freqs }
-    requires small { IsTrue (has_positions skip_info) → sum block.now.freqs < 2 ^ 32 }
-    requires open { skip_write.old.closed ≡ false }
-    ensures skip { OnOk result (skip_write.new ≡ record { bytes = skip_write.old.bytes ++ freq_part bounds.now skip_info block.now.docs block.now.freqs; closed = false }) }
-    ensures only { OnlyMemory result }
-{
-    match skip_info {
-        IndexRecordOption::Basic => Ok(()),
-        IndexRecordOption::WithFreqs => {
-            skip_write.write_term_freq(tf_num_bits)?;
-            skip_write.write_blockwand_max(bounds.fieldnorm_id(block), bounds.term_freq(block))
-        }
-        IndexRecordOption::WithFreqsAndPositions => {
-            skip_write.write_term_freq(tf_num_bits)?;
-            skip_write.write_total_term_freq(block.term_freq_sum() as u32)?;
-            skip_write.write_blockwand_max(bounds.fieldnorm_id(block), bounds.term_freq(block))
-        }
+    skip_write.write_term_freq(num_bits)?;
+    if !skip_info.has_positions() {
+        return skip_write.write_blockwand_max(bounds.fieldnorm_id(block), bounds.term_freq(block));
     }
+    skip_write.write_total_term_freq(block.term_freq_sum() as u32)?;
+    skip_write.write_blockwand_max(bounds.fieldnorm_id(block), bounds.term_freq(block))
 }
 
 // Writes the length of a skip list in bytes and then the list, or nothing if it has no entry.

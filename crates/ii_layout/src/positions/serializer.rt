@@ -1,4 +1,4 @@
-ghost use Rattle.std.specs.Prelude.{◌≡◌, ◌-◌, ◌<◌, ◌≤◌, ◌↔◌, ◌==◌, [], ◌∷◌, ◌++◌, length, take, min, false, true, IsTrue, Some, OnOk, OnErr, IsErrOf};
+ghost use Rattle.std.specs.Prelude.{◌≡◌, ◌-◌, ◌^◌, ◌<◌, ◌≤◌, ◌↔◌, ◌==◌, ℕ, [], ◌∷◌, ◌++◌, length, take, get_or, min, false, true, IsTrue, Some, OnOk, OnErr, IsErrOf};
 ghost use Rattle.ii_io.specs.CountingWriter.{Writes, WritesUnlessClosed};
 ghost use Rattle.ii_io.specs.Faults.{OnlyMemory, OnlyMemoryOrClosed};
 ghost use Rattle.ii_io.specs.Vints.{vint_u64};
@@ -100,19 +100,23 @@ impl PackedDeltas {
         }
     }
 
-    // Packs a full block after the others. An allocation failure drops all blocks.
-    fn push(&mut self, block: &[u32]) -> Result<(), Fault>
-        requires { length block.now ≡ 128 }
-        ensures ok { OnOk result (self.new ≡ self.old ++ block.now) }
-        ensures err { OnErr result (self.new ≡ []) }
+    // Packs a block after the others and empties it, if it is full. An allocation failure drops all deltas.
+    fn push_full(&mut self, block: &mut DeltaBlock) -> Result<(), Fault>
+        ensures few { length block.new < 128 }
+        ensures ok { OnOk result (self.new ++ block.new ≡ self.old ++ block.old) }
+        ensures err { OnErr result (self.new ++ block.new ≡ []) }
         ensures only { OnlyMemory result }
     {
+        if !block.is_full() {
+            return Ok(());
+        }
         let packed = pack(
-            block,
+            block.deltas(),
             &mut self.block_encoder,
             &mut self.bit_widths,
             &mut self.positions_buffer,
         );
+        block.clear();
         match packed {
             Ok(()) => Ok(()),
             Err(fault) => {
@@ -135,12 +139,17 @@ impl PackedDeltas {
         ensures holds { position_deltas (written_positions (self.old ++ rest.now)) ≡ Some (self.old ++ rest.now) }
     {
         let num_blocks = self.bit_widths.len() as u64;
-        let blocks = put_blocks(
-            num_blocks,
-            &self.bit_widths,
-            &self.positions_buffer,
-            positions_write,
-        );
+        let mut number = [0; MAX_LONG_VINT_SIZE];
+        let end = vint::write_u64(num_blocks, &mut number, 0);
+        let count = positions_write.write_all(&number[..end]);
+        if count.is_err() {
+            return count;
+        }
+        let widths = positions_write.write_all(&self.bit_widths);
+        if widths.is_err() {
+            return widths;
+        }
+        let blocks = positions_write.write_all(&self.positions_buffer);
         if blocks.is_err() {
             return blocks;
         }
@@ -166,80 +175,13 @@ fn pack(
     requires { length block.now ≡ 128 }
     ensures widths { OnOk result (bit_widths.new.items ≡ bit_widths.old.items ++ unsorted_width false block.now ∷ []) }
     ensures bytes { OnOk result (positions_buffer.new.items ≡ positions_buffer.old.items ++ unsorted_bytes false block.now) }
+    ensures fit { OnOk result ((k : ℕ) → get_or block.now k 0 < 2 ^ 32) }
     ensures only { OnlyMemory result }
 {
     let (num_bits, bytes) = block_encoder.compress_block_unsorted(block, false);
     bit_widths.push(num_bits)?;
     positions_buffer.extend_from_slice(bytes)?;
     Ok(())
-}
-
-// Writes the number of blocks, their widths, and the blocks.
-fn put_blocks<W: Write>(
-    num_blocks: u64,
-    bit_widths: &[u8],
-    blocks: &[u8],
-    positions_write: &mut CountingWriter<W>,
-) -> Result<(), Fault>
-    ensures { Writes positions_write.old positions_write.new (vint_u64 num_blocks ++ bit_widths.now ++ blocks.now) result }
-{
-    let widths = put_widths(num_blocks, bit_widths, positions_write);
-    if widths.is_err() {
-        return widths;
-    }
-    positions_write.write_all(blocks)
-}
-
-// Writes the number of blocks and their widths.
-fn put_widths<W: Write>(
-    num_blocks: u64,
-    bit_widths: &[u8],
-    positions_write: &mut CountingWriter<W>,
-) -> Result<(), Fault>
-    ensures { Writes positions_write.old positions_write.new (vint_u64 num_blocks ++ bit_widths.now) result }
-{
-    let mut number = [0; MAX_LONG_VINT_SIZE];
-    let end = vint::write_u64(num_blocks, &mut number, 0);
-    let count = positions_write.write_all(&number[..end]);
-    if count.is_err() {
-        return count;
-    }
-    positions_write.write_all(bit_widths)
-}
-
-// Adds deltas, and packs each block that they fill. An allocation failure drops all deltas.
-fn add_deltas(
-    packed: &mut PackedDeltas,
-    block: &mut DeltaBlock,
-    deltas: &[u32],
-) -> Result<(), Fault>
-    requires { length block.old < 128 }
-    ensures few { length block.new < 128 }
-    ensures ok { OnOk result (packed.new ++ block.new ≡ packed.old ++ block.old ++ deltas.now) }
-    ensures err { OnErr result (packed.new ++ block.new ≡ []) }
-    ensures only { OnlyMemory result }
-{
-    let mut done = 0;
-    while done < deltas.len() {
-        done += block.fill(&deltas[done..]);
-        pack_if_full(packed, block)?;
-    }
-    Ok(())
-}
-
-// Packs the block if it is full. An allocation failure drops all deltas.
-fn pack_if_full(packed: &mut PackedDeltas, block: &mut DeltaBlock) -> Result<(), Fault>
-    ensures few { length block.new < 128 }
-    ensures ok { OnOk result (packed.new ++ block.new ≡ packed.old ++ block.old) }
-    ensures err { OnErr result (packed.new ++ block.new ≡ []) }
-    ensures only { OnlyMemory result }
-{
-    if !block.is_full() {
-        return Ok(());
-    }
-    let pushed = packed.push(block.deltas());
-    block.clear();
-    pushed
 }
 
 /// Writes the positions of one term after the other to a borrowed writer. Its model is the deltas of the open
@@ -289,7 +231,12 @@ impl PositionWriter {
         ensures err { OnErr result (self.new ≡ []) }
         ensures only { OnlyMemory result }
     {
-        add_deltas(&mut self.packed, &mut self.block, positions_delta)
+        let mut done = 0;
+        while done < positions_delta.len() {
+            done += self.block.fill(&positions_delta[done..]);
+            self.packed.push_full(&mut self.block)?;
+        }
+        Ok(())
     }
 
     /// Writes the deltas of the term and ends it. A `PositionReader` reads them back.
