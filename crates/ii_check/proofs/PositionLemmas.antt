@@ -7,13 +7,12 @@ use Rattle.std.proofs.Math.Seq.{take-add}
 use Rattle.std.proofs.lemmas.Bool.{and_parts, ltb-true, ltb-false, leb-true, leb-false, lt-ltb, le-ltb, le-leb, lt-leb, eqb-true, eq-eqb, ne_eqb}
 use Rattle.std.proofs.lemmas.List.{drop-drop, take_more, take_all, take-append-drop}
 use Rattle.std.proofs.lemmas.List.Folds.{list_all-append}
-use Rattle.std.proofs.lemmas.List.Sums.{sum_by_more}
+use Rattle.std.proofs.lemmas.List.Sums.{sum_by-cons, sum_by_more}
 use Rattle.ii_codes.specs.Sums.{running_sums, fit_u32}
 use Rattle.ii_layout.specs.Positions.{positions_of, position_deltas}
 use Rattle.ii_layout.specs.TermList.{deltas_if}
 use Rattle.ii_layout.specs.SkipReader.{SkipReaderState}
 use Rattle.ii_base.specs.Options.{has_positions}
-use Rattle.ii_base.proofs.WeightLemmas.{sum-first}
 use Rattle.ii_layout.specs.Written.{block_of}
 use Rattle.ii_io.specs.StepLemmas.{some-same}
 use Rattle.ii_codes.specs.BlockDecoder.{BlockDecoderState}
@@ -35,7 +34,7 @@ sums_from : (before : ℕ) (ds : List ℕ) → before < 2 ^ 32 → fit_u32 (runn
 sums_from before [] low = let none : before + 0 ≡ before = omega arith in sym (lt-ltb (before + 0) (2 ^ 32) (omega arith))
 sums_from before (d ∷ ds) low =
     sums_cases before d ds (nat_lt (before + d) (2 ^ 32)) refl (λ below. sums_from (before + d) ds below)
-    ∙ ap (λ (n : ℕ). nat_lt (before + n) (2 ^ 32)) (sym (sum-first d ds))
+    ∙ ap (λ (n : ℕ). nat_lt (before + n) (2 ^ 32)) (sym (sum_by-cons (λ (x : ℕ). x) d ds))
 
 pub sums_fit : (ds : List ℕ) → fit_u32 (running_sums 0 ds) ≡ nat_lt (sum ds) (2 ^ 32)
 sums_fit ds =
@@ -46,7 +45,7 @@ sums_fit ds =
 positions-append : (ns ms deltas : List ℕ) → positions_of (ns ++ ms) deltas ≡ positions_of ns deltas ++ positions_of ms (drop (sum ns) deltas)
 positions-append [] ms deltas = refl
 positions-append (n ∷ ns) ms deltas =
-    let place : n + sum ns ≡ sum (n ∷ ns) = sym (sum-first n ns) in
+    let place : n + sum ns ≡ sum (n ∷ ns) = sym (sum_by-cons (λ (x : ℕ). x) n ns) in
     let next = drop-drop (sum ns) n deltas ∙ ap (λ (k : ℕ). drop k deltas) place in
     ap (λ (pss : List (List ℕ)). running_sums 0 (take n deltas) ∷ pss) (positions-append ns ms (drop n deltas) ∙ ap (λ (ds : List ℕ). positions_of ns (drop n deltas) ++ positions_of ms ds) next)
 
@@ -206,7 +205,7 @@ sum_low (n ∷ ns) low =
     let parts = and_parts (nat_lt n (2 ^ 32)) (fit_u32 ns) low in
     let first = ltb-true n (2 ^ 32) parts.0 in
     let later = sum_low ns parts.1 in
-    let whole = sum-first n ns in
+    let whole = sum_by-cons (λ (x : ℕ). x) n ns in
     omega arith
 
 pub sum_next : (ns : List ℕ) (i : ℕ) → i < length ns → sum (take (i + 1) ns) ≡ sum (take i ns) + get_or ns i 0

@@ -10,6 +10,7 @@ use Rattle.std.proofs.Math.Nat.{add-mul, add_assoc, div-add-mod', mod-eq_of_lt, 
 use Rattle.std.proofs.lemmas.Bool.{le-ltb, lt-ltb, ltb-false, ltb-true}
 use Rattle.ii_base.specs.Values.{flipped, number_of_bool, u64_bytes}
 use Rattle.ii_term_text.proofs.AddressBytes.{byte_is}
+use Rattle.ii_term_text.proofs.KeyLemmas.{flipped_small}
 use Rattle.ii_query_parser.specs.Ranges.{is_less}
 
 -- numbers of two digits to a base are in the order of the first ones, and then of the others

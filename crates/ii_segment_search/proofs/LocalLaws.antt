@@ -21,7 +21,7 @@ use Rattle.ii_query_parser.specs.Queries.{QueryTree, QueryTrees, all_below, all_
 use Rattle.ii_segments.specs.Segments.{AreSegmentTokens, Segment, at_rank, index_tokens, is_key_of_text_in, is_living, living_tokens, num_docs_of, tokens_from}
 use Rattle.ii_segments.proofs.CountLaws.{all_weaker, living_within, test_by_rank, tokens_after}
 use Rattle.ii_segments.proofs.MergedLaws.{IsTyped, index_typed}
-use Rattle.ii_segments.proofs.MergeLaws.{below, from_append, of_living}
+use Rattle.ii_segments.proofs.MergeLaws.{below, docs_of_both, from_append, of_living}
 use Rattle.ii_segment_search.specs.SegmentSearch.{SearchIsLocal}
 use Rattle.ii_search.proofs.PhrasePrefixMatches.{key_of_document}
 use Rattle.ii_search.proofs.RangeMatches.{any_alike}

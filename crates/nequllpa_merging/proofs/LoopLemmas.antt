@@ -8,6 +8,7 @@ use Rattle.std.proofs.lemmas.List.{length-map, map-append}
 use Rattle.ii_io.specs.declared.faults.Fault.{Fault}
 use Rattle.ii_io.specs.declared.faults.Fault.TheVariants.{Damaged, OutOfMemory}
 use Rattle.ii_io.specs.declared.faults.Part.{Part}
+use Rattle.ii_definitions.proofs.ListLaws.{mapped_at}
 use Rattle.ii_reader.specs.InvertedIndexReader.{IsRefusal}
 use Rattle.ii_base.specs.Schema.{SchemaEntry}
 use Rattle.ii_counts_merger.specs.CountsSources.{CountsSourceState, opened_counts}
