@@ -654,39 +654,19 @@ impl OpenTerm {
             Ok(len) => len,
             Err(fault) => return Err(fault),
         };
-        let positions_len = match self.write_positions(positions_write) {
+        if !self.mode.has_positions() {
+            return places.insert_term(doc_freq, postings_len, 0);
+        }
+        let start = positions_write.written_bytes();
+        let written = self.positions.close_term(positions_write);
+        if written.is_err() {
+            return written;
+        }
+        let positions_len = match len_between(start, positions_write.written_bytes()) {
             Ok(len) => len,
             Err(fault) => return Err(fault),
         };
         places.insert_term(doc_freq, postings_len, positions_len)
-    }
-
-    // Writes the positions if the field records them, and returns how many bytes they take.
-    fn write_positions<W: Write>(&mut self, writer: &mut CountingWriter<W>) -> Result<u32, Fault>
-        ensures ok { IfOk result (λ len. len ≡ length (positions_bytes self.old.mode self.old.deltas)) }
-        ensures wrote { OnOk result (Wrote writer.old writer.new (positions_bytes self.old.mode self.old.deltas)) }
-        ensures rest { OnOk result (self.new ≡ record self.old { deltas = if has_positions self.old.mode then [] else self.old.deltas }) }
-        ensures short { OnOk result (length (positions_bytes self.old.mode self.old.deltas) < 2 ^ 32) }
-        ensures mode { self.new.mode ≡ self.old.mode }
-
-        // The outcomes: a failed call counts once, and the writer keeps what was written.
-        ensures once { CountsOnce writer.old.failed_calls writer.new.failed_calls result }
-        ensures kept { writer.old.failed_calls ≤ writer.new.failed_calls }
-        ensures grows { Grows writer.old writer.new }
-
-        // Which errors it returns, and when.
-        ensures full { IsErrOf result (Fault.Limit LimitName.Offset) → IsTrue (has_positions self.old.mode) × IsFull writer.old (length (positions_bytes self.old.mode self.old.deltas)) }
-        ensures long { IsErrOf result (Fault.Limit LimitName.TermBytes) → 2 ^ 32 ≤ length (positions_bytes self.old.mode self.old.deltas) }
-        ensures only { IfErr result (λ e. (e ≡ Fault.Write) ⊎ (e ≡ Fault.Limit LimitName.Offset) ⊎ (e ≡ Fault.Limit LimitName.TermBytes)) }
-    {
-        if !self.mode.has_positions() {
-            return Ok(0);
-        }
-        let start = writer.written_bytes();
-        match self.positions.close_term(writer) {
-            Ok(()) => len_between(start, writer.written_bytes()),
-            Err(fault) => Err(fault),
-        }
     }
 }
 
