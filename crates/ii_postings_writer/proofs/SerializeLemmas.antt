@@ -11,6 +11,7 @@ use Rattle.std.proofs.Math.Seq.{take-append-add}
 use Rattle.ii_termdict.specs.ReadBack.{AreAscending}
 use Rattle.ii_base.specs.Schema.{SchemaEntry}
 use Rattle.ii_definitions.specs.Fields.{option_of}
+use Rattle.ii_definitions.proofs.ListLaws.{all_taken}
 use Rattle.ii_postings_writer.specs.declared.sorted_terms.TermOfField.{TermOfField}
 use Rattle.ii_base.specs.declared.schema.index_record_option.IndexRecordOption.TheVariants.{Basic}
 use Rattle.ii_base.specs.declared.schema.index_record_option.IndexRecordOption.{IndexRecordOption}
@@ -27,13 +28,13 @@ use Rattle.ii_postings_writer.specs.SortedTerms.{IsTold, IsWritable, state_of, w
 use Rattle.ii_postings_writer.specs.TermLimits.{HasLargeSum}
 use Rattle.ii_fieldnorm.specs.Readers.{Norms}
 use Rattle.ii_layout.proofs.BoundLemmas.{all_push}
+use Rattle.ii_recorder.proofs.PushLemmas.{writing_pushed}
 
 -- documents that are pushed change nothing of what is written
 pub pushed_writing : (option : IndexRecordOption) (es : List Entry) (initial : IndexBodiesState) (s new : IndexSerializerState) (field tokens : ℕ) (norms : Option Norms) (ts : List WrittenTerm) (pending : List (List ℕ))
     → new ≡ with_entries option s es → IsWriting initial s field tokens norms ts pending → IsWriting initial new field tokens norms ts pending
 pushed_writing option es initial s new field tokens norms ts pending is w =
-    let same : IsWriting initial (with_entries option s es) field tokens norms ts pending = record { mode = w.mode; norms_are = w.norms_are; counted = w.counted; bodies = w.bodies; terms = w.terms } in
-    subst (λ (n : IndexSerializerState). IsWriting initial n field tokens norms ts pending) (sym is) same
+    subst (λ (n : IndexSerializerState). IsWriting initial n field tokens norms ts pending) (sym is) (writing_pushed option initial s es field tokens norms ts pending w)
 
 -- a term that was started
 abbrev pub begun_term : Bool → OpenTermState → OpenTermState
@@ -43,11 +44,6 @@ pub term_written : (key : List ℕ) (t : OpenTermState) (r : RecorderState) (s n
     → new ≡ with_entries r.option s (entries_of_recorder r) → term_under key new.field.term ≡ written_term t.norms t.mode (record { key = key; recorder = r })
 term_written key t r s new counted same begun is =
     ap (λ (n : IndexSerializerState). term_under key n.field.term) is ∙ rw (begun, same) refl
-
-all_taken : {X : Type 0} (P : X → Type 0) (n : ℕ) (xs : List X) → AllByRecursion P xs → AllByRecursion P (take n xs)
-all_taken P zero xs all = tt
-all_taken P (suc n) [] all = tt
-all_taken P (suc n) (x ∷ xs) all = (all.0, all_taken P n xs all.1)
 
 -- the first of keys that ascend
 ascend_taken : {K : Type 0} (c : K → K → Ordering) (n : ℕ) (ks : List K) → IsStrictlySortedBy c ks → IsStrictlySortedBy c (take n ks)

@@ -62,53 +62,6 @@ fn serialize_field<W: Write>(
     serializer.close()
 }
 
-// Writes the fields that have terms, in order.
-fn serialize_fields<W: Write>(
-    alloc: Global,
-    writers: &PerFieldPostingsWriter,
-    norms: &FieldNormReaders,
-    terms: &Vec<FieldTerms<'_>>,
-    serializer: &mut InvertedIndexSerializer<W>,
-) -> Result<(), Fault>
-    requires known { length terms.now.items ≤ length serializer.old.entries }
-    requires few { length terms.now.items < 2 ^ 32 }
-    requires writers { length terms.now.items ≤ length writers.now }
-    requires fresh { HasFields serializer.old.entries serializer.old.bodies serializer.old.bodies [] }
-    requires norms { AreShortNorms norms.now }
-    requires ascending { AllByRecursion (λ ts. AreAscending (map (λ t. t.key) ts)) terms.now.items }
-    requires writable { (field : ℕ) → field < length terms.now.items → AllByRecursion (IsWritable (norms_in norms.now field)) (slice_index_or terms.now.items field []) }
-    ensures wrote { OnOk result (HasFields serializer.old.entries serializer.old.bodies serializer.new.bodies (first_parts serializer.old.entries writers.now norms.now terms.now.items (length terms.now.items))) }
-
-    // The state afterwards, and the errors.
-    ensures ends { EndsParts (first_parts serializer.old.entries writers.now norms.now terms.now.items (length terms.now.items)) serializer.old serializer.new result }
-    ensures fault { IfErr result (λ e. (e ≡ Fault.SerializerClosed)
-        ⊎ IsPartsFault serializer.old.entries serializer.old.bodies (first_parts serializer.old.entries writers.now norms.now terms.now.items (length terms.now.items)) e) }
-    ensures err { IfErr result (ClosesOrStays serializer.old serializer.new) }
-{
-    let mut keys = JsonTermSerializer::new(alloc);
-    let mut buffer_lender = BufferLender::new(alloc);
-    for place in 0..terms.len() {
-        let field = Field::from_field_id(place as u32);
-        let told = serialize_field(
-            field,
-            writers,
-            norms,
-            &terms[place],
-            &mut keys,
-            &mut buffer_lender,
-            serializer,
-        );
-        let Ok(()) = told else {
-            drop(keys);
-            drop(buffer_lender);
-            return told;
-        };
-    }
-    drop(keys);
-    drop(buffer_lender);
-    Ok(())
-}
-
 // Returns for each field of a schema whether it holds JSON values.
 fn json_fields(alloc: Global, schema: &Schema) -> Result<Vec<bool>, Fault>
     ensures ok { IfOk result (λ flags. flags.items ≡ json_fields schema.now) }
@@ -195,14 +148,30 @@ pub fn serialize_postings<W: Write>(
     holds_its_tokens();
     bounds_its_tokens();
     let terms = field_terms(alloc, &ctx, schema)?;
-    let told = serialize_fields(
-        alloc,
-        per_field_postings_writers,
-        fieldnorm_readers,
-        &terms,
-        serializer,
-    );
+    let mut keys = JsonTermSerializer::new(alloc);
+    let mut buffer_lender = BufferLender::new(alloc);
+    for place in 0..terms.len() {
+        let field = Field::from_field_id(place as u32);
+        let told = serialize_field(
+            field,
+            per_field_postings_writers,
+            fieldnorm_readers,
+            &terms[place],
+            &mut keys,
+            &mut buffer_lender,
+            serializer,
+        );
+        let Ok(()) = told else {
+            drop(keys);
+            drop(buffer_lender);
+            drop(terms);
+            drop(ctx);
+            return told;
+        };
+    }
+    drop(keys);
+    drop(buffer_lender);
     drop(terms);
     drop(ctx);
-    told
+    Ok(())
 }
