@@ -11,7 +11,6 @@ use Rattle.std.proofs.Math.Seq.{take-append-add}
 use Rattle.ii_termdict.specs.ReadBack.{AreAscending}
 use Rattle.ii_base.specs.Schema.{SchemaEntry}
 use Rattle.ii_definitions.specs.Fields.{option_of}
-use Rattle.ii_definitions.proofs.ListLaws.{all_taken}
 use Rattle.ii_postings_writer.specs.declared.sorted_terms.TermOfField.{TermOfField}
 use Rattle.ii_base.specs.declared.schema.index_record_option.IndexRecordOption.TheVariants.{Basic}
 use Rattle.ii_base.specs.declared.schema.index_record_option.IndexRecordOption.{IndexRecordOption}
@@ -44,6 +43,11 @@ pub term_written : (key : List ℕ) (t : OpenTermState) (r : RecorderState) (s n
     → new ≡ with_entries r.option s (entries_of_recorder r) → term_under key new.field.term ≡ written_term t.norms t.mode (record { key = key; recorder = r })
 term_written key t r s new counted same begun is =
     ap (λ (n : IndexSerializerState). term_under key n.field.term) is ∙ rw (begun, same) refl
+
+all_taken : {X : Type 0} (P : X → Type 0) (n : ℕ) (xs : List X) → AllByRecursion P xs → AllByRecursion P (take n xs)
+all_taken P zero xs all = tt
+all_taken P (suc n) [] all = tt
+all_taken P (suc n) (x ∷ xs) all = (all.0, all_taken P n xs all.1)
 
 -- the first of keys that ascend
 ascend_taken : {K : Type 0} (c : K → K → Ordering) (n : ℕ) (ks : List K) → IsStrictlySortedBy c ks → IsStrictlySortedBy c (take n ks)
