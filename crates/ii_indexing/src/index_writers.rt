@@ -28,6 +28,25 @@ pub struct IndexWriters<W: Write> {
     pub fieldnorms: CountingWriter<W>,
 }
 
+impl<W: Write> IndexWriters<W> {
+    // Joins the writers of the four files.
+    pub(crate) fn new(
+        terms: CountingWriter<W>,
+        postings: CountingWriter<W>,
+        positions: CountingWriter<W>,
+        fieldnorms: CountingWriter<W>,
+    ) -> IndexWriters<W>
+        ensures { result ≡ record { terms = terms; postings = postings; positions = positions; fieldnorms = fieldnorms } }
+    {
+        IndexWriters {
+            terms,
+            postings,
+            positions,
+            fieldnorms,
+        }
+    }
+}
+
 impl IndexWriters<Vec<u8>> {
     /// Creates writers to memory, without output.
     pub fn in_memory(alloc: Global) -> IndexWriters<Vec<u8>>

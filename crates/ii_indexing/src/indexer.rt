@@ -1,17 +1,16 @@
-ghost use Rattle.std.specs.Prelude.{◌≡◌, ◌<◌, ◌≤◌, ◌∷◌, ◌++◌, [], ℕ, List, length, true, false, Err, IfErr, IfOk, OnErr, OnOk, Some, ◌^◌, ◌⊎◌};
+ghost use Rattle.std.specs.Prelude.{◌≡◌, ◌<◌, ◌≤◌, ◌∷◌, ◌++◌, [], ℕ, List, length, true, false, Err, IfErr, IfOk, OnErr, OnOk, Some, ◌^◌};
 ghost use Rattle.ii_io.specs.Faults.{OnlyMemory};
 ghost use Rattle.ii_base.specs.declared.doc_id.TheConstants.{TERMINATED};
 ghost use Rattle.ii_definitions.specs.Fields.{option_of};
 ghost use Rattle.ii_definitions.specs.Tokens.{Piece, call_pieces, tokens_after, IndexToken};
-ghost use Rattle.ii_indexing.specs.IndexFiles.{CountsIndexFailures, FilesGrow, IsIndexFault, WroteIndex, ClosedFiles, PassLimits};
+ghost use Rattle.ii_indexing.specs.IndexFiles.{CountsIndexFailures, FilesGrow, IsIndexFault, WroteIndex};
 ghost use Rattle.ii_definitions.specs.IndexCalls.{Takes, call_of, doc_of, expands_dots_in, field_of, type_of};
 ghost use Rattle.ii_indexing.specs.Indexer.{Stores};
 ghost use Rattle.ii_indexing.specs.Refusals.{call_fault};
 ghost use Rattle.ii_json.specs.LeafVisit.{IsRefusedBy};
 ghost use Rattle.ii_io.specs.Composite.{composite};
-ghost use Rattle.ii_io.specs.CountingWriter.{Grows, Writes};
-ghost use Rattle.ii_recorder.specs.IndexBodies.{CountsFailuresOf};
-ghost use Rattle.ii_postings_writer.specs.FieldParts.{AreShortNorms, HasFields};
+ghost use Rattle.ii_io.specs.CountingWriter.{Writes};
+ghost use Rattle.ii_postings_writer.specs.FieldParts.{AreShortNorms};
 ghost use Rattle.ii_postings_writer.specs.ResolvedTerms.{HaveHeldTokens, MayWriteTerms};
 ghost use Rattle.ii_definitions.specs.Norms.{HoldNorms};
 
@@ -22,7 +21,6 @@ use ii_base::{CountingWriter, DocId, Fault, Field, Schema, TextAnalyzer};
 use ii_definitions::IndexCall;
 use ii_fieldnorm::FieldNormReaders;
 use ii_postings_writer::serialize_postings::serialize_postings;
-use ii_postings_writer::{IndexingContext, PerFieldPostingsWriter};
 use ii_recorder::InvertedIndexSerializer;
 use std::alloc::Global;
 use std::io::Write;
@@ -211,7 +209,7 @@ impl Drop for FinishedFields {
 }
 
 impl FinishedFields {
-    // Writes the file of norms, then the files of the terms.
+    // Writes the file of norms, the terms, and the tables of the three files of the terms.
     pub(crate) fn write<W: Write>(
         self,
         alloc: Global,
@@ -248,28 +246,30 @@ impl FinishedFields {
             drop(copy);
             return (writers, written);
         }
-        let (ctx, postings_writers) = terms.into_parts();
+        let (ctx, per_field) = terms.into_parts();
         let IndexWriters {
             terms,
             postings,
             positions,
             fieldnorms,
         } = writers;
-        let (terms, postings, positions, written) = write_files(
-            alloc,
-            ctx,
-            schema,
-            &postings_writers,
-            &readers,
-            InvertedIndexSerializer::open(alloc, terms, postings, positions, copy),
-        );
-        let writers = IndexWriters {
-            terms,
-            postings,
-            positions,
-            fieldnorms,
-        };
-        (writers, written)
+        let mut serializer = InvertedIndexSerializer::open(alloc, terms, postings, positions, copy);
+        match serialize_postings(alloc, ctx, schema, &per_field, &readers, &mut serializer) {
+            Ok(()) => {
+                let (terms, postings, positions, written) = serializer.close();
+                (
+                    IndexWriters::new(terms, postings, positions, fieldnorms),
+                    written,
+                )
+            }
+            Err(fault) => {
+                let (terms, postings, positions) = serializer.into_writers();
+                (
+                    IndexWriters::new(terms, postings, positions, fieldnorms),
+                    Err(fault),
+                )
+            }
+        }
     }
 }
 
@@ -282,53 +282,4 @@ fn write_norms<W: Write>(writer: &mut CountingWriter<W>, bytes: &[u8]) -> Result
         return written;
     }
     writer.flush()
-}
-
-// Writes the terms, then the tables of the three files.
-fn write_files<W: Write>(
-    alloc: Global,
-    ctx: IndexingContext,
-    schema: &Schema,
-    postings_writers: &PerFieldPostingsWriter,
-    fieldnorm_readers: &FieldNormReaders,
-    serializer: InvertedIndexSerializer<W>,
-) -> (
-    CountingWriter<W>,
-    CountingWriter<W>,
-    CountingWriter<W>,
-    Result<(), Fault>,
-)
-    requires open { serializer.closed ≡ false }
-    requires schema { schema.now ≡ serializer.entries }
-    requires few { length schema.now < 2 ^ 32 }
-    requires writers { length postings_writers.now ≡ length schema.now }
-    requires fresh { HasFields serializer.entries serializer.bodies serializer.bodies [] }
-    requires norms { AreShortNorms fieldnorm_readers.now }
-    requires terms { MayWriteTerms schema.now fieldnorm_readers.now ctx.path_to_unordered_id ctx.term_index }
-    ensures holds { (ts : List IndexToken) → HaveHeldTokens serializer.entries ctx.path_to_unordered_id ctx.term_index postings_writers.now ts
-        → OnOk result.3 (ClosedFiles serializer result.0 result.1 result.2 fieldnorm_readers.now ts) }
-
-    // The writers: a failed call counts once, and earlier output is kept.
-    ensures failures { CountsFailuresOf serializer.bodies result.0 result.1 result.2 result.3 }
-    ensures grow { Grows serializer.bodies.terms.writer result.0 × Grows serializer.bodies.postings.writer result.1 × Grows serializer.bodies.positions.writer result.2 }
-
-    // Errors.
-    ensures fault { (ts : List IndexToken) → HaveHeldTokens serializer.entries ctx.path_to_unordered_id ctx.term_index postings_writers.now ts
-        → IfErr result.3 (λ e. (e ≡ Fault.OutOfMemory) ⊎ (e ≡ Fault.Write) ⊎ PassLimits serializer.entries serializer.bodies.terms.writer serializer.bodies.postings.writer serializer.bodies.positions.writer ts e) }
-{
-    let mut serializer = serializer;
-    match serialize_postings(
-        alloc,
-        ctx,
-        schema,
-        postings_writers,
-        fieldnorm_readers,
-        &mut serializer,
-    ) {
-        Ok(()) => serializer.close(),
-        Err(fault) => {
-            let (terms, postings, positions) = serializer.into_writers();
-            (terms, postings, positions, Err(fault))
-        }
-    }
 }
