@@ -129,6 +129,12 @@ def some_docs(chosen, number, most):
     return docs
 
 
+def some_long_docs(chosen, number):
+    """Returns documents from a number on, of which most have the same three words, once or many times: their lists have
+    several blocks, and many scores are equal."""
+    return [{'id': f'd{number + place}', 'body': ' '.join(chosen.choices(WORDS[:3], k=chosen.choice([1, 1, 2, 3, 5, 8, 13])))} for place in range(700)]
+
+
 def text_of_part(query):
     """Returns the text of a part of a query: each key as `terms` prints it."""
     kind, field, *others = query
@@ -185,7 +191,7 @@ def one_folder(task):
         try:
             for place, step in enumerate(['add', *steps, 'merge']):
                 if step == 'add':
-                    docs = some_docs(chosen, number, most)
+                    docs = some_long_docs(chosen, number) if seed % 10 == 5 and place == 0 else some_docs(chosen, number, most)
                     number += len(docs)
                     for doc in docs:
                         user.play(('add', doc))

@@ -2,7 +2,7 @@
 use Rattle.std.proofs.Common.{◌≡◌, ℕ, zero, suc, ◌+◌, ◌-◌, ◌*◌, ◌/◌, ◌%◌, ◌^◌, ◌<◌, ◌≤◌, Bool, true, false, min, nat_lt, refl, sym, ap, ◌∙◌, arith}
 use Rattle.std.proofs.lemmas.Bool.{ltb-true, ltb-false}
 use Rattle.std.proofs.lemmas.Nat.{div-add-mod', div-mul-add, div_below, le-div, mod_below, mul-le}
-use Rattle.ii_bm25.specs.Bm25.{RisesAndFalls, share}
+use Rattle.ii_bm25.specs.Bm25.{RisesAndFalls, score, share}
 
 -- a factor that both products have
 over : (p s d : ℕ) → 0 < d → (p + suc s) * d ≤ p * d → ⊥
@@ -113,4 +113,28 @@ rises_and_falls = record {
       let one = weighed weight (share count longer) (share count length) (share_falls count length longer some long) in
       let two = weighed weight (share count length) (share more length) (share_rises count more length some few) in
       omega arith;
+}
+
+-- ---- the search for the least count that scores so much
+-- Each count below the one scores less, and the other one doesn't, or is the greatest.
+pub record IsSearching (weight length least low high : ℕ) : Type 0 where
+  pub order : low ≤ high
+  pub fits : high < 2 ^ 32
+  pub below : (fewer : ℕ) → fewer < low → score weight fewer length < least
+  pub reached : high < 2 ^ 32 - 1 → least ≤ score weight high length
+
+pub searches_above : (weight length least low high middle : ℕ) → 0 < length → middle < high → score weight middle length < least → IsSearching weight length least low high → IsSearching weight length least (middle + 1) high
+searches_above weight length least low high middle some inside less s = record {
+  order = omega (arith, inside);
+  fits = s.fits;
+  below = λ fewer few. let up = rises_and_falls.rises weight fewer middle length some (omega (arith, few)) in omega (arith, up, less);
+  reached = s.reached;
+}
+
+pub searches_below : (weight length least low high middle : ℕ) → low ≤ middle → middle < high → least ≤ score weight middle length → IsSearching weight length least low high → IsSearching weight length least low middle
+searches_below weight length least low high middle up inside more s = record {
+  order = up;
+  fits = let few = s.fits in omega (arith, few, inside);
+  below = s.below;
+  reached = λ few. more;
 }

@@ -32,6 +32,16 @@ bm25_weight idfs num_docs num_tokens = record { weight = weight idfs; lengths = 
 abbrev pub bm25_score : Bm25State → ℕ → ℕ → ℕ
 bm25_score w id count = score w.weight count (get_or w.lengths id 1)
 
+-- A count is the least, of those of 32 bits, that scores at least this; the greatest one may score less.
+pub record IsLeastCount (score_of : ℕ → ℕ) (least count : ℕ) : Type 0 where
+  pub fits : count < 2 ^ 32
+  pub below : (fewer : ℕ) → fewer < count → score_of fewer < least
+  pub reached : count < 2 ^ 32 - 1 → least ≤ score_of count
+
+-- the same for a document with a norm's id
+abbrev pub IsLeastTermFreq : Bm25State → ℕ → ℕ → ℕ → Type 0
+IsLeastTermFreq w id least count = IsLeastCount (bm25_score w id) least count
+
 -- The law: a score rises with the count, and falls with the length.
 pub record RisesAndFalls : Type 0 where
   pub rises : (weight count more length : ℕ) → 0 < length → count ≤ more → score weight count length ≤ score weight more length

@@ -1,7 +1,7 @@
 //! BM25 in integers, with k1 = 1.2 and b = 0.75.
 ghost use Rattle.std.specs.Prelude.{◌≡◌, ◌+◌, ◌*◌, ◌<◌, ◌≤◌, ◌^◌, ℕ, IfOk};
 ghost use Rattle.ii_io.specs.Faults.{OnlyMemory};
-ghost use Rattle.ii_bm25.specs.Bm25.{RisesAndFalls, bm25_score, bm25_weight, idf, score, share, weight};
+ghost use Rattle.ii_bm25.specs.Bm25.{IsLeastCount, IsLeastTermFreq, RisesAndFalls, bm25_score, bm25_weight, idf, score, share, weight};
 ghost use Rattle.ii_bm25.specs.Lengths.{length_part, lengths_from};
 ghost use Rattle.ii_fieldnorm.specs.Norms.{norm_of_id};
 
@@ -150,6 +150,37 @@ impl Bm25Weight {
             self.lengths[fieldnorm_id as usize],
         )
     }
+
+    /// Returns the least count with which a document of this field norm id scores at least `least`, or `u32::MAX` if
+    /// no smaller count does. With a smaller count, no document scores so much whose field norm id is at least this.
+    pub fn least_term_freq(&self, fieldnorm_id: u8, least: Score) -> u32
+        ensures value { IsLeastTermFreq self.now fieldnorm_id least result }
+        ensures bounds { (id count : ℕ) → fieldnorm_id ≤ id → id < 256 → count < result → bm25_score self.now id count < least }
+    {
+        let length = self.lengths[fieldnorm_id as usize];
+        least_count(self.weight, length, least)
+    }
+}
+
+// Returns the least count that scores at least `least`, or `u32::MAX` if no smaller count does.
+fn least_count(weight: u32, length: u64, least: Score) -> u32
+    requires some { 0 < length }
+    requires few { length < 2 ^ 36 }
+    ensures { IsLeastCount (λ count. score weight count length) least result }
+{
+    // Each count below `low` scores less, and `high` doesn't.
+    let mut low: u32 = 0;
+    let mut high = u32::MAX;
+    while low < high {
+        // Most counts that are searched are small.
+        let middle = low + ((high - low) / 2).min(low + 1);
+        if score(weight, middle, length) < least {
+            low = middle + 1;
+        } else {
+            high = middle;
+        }
+    }
+    low
 }
 
 // Returns the weight of terms whose idf have this sum, in units of 2^-22.

@@ -1,7 +1,7 @@
 -- Laws of scorers over one cursor.
 use Rattle.std.proofs.Common.{◌≡◌, ◌∙◌, ℕ, zero, suc, ◌*◌, ◌^◌, ◌<◌, ◌≤◌, Bool, true, false, inl, inr, List, [], ◌∷◌, Option, None, Some, Result, Ok, filter, get_or, if◌then◌else◌, length, map, nat_eq, nat_lt, refl, sym, ap, subst, slice_index_or, arith}
 use Rattle.std.specs.Option.{option_map, unwrap_or}
-use Rattle.std.proofs.lemmas.Bool.{ltb-false, ltb-true, ne_eqb}
+use Rattle.std.proofs.lemmas.Bool.{cases_lt, ltb-false, ltb-true, ne_eqb}
 use Rattle.std.proofs.lemmas.Bool.Decides.{leb_tells}
 use Rattle.std.proofs.lemmas.List.{get_or_default}
 use Rattle.std.proofs.lemmas.List.Elements.{filter_agree}
@@ -22,10 +22,11 @@ use Rattle.ii_docset.specs.Intersection.{has_doc}
 use Rattle.ii_docset.proofs.CursorLemmas.{doc_below, nothing_left}
 use Rattle.ii_docset.proofs.IntersectionLemmas.{doc_at-from_doc, has_doc-from_doc, has_doc_below}
 use Rattle.ii_fieldnorm.specs.Readers.{Norms, norms_of_ids}
-use Rattle.ii_scorer.specs.Scorers.{IsBounded, IsNext, IsPassed, IsUpTo, KeepsFrom, ScorerState, if_at_least, score_of, scores_below}
+use Rattle.ii_scorer.specs.Scorers.{IsBelow, IsBounded, IsNext, IsPassed, IsUpTo, KeepsFrom, ScorerState, if_at_least, score_of, scores_below}
 use Rattle.ii_scorer.proofs.PartsLemmas.{row_alike, row_end, row_holds, row_is, row_next, row_score}
 use Rattle.ii_scorer.proofs.ScorerLemmas.{below_none}
-use Rattle.ii_ranking.specs.LeafScorers.{id_among, leaf_of}
+use Rattle.ii_ranking.specs.LeafScorers.{leaf_of}
+use Rattle.ii_ranking.specs.NormIds.{id_among}
 use Rattle.ii_ranking.specs.Scores.{entry_at, if_occurs, norm_id_in, parts_of, phrase_count, phrase_score, scored_in, term_score}
 use Rattle.ii_ranking.proofs.ScoreLemmas.{phrase_same}
 use Rattle.ii_ranking.proofs.EntryLemmas.{none_below}
@@ -100,6 +101,24 @@ leaf_next f row most target least next old new up is ascending at = row_next tar
     gone : (doc : ℕ) → target ≤ doc → IsPassed next doc → f old doc ≡ None
     gone doc from (inl low) = sym (row.alike target doc old from) ∙ ap (λ (es : List Entry). f es doc) (sym is) ∙ row.below doc new ascending (omega (arith, low, at))
     gone doc from (inr end) = sym (row.alike target doc old from) ∙ ap (λ (es : List Entry). f es doc) (sym is ∙ sym (nothing_left new ascending (omega (arith, end, at)))) ∙ row.none doc
+
+-- a cursor that skipped documents that score less
+pub leaf_skips : (f : List Entry → ℕ → Option ℕ) → IsRow f → (most target least next : ℕ) (old new : List Entry) → target ≤ next → next ≡ doc_at new → new ≡ from_doc next old → IsAscending new → ((doc : ℕ) → target ≤ doc → doc < next → IsBelow least (f old doc)) → IsNext target least (score_of (leaf_of (f old) most)) next
+leaf_skips f row most target least next old new low at is ascending passed = row_next target least next (f old) (record {
+  low = low;
+  up_to = let end = doc_below new ascending in omega (arith, at, end);
+  passed = λ doc from gone. by doc from gone;
+})
+  where
+    none : (doc : ℕ) → next ≤ doc → TERMINATED ≤ next → f old doc ≡ None
+    none doc above end = sym (row.alike next doc old above) ∙ ap (λ (es : List Entry). f es doc) (sym is ∙ sym (nothing_left new ascending (omega (arith, end, at)))) ∙ row.none doc
+
+    by : (doc : ℕ) → target ≤ doc → IsPassed next doc → IsBelow least (f old doc)
+    by doc from (inl before) = passed doc from before
+    by doc from (inr end) = elim (cases_lt doc next) [
+      | inl before ↦ passed doc from before
+      | inr above ↦ below_none least (f old doc) (none doc above end)
+    ]
 
 -- the scores from a document on, and none below
 pub leaf_keeps : (f g : ℕ → Option ℕ) (most from : ℕ) → ((doc : ℕ) → from ≤ doc → g doc ≡ f doc) → ((doc : ℕ) → doc < from → g doc ≡ None) → KeepsFrom from (leaf_of f most) (leaf_of g most)
@@ -188,3 +207,7 @@ pub phrase_opened : (index : OpenIndexState) (st : Statistics) (first : TermStat
 phrase_opened index st first others slop es parts norms w listed parts_are found made doc =
     ap (λ (id : ℕ). if_occurs (bm25_score w id) (phrase_count slop es parts doc)) (ap (λ (n : Option Norms). id_among n doc) found ∙ ids_among (body_of first.field index.fieldnorms) doc)
     ∙ phrase_same index st first others slop es parts w listed parts_are made doc
+
+-- what keeps the documents from one on keeps those from a later one on
+pub keeps_later : (from later : ℕ) (old new : ScorerState) → from ≤ later → KeepsFrom from old new → KeepsFrom later old new
+keeps_later from later old new up k = record { alike = λ doc above. k.alike doc (omega (arith, up, above)); most = k.most; depth = k.depth; bounded = k.bounded }

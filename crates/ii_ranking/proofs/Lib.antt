@@ -17,6 +17,7 @@ pub mod SegmentTokenLaws
 pub mod ShareEntryLemmas
 pub mod ShareLemmas
 pub mod ShareTokenLaws
+pub mod SkipLemmas
 pub mod StatisticsLemmas
 pub mod TokenLaws
 mod WorkedRows

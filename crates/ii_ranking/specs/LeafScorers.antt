@@ -1,12 +1,11 @@
 -- What documents score by the postings of a term, of a phrase, or of a range, that weren't passed.
-use Rattle.std.specs.Prelude.{ℕ, ◌*◌, ◌^◌, Option, None, Some, if◌then◌else◌, nat_lt}
+use Rattle.std.specs.Prelude.{ℕ, ◌*◌, ◌^◌, Option, None, Some, if◌then◌else◌}
 use Rattle.std.specs.Option.{option_map}
 use Rattle.ii_base.specs.Entries.{Entry}
 use Rattle.ii_base.specs.declared.doc_id.TheConstants.{TERMINATED}
 use Rattle.ii_bm25.specs.Bm25.{bm25_score}
 use Rattle.ii_bm25.specs.declared.bm25.TheConstants.{SCORE_ONE}
 use Rattle.ii_docset.specs.Intersection.{has_doc}
-use Rattle.ii_fieldnorm.specs.Readers.{Norms, id_of_doc}
 use Rattle.ii_query.specs.Phrase.{parts_in}
 use Rattle.ii_scorer.specs.Scorers.{ScorerState, scores_below}
 use Rattle.ii_ranking.specs.declared.leaf_scorer.LeafScorer.{LeafScorer}
@@ -14,16 +13,12 @@ use Rattle.ii_ranking.specs.declared.leaf_scorer.LeafScorer.TheVariants.{Term, P
 use Rattle.ii_ranking.specs.declared.found_scorer.FoundScorer.{FoundScorer}
 use Rattle.ii_ranking.specs.declared.phrase_scorer.PhraseScorer.{PhraseScorer}
 use Rattle.ii_ranking.specs.declared.term_scorer.TermScorer.{TermScorer}
+use Rattle.ii_ranking.specs.NormIds.{id_among}
 use Rattle.ii_ranking.specs.Scores.{entry_at, if_occurs, phrase_count}
-
--- the norm id of a document, that of the norm 1 where there is none for it
-abbrev pub id_among : Option Norms → ℕ → ℕ
-id_among None doc = 1
-id_among (Some norms) doc = if nat_lt doc norms.num_docs then id_of_doc norms doc else 1
 
 -- what a document scores by a term
 abbrev pub score_by_term : TermScorer → ℕ → Option ℕ
-score_by_term s doc = option_map (λ (e : Entry). bm25_score s.weight (id_among s.norms doc) e.term_freq) (entry_at s.cursor.rest doc)
+score_by_term s doc = option_map (λ (e : Entry). bm25_score s.by.weight (id_among s.by.norms doc) e.term_freq) (entry_at s.cursor.rest doc)
 
 -- what it scores by a phrase
 abbrev pub score_by_phrase : PhraseScorer → ℕ → Option ℕ
@@ -38,7 +33,7 @@ abbrev pub leaf_of : (ℕ → Option ℕ) → ℕ → ScorerState
 leaf_of f most = record { scores = scores_below TERMINATED f; most = most; depth = 0 }
 
 abbrev pub term_state : TermScorer → ScorerState
-term_state s = leaf_of (score_by_term s) (s.weight.weight * 2 ^ 16)
+term_state s = leaf_of (score_by_term s) (s.by.weight.weight * 2 ^ 16)
 
 abbrev pub phrase_state : PhraseScorer → ScorerState
 phrase_state s = leaf_of (score_by_phrase s) (s.weight.weight * 2 ^ 16)

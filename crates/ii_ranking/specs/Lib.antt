@@ -1,9 +1,11 @@
 pub mod Combinations
 pub mod LeafScorers
+pub mod NormIds
 pub mod OneIndex
 pub mod Scores
 pub mod Segments
 pub mod Shares
 pub mod Statistics
+pub mod TermWeights
 pub mod TokenCounts
 pub mod TokenScores

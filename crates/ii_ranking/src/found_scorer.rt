@@ -52,6 +52,10 @@ impl Scorer for FoundScorer {
         go_on(&mut self.cursor, target)
     }
 
+    fn skip_to_score(&mut self, target: DocId, least: Score) -> DocId {
+        self.seek_with_score(target, least)
+    }
+
     fn score_at(&mut self, doc: DocId, least: Score) -> Option<Score> {
         if go_on(&mut self.cursor, doc) != doc {
             return None;

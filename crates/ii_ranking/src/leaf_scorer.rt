@@ -35,6 +35,14 @@ impl Scorer for LeafScorer {
         }
     }
 
+    fn skip_to_score(&mut self, target: DocId, least: Score) -> DocId {
+        match self {
+            LeafScorer::Term(scorer) => scorer.skip_to_score(target, least),
+            LeafScorer::Phrase(scorer) => scorer.skip_to_score(target, least),
+            LeafScorer::Found(scorer) => scorer.skip_to_score(target, least),
+        }
+    }
+
     fn score_at(&mut self, doc: DocId, least: Score) -> Option<Score> {
         match self {
             LeafScorer::Term(scorer) => scorer.score_at(doc, least),

@@ -19,6 +19,7 @@ pub mod shares;
 pub mod statistics;
 mod term_scorer;
 pub mod term_scores;
+mod term_weight;
 
 pub use ii_bm25::{Bm25StatisticsProvider, SCORE_ONE, Score};
 pub use ii_scorer::TopDocs;

@@ -71,6 +71,10 @@ impl Scorer for PhraseScorer {
         self.first.go_to(target)
     }
 
+    fn skip_to_score(&mut self, target: DocId, least: Score) -> DocId {
+        self.seek_with_score(target, least)
+    }
+
     fn score_at(&mut self, doc: DocId, least: Score) -> Option<Score> {
         self.first.clear();
         if self.first.go_to(doc) != doc {

@@ -9,7 +9,7 @@ ghost use Rattle.ii_bm25.specs.Statistics.{Statistics, idfs_of};
 ghost use Rattle.ii_fieldnorm.specs.Readers.{norms_of_ids};
 ghost use Rattle.ii_query.specs.Phrase.{IsUnread, parts_in};
 ghost use Rattle.ii_ranking.specs.Combinations.{Adds};
-ghost use Rattle.ii_ranking.specs.LeafScorers.{id_among};
+ghost use Rattle.ii_ranking.specs.NormIds.{id_among};
 ghost use Rattle.ii_ranking.specs.Scores.{IsScoreFault, if_occurs, norm_id_in, norms_damage, parts_damage, parts_of, phrase_count, phrase_damage, phrase_score, scored_in};
 
 use crate::combination::add_at;

@@ -10,7 +10,7 @@ ghost use Rattle.ii_ranking.specs.TokenScores.{GivesBest, token_score};
 ghost use Rattle.ii_scorer.specs.TopDocs.{AreBest, scored_docs};
 ghost use Rattle.ii_scorer.specs.TopNComputer.{KeepsBest};
 
-use crate::clauses::has_few_clauses;
+use crate::clauses::goes_by_document;
 use crate::numbers::AllNumbers;
 use crate::opening::open_scorer;
 use crate::scores::score_docs;
@@ -61,7 +61,7 @@ fn push_docs<S: Bm25StatisticsProvider>(
     ensures sound { OnOk result (query_damage index.now query.now ≡ None) }
     ensures fault { IfErr result (IsScoreFault (query_damage index.now query.now)) }
 {
-    if has_few_clauses(query) {
+    if goes_by_document(statistics, query) {
         return push_one_by_one(alloc, index, num_docs, statistics, query, computer);
     }
     let scores = score_docs(alloc, index, num_docs, statistics, query)?;

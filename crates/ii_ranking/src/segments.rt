@@ -12,7 +12,7 @@ ghost use Rattle.ii_ranking.specs.TokenScores.{FailsForMemory, GivesBest, tokens
 ghost use Rattle.ii_scorer.specs.TopDocs.{AreBest};
 ghost use Rattle.ii_scorer.specs.TopNComputer.{KeepsBest};
 
-use crate::clauses::has_few_clauses;
+use crate::clauses::goes_by_document;
 use crate::numbers::LivingNumbers;
 use crate::opening::open_scorer;
 use crate::scores::score_docs;
@@ -91,7 +91,7 @@ fn add_segment<S: Bm25StatisticsProvider>(
     ensures memory { IfErr result (FailsForMemory query.now (length alive.now) index.now) }
 {
     let num_docs = alive.num_docs();
-    if has_few_clauses(query) {
+    if goes_by_document(statistics, query) {
         return add_one_by_one(alloc, index, alive, base, statistics, query, computer);
     }
     let scores = score_docs(alloc, index, num_docs, statistics, query)?;

@@ -11,7 +11,7 @@ ghost use Rattle.ii_fieldnorm.specs.Readers.{norms_of_ids};
 ghost use Rattle.ii_reader.specs.InvertedIndexReader.{IsRefusal};
 ghost use Rattle.ii_search.specs.Found.{docs_of_term};
 ghost use Rattle.ii_ranking.specs.Combinations.{Adds};
-ghost use Rattle.ii_ranking.specs.LeafScorers.{id_among};
+ghost use Rattle.ii_ranking.specs.NormIds.{id_among};
 ghost use Rattle.ii_ranking.specs.Scores.{IsAt, IsScoreFault, entry_at, norm_id_in, norms_damage, scored_in, term_damage, term_score};
 
 use crate::combination::add_at;

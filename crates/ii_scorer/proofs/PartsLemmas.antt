@@ -10,7 +10,7 @@ use Rattle.ii_scorer.specs.Scorers.{AreBounded, IsBelow, IsBounded, IsNext, IsUp
 use Rattle.ii_scorer.specs.QueryScorers.{PartsAreBounded, score_by_parts}
 use Rattle.ii_scorer.specs.declared.query_scorer.ScorerParts.{ScorerParts}
 use Rattle.ii_scorer.specs.declared.query_scorer.ScorerParts.TheVariants.{Nothing, One, All, Each, Any, Without}
-use Rattle.ii_scorer.proofs.ScorerLemmas.{any_up_to, each_up_to, up_to_more, up_to_unless, zip_bounded, zip_most, zip_scores}
+use Rattle.ii_scorer.proofs.ScorerLemmas.{any_up_to, below_if_up_to, each_up_to, up_to_more, up_to_unless, zip_bounded, zip_most, zip_scores}
 use Rattle.ii_scorer.proofs.SumLemmas.{any_cons, both_never}
 
 -- ---- scores below a number
@@ -85,6 +85,14 @@ parts_up_to state most (All limit) doc b = up_to_more SCORE_ONE most (if nat_lt 
 parts_up_to state most (Each parts) doc b = up_to_more (most_of parts.items) most (each_of (scores_at parts.items doc)) b.1 (each_up_to parts.items doc b.0)
 parts_up_to state most (Any parts sums) doc b = up_to_more (most_of parts.items) most (any_of (scores_at parts.items doc)) b.0.1 (any_up_to parts.items doc b.0.0)
 parts_up_to state most (Without first other) doc b = up_to_more first.value.most most (unless (score_of first.value doc) (score_of other.value doc)) b.1 (up_to_unless first.value.most (score_of first.value doc) (score_of other.value doc) (b.0.each doc))
+
+-- no document scores so much
+pub none_reaches : {T : Type 0} (state : T → ScorerState) (most target least : ℕ) (parts : ScorerParts T) → target ≤ TERMINATED → most < least → PartsAreBounded state most parts → IsNext target least (score_by_parts state parts) TERMINATED
+none_reaches state most target least parts up few b = record {
+  low = up;
+  up_to = omega arith;
+  passed = λ doc from passed. below_if_up_to most least (score_by_parts state parts doc) few (parts_up_to state most parts doc b);
+}
 
 pub view_bounded : {T : Type 0} (state : T → ScorerState) (most depth : ℕ) (parts : ScorerParts T) → most < 2 ^ 64 → PartsAreBounded state most parts → IsBounded (record { scores = scores_below TERMINATED (score_by_parts state parts); most = most; depth = depth })
 view_bounded state most depth parts few b = record {

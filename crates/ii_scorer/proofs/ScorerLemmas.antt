@@ -64,10 +64,6 @@ pub up_to_unless : (m : ℕ) (a b : Option ℕ) → IsUpTo m a → IsUpTo m (unl
 up_to_unless m a None up = up
 up_to_unless m a (Some t) up = tt
 
-pub below_unless : (least : ℕ) (a b : Option ℕ) → IsBelow least a → IsBelow least (unless a b)
-below_unless least a None below = below
-below_unless least a (Some t) below = tt
-
 -- ---- bounds of the scores of some scorers
 few_of : (ss : List ScorerState) → most_of ss < 2 ^ 64
 few_of [] = omega arith
@@ -273,9 +269,6 @@ pub depth_zipped : (doc : ℕ) (olds news : List ScorerState) (i : ℕ) (x : Sco
 depth_zipped doc olds news i x inside is z = let same = zip_depth doc olds news z in let deep = depth_inside news i x inside is in omega (arith, same, deep)
 
 -- ---- the next document
-pub next_if_any : (target least next : ℕ) (f : ℕ → Option ℕ) → IsNext target 0 f next → IsNext target least f next
-next_if_any target least next f is = record { low = is.low; up_to = is.up_to; passed = λ doc from passed. below_none least (f doc) (none_below (f doc) (is.passed doc from passed)) }
-
 -- one of some scorers passes documents, so all together do
 pub next_missing : (target next i : ℕ) (olds news : List ScorerState) (x : ScorerState) → i < length news → x ≡ get_or news i x → AllZip (KeepsFrom target) olds news → IsNext target 0 (score_of x) next → IsNext target 0 (λ (doc : ℕ). each_of (scores_at olds doc)) next
 next_missing target next i olds news x inside is z n =
@@ -285,15 +278,6 @@ next_missing target next i olds news x inside is z n =
       up_to = n.up_to;
       passed = λ doc from passed. below_none 0 (each_of (scores_at olds doc)) (each_missing olds i doc o.0 o.1 (sym (o.2.alike doc from) ∙ none_below (score_of x doc) (n.passed doc from passed)));
     }
-
--- each may give the document
-pub next_here : (target : ℕ) (ss : List ScorerState) → target ≤ TERMINATED → (0 < length ss → target < TERMINATED) → IsNext target 0 (λ (doc : ℕ). each_of (scores_at ss doc)) target
-next_here target ss up low = record { low = omega arith; up_to = up; passed = λ doc from passed. by ss low passed from }
-  where
-    by : (ts : List ScorerState) → (0 < length ts → target < TERMINATED) → {doc : ℕ} → IsPassed target doc → target ≤ doc → IsBelow 0 (each_of (scores_at ts doc))
-    by [] low passed from = tt
-    by (t ∷ ts) low (inl before) from = absurd (omega (arith, before, from))
-    by (t ∷ ts) low (inr end) from = let below = low (omega arith) in absurd (omega (arith, below, end))
 
 -- no scorer was asked yet
 pub passes_none : (k target : ℕ) (ss : List ScorerState) → target ≤ TERMINATED → PassesParts k k target TERMINATED ss

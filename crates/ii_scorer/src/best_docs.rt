@@ -50,7 +50,7 @@ pub fn push_best<T: Scorer, N: DocNumbers>(
     let mut doc = 0;
     while doc < num_docs {
         let least = computer.least_score(numbers.number(doc));
-        let next = scorer.seek_with_score(doc, least);
+        let next = scorer.skip_to_score(doc, least);
         if next >= num_docs.min(TERMINATED) {
             return Ok(());
         }

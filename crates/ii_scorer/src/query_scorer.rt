@@ -179,6 +179,10 @@ impl<T: Scorer> Scorer for QueryScorer<T> {
         self.go_to(target, least)
     }
 
+    fn skip_to_score(&mut self, target: DocId, least: Score) -> DocId {
+        skip_to(&mut self.parts, self.most, target, least)
+    }
+
     fn score_at(&mut self, doc: DocId, least: Score) -> Option<Score> {
         self.score(doc, least)
     }
@@ -233,6 +237,24 @@ fn next_of<T: Scorer>(parts: &mut ScorerParts<T>, most: Score, target: DocId, le
         ScorerParts::Any(parts, sums) => next_of_any(parts, sums, target, least),
         ScorerParts::Without(first, _) => first.go_to(target, least),
     }
+}
+
+// Returns such a document as `next_of` does. A scorer that isn't made of others may pass those before it.
+fn skip_to<T: Scorer>(parts: &mut ScorerParts<T>, most: Score, target: DocId, least: Score) -> DocId
+    requires up_to { target ≤ TERMINATED }
+    requires bounded { PartsAreBounded T.state most parts.old }
+    ensures next { IsNext target least (score_by_parts T.state parts.old) result }
+    ensures alike { (doc : ℕ) → result ≤ doc → score_by_parts T.state parts.new doc ≡ score_by_parts T.state parts.old doc }
+    ensures depth { depth_of parts.new ≡ depth_of parts.old }
+    ensures bounded { PartsAreBounded T.state most parts.new }
+{
+    let ScorerParts::One(scorer) = parts else {
+        return next_of(parts, most, target, least);
+    };
+    if least > most {
+        return TERMINATED;
+    }
+    scorer.skip_to_score(target, least)
 }
 
 // Returns the first document from `target` on that is below `limit`.

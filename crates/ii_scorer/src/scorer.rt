@@ -24,6 +24,13 @@ pub trait Scorer: Drop {
         ensures next { IsNext target least (score_of (state self.old)) result }
         ensures kept { KeepsFrom target (state self.old) (state self.new) };
 
+    /// Returns such a document as `seek_with_score` does, and may pass those before it, since they score less than
+    /// `least`. The target must be at most `TERMINATED`.
+    fn skip_to_score(&mut self, target: DocId, least: Score) -> DocId
+        requires { target ≤ TERMINATED }
+        ensures next { IsNext target least (score_of (state self.old)) result }
+        ensures kept { KeepsFrom result (state self.old) (state self.new) };
+
     /// Returns what a document scores, if that is at least `least`. Passes at most the documents below it.
     fn score_at(&mut self, doc: DocId, least: Score) -> Option<Score>
         requires { doc < TERMINATED }

@@ -26,8 +26,8 @@ returns-in_err-scores-clause-memory g c =
     let small : c.num_docs-num_docs.result < 2 ^ 32 = search rules in
     rw (p.1, p.2) (λ schema tokens holds fields. c.in_err-scores.ensures.holds schema (length c.args.alive.now) tokens holds (omega (arith, many)) (omega (arith, many, small)) fields)
 
-pub returns-then-has_few_clauses-clause-memory : goal.returns-then-has_few_clauses-clause-memory
-returns-then-has_few_clauses-clause-memory g c =
+pub returns-then-goes_by_document-clause-memory : goal.returns-then-goes_by_document-clause-memory
+returns-then-goes_by_document-clause-memory g c =
     let many = c.num_docs-num_docs.ensures in
     let small : c.num_docs-num_docs.result < 2 ^ 32 = search rules in
     err_then c.add_one_by_one.result c.add_one_by_one.ensures.fault

@@ -11,14 +11,14 @@ returns-then-next-min-clause-kept g c = λ scored h.
     let l = c.loop-doc in
     let n = g.N.DocNumbers.numbering c.args.numbers.now in
     let f = score_of (g.T.Scorer.state c.args.scorer.now) in
-    let next = c.seek_with_score-next.result in
+    let next = c.skip_to_score-next.result in
     let end = c.if-next-min.true in
     let many = c.num_docs-num_docs.ensures in
     let least = c.min.ensures in
     passes_to n f scored l.computer c.least_score-least.result l.doc n.num_docs (search rules) l.invariant.inside
     (λ d from inside. (
       c.requires.fit d inside,
-      subst (IsBelow c.least_score-least.result) (l.invariant.alike d from) (c.seek_with_score-next.ensures.next.passed d from (past_end next n.num_docs d (omega (arith, end, many, least)) inside)),
+      subst (IsBelow c.least_score-least.result) (l.invariant.alike d from) (c.skip_to_score-next.ensures.next.passed d from (past_end next n.num_docs d (omega (arith, end, many, least)) inside)),
       λ k low. c.least_score-least.ensures k (n.number d) low (subst (λ (m : ℕ). m ≤ n.number d) (sym c.number.ensures) (c.requires.ascend l.doc d from inside)),
     ))
     (l.invariant.kept scored h)
@@ -28,25 +28,25 @@ loop-doc-preserved g c =
     let l = c.loop-doc in
     let n = g.N.DocNumbers.numbering c.args.numbers.now in
     let f = score_of (g.T.Scorer.state c.args.scorer.now) in
-    let next = c.seek_with_score-next.result in
-    let up = c.seek_with_score-next.ensures.next.low in
+    let next = c.skip_to_score-next.result in
+    let up = c.skip_to_score-next.ensures.next.low in
     let many = c.num_docs-num_docs.ensures in
     let least = c.min.ensures in
     let before = c.if-next-min.false in
     let inside : next < n.num_docs = omega (arith, many, least, before) in
     let low : next < TERMINATED = omega (arith, least, before) in
-    let sought : (d : ℕ) → l.doc ≤ d → score_of (g.T.Scorer.state c.seek_with_score-next.new.self) d ≡ f d = λ d from. c.seek_with_score-next.ensures.kept.alike d from ∙ l.invariant.alike d from in
+    let sought : (d : ℕ) → next ≤ d → score_of (g.T.Scorer.state c.skip_to_score-next.new.self) d ≡ f d = λ d from. c.skip_to_score-next.ensures.kept.alike d from ∙ l.invariant.alike d (omega (arith, from, up)) in
     record {
       low = omega (arith, low);
       inside = omega (arith, inside);
-      alike = λ d from. c.push_doc.ensures.moved.alike d (omega (arith, from)) ∙ sought d (omega (arith, from, up));
+      alike = λ d from. c.push_doc.ensures.moved.alike d (omega (arith, from)) ∙ sought d (omega (arith, from));
       kept = λ scored h.
-          numbered_more n f (score_of (g.T.Scorer.state c.seek_with_score-next.new.self)) scored next c.push_doc.new.computer (sought next up)
+          numbered_more n f (score_of (g.T.Scorer.state c.skip_to_score-next.new.self)) scored next c.push_doc.new.computer (sought next (omega arith))
           (c.in_ok-push_doc.ensures.kept (scored ++ first_numbered n next f)
           (passes_to n f scored l.computer c.least_score-least.result l.doc next (search rules) up
           (λ d from below. (
             c.requires.fit d (omega (arith, below, inside)),
-            subst (IsBelow c.least_score-least.result) (l.invariant.alike d from) (c.seek_with_score-next.ensures.next.passed d from (inl below)),
+            subst (IsBelow c.least_score-least.result) (l.invariant.alike d from) (c.skip_to_score-next.ensures.next.passed d from (inl below)),
             λ k less. c.least_score-least.ensures k (n.number d) less (subst (λ (m : ℕ). m ≤ n.number d) (sym c.number.ensures) (c.requires.ascend l.doc d from (omega (arith, below, inside)))),
           ))
           (l.invariant.kept scored h)));

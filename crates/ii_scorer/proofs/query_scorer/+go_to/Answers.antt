@@ -1,7 +1,7 @@
 use Rattle.std.proofs.Common.{◌≡◌, ◌∙◌, ◌+◌, ◌-◌, ◌<◌, ℕ, List, arith, get_or, length, min, refl, rules, subst, sym, ap}
 use Rattle.ii_scorer.specs.QueryScorers.{depth_of, score_by_parts}
-use Rattle.ii_scorer.proofs.PartsLemmas.{parts_up_to, row_alike, row_next, view_bounded, zip_any, zip_are_bounded, zip_each}
-use Rattle.ii_scorer.proofs.ScorerLemmas.{below_if_up_to, depth_zipped, next_missing, PassesParts, passes_any, passes_next, passes_none, sums_long, zip_depth, zip_same, zip_set, zip_sums}
+use Rattle.ii_scorer.proofs.PartsLemmas.{none_reaches, row_alike, row_next, view_bounded, zip_any, zip_are_bounded, zip_each}
+use Rattle.ii_scorer.proofs.ScorerLemmas.{depth_zipped, next_missing, PassesParts, passes_any, passes_next, passes_none, sums_long, zip_depth, zip_same, zip_set, zip_sums}
 use Rattle.ii_scorer.proofs.query_scorer.+go_to.Goals as goal
 
 pub QueryScorer::go_to-returns-clause-next : goal.QueryScorer::go_to-returns-clause-next
@@ -60,11 +60,7 @@ meet-loop-place-preserved g t c =
     }
 
 pub next_of-returns-then-most-least-clause-next : goal.next_of-returns-then-most-least-clause-next
-next_of-returns-then-most-least-clause-next g t c = record {
-  low = c.requires.up_to;
-  up_to = omega arith;
-  passed = λ doc from passed. below_if_up_to c.args.most c.args.least (score_by_parts g.T.Scorer.state c.args.parts.now doc) c.if-most-least.true (parts_up_to g.T.Scorer.state c.args.most c.args.parts.now doc c.requires.bounded);
-}
+next_of-returns-then-most-least-clause-next g t c = none_reaches g.T.Scorer.state c.args.most c.args.target c.args.least c.args.parts.now c.requires.up_to c.if-most-least.true c.requires.bounded
 
 pub next_of-returns-in-Each-clause-alike : goal.next_of-returns-in-Each-clause-alike
 next_of-returns-in-Each-clause-alike g t c = λ doc from. rw c.in-Each.is (zip_each c.args.target doc c.in-Each.parts.items c.meet.new.parts.items from c.meet.ensures.kept)

@@ -2,7 +2,7 @@ use Rattle.std.proofs.Common.{◌∙◌, ℕ, Option, refl}
 use Rattle.ii_base.specs.Entries.{Entry}
 use Rattle.ii_bm25.specs.Bm25.{bm25_score}
 use Rattle.ii_query.specs.Phrase.{parts_in}
-use Rattle.ii_ranking.specs.LeafScorers.{id_among}
+use Rattle.ii_ranking.specs.NormIds.{id_among}
 use Rattle.ii_ranking.proofs.LeafLemmas.{entry_row, phrase_opened, row_ends}
 use Rattle.ii_ranking.proofs.PhraseScoreLemmas.{starts_score}
 use Rattle.ii_ranking.proofs.phrase_scorer.PhraseScorer.open.Goals as goal

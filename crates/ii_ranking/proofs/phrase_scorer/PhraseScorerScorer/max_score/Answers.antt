@@ -2,7 +2,8 @@ use Rattle.std.proofs.Common.{◌≡◌, ◌∙◌, ◌*◌, ◌^◌, ◌<◌, �
 use Rattle.ii_base.specs.Entries.{Entry}
 use Rattle.ii_bm25.specs.Bm25.{bm25_score}
 use Rattle.ii_query.specs.Phrase.{parts_in}
-use Rattle.ii_ranking.specs.LeafScorers.{id_among, score_by_phrase}
+use Rattle.ii_ranking.specs.LeafScorers.{score_by_phrase}
+use Rattle.ii_ranking.specs.NormIds.{id_among}
 use Rattle.ii_ranking.specs.Scores.{phrase_count}
 use Rattle.ii_ranking.proofs.LeafLemmas.{leaf_bounded, occurs_up_to}
 use Rattle.ii_ranking.proofs.phrase_scorer.PhraseScorerScorer.max_score.Goals as goal

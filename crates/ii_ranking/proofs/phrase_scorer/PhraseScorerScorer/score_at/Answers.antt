@@ -4,7 +4,8 @@ use Rattle.ii_bm25.specs.Bm25.{bm25_score}
 use Rattle.ii_query.specs.Phrase.{PhrasePartState, parts_in}
 use Rattle.ii_docset.specs.Cursor.{doc_at, from_doc}
 use Rattle.ii_query.proofs.ReadsLemmas.{cleared_from, cleared_parts}
-use Rattle.ii_ranking.specs.LeafScorers.{id_among, score_by_phrase}
+use Rattle.ii_ranking.specs.LeafScorers.{score_by_phrase}
+use Rattle.ii_ranking.specs.NormIds.{id_among}
 use Rattle.ii_ranking.specs.Scores.{entry_at}
 use Rattle.ii_ranking.proofs.LeafLemmas.{entry_passed, entry_row, leaf_here, leaf_keeps, leaf_none, leaf_went}
 use Rattle.ii_ranking.proofs.PhraseScoreLemmas.{moved_on, moved_same, starts_here, starts_moved, starts_score}

@@ -1,9 +1,9 @@
-use Rattle.std.proofs.Common.{◌≡◌, ◌∙◌, ◌*◌, ◌^◌, ◌<◌, ◌≤◌, ℕ, List, Option, ap, arith, refl, rules, subst, sym}
+use Rattle.std.proofs.Common.{◌∙◌, ◌*◌, ◌^◌, ℕ, Option, ap, refl}
 use Rattle.ii_base.specs.Entries.{Entry}
 use Rattle.ii_bm25.specs.Bm25.{bm25_score}
 use Rattle.ii_query.specs.Phrase.{parts_in}
 use Rattle.ii_docset.specs.Cursor.{from_doc}
-use Rattle.ii_ranking.specs.LeafScorers.{id_among, score_by_phrase}
+use Rattle.ii_ranking.specs.NormIds.{id_among}
 use Rattle.ii_ranking.proofs.LeafLemmas.{entry_row, leaf_next, leaf_went}
 use Rattle.ii_ranking.proofs.PhraseScoreLemmas.{starts_score}
 use Rattle.ii_ranking.proofs.phrase_scorer.PhraseScorerScorer.seek_with_score.Goals as goal

@@ -1,5 +1,6 @@
 use Rattle.std.proofs.Common.{◌<◌, ◌≤◌, ◌*◌, ◌^◌, ℕ, rules, subst}
-use Rattle.ii_ranking.specs.LeafScorers.{id_among, score_by_term}
+use Rattle.ii_ranking.specs.LeafScorers.{score_by_term}
+use Rattle.ii_ranking.specs.NormIds.{id_among}
 use Rattle.ii_bm25.specs.Bm25.{bm25_score}
 use Rattle.ii_ranking.specs.Scores.{entry_at}
 use Rattle.ii_ranking.proofs.LeafLemmas.{entry_up_to, leaf_bounded}
@@ -8,6 +9,6 @@ use Rattle.ii_ranking.proofs.term_scorer.TermScorerScorer.max_score.Goals as goa
 pub returns-clause-bounded : goal.returns-clause-bounded
 returns-clause-bounded c =
     let s = c.args.self.now in
-    let most = s.weight.weight * 2 ^ 16 in
+    let most = s.by.weight.weight * 2 ^ 16 in
     let few : most < 2 ^ 64 = search rules in
-    leaf_bounded (score_by_term s) most few (λ doc. entry_up_to (λ (count : ℕ). bm25_score s.weight (id_among s.norms doc) count) most (entry_at s.cursor.rest doc) (λ count. subst (λ (m : ℕ). bm25_score s.weight (id_among s.norms doc) count ≤ m) c.max_score.ensures.value (c.max_score.ensures.bounds (id_among s.norms doc) count)))
+    leaf_bounded (score_by_term s) most few (λ doc. entry_up_to (λ (count : ℕ). bm25_score s.by.weight (id_among s.by.norms doc) count) most (entry_at s.cursor.rest doc) (λ count. subst (λ (m : ℕ). bm25_score s.by.weight (id_among s.by.norms doc) count ≤ m) c.max_score.ensures.value (c.max_score.ensures.bounds (id_among s.by.norms doc) count)))

@@ -1,0 +1,10 @@
+use Rattle.std.proofs.Common.{◌-◌}
+use Rattle.ii_base.specs.declared.doc_id.TheConstants.{TERMINATED}
+use Rattle.ii_ranking.specs.TermWeights.{SkipsLess, score_by_entry}
+use Rattle.ii_ranking.proofs.term_scorer.go_to_score.Given as goal
+
+abbrev pub decreases-loop-doc : goal.decreases-loop-doc
+decreases-loop-doc l = TERMINATED - l.doc
+
+abbrev pub invariant-loop-doc : goal.invariant-loop-doc
+invariant-loop-doc l = SkipsLess (score_by_entry l.by) l.target l.least l.doc l.fn.cursor.rest l.cursor.rest
