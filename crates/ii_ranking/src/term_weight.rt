@@ -18,6 +18,8 @@ const DOCS_FOR_NORMS: u32 = 8;
 pub(crate) struct TermWeight {
     weight: Bm25Weight,
     norms: Option<FieldNormReader>,
+    // how many documents have the term, until the norms are read
+    doc_freq: Option<u32>,
     // no document has a smaller norm id, if it is known
     least_id: Option<u8>,
     // a document with a count below `least_freq` scores less than `least`
@@ -44,11 +46,11 @@ impl TermWeight {
     ) -> TermWeight
         ensures { result ≡ record { weight = weight; norms = norms } }
     {
-        let least_id = least_id_of(&norms, doc_freq);
         TermWeight {
             weight,
             norms,
-            least_id,
+            doc_freq: Some(doc_freq),
+            least_id: None,
             least: 0,
             least_freq: 0,
         }
@@ -69,11 +71,16 @@ impl TermWeight {
         self.weight.score(norm_id(&self.norms, doc), term_freq)
     }
 
-    // Returns a count such that each document with a smaller one scores less than `least`.
+    // Returns a count such that each document with a smaller one scores less than `least`. The first call may read the
+    // norms.
     pub(crate) fn least_term_freq(&mut self, least: Score) -> u32
         ensures same { self.new ≡ self.old }
         ensures freq { IsFreqFor self.new least result }
     {
+        if let Some(doc_freq) = self.doc_freq {
+            self.least_id = least_id_of(&self.norms, doc_freq);
+            self.doc_freq = None;
+        }
         let Some(id) = self.least_id else {
             return 0;
         };
