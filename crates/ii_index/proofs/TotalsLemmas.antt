@@ -5,7 +5,7 @@ use Rattle.ii_io.specs.declared.faults.Part.{Part}
 use Rattle.ii_ranking.specs.Scores.{first_of}
 use Rattle.ii_index.specs.Searching.{totals_view}
 use Rattle.ii_index.specs.Statistics.{counts_damage, damage_in, num_tokens_of, tokens_in}
-use Rattle.ii_statistics.proofs.CountLemmas.{mapped_at}
+use Rattle.ii_definitions.proofs.ListLaws.{mapped_at}
 use Rattle.ii_index.proofs.OpenLemmas.{SegmentTotals}
 
 module _ (all : List SegmentTotals) where

@@ -1,7 +1,8 @@
 use Rattle.std.proofs.Common.{◌+◌, ◌<◌, arith, drop, length, map}
 use Rattle.std.proofs.lemmas.List.{drop_all}
 use Rattle.ii_segment_search.specs.Searcher.{OpenSegmentState}
-use Rattle.ii_statistics.proofs.CountLemmas.{dropped_at, mapped_at}
+use Rattle.ii_definitions.proofs.ListLaws.{mapped_at}
+use Rattle.ii_statistics.proofs.CountLemmas.{dropped_at}
 use Rattle.ii_statistics.proofs.ListedLemmas.{all_dropped}
 use Rattle.nequllpa_searching.specs.OpenedNumbers.{open_segment}
 use Rattle.nequllpa_searching.proofs.TotalsLemmas.{tokens_all, tokens_known, tokens_next, tokens_refused}

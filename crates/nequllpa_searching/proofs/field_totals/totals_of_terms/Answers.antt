@@ -3,7 +3,7 @@ use Rattle.std.proofs.lemmas.List.{drop_all, length-map}
 use Rattle.ii_base.specs.Terms.{TermState}
 use Rattle.ii_ranking.specs.Scores.{IsScoreFault}
 use Rattle.ii_statistics.specs.Listed.{HaveField}
-use Rattle.ii_statistics.proofs.CountLemmas.{mapped_at}
+use Rattle.ii_definitions.proofs.ListLaws.{mapped_at}
 use Rattle.ii_statistics.proofs.ListedLemmas.{all_dropped}
 use Rattle.nequllpa_searching.specs.OpenedNumbers.{has_total, knows_tokens, open_segment}
 use Rattle.nequllpa_searching.proofs.TotalsLemmas.{totalling_next, totalling_refused, totals_all, totals_sound, unless_known}
