@@ -31,6 +31,7 @@ pub fn unions_pass_what_scores_less<T: Scorer>(
 }
 
 // The first documents, all of which count, each by its own number.
+#[derive(Clone, Copy)]
 struct FirstDocs {
     num_docs: DocId,
 }
