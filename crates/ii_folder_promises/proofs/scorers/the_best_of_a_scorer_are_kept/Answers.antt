@@ -11,14 +11,14 @@ push_best-requires g c =
 
 pub returns-in-Ok-clause-scores : goal.returns-in-Ok-clause-scores
 returns-in-Ok-clause-scores g c =
-    let score = score_of (g.T.Scorer.state c.args.scorer) in
+    let score = score_of (g.T.Scorer.state c.args.scorer.now) in
     gives_scored c.args.limit c.args.num_docs score c.best_of.result
     (given_best c.args.limit (scored_docs c.args.num_docs score) c.best_of.result
     (rw c.with_limit-docs.ensures at (c.best_of.ensures.best (scored_docs c.args.num_docs score) (c.in-Ok.ensures.kept [] c.computer-computer.ensures.none))) c.best_of.ensures.only)
 
 pub returns-in-Ok-clause-many : goal.returns-in-Ok-clause-many
 returns-in-Ok-clause-many g c =
-    let score = score_of (g.T.Scorer.state c.args.scorer) in
+    let score = score_of (g.T.Scorer.state c.args.scorer.now) in
     gives_many c.args.limit c.args.num_docs score (λ doc. is_some (score doc)) c.best_of.result
     (given_best c.args.limit (scored_docs c.args.num_docs score) c.best_of.result
     (rw c.with_limit-docs.ensures at (c.best_of.ensures.best (scored_docs c.args.num_docs score) (c.in-Ok.ensures.kept [] c.computer-computer.ensures.none))) c.best_of.ensures.only)
@@ -26,7 +26,7 @@ returns-in-Ok-clause-many g c =
 
 pub returns-in-Ok-clause-greatest : goal.returns-in-Ok-clause-greatest
 returns-in-Ok-clause-greatest g c =
-    let score = score_of (g.T.Scorer.state c.args.scorer) in
+    let score = score_of (g.T.Scorer.state c.args.scorer.now) in
     gives_greatest c.args.limit c.args.num_docs score c.best_of.result
     (given_best c.args.limit (scored_docs c.args.num_docs score) c.best_of.result
     (rw c.with_limit-docs.ensures at (c.best_of.ensures.best (scored_docs c.args.num_docs score) (c.in-Ok.ensures.kept [] c.computer-computer.ensures.none))) c.best_of.ensures.only)
