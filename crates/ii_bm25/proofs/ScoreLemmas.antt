@@ -130,11 +130,3 @@ searches_above weight length least low high middle some inside less s = record {
   below = λ fewer few. let up = rises_and_falls.rises weight fewer middle length some (omega (arith, few)) in omega (arith, up, less);
   reached = s.reached;
 }
-
-pub searches_below : (weight length least low high middle : ℕ) → low ≤ middle → middle < high → least ≤ score weight middle length → IsSearching weight length least low high → IsSearching weight length least low middle
-searches_below weight length least low high middle up inside more s = record {
-  order = up;
-  fits = let few = s.fits in omega (arith, few, inside);
-  below = s.below;
-  reached = λ few. more;
-}
