@@ -55,6 +55,18 @@ impl Model for OpenIndex {
 }
 
 impl OpenIndex {
+    /// Holds the readers of the fields of a schema, in their order, and their norms. There must be fewer than 2^32
+    /// readers.
+    pub fn new(readers: Vec<InvertedIndexReader>, fieldnorms: FieldNormReaders) -> OpenIndex
+        requires { length readers.items < 2 ^ 32 }
+        ensures { result ≡ record { readers = readers.items; fieldnorms = fieldnorms } }
+    {
+        OpenIndex {
+            readers,
+            fieldnorms,
+        }
+    }
+
     /// Returns the reader of a field of the schema.
     pub fn reader(&self, field: Field) -> &InvertedIndexReader
         requires { field < length self.now.readers }
@@ -211,10 +223,7 @@ fn open_files(
     let files = IndexFiles::open(alloc, terms, postings, positions)?;
     let fieldnorms = open_norms(alloc, fieldnorms)?;
     let readers = files.open_fields(alloc, schema)?;
-    Ok(OpenIndex {
-        readers,
-        fieldnorms,
-    })
+    Ok(OpenIndex::new(readers, fieldnorms))
 }
 
 // Opens the norms of all fields.
