@@ -73,19 +73,6 @@ one_place segments (x ∷ b1) a1 (y ∷ b2) a2 s1 s2 d1 d2 number first other l1
     let living : num_living x.alive ≡ num_living y.alive = ap (λ (t : OpenSegmentState). num_living t.alive) heads in
     one_place (b1 ++ s1 ∷ a1) b1 a1 b2 a2 s1 s2 d1 d2 (total_living b1 + rank s1.alive d1) refl tails l1 l2 refl (omega (arith, living, n1, n2))
 
--- what a segment says of the document with a number is said of it
-at_place : (statistics : Statistics) (q : QueryTree) (segments : List OpenSegmentState) (number : ℕ) (s : OpenSegmentState) (doc : ℕ) (shares : List ShareState) → IsDocAt segments number s doc
-    → shares ≡ tree_shares (scored_in s.index statistics) q doc → AreSharesAt statistics q segments number shares
-at_place statistics q segments number s doc shares at are = λ before after t other whole living number_is.
-    let same = one_place segments at.before at.after before after s t doc other number at.whole whole at.living living at.number_is number_is in
-    are ∙ (λ j. tree_shares (scored_in (same.0 j).index statistics) q (same.1 j))
-
--- the same of what was returned
-pub explained_at : (statistics : Statistics) (q : QueryTree) (segments : List OpenSegmentState) (number : ℕ) (s : OpenSegmentState) (doc : ℕ) (r : Result (Vec Share Global) Fault) → IsDocAt segments number s doc
-    → IfOk r (λ shares. map share_of shares.items ≡ tree_shares (scored_in s.index statistics) q doc) → IfOk r (λ shares. AreSharesAt statistics q segments number (map share_of shares.items))
-explained_at statistics q segments number s doc (Ok shares) at are = at_place statistics q segments number s doc (map share_of shares.items) at are
-explained_at statistics q segments number s doc (Err fault) at are = tt
-
 -- a document's number is below that of all living documents
 below_all : (segments before after : List OpenSegmentState) (s : OpenSegmentState) (doc : ℕ) → segments ≡ before ++ s ∷ after → is_living s.alive doc ≡ true → total_living before + rank s.alive doc < total_living segments
 below_all segments [] after s doc whole living = let low = rank_below s.alive doc living in let all = ap total_living whole in omega (arith, low, all)
@@ -94,11 +81,33 @@ below_all segments (x ∷ before) after s doc whole living =
     let all = ap total_living whole in
     omega (arith, rest, all)
 
+-- what a segment says of the document with a number is said of it
+at_place : (statistics : Statistics) (q : QueryTree) (segments : List OpenSegmentState) (number : ℕ) (s : OpenSegmentState) (doc : ℕ) (shares : List ShareState) → IsDocAt segments number s doc
+    → shares ≡ tree_shares (scored_in s.index statistics) q doc → AreSharesAt statistics q segments number shares
+at_place statistics q segments number s doc shares at are = record {
+  here = λ before after t other whole living number_is.
+      let same = one_place segments at.before at.after before after s t doc other number at.whole whole at.living living at.number_is number_is in
+      are ∙ (λ j. tree_shares (scored_in (same.0 j).index statistics) q (same.1 j));
+  none = λ high.
+      let low = below_all segments at.before at.after s doc at.whole at.living in
+      let number_is = at.number_is in
+      absurd (omega (arith, low, number_is, high));
+}
+
+-- the same of what was returned
+pub explained_at : (statistics : Statistics) (q : QueryTree) (segments : List OpenSegmentState) (number : ℕ) (s : OpenSegmentState) (doc : ℕ) (r : Result (Vec Share Global) Fault) → IsDocAt segments number s doc
+    → IfOk r (λ shares. map share_of shares.items ≡ tree_shares (scored_in s.index statistics) q doc) → IfOk r (λ shares. AreSharesAt statistics q segments number (map share_of shares.items))
+explained_at statistics q segments number s doc (Ok shares) at are = at_place statistics q segments number s doc (map share_of shares.items) at are
+explained_at statistics q segments number s doc (Err fault) at are = tt
+
 -- a number that no document has
-pub no_place : (statistics : Statistics) (q : QueryTree) (segments : List OpenSegmentState) (number : ℕ) (shares : List ShareState) → total_living segments ≤ number → AreSharesAt statistics q segments number shares
-no_place statistics q segments number shares high = λ before after s doc whole living number_is.
-    let low = below_all segments before after s doc whole living in
-    absurd (omega (arith, low, number_is, high))
+pub no_place : (statistics : Statistics) (q : QueryTree) (segments : List OpenSegmentState) (number : ℕ) (shares : List ShareState) → total_living segments ≤ number → shares ≡ [] → AreSharesAt statistics q segments number shares
+no_place statistics q segments number shares high empty = record {
+  here = λ before after s doc whole living number_is.
+      let low = below_all segments before after s doc whole living in
+      absurd (omega (arith, low, number_is, high));
+  none = λ _. empty;
+}
 
 -- ---- what is damaged of a document's segment
 -- the segment after others has the numbers from that of its first document on
@@ -178,7 +187,7 @@ module _ (statistics : Statistics) (query : Query) (all : List OpenSegmentState)
     one_adds doc false is score scored = All-nil AddsUp
     one_adds doc true is None scored = All-nil AddsUp
     one_adds doc true is (Some score) scored = All-from_recursion AddsUp ((score, base + rank s.alive doc) ∷ []) (
-      (λ shares are. ap total (are before after s doc whole is (ap (λ (n : ℕ). n + rank s.alive doc) base_is)) ∙ sym (shares_add_up (scored_in s.index statistics) (tree_of query) doc) ∙ scored),
+      (λ shares are. ap total (are.here before after s doc whole is (ap (λ (n : ℕ). n + rank s.alive doc) base_is)) ∙ sym (shares_add_up (scored_in s.index statistics) (tree_of query) doc) ∙ scored),
       tt,
     )
 

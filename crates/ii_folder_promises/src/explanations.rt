@@ -82,3 +82,21 @@ pub fn the_shares_of_the_best_of_an_index_add_up<'q>(
     let shares = searcher.explain(alloc, query, number)?;
     Ok(Some((score, shares)))
 }
+
+/// A number that no document of an index has is that of a document without shares. Returns how many shares the
+/// document with a number has, or `None` if there is such a document.
+pub fn numbers_of_no_document_have_no_shares(
+    alloc: Global,
+    searcher: &Searcher,
+    query: &Query,
+    number: DocId,
+) -> Result<Option<usize>, Fault>
+    requires { has_fields searcher.now.num_fields query.now ≡ true }
+    ensures { IfOk result (λ found. IfSome found (λ n. n ≡ 0)) }
+{
+    if number < searcher.num_docs() {
+        return Ok(None);
+    }
+    let shares = searcher.explain(alloc, query, number)?;
+    Ok(Some(shares.len()))
+}

@@ -102,7 +102,10 @@ module _ (a b : Statistics) (docs : a.num_docs ≡ b.num_docs) (query : Query) (
       zip_weaker (IsExplained a query segments is_json entries) (IsExplained b query segments is_json entries) best texts
       (λ one text h. record {
         shares = h.shares;
-        are = λ before after s doc is lives number. h.are before after s doc is lives number ∙ same_shares_in a b docs query same s doc;
+        are = record {
+          here = λ before after s doc is lives number. h.are.here before after s doc is lives number ∙ same_shares_in a b docs query same s doc;
+          none = h.are.none;
+        };
         sum = h.sum;
         prints = h.prints;
       }) all

@@ -84,7 +84,7 @@ returns-clause-shares g c =
     let end = c.loop-place-test.false in
     let living : total_living (take c.loop-place.place all) ≡ total_living all = ap total_living (take_all c.loop-place.place all (omega (arith, many, end))) in
     let number_is = c.loop-place.invariant in
-    no_place (g.S.Bm25StatisticsProvider.statistics c.args.statistics.now) (tree_of c.args.query.now) all c.args.number (map share_of c.new.result.items) (omega (arith, living, number_is))
+    no_place (g.S.Bm25StatisticsProvider.statistics c.args.statistics.now) (tree_of c.args.query.now) all c.args.number (map share_of c.new.result.items) (omega (arith, living, number_is)) (ap (map share_of) c.new.ensures.items)
 
 pub returns-clause-sum : goal.returns-clause-sum
 returns-clause-sum g c =
@@ -94,7 +94,7 @@ returns-clause-sum g c =
     let living : total_living (take c.loop-place.place all) ≡ total_living all = ap total_living (take_all c.loop-place.place all (omega (arith, many, end))) in
     let st = g.S.Bm25StatisticsProvider.statistics c.args.statistics.now in
     let number_is = c.loop-place.invariant in
-    sum_of st c.args.query.now all c.args.number (Ok c.new.result) (no_place st (tree_of c.args.query.now) all c.args.number (map share_of c.new.result.items) (omega (arith, living, number_is)))
+    sum_of st c.args.query.now all c.args.number (Ok c.new.result) (no_place st (tree_of c.args.query.now) all c.args.number (map share_of c.new.result.items) (omega (arith, living, number_is)) (ap (map share_of) c.new.ensures.items))
 
 pub returns-clause-sound : goal.returns-clause-sound
 returns-clause-sound g c =
