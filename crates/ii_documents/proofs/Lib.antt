@@ -3,7 +3,8 @@ mod FloatLemmas
 mod JsonLemmas
 mod LineFieldsLemmas
 mod LineLemmas
-mod RecordLemmas
+mod LinePlaceLemmas
 pub mod NumberLaws
+mod RecordLemmas
 mod UnknownLemmas
 mod WorkedRows

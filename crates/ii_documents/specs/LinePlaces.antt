@@ -2,12 +2,21 @@
 use Rattle.std.specs.Prelude.{◌≡◌, ◌-◌, ℕ, Bool, true, false, List, [], ◌∷◌, ◌++◌, decimal, if◌then◌else◌, length, nat_eq, take}
 use Rattle.std.specs.List.{ends_with}
 use Rattle.std.specs.Str.{IsTrimAscii, IsTrimAsciiEnd}
+use Rattle.std.specs.Str.Parse.{IsNumeral, digits_value, without_leading_plus}
 use Rattle.serde_json.specs.Data.{string}
 use Rattle.serde_json.specs.Written.{compact_text}
 
 -- the text of a place: a file, a number of a line and a byte, with colons between them
 abbrev pub place_text : List ℕ → ℕ → ℕ → List ℕ
 place_text file line byte = file ++ 58 ∷ (decimal line ++ 58 ∷ decimal byte)
+
+-- Digits are those of a number, perhaps after a plus.
+abbrev pub Spells : List ℕ → ℕ → Type 0
+Spells text n = IsNumeral 10 (without_leading_plus text) × (digits_value 10 (without_leading_plus text) ≡ n)
+
+-- A text names a file, a number of a line and a byte, with colons between them.
+abbrev pub IsPlaceOf : List ℕ → List ℕ → ℕ → ℕ → Type 0
+IsPlaceOf text file line byte = (first second : List ℕ) × (text ≡ file ++ 58 ∷ (first ++ 58 ∷ second)) × Spells first line × Spells second byte
 
 -- a comma after members; none after the brace that an object begins with
 abbrev pub comma_after : List ℕ → List ℕ

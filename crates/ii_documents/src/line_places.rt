@@ -1,7 +1,7 @@
 //! Where lines are: in a file, at the number of a line, from a byte on.
-ghost use Rattle.std.specs.Prelude.{◌≡◌, ◌++◌, IfOk, OnOk, string_bytes};
+ghost use Rattle.std.specs.Prelude.{◌≡◌, ◌<◌, ◌^◌, ◌++◌, ◌∷◌, ℕ, List, IfOk, IfSome, IsSomeAnd, OnOk, decimal, string_bytes};
 ghost use Rattle.ii_io.specs.Faults.{OnlyMemory};
-ghost use Rattle.ii_documents.specs.LinePlaces.{HasLastMember, HasMember, comma_after, last_member, place_text};
+ghost use Rattle.ii_documents.specs.LinePlaces.{HasLastMember, HasMember, IsPlaceOf, Spells, comma_after, last_member, place_text};
 
 use crate::line_fields::quoted;
 use ii_base::Fault;
@@ -19,14 +19,19 @@ pub struct LinePlace<'a> {
 }
 
 impl<'a> LinePlace<'a> {
-    /// Reads a place, written as `FILE:LINE:BYTE`. Returns `None` if the text is no place.
-    pub fn read(text: &'a str) -> Option<LinePlace<'a>> {
-        let (before, byte) = text.rsplit_once(':')?;
-        let (file, line) = before.rsplit_once(':')?;
-        match (line.parse::<u64>(), byte.parse::<u64>()) {
-            (Ok(line), Ok(byte)) => Some(LinePlace { file, line, byte }),
-            _ => None,
-        }
+    /// Reads a place, written as `FILE:LINE:BYTE`. Returns `None` if the text is no place. The text of each place is read
+    /// as this place.
+    pub fn read(text: &'a str) -> Option<LinePlace<'a>>
+        ensures back { (file : List ℕ) (line byte : ℕ) → text.now ≡ place_text file line byte → line < 2 ^ 64 → byte < 2 ^ 64 → IsSomeAnd result (λ p. (p.file.now ≡ file) × (p.line ≡ line) × (p.byte ≡ byte)) }
+        ensures place { IfSome result (λ p. IsPlaceOf text.now p.file.now p.line p.byte) }
+    {
+        let Some((before, byte)) = last_number(text) else {
+            return None;
+        };
+        let Some((file, line)) = last_number(before) else {
+            return None;
+        };
+        Some(LinePlace { file, line, byte })
     }
 
     /// Returns the text `FILE:LINE:BYTE`. Fails only with `OutOfMemory`.
@@ -50,6 +55,20 @@ impl<'a> LinePlace<'a> {
         }
         let text = self.to_text(alloc)?;
         with_member(alloc, &whole[..whole.len() - 1], name, text.as_str())
+    }
+}
+
+// Returns the number after the last colon of a text, and what is before that colon.
+fn last_number(text: &str) -> Option<(&str, u64)>
+    ensures back { (before : List ℕ) (n : ℕ) → text.now ≡ before ++ 58 ∷ decimal n → n < 2 ^ 64 → IsSomeAnd result (λ r. (r.0.now ≡ before) × (r.1 ≡ n)) }
+    ensures place { IfSome result (λ r. (digits : List ℕ) × (text.now ≡ r.0.now ++ 58 ∷ digits) × Spells digits r.1) }
+{
+    match text.rsplit_once(':') {
+        Some((before, digits)) => match digits.parse::<u64>() {
+            Ok(number) => Some((before, number)),
+            Err(_) => None,
+        },
+        None => None,
     }
 }
 

@@ -10,6 +10,7 @@ use bytes::Bytes;
 use ii_base::{DocId, Fault};
 use ii_doc_store::{StoreOpenFault, StoreReader};
 use ii_doc_store_merger::{StoreMergeFault, StoreSource, merge_stores};
+use ii_documents::LinePlace;
 use ii_segment_store::SegmentFiles;
 use ii_tokenizers::FieldAnalyzers;
 use nequllpa_indexing::Documents;
@@ -118,5 +119,22 @@ fn copied(alloc: Global, found: &[u8]) -> Result<Vec<u8>, StoredLineFault>
     match Vec::from_slice(alloc, found) {
         Ok(copy) => Ok(copy),
         Err(_) => Err(StoredLineFault::OutOfMemory),
+    }
+}
+
+/// The text of the place of a line is read as the place. Returns the number of the line and the byte that are read.
+pub fn places_of_lines_come_back(
+    alloc: Global,
+    file: &str,
+    line: u64,
+    byte: u64,
+) -> Result<Option<(u64, u64)>, Fault>
+    ensures { IfOk result (λ place. place ≡ Some (line, byte)) }
+{
+    let place = LinePlace { file, line, byte };
+    let text = place.to_text(alloc)?;
+    match LinePlace::read(text.as_str()) {
+        Some(place) => Ok(Some((place.line, place.byte))),
+        None => Ok(None),
     }
 }
