@@ -1,6 +1,6 @@
 #!/usr/bin/env python3
 """Runs `nequllpa` on wide and deep input with a small stack: 1,000 fields, queries of 10,000 words, nested
-parentheses."""
+parentheses, with and without the best documents of all."""
 import json
 import os
 import resource
@@ -18,6 +18,8 @@ PROGRAM = 'nequllpa_cli'
 FIELDS = 1_000
 WORDS = 10_000
 NESTING = 128
+# More documents than any index has.
+MOST_DOCS = 1 << 31
 # The stack of the program in bytes. A search of that many words once took 36 kB for each word.
 STACK = 1 << 20
 
@@ -65,6 +67,17 @@ def queries(program, room):
     wants(program, room, ['search', 'folder', '(' * (NESTING + 1) + 'common' + ')' * (NESTING + 1)], 2, '', f'at byte {NESTING}')
 
 
+def best(program, room):
+    """The best documents of queries of many words: as many as there are, by score descending and document ascending."""
+    row = [f'w{number}' for number in range(WORDS)]
+    for query, found in ((' '.join(row), [0, 1]), (' OR '.join(row), [0, 1]), (' AND '.join(['common'] * WORDS), [0, 1]), ('common' + ' AND -none' * WORDS, [0, 1]), ('common ' + ' '.join(f'-{word}' for word in row[3:]), [1])):
+        done = subprocess.run([program, 'search', 'folder', query, '--field', 'f0', '--top', str(MOST_DOCS), '--json'], stdout=subprocess.PIPE, stderr=subprocess.PIPE, cwd=room, timeout=110, preexec_fn=small_stack)
+        lines = [json.loads(line) for line in done.stdout.decode().splitlines()]
+        order = [(-line['units'], line['doc']) for line in lines]
+        if done.returncode != 0 or order != sorted(order) or sorted(line['doc'] for line in lines) != found:
+            raise Failed(f'{query[:60]}: status {done.returncode}, {lines}, {done.stderr[-300:]!r}; wanted documents {found}')
+
+
 def main():
     if 'NEQULLPA' not in os.environ and not programs.build(PROGRAM):
         print('tests/folder: the program was not built')
@@ -78,6 +91,7 @@ def main():
             given = ''.join(json.dumps(doc) + '\n' for doc in docs).encode()
             wants(program, room, ['index', 'folder', '--schema', 'schema.toml'], 0, '3 documents indexed\n', given=given)
             queries(program, room)
+            best(program, room)
         except Failed as why:
             print(f'tests/folder: {why}')
             return 1
