@@ -5,8 +5,8 @@ ghost use Rattle.ii_block_file.specs.declared.faults.ReadFault.TheVariants as fa
 
 use crate::block_table::BlockTable;
 use crate::faults::ReadFault;
-use crate::read_at::ReadAt;
 use bytes::Bytes;
+use ii_directory::ReadAt;
 use ii_store::file_digest::BLOCK_LEN;
 use std::alloc::Global;
 use std::marker::Model;

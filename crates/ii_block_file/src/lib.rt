@@ -4,9 +4,8 @@
 pub mod block_file;
 pub mod block_table;
 pub mod faults;
-pub mod read_at;
 
 pub use block_file::BlockFile;
 pub use block_table::BlockTable;
 pub use faults::ReadFault;
-pub use read_at::{MemoryFile, ReadAt, SystemFile};
+pub use ii_directory::{MemoryFile, ReadAt, SystemFile};

@@ -1,5 +1,5 @@
 -- What a sequence of calls leaves, and what holds after the last one.
-use Rattle.std.proofs.Common.{inl, inr, ⊎_elim, ℕ, ◌≤◌, Result, Ok, Err, OnOk, arith}
+use Rattle.std.proofs.Common.{inl, inr, ⊎_elim, ℕ, Result, Ok, Err, OnOk, arith}
 use Rattle.ii_directory.specs.Directory.{Elapses, Files}
 
 -- what holds at Ok implies what holds at Ok

@@ -2,9 +2,8 @@
 use Rattle.std.proofs.Common.{◌≡◌, ◌⊎◌, inl, inr, ⊎_elim, ℕ, List, Bool, true, false, Option, None, Some, refl, sym, ap, ◌∙◌, subst}
 use Rattle.std.specs.Prelude.{IsSome, IsTrue, ◌↔◌}
 use Rattle.ii_directory.specs.declared.name.Name.{Name}
-use Rattle.ii_directory.specs.Directory.{Elapses, Elsewhere, Files, IsOther, IsPut, IsRenamed, MayBeRenamed, Same}
-use Rattle.ii_directory.specs.FileSystem.{HasFlushedNames, IsFlushed, IsMoved, IsUnflushed, LeavesOnly, MayBeLeft, MayBeMoved, MayBeRemoved}
-use Rattle.ii_directory.proofs.Elapsing.{elapses_implies, elapses_then}
+use Rattle.ii_directory.specs.Directory.{Elsewhere, Files, IsOther, IsPut, IsRenamed, MayBeRenamed, Same}
+use Rattle.ii_directory.specs.FileSystem.{IsFlushed, IsMoved, IsUnflushed, LeavesOnly, MayBeLeft, MayBeMoved, MayBeRemoved}
 use Rattle.ii_directory.specs.Names.{same_name}
 use Rattle.ii_directory.proofs.ListingLaws.{split}
 use Rattle.ii_directory.proofs.NameLaws.{same_is, same_itself}

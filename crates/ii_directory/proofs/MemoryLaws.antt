@@ -8,7 +8,7 @@ use Rattle.std.specs.declared.alloc.Global.{Global}
 use Rattle.ii_directory.specs.declared.memory_files.Change.{Change}
 use Rattle.ii_directory.specs.declared.memory_files.Change.TheVariants.{Flushed, FlushedNames, Put, Removed, Renamed}
 use Rattle.ii_directory.specs.declared.name.Name.{Name}
-use Rattle.ii_directory.specs.Directory.{Elapses, Elsewhere, Files, IsOther, IsPut, IsRenamed, Same, found_bytes}
+use Rattle.ii_directory.specs.Directory.{Elapses, Files, IsOther, IsPut, IsRenamed, Same, found_bytes}
 use Rattle.ii_directory.specs.FileSystem.{HasFlushedNames, IsFlushed, IsMoved, IsUnflushed, MayBeLeft, MayBeMoved, MayBeRemoved}
 use Rattle.ii_directory.specs.MemoryFiles.{MayBePut, WereSince, after, all_taken, changed, counts_now, files_after, left_after, left_by, left_of, seen_left}
 use Rattle.ii_directory.proofs.Elapsing.{at_ok}

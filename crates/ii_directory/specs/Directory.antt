@@ -16,6 +16,11 @@ abbrev pub found_bytes : Option (Vec ℕ Global) → Option (List ℕ)
 found_bytes None = None
 found_bytes (Some v) = Some v.items
 
+-- the file that was opened has these bytes, or there is none
+abbrev pub IsOpened : {F : Type 0} → (F → Option (List ℕ)) → Option (List ℕ) → Option F → Type 0
+IsOpened bytes seen None = seen ≡ None
+IsOpened bytes seen (Some file) = (bytes file ≡ seen) × IsSome seen
+
 -- these are the names of all files, each once
 pub record IsListing (names : List Name) (files : Files) : Type 0 where
   pub there : (name : Name) → Contains names name → IsSome (files name)

@@ -1,5 +1,5 @@
 -- What a file system may leave of changes that are not flushed.
-use Rattle.std.specs.Prelude.{◌≡◌, ◌⊎◌, ◌↔◌, ℕ, List, None, IsSome}
+use Rattle.std.specs.Prelude.{◌≡◌, ◌⊎◌, ◌↔◌, None, IsSome}
 use Rattle.ii_directory.specs.declared.name.Name.{Name}
 use Rattle.ii_directory.specs.Directory.{Elsewhere, Files, IsOther, IsPut, IsRenamed, Same}
 

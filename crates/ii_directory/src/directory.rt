@@ -1,9 +1,10 @@
 //! The directory of an index: its files, and what may be left if the program stops.
 ghost use Rattle.std.specs.Prelude.{◌≡◌, ◌≤◌, ℕ, IfOk, IsSome, None, OnOk, Some};
-ghost use Rattle.ii_directory.specs.Directory.{Elapses, Elsewhere, Files, IsListing, IsPut, IsRefusal, IsRenamed, MayBeRenamed, Obeys, Same, found_bytes, is_obeyed};
+ghost use Rattle.ii_directory.specs.Directory.{Elapses, Elsewhere, Files, IsListing, IsOpened, IsPut, IsRefusal, IsRenamed, MayBeRenamed, Obeys, Same, found_bytes, is_obeyed};
 
 use crate::faults::DirectoryFault;
 use crate::name::Name;
+use crate::read_at::ReadAt;
 use std::alloc::Global;
 
 /// Reads, writes, renames and removes complete files.
@@ -14,6 +15,9 @@ use std::alloc::Global;
 /// After an error, a stop may leave other files than `read` returns. Open the directory again before
 /// writing to it.
 pub trait Directory {
+    /// A file that was opened.
+    type File: ReadAt + Drop;
+
     // The directory behaves as documented, and no call failed.
     ghost is_known: { Self → Type 0 };
 
@@ -32,6 +36,13 @@ pub trait Directory {
     /// Returns the bytes of a file, or `None` if there is no such file.
     fn read(&self, alloc: Global, name: Name) -> Result<Option<Vec<u8>>, DirectoryFault>
         ensures found { is_known self.now → IfOk result (λ found. found_bytes found ≡ seen self.now name) }
+        ensures obeys { is_obeyed IsRefusal (may_refuse self.now) result };
+
+    /// Opens a file, which is read by ranges. Returns `None` if there is no such file.
+    ///
+    /// The open file has the bytes that it had when it was opened, also after it is renamed or removed.
+    fn open(&self, alloc: Global, name: Name) -> Result<Option<Self::File>, DirectoryFault>
+        ensures opened { is_known self.now → IfOk result (λ found. IsOpened Self.File.bytes (seen self.now name) found) }
         ensures obeys { is_obeyed IsRefusal (may_refuse self.now) result };
 
     /// Returns the names of all files, each once. Files with other names than those of `Name` aren't among them.

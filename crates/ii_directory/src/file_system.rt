@@ -1,10 +1,11 @@
 //! The calls of a file system on the files of one folder, whose changes are durable only once they are flushed.
 ghost use Rattle.std.specs.Prelude.{◌≡◌, ◌≤◌, ◌↔◌, ℕ, IfOk, IsSome, IsTrue, None, OnOk, Some};
-ghost use Rattle.ii_directory.specs.Directory.{Elapses, Files, IsListing, IsPut, IsRefusal, Obeys, Same, found_bytes, is_obeyed};
+ghost use Rattle.ii_directory.specs.Directory.{Elapses, Files, IsListing, IsOpened, IsPut, IsRefusal, Obeys, Same, found_bytes, is_obeyed};
 ghost use Rattle.ii_directory.specs.FileSystem.{HasFlushedNames, IsFlushed, IsMoved, IsUnflushed, MayBeMoved, MayBeRemoved};
 
 use crate::faults::DirectoryFault;
 use crate::name::Name;
+use crate::read_at::ReadAt;
 use std::alloc::Global;
 
 /// Reads and changes the files of one folder. If the power fails, a change that isn't flushed may be lost, in
@@ -14,6 +15,9 @@ use std::alloc::Global;
 /// The clauses hold for a system that behaves as documented (`is_known`). For a real folder this is trusted
 /// (`SystemFiles`).
 pub trait FileSystem {
+    /// A file that was opened.
+    type File: ReadAt + Drop;
+
     // The system behaves as documented, and no call failed.
     ghost is_known: { Self → Type 0 };
 
@@ -32,6 +36,13 @@ pub trait FileSystem {
     /// Returns the bytes of a file, or `None` if there is no such file.
     fn read(&self, alloc: Global, name: Name) -> Result<Option<Vec<u8>>, DirectoryFault>
         ensures found { is_known self.now → IfOk result (λ found. found_bytes found ≡ seen self.now name) }
+        ensures obeys { is_obeyed IsRefusal (may_refuse self.now) result };
+
+    /// Opens a file, which is read by ranges. Returns `None` if there is no such file.
+    ///
+    /// The open file has the bytes that it had when it was opened, also after it is renamed or removed.
+    fn open(&self, alloc: Global, name: Name) -> Result<Option<Self::File>, DirectoryFault>
+        ensures opened { is_known self.now → IfOk result (λ found. IsOpened Self.File.bytes (seen self.now name) found) }
         ensures obeys { is_obeyed IsRefusal (may_refuse self.now) result };
 
     /// Returns the names of all files, each once. Files with other names than those of `Name` aren't among them.

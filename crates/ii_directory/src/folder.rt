@@ -8,7 +8,7 @@ use crate::memory_files::MemoryFiles;
 use crate::name::{Kind, Name, Slot};
 use crate::system_files::SystemFiles;
 use std::alloc::Global;
-use std::rt::Files;
+use std::fs::{File, Files};
 
 /// A directory over a file system. It flushes each file after writing it, and the names after each write,
 /// rename and removal, so that a stop leaves the files of before a call or those after it.
@@ -32,7 +32,7 @@ impl<S: FileSystem> FlushedDirectory<S> {
     }
 }
 
-impl<'a, R: Files + AllocGlobal> FlushedDirectory<SystemFiles<'a, R>> {
+impl<'a, R: Files<File = File> + AllocGlobal> FlushedDirectory<SystemFiles<'a, R>> {
     /// Creates a directory over the folder at `path`, which must exist.
     pub fn new(rt: &'a R, path: &'a str) -> Self {
         FlushedDirectory {
@@ -97,6 +97,8 @@ impl FlushedDirectory<MemoryFiles> {
 }
 
 impl<S: FileSystem> Directory for FlushedDirectory<S> {
+    type File = S::File;
+
     ghost use Rattle.ii_directory.specs.FileSystem.{LeavesOnly};
 
     ghost is_known = { λ d. S.is_known d.files × LeavesOnly (S.seen d.files) (S.left_since d.files (S.moment d.files)) };
@@ -115,6 +117,10 @@ impl<S: FileSystem> Directory for FlushedDirectory<S> {
 
     fn read(&self, alloc: Global, name: Name) -> Result<Option<Vec<u8>>, DirectoryFault> {
         self.files.read(alloc, name)
+    }
+
+    fn open(&self, alloc: Global, name: Name) -> Result<Option<S::File>, DirectoryFault> {
+        self.files.open(alloc, name)
     }
 
     fn list(&self, alloc: Global) -> Result<Vec<Name>, DirectoryFault> {

@@ -8,6 +8,7 @@ pub mod folder;
 pub mod lock;
 pub mod memory_files;
 pub mod name;
+pub mod read_at;
 pub mod system_files;
 
 pub use directory::Directory;
@@ -17,4 +18,5 @@ pub use folder::{FlushedDirectory, Folder, MemoryDirectory};
 pub use lock::FolderLock;
 pub use memory_files::MemoryFiles;
 pub use name::{Generation, Kind, Name, SegmentComponent, SegmentId, Slot};
+pub use read_at::{MemoryFile, ReadAt, SystemFile};
 pub use system_files::SystemFiles;

@@ -10,6 +10,8 @@ ghost use Rattle.ii_directory.specs.declared.name.Name.{Name};
 use crate::faults::DirectoryFault;
 use crate::file_system::FileSystem;
 use crate::name::Name;
+use crate::read_at::MemoryFile;
+use bytes::Bytes;
 use std::alloc::Global;
 use std::io;
 
@@ -199,6 +201,8 @@ fn bytes_after(
 }
 
 impl FileSystem for MemoryFiles {
+    type File = MemoryFile;
+
     ghost use Rattle.std.specs.Prelude.{⊤, IsSome};
     ghost use Rattle.ii_directory.specs.MemoryFiles.{WereSince, counts_now, files_after};
 
@@ -216,6 +220,13 @@ impl FileSystem for MemoryFiles {
 
     fn read(&self, alloc: Global, name: Name) -> Result<Option<Vec<u8>>, DirectoryFault> {
         bytes_after(alloc, self.changes.as_slice(), name)
+    }
+
+    fn open(&self, alloc: Global, name: Name) -> Result<Option<MemoryFile>, DirectoryFault> {
+        let Some(bytes) = bytes_after(alloc, self.changes.as_slice(), name)? else {
+            return Ok(None);
+        };
+        Ok(Some(MemoryFile::new(Bytes::from_vec(bytes)?)))
     }
 
     fn list(&self, alloc: Global) -> Result<Vec<Name>, DirectoryFault> {

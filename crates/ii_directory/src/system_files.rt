@@ -2,15 +2,16 @@
 use crate::faults::DirectoryFault;
 use crate::file_system::FileSystem;
 use crate::name::Name;
+use crate::read_at::SystemFile;
 use std::alloc::Global;
-use std::fs::{self, OpenFile};
+use std::fs::{self, File, Files, OpenFile};
 use std::io::{self, Write};
-use std::rt::Files;
 
 /// The files of a folder of the system.
 ///
 /// No clause can describe the contents of real files, so none does. That the system behaves as `FileSystem`
-/// documents is trusted.
+/// documents is trusted. `put` replaces the bytes of a file in place, so an open file keeps its bytes only if it isn't
+/// written again. No file of a segment is.
 #[derive(Drop)]
 pub struct SystemFiles<'a, R: Files + AllocGlobal> {
     rt: &'a R,
@@ -59,7 +60,9 @@ fn told<T>(answer: io::Result<T>) -> Result<T, DirectoryFault> {
     }
 }
 
-impl<R: Files + AllocGlobal> FileSystem for SystemFiles<'_, R> {
+impl<R: Files<File = File> + AllocGlobal> FileSystem for SystemFiles<'_, R> {
+    type File = SystemFile<File>;
+
     ghost use Rattle.std.specs.Prelude.{None, ⊤};
 
     ghost is_known = { λ _. ⊥ };
@@ -78,6 +81,19 @@ impl<R: Files + AllocGlobal> FileSystem for SystemFiles<'_, R> {
         let path = self.path_of(name)?;
         match fs::read(self.rt, path.as_str()) {
             Ok(bytes) => Ok(Some(bytes)),
+            Err(e) => {
+                if e.kind() == io::ErrorKind::NotFound {
+                    return Ok(None);
+                }
+                Err(DirectoryFault::Refused(e.kind()))
+            }
+        }
+    }
+
+    fn open(&self, alloc: Global, name: Name) -> Result<Option<SystemFile<File>>, DirectoryFault> {
+        let path = self.path_of(name)?;
+        match fs::open(self.rt, path.as_str()) {
+            Ok(file) => Ok(Some(SystemFile::new(file))),
             Err(e) => {
                 if e.kind() == io::ErrorKind::NotFound {
                     return Ok(None);

@@ -37,6 +37,8 @@ impl<'a, R: Files<File = File> + AllocGlobal> Locked<Folder<'a, R>> {
 }
 
 impl<D: Directory + Drop> Directory for Locked<D> {
+    type File = D::File;
+
     ghost is_known = { λ d. D.is_known d.directory };
 
     ghost may_refuse = { λ d. D.may_refuse d.directory };
@@ -53,6 +55,10 @@ impl<D: Directory + Drop> Directory for Locked<D> {
 
     fn read(&self, alloc: Global, name: Name) -> Result<Option<Vec<u8>>, DirectoryFault> {
         self.directory.read(alloc, name)
+    }
+
+    fn open(&self, alloc: Global, name: Name) -> Result<Option<D::File>, DirectoryFault> {
+        self.directory.open(alloc, name)
     }
 
     fn list(&self, alloc: Global) -> Result<Vec<Name>, DirectoryFault> {

@@ -1,4 +1,4 @@
-use Rattle.std.proofs.Common.{◌≡◌, ◌++◌, ◌∷◌, [], inl, inr, ⊎_elim, length, Some, OnOk, subst}
+use Rattle.std.proofs.Common.{length, Some, OnOk, subst}
 use Rattle.ii_directory.specs.Directory.{IsPut}
 use Rattle.ii_directory.specs.FileSystem.{IsUnflushed}
 use Rattle.ii_directory.specs.MemoryFiles.{WereSince, files_after}
