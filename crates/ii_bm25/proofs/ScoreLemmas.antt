@@ -130,3 +130,7 @@ searches_above weight length least low high middle some inside less s = record {
   below = λ fewer few. let up = rises_and_falls.rises weight fewer middle length some (omega (arith, few)) in omega (arith, up, less);
   reached = s.reached;
 }
+
+-- a score rises with the share
+pub share_bounds : (weight same part most : ℕ) → same ≡ weight → part ≤ most → weight * part / 2 ^ 12 ≤ same * most / 2 ^ 12
+share_bounds weight same part most is low = rw is (div_rises (weight * part) (weight * most) (2 ^ 12) (omega arith) (mul-le weight part weight most (omega arith) low))

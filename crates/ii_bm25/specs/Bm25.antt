@@ -32,6 +32,10 @@ bm25_weight idfs num_docs num_tokens = record { weight = weight idfs; lengths = 
 abbrev pub bm25_score : Bm25State → ℕ → ℕ → ℕ
 bm25_score w id count = score w.weight count (get_or w.lengths id 1)
 
+-- the share that it reaches
+abbrev pub bm25_share : Bm25State → ℕ → ℕ → ℕ
+bm25_share w id count = share count (get_or w.lengths id 1)
+
 -- A count is the least, of those of 32 bits, that scores at least this; the greatest one may score less.
 pub record IsLeastCount (score_of : ℕ → ℕ) (least count : ℕ) : Type 0 where
   pub fits : count < 2 ^ 32

@@ -1,7 +1,7 @@
 //! BM25 in integers, with k1 = 1.2 and b = 0.75.
-ghost use Rattle.std.specs.Prelude.{◌≡◌, ◌+◌, ◌*◌, ◌<◌, ◌≤◌, ◌^◌, ℕ, IfOk};
+ghost use Rattle.std.specs.Prelude.{◌≡◌, ◌+◌, ◌*◌, ◌/◌, ◌<◌, ◌≤◌, ◌^◌, ℕ, IfOk};
 ghost use Rattle.ii_io.specs.Faults.{OnlyMemory};
-ghost use Rattle.ii_bm25.specs.Bm25.{IsLeastCount, IsLeastTermFreq, RisesAndFalls, bm25_score, bm25_weight, idf, score, share, weight};
+ghost use Rattle.ii_bm25.specs.Bm25.{IsLeastCount, IsLeastTermFreq, RisesAndFalls, bm25_score, bm25_share, bm25_weight, idf, score, share, weight};
 ghost use Rattle.ii_bm25.specs.Lengths.{length_part, lengths_from};
 ghost use Rattle.ii_fieldnorm.specs.Norms.{norm_of_id};
 
@@ -149,6 +149,25 @@ impl Bm25Weight {
             max_term_freq,
             self.lengths[fieldnorm_id as usize],
         )
+    }
+
+    /// Returns what share of the term's greatest score a document with this field norm id reaches, in which the term
+    /// occurs so many times, in units of 2^-28.
+    pub fn share(&self, fieldnorm_id: u8, term_freq: u32) -> u64
+        ensures value { result ≡ bm25_share self.now fieldnorm_id term_freq }
+        ensures below { result < 2 ^ 28 }
+    {
+        share(term_freq, self.lengths[fieldnorm_id as usize])
+    }
+
+    /// Returns the score of a document that reaches this share of the term's greatest score, in units of 2^-28. The
+    /// share must be at most 2^28. No document scores more whose share is at most this.
+    pub fn score_of_share(&self, share: u64) -> Score
+        requires { share ≤ 2 ^ 28 }
+        ensures value { result ≡ self.now.weight * share / 2 ^ 12 }
+        ensures bounds { (id count : ℕ) → bm25_share self.now id count ≤ share → bm25_score self.now id count ≤ result }
+    {
+        u64::from(self.weight) * share >> 12
     }
 
     /// Returns the least count with which a document of this field norm id scores at least `least`, or `u32::MAX` if

@@ -1,0 +1,24 @@
+use Rattle.std.proofs.Common.{arith}
+use Rattle.ii_block_shares.proofs.RunLemmas.{all_taken, next_each, next_past}
+use Rattle.ii_block_shares.proofs.block_shares.BlockShares.of_postings.Goals as goal
+
+pub loop-doc-preserved : goal.loop-doc-preserved
+loop-doc-preserved c =
+    let l = c.loop-doc in
+    let i = l.invariant in
+    let t = c.take_run-block.ensures in
+    let next = c.doc-doc-in-loop-doc.ensures.doc in
+    record {
+      doc_is = next;
+      sound = t.sound;
+      each = next_each c.args.weight.now c.args.norms.now l.blocks.items c.push.new.self.items c.take_run-block.result l.doc l.cursor.rest c.take_run-block.new.cursor.rest c.in_ok-push.ensures.items i.doc_is t i.past c.args.cursor.now.rest i.each;
+      past = λ d more low. next_past c.args.weight.now c.args.norms.now l.blocks.items c.push.new.self.items c.take_run-block.result l.doc l.cursor.rest c.take_run-block.new.cursor.rest c.in_ok-push.ensures.items i.doc_is t i.past d more (omega (arith, next, low));
+    }
+
+pub returns-clause-bounds : goal.returns-clause-bounds
+returns-clause-bounds c =
+    let l = c.loop-doc in
+    let i = l.invariant in
+    let over = c.loop-doc-test.false in
+    let at = i.doc_is in
+    all_taken c.args.weight.now c.args.norms.now l.blocks.items c.args.cursor.now.rest l.cursor.rest i.sound.ascending (omega (arith, at, over)) i.each

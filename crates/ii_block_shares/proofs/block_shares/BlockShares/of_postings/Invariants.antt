@@ -1,0 +1,18 @@
+use Rattle.std.proofs.Common.{◌≡◌, ◌≤◌, ◌++◌, ◌-◌, ℕ, List}
+use Rattle.ii_base.specs.declared.doc_id.TheConstants.{TERMINATED}
+use Rattle.ii_docset.specs.Cursor.{IsSound, doc_at}
+use Rattle.ii_block_shares.specs.BlockShares.{AreBounds, bound_at}
+use Rattle.ii_block_shares.specs.declared.block_shares.BlockShare.{BlockShare}
+use Rattle.ii_block_shares.proofs.block_shares.BlockShares.of_postings.Given as goal
+
+abbrev pub decreases-loop-doc : goal.decreases-loop-doc
+decreases-loop-doc l = TERMINATED - l.doc
+
+-- what is known of all documents if it is of those that are left, whatever runs come
+abbrev pub invariant-loop-doc : goal.invariant-loop-doc
+invariant-loop-doc l = record {
+  doc_is : l.doc ≡ doc_at l.cursor.rest;
+  sound : IsSound l.cursor.rest;
+  each : (more : List BlockShare) → AreBounds l.weight l.norms (l.blocks.items ++ more) l.cursor.rest → AreBounds l.weight l.norms (l.blocks.items ++ more) l.fn.cursor.rest;
+  past : (d : ℕ) (more : List BlockShare) → l.doc ≤ d → bound_at (l.blocks.items ++ more) d ≡ bound_at more d;
+}

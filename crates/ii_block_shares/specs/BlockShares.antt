@@ -1,0 +1,52 @@
+-- The greatest shares of runs of documents, by which documents are passed that score too little.
+use Rattle.std.specs.Prelude.{◌≡◌, ℕ, ◌+◌, ◌*◌, ◌/◌, ◌^◌, ◌<◌, ◌≤◌, List, [], ◌∷◌, Option, None, Some, drop, if◌then◌else◌, nat_lt}
+use Rattle.std.specs.List.{AllByRecursion}
+use Rattle.ii_base.specs.Entries.{Entry}
+use Rattle.ii_bm25.specs.Bm25.{Bm25State, bm25_share}
+use Rattle.ii_docset.specs.Cursor.{IsSound, doc_at}
+use Rattle.ii_fieldnorm.specs.Readers.{Norms}
+use Rattle.ii_block_shares.specs.NormIds.{id_among}
+use Rattle.ii_block_shares.specs.declared.block_shares.BlockShare.{BlockShare}
+
+-- the share that a byte stands for: one more than it in 2^-8, here in 2^-28
+abbrev pub share_bound : ℕ → ℕ
+share_bound byte = (byte + 1) * 2 ^ 20
+
+-- the bound of a document's share: that of the first run that ends after it
+abbrev pub bound_at : List BlockShare → ℕ → Option ℕ
+bound_at [] doc = None
+bound_at (b ∷ bs) doc = if nat_lt doc b.end then Some (share_bound b.share) else bound_at bs doc
+
+-- A share is at most a bound, which there is.
+abbrev pub IsWithin : Option ℕ → ℕ → Type 0
+IsWithin None share = ⊥
+IsWithin (Some bound) share = share ≤ bound
+
+-- the share of an entry, by its count and the norm of its document
+abbrev pub share_of : Bm25State → Option Norms → Entry → ℕ
+share_of w norms e = bm25_share w (id_among norms e.doc) e.term_freq
+
+-- No document of a list has a greater share than the bound of its run.
+abbrev pub AreBounds : Bm25State → Option Norms → List BlockShare → List Entry → Type 0
+AreBounds w norms blocks es = AllByRecursion (λ (e : Entry). IsWithin (bound_at blocks e.doc) (share_of w norms e)) es
+
+-- The bounds of documents from one on are those of the runs from a place on.
+abbrev pub IsPlace : List BlockShare → ℕ → ℕ → Type 0
+IsPlace blocks place doc = (d : ℕ) → doc ≤ d → bound_at blocks d ≡ bound_at (drop place blocks) d
+
+-- A document's share may be so great that it scores at least this.
+abbrev pub MayReach : ℕ → ℕ → Option ℕ → Type 0
+MayReach weight least None = ⊥
+MayReach weight least (Some bound) = least ≤ weight * bound / 2 ^ 12
+
+-- A document is the first one from a target on that may score at least this by its bound: those before it score less, whatever their shares within the bounds.
+pub record IsFirstReaching (blocks : List BlockShare) (weight least target doc : ℕ) : Type 0 where
+  pub low : target ≤ doc
+  pub passed : (d share : ℕ) → target ≤ d → d < doc → IsWithin (bound_at blocks d) share → weight * share / 2 ^ 12 < least
+
+-- A cursor went over a run of documents, none of which has a greater share than the run's.
+pub record TakesRun (w : Bm25State) (norms : Option Norms) (old new : List Entry) (b : BlockShare) : Type 0 where
+  pub ahead : doc_at old < b.end
+  pub up_to : b.end ≤ doc_at new
+  pub sound : IsSound new
+  pub each : (blocks : List BlockShare) → ((d : ℕ) → doc_at old ≤ d → d < b.end → bound_at blocks d ≡ Some (share_bound b.share)) → AreBounds w norms blocks new → AreBounds w norms blocks old

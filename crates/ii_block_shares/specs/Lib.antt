@@ -1,0 +1,2 @@
+pub mod BlockShares
+pub mod NormIds
