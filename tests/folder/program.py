@@ -574,7 +574,7 @@ def changed_bits(user, chosen, places):
         raise Failed('no file of three blocks')
     for component, generation, length, _, _ in files:
         name = versions.name_of(0, component, generation)
-        what = {**SEGMENT_FILES, 'store': 'stored documents'}[versions.COMPONENTS[component]]
+        what = {**SEGMENT_FILES, 'store': 'stored documents', 'blocks': 'tables of blocks'}[versions.COMPONENTS[component]]
         path = os.path.join(user.path('bits'), name)
         near = [place for place in (0, versions.BLOCK - 1, versions.BLOCK, length - 1) if place < length]
         for place in sorted({*near, *(chosen.randrange(length) for _ in range(places))}):

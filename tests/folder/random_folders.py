@@ -400,9 +400,11 @@ class Reader:
         text = self.text_of(self.lines)
         self.wants(['index', 'anew', '--schema', 'schema.toml'], 0, f'{len(self.lines)} documents indexed\n', text)
         files = {name.split('.')[-1]: name for name in os.listdir(os.path.join(self.room, 'folder')) if name.count('.') == 1}
-        if sorted(files) != ['count', 'idx', 'norm', 'pos', 'term'][0 if counted else 1:]:
+        if sorted(files) != sorted(['blocks', 'idx', 'norm', 'pos', 'term', *(['count'] if counted else [])]):
             raise Failed(f'files of a merged index: {files}')
         for kind, name in files.items():
+            if kind == 'blocks' and not counted:
+                continue
             with open(os.path.join(self.room, 'folder', name), 'rb') as one, open(os.path.join(self.room, 'anew', f'{0:016x}.{kind}'), 'rb') as two:
                 if one.read() != two.read():
                     raise Failed(f'{name} of a merged index is not that of its lines')

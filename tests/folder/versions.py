@@ -13,7 +13,7 @@ KINDS = (('term', 'term'), ('idx', 'idx'), ('pos', 'pos'), ('norm', 'fieldnorm')
 SHA256, BLOCKS = 0, 1
 BLOCK = 65536
 # What the name of a file of a segment ends with, by the number of the component; a generation comes before `alive`.
-COMPONENTS = ('term', 'idx', 'pos', 'norm', 'count', 'alive', 'store')
+COMPONENTS = ('term', 'idx', 'pos', 'norm', 'count', 'alive', 'store', 'blocks')
 
 
 def turned(word, bits):
@@ -42,12 +42,16 @@ def checksum(block):
     return a ^ b ^ c ^ d
 
 
+def table(text):
+    """Returns the checksums of the blocks of a file."""
+    return b''.join(struct.pack('<Q', checksum(text[place:place + BLOCK])) for place in range(0, len(text), BLOCK))
+
+
 def digest(kind, text):
     """Returns the digest of a file."""
     if kind == SHA256:
         return hashlib.sha256(text).digest()
-    checksums = (checksum(text[place:place + BLOCK]) for place in range(0, len(text), BLOCK))
-    return hashlib.sha256(b''.join(struct.pack('<Q', one) for one in checksums)).digest()
+    return hashlib.sha256(table(text)).digest()
 
 
 def read_meta(folder):
@@ -108,20 +112,26 @@ def kinds(folder):
     version, _, _, segments = read_meta(folder)
     found = []
     for number, _, _, files in segments:
+        tables = b''
         for component, generation, length, kind, known in files:
             name = name_of(number, component, generation)
             text = get(folder, name)
             if len(text) != length or digest(kind, text) != known:
                 raise ValueError(f'meta has another digest of {name}')
+            if COMPONENTS[component] == 'blocks' and text != tables:
+                raise ValueError(f'{name} has other tables than those of the files')
+            tables += b'' if COMPONENTS[component] == 'alive' else table(text)
         found.append([kind for _, _, _, kind, _ in files])
     return version, found
 
 
 def to_second(folder):
-    """Makes an index of version 3 one of version 2."""
+    """Makes an index of version 3 one of version 2, in which no segment has tables of blocks."""
     _, front, _, segments = read_meta(folder)
     older = []
     for number, docs, living, files in segments:
+        take(folder, number, 'blocks')
+        files = [file for file in files if COMPONENTS[file[0]] != 'blocks']
         texts = [get(folder, name_of(number, file[0], file[1])) for file in files]
         older.append((number, docs, living, [(*file[:3], SHA256, digest(SHA256, text)) for file, text in zip(files, texts)]))
     write_meta(folder, 2, front, older)
@@ -146,6 +156,7 @@ def to_first(folder):
     schema, ((segment, docs),) = listed(folder)
     files = [('schema', schema)] + [(name, take(folder, segment, kind)) for kind, name in KINDS]
     take(folder, segment, 'count')
+    take(folder, segment, 'blocks')
     meta = b'nequllpa' + struct.pack('<IBI', 1, 0, docs)
     for name, text in files:
         put(folder, f'{name}.0', text)

@@ -54,6 +54,7 @@ same_component components.Positions components.Positions number generation = ref
 same_component components.FieldNorms components.FieldNorms number generation = refl
 same_component components.Counts components.Counts number generation = refl
 same_component components.Store components.Store number generation = refl
+same_component components.BlockTables components.BlockTables number generation = refl
 same_component (components.Alive g) (components.Alive h) number generation = ap (λ (n : ℕ). components.Alive n) generation
 same_component component other number generation = absurd (omega (arith, number))
 
@@ -234,6 +235,7 @@ component_texts components.Positions components.Positions lt lt_2 e = refl
 component_texts components.FieldNorms components.FieldNorms lt lt_2 e = refl
 component_texts components.Counts components.Counts lt lt_2 e = refl
 component_texts components.Store components.Store lt lt_2 e = refl
+component_texts components.BlockTables components.BlockTables lt lt_2 e = refl
 component_texts (components.Alive g) (components.Alive h) lt lt_2 e = ap (λ (n : ℕ). components.Alive n) (same_hex_16 g h lt lt_2 (same_alive g h e))
 component_texts components.Terms (components.Alive h) lt lt_2 e = absurd (no_alive (codes ".term") h (omega arith) e)
 component_texts components.Postings (components.Alive h) lt lt_2 e = absurd (no_alive (codes ".idx") h (omega arith) e)
@@ -241,12 +243,14 @@ component_texts components.Positions (components.Alive h) lt lt_2 e = absurd (no
 component_texts components.FieldNorms (components.Alive h) lt lt_2 e = absurd (no_alive (codes ".norm") h (omega arith) e)
 component_texts components.Counts (components.Alive h) lt lt_2 e = absurd (no_alive (codes ".count") h (omega arith) e)
 component_texts components.Store (components.Alive h) lt lt_2 e = absurd (no_alive (codes ".store") h (omega arith) e)
+component_texts components.BlockTables (components.Alive h) lt lt_2 e = absurd (no_alive (codes ".blocks") h (omega arith) e)
 component_texts (components.Alive g) components.Terms lt lt_2 e = absurd (no_alive (codes ".term") g (omega arith) (sym e))
 component_texts (components.Alive g) components.Postings lt lt_2 e = absurd (no_alive (codes ".idx") g (omega arith) (sym e))
 component_texts (components.Alive g) components.Positions lt lt_2 e = absurd (no_alive (codes ".pos") g (omega arith) (sym e))
 component_texts (components.Alive g) components.FieldNorms lt lt_2 e = absurd (no_alive (codes ".norm") g (omega arith) (sym e))
 component_texts (components.Alive g) components.Counts lt lt_2 e = absurd (no_alive (codes ".count") g (omega arith) (sym e))
 component_texts (components.Alive g) components.Store lt lt_2 e = absurd (no_alive (codes ".store") g (omega arith) (sym e))
+component_texts (components.Alive g) components.BlockTables lt lt_2 e = absurd (no_alive (codes ".blocks") g (omega arith) (sym e))
 component_texts component other lt lt_2 e = absurd (omega (arith, ap (λ (t : List ℕ). get_or t 1 0) e))
 
 pub segment_long : (id : ℕ) (component : SegmentComponent) → 16 ≤ length (name_text (Segment id component))

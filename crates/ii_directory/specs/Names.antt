@@ -44,6 +44,7 @@ component_number components.FieldNorms = 3
 component_number components.Counts = 4
 component_number (components.Alive _) = 5
 component_number components.Store = 6
+component_number components.BlockTables = 7
 
 -- the generation of an alive file, and 0 for any other
 abbrev pub component_generation : SegmentComponent → ℕ
@@ -54,6 +55,7 @@ component_generation components.FieldNorms = 0
 component_generation components.Counts = 0
 component_generation (components.Alive generation) = generation
 component_generation components.Store = 0
+component_generation components.BlockTables = 0
 
 -- whether two components are equal
 abbrev pub same_component : SegmentComponent → SegmentComponent → Bool
@@ -111,6 +113,7 @@ component_text components.FieldNorms = codes ".norm"
 component_text components.Counts = codes ".count"
 component_text (components.Alive generation) = codes "." ++ hex_digits 16 generation ++ codes ".alive"
 component_text components.Store = codes ".store"
+component_text components.BlockTables = codes ".blocks"
 
 -- the file name in a folder
 abbrev pub name_text : Name → List ℕ

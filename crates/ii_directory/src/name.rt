@@ -72,6 +72,8 @@ pub enum SegmentComponent {
     Alive(Generation),
     /// The lines of the documents.
     Store,
+    /// The tables of the blocks of the other files, but for flags.
+    BlockTables,
 }
 
 /// The name of a file in the folder of an index.
@@ -153,6 +155,7 @@ impl SegmentComponent {
             SegmentComponent::Counts => "counts",
             SegmentComponent::Alive(_) => "living documents",
             SegmentComponent::Store => "stored documents",
+            SegmentComponent::BlockTables => "tables of blocks",
         }
     }
 }
@@ -164,10 +167,10 @@ impl fmt::Display for SegmentComponent {
 }
 
 impl SegmentComponent {
-    /// Returns the number that stands for the component in a `meta` file, below 7.
+    /// Returns the number that stands for the component in a `meta` file, below 8.
     pub fn number(self) -> u8
         ensures number { result ≡ component_number self }
-        ensures bound { result < 7 }
+        ensures bound { result < 8 }
     {
         match self {
             SegmentComponent::Terms => 0,
@@ -177,6 +180,7 @@ impl SegmentComponent {
             SegmentComponent::Counts => 4,
             SegmentComponent::Alive(_) => 5,
             SegmentComponent::Store => 6,
+            SegmentComponent::BlockTables => 7,
         }
     }
 
@@ -213,6 +217,7 @@ impl SegmentComponent {
                 text.push_str(".alive")
             }
             SegmentComponent::Store => text.push_str(".store"),
+            SegmentComponent::BlockTables => text.push_str(".blocks"),
         }
     }
 }
@@ -243,7 +248,7 @@ fn hex_char(digit: u8) -> char
 }
 
 impl Name {
-    /// Returns the number of the name, below 19. Names of index files have numbers of their own; files of
+    /// Returns the number of the name, below 20. Names of index files have numbers of their own; files of
     /// segments have one for each component.
     pub fn number(self) -> u8
         ensures { result ≡ name_number self }
@@ -387,6 +392,9 @@ fn component_of_text(text: &[u8]) -> Option<SegmentComponent>
     }
     if text == b".store".as_slice() {
         return Some(SegmentComponent::Store);
+    }
+    if text == b".blocks".as_slice() {
+        return Some(SegmentComponent::BlockTables);
     }
     alive_of_text(text)
 }

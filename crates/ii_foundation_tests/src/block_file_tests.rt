@@ -1,7 +1,7 @@
 // Ranges of files that are checked block by block.
 use bytes::Bytes;
-use ii_block_file::{BlockFile, BlockTable, MemoryFile, ReadFault, SystemFile};
-use ii_store::FileDigest;
+use ii_block_file::{BlockFile, BlockTable, MemoryFile, ReadAt, ReadFault, SystemFile};
+use ii_store::{Directory, FileDigest, Folder, MemoryDirectory, Name, SegmentComponent};
 use std::alloc::{AllocError, Global};
 use std::fs;
 use std::io::ErrorKind;
@@ -114,5 +114,39 @@ fn a_changed_block_is_told(rt: HostRuntime) -> Result<(), Fail> {
     let whole = blocks.read(rt.alloc(), 10, 10).is_ok();
     fs::remove_file(&rt, path)?;
     assert!(rt; whole);
+    Ok(())
+}
+
+// Returns the bytes 1 to 3 of a file of four bytes, read after it was opened and removed, and whether a file that was
+// removed opens.
+fn opened<D: Directory>(alloc: Global, directory: &mut D) -> Result<([u8; 3], bool), Fail> {
+    let name = Name::Segment(3, SegmentComponent::Terms);
+    directory
+        .write(name, &[7, 1, 2, 3])
+        .ok()
+        .ok_or("not written")?;
+    let file = directory.open(alloc, name).ok().ok_or("refused")?;
+    let file = file.ok_or("not there")?;
+    directory.remove(name).ok().ok_or("not removed")?;
+    let mut found = [0; 3];
+    file.read_exact_at(&mut found, 1).ok().ok_or("not read")?;
+    let past_end = file.read_exact_at(&mut [0; 3], 2).err();
+    if past_end != Some(ErrorKind::UnexpectedEof) {
+        return Err("read past the end".into());
+    }
+    let gone = directory.open(alloc, name).ok().ok_or("refused")?;
+    Ok((found, gone.is_some()))
+}
+
+#[test]
+fn an_open_file_stays_as_it_was(rt: HostRuntime) -> Result<(), Fail> {
+    let mut memory = MemoryDirectory::create(rt.alloc());
+    assert!(rt; opened(rt.alloc(), &mut memory)? == ([1, 2, 3], false));
+    let path = "/tmp/ii_foundation_tests_open";
+    let _ = fs::remove_dir_all(&rt, path);
+    fs::create_dir(&rt, path)?;
+    let found = opened(rt.alloc(), &mut Folder::new(&rt, path));
+    fs::remove_dir_all(&rt, path)?;
+    assert!(rt; found? == ([1, 2, 3], false));
     Ok(())
 }

@@ -12,7 +12,7 @@ use std::fs;
 use std::test::Fail;
 
 // Names, and their texts.
-static NAMES: [(Name, &'static str); 10] = [
+static NAMES: [(Name, &'static str); 11] = [
     (Name::Meta, "meta"),
     (Name::NewMeta, "meta.new"),
     (Name::File(Slot::Second, Kind::FieldNorms), "fieldnorm.1"),
@@ -44,10 +44,14 @@ static NAMES: [(Name, &'static str); 10] = [
         Name::Segment(10, SegmentComponent::Store),
         "000000000000000a.store",
     ),
+    (
+        Name::Segment(11, SegmentComponent::BlockTables),
+        "000000000000000b.blocks",
+    ),
 ];
 
 // Texts of no name.
-static NO_NAMES: [&'static str; 9] = [
+static NO_NAMES: [&'static str; 10] = [
     "",
     "lock",
     "meta.old",
@@ -57,6 +61,7 @@ static NO_NAMES: [&'static str; 9] = [
     "000000000000001a.terms",
     "00000000000000ff.10.alive",
     "000000000000000a.stores",
+    "000000000000000b.block",
 ];
 
 // Returns whether a name has this text, and is read back from it.
@@ -171,11 +176,11 @@ static REFUSED: [&'static [u8]; 11] = [
     ],
     &[
         110, 101, 113, 117, 108, 108, 112, 97, 2, 0, 0, 0, 1, 0, 0, 0, 0, 0, 0, 0, 3, 0, 0, 0, 0,
-        0, 0, 0, 1, 0, 0, 0, 115, 1, 0, 1, 0, 0, 0, 0, 0, 0, 0, 1, 0, 0, 0, 1, 0, 0, 0, 1, 0, 7, 0,
+        0, 0, 0, 1, 0, 0, 0, 115, 1, 0, 1, 0, 0, 0, 0, 0, 0, 0, 1, 0, 0, 0, 1, 0, 0, 0, 1, 0, 8, 0,
         0, 0, 0, 0, 0, 0, 0, 0, 0, 0, 0, 0, 0, 0, 0, 0, 227, 176, 196, 66, 152, 252, 28, 20, 154,
         251, 244, 200, 153, 111, 185, 36, 39, 174, 65, 228, 100, 155, 147, 76, 164, 149, 153, 27,
-        120, 82, 184, 85, 253, 217, 47, 213, 103, 195, 173, 7, 15, 174, 233, 146, 254, 69, 212, 66,
-        217, 254, 235, 39, 222, 16, 238, 159, 96, 117, 192, 0, 138, 207, 215, 202,
+        120, 82, 184, 85, 208, 198, 203, 241, 33, 121, 244, 230, 123, 43, 39, 221, 235, 122, 212,
+        63, 25, 178, 107, 159, 208, 143, 74, 12, 147, 23, 252, 102, 45, 241, 54, 126,
     ],
     &[
         110, 101, 113, 117, 108, 108, 112, 97, 2, 0, 0, 0, 1, 0, 0, 0, 0, 0, 0, 0, 3, 0, 0, 0, 0,

@@ -14,7 +14,7 @@ use Rattle.ii_directory.specs.declared.name.Kind.TheVariants.{Schema}
 use Rattle.ii_directory.specs.declared.name.Kind.TheVariants as kinds_of
 use Rattle.ii_directory.specs.declared.name.Name.TheVariants.{File, Meta, Segment}
 use Rattle.ii_directory.specs.declared.name.SegmentComponent.{SegmentComponent}
-use Rattle.ii_directory.specs.declared.name.SegmentComponent.TheVariants.{Counts, FieldNorms, Positions, Postings, Store, Terms}
+use Rattle.ii_directory.specs.declared.name.SegmentComponent.TheVariants.{BlockTables, Counts, FieldNorms, Positions, Postings, Store, Terms}
 use Rattle.ii_directory.specs.declared.name.Slot.{Slot}
 use Rattle.ii_directory.specs.Directory.{Elapses, Files, Same}
 use Rattle.ii_store.specs.FileDigest.{blocks_digest, has_digest}
@@ -25,6 +25,7 @@ use Rattle.ii_store.specs.Segments.{list_in, listed_bytes}
 use Rattle.ii_directory.proofs.Elapsing.{elapses_none}
 use Rattle.ii_store.proofs.ListLaws.{list_consistent, list_version}
 use Rattle.ii_store.proofs.SaveLaws.{index_outside}
+use Rattle.ii_segment_store.specs.BlockTables.{segment_tables}
 use Rattle.ii_segment_store.specs.Commits.{HasFileIf, HasSegment, HaveIdsBelow, HoldsOldOr, IsFresh, LeavesOneIndex, emptied, index_of_segment, listed_if, listed_segment}
 use Rattle.ii_segment_store.specs.Contents.{IndexContents, SegmentContents, alive_file, bytes_if_listed, contents_at, contents_in, index_contents, file_of, bytes_of_component, flags_with, list_contents, one_segment, only_segment, segment_in, all_contents, with_segment}
 use Rattle.ii_segment_store.specs.Pending.{with_next}
@@ -189,27 +190,27 @@ unfolding listed_bytes has_digest
 read_back id component bytes found is = rw is (rw (eq-eqb _ _ refl, nat_list_eq_equiv.refl (blocks_digest bytes)) refl)
 
 -- the files of a new segment, without flags
-abbrev listed_files : List ℕ → List ℕ → List ℕ → List ℕ → Option (List ℕ) → Option (List ℕ) → List FileMeta
-listed_files a b d e counts store = file_meta Terms a ∷ file_meta Postings b ∷ file_meta Positions d ∷ file_meta FieldNorms e ∷ listed_if Counts counts ++ listed_if Store store
+abbrev listed_files : List ℕ → List ℕ → List ℕ → List ℕ → Option (List ℕ) → Option (List ℕ) → List ℕ → List FileMeta
+listed_files a b d e counts store tables = file_meta Terms a ∷ file_meta Postings b ∷ file_meta Positions d ∷ file_meta FieldNorms e ∷ listed_if Counts counts ++ listed_if Store store ++ file_meta BlockTables tables ∷ []
 
-counts_again : (id : ℕ) (a b d e : List ℕ) (counts store : Option (List ℕ)) (files : Files) → HasFileIf id Counts counts files → bytes_if_listed id (file_of Counts (listed_files a b d e counts store)) files ≡ Ok counts
+counts_again : (id : ℕ) (a b d e tables : List ℕ) (counts store : Option (List ℕ)) (files : Files) → HasFileIf id Counts counts files → bytes_if_listed id (file_of Counts (listed_files a b d e counts store tables)) files ≡ Ok counts
 unfolding bytes_if_listed
-counts_again id a b d e None None files there = refl
-counts_again id a b d e None (Some lines) files there = refl
-counts_again id a b d e (Some bytes) store files there = rw (read_back id Counts bytes (files (Segment id Counts)) there) refl
+counts_again id a b d e tables None None files there = refl
+counts_again id a b d e tables None (Some lines) files there = refl
+counts_again id a b d e tables (Some bytes) store files there = rw (read_back id Counts bytes (files (Segment id Counts)) there) refl
 
-store_again : (id : ℕ) (a b d e : List ℕ) (counts store : Option (List ℕ)) (files : Files) → HasFileIf id Store store files → bytes_if_listed id (file_of Store (listed_files a b d e counts store)) files ≡ Ok store
+store_again : (id : ℕ) (a b d e tables : List ℕ) (counts store : Option (List ℕ)) (files : Files) → HasFileIf id Store store files → bytes_if_listed id (file_of Store (listed_files a b d e counts store tables)) files ≡ Ok store
 unfolding bytes_if_listed
-store_again id a b d e None None files there = refl
-store_again id a b d e (Some bytes) None files there = refl
-store_again id a b d e None (Some lines) files there = rw (read_back id Store lines (files (Segment id Store)) there) refl
-store_again id a b d e (Some bytes) (Some lines) files there = rw (read_back id Store lines (files (Segment id Store)) there) refl
+store_again id a b d e tables None None files there = refl
+store_again id a b d e tables (Some bytes) None files there = refl
+store_again id a b d e tables None (Some lines) files there = rw (read_back id Store lines (files (Segment id Store)) there) refl
+store_again id a b d e tables (Some bytes) (Some lines) files there = rw (read_back id Store lines (files (Segment id Store)) there) refl
 
-no_flags : (a b d e : List ℕ) (counts store : Option (List ℕ)) → alive_file (listed_files a b d e counts store) ≡ None
-no_flags a b d e None None = refl
-no_flags a b d e None (Some lines) = refl
-no_flags a b d e (Some bytes) None = refl
-no_flags a b d e (Some bytes) (Some lines) = refl
+no_flags : (a b d e tables : List ℕ) (counts store : Option (List ℕ)) → alive_file (listed_files a b d e counts store tables) ≡ None
+no_flags a b d e tables None None = refl
+no_flags a b d e tables None (Some lines) = refl
+no_flags a b d e tables (Some bytes) None = refl
+no_flags a b d e tables (Some bytes) (Some lines) = refl
 
 flags_again : (s : SegmentState) → s.num_living ≡ s.num_docs → (files : Files) → flags_with s None files ≡ Ok (replicate s.num_docs true)
 unfolding flags_with
@@ -223,9 +224,9 @@ segment_again id s files all there =
       read_back id Postings s.postings (files (Segment id Postings)) there.postings,
       read_back id Positions s.positions (files (Segment id Positions)) there.positions,
       read_back id FieldNorms s.fieldnorms (files (Segment id FieldNorms)) there.fieldnorms,
-      counts_again id s.terms s.postings s.positions s.fieldnorms s.counts s.store files there.counts,
-      store_again id s.terms s.postings s.positions s.fieldnorms s.counts s.store files there.store,
-      no_flags s.terms s.postings s.positions s.fieldnorms s.counts s.store,
+      counts_again id s.terms s.postings s.positions s.fieldnorms (segment_tables s) s.counts s.store files there.counts,
+      store_again id s.terms s.postings s.positions s.fieldnorms (segment_tables s) s.counts s.store files there.store,
+      no_flags s.terms s.postings s.positions s.fieldnorms (segment_tables s) s.counts s.store,
       flags_again (listed_segment id s) refl files,
     ) (ap (λ (alive : List Bool). Ok (record s { alive = alive })) (sym all))
 

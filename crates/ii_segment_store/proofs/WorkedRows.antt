@@ -6,7 +6,7 @@ use Rattle.ii_store.specs.declared.faults.IndexFault.TheVariants.{DeletedDocumen
 use Rattle.ii_store.specs.declared.file_digest.FileDigest.TheVariants.{Blocks}
 use Rattle.ii_store.specs.declared.index_meta.FileMeta.{FileMeta}
 use Rattle.ii_directory.specs.declared.name.SegmentComponent.{SegmentComponent}
-use Rattle.ii_directory.specs.declared.name.SegmentComponent.TheVariants.{Alive, Counts, FieldNorms, Positions, Postings, Store, Terms}
+use Rattle.ii_directory.specs.declared.name.SegmentComponent.TheVariants.{Alive, BlockTables, Counts, FieldNorms, Positions, Postings, Store, Terms}
 use Rattle.ii_directory.specs.Directory.{Files}
 use Rattle.ii_store.specs.IndexMeta.{MetaState, SegmentState}
 use Rattle.ii_segment_store.specs.Changes.{files_with_flags, first_uncounted, latest_file, segments_without, without}
@@ -50,9 +50,9 @@ segment living files = record { id = 7; num_docs = 2; num_living = living; files
 -- what is loaded of a segment without its stored documents, and without its counts
 
 abbrev loaded_by : WantedFiles → List SegmentComponent
-loaded_by wanted = map (λ (f : FileMeta). f.component) (wanted_segment wanted (segment 2 (file Terms ∷ file Counts ∷ file (Alive 7) ∷ file Store ∷ []))).files
+loaded_by wanted = map (λ (f : FileMeta). f.component) (wanted_segment wanted (segment 2 (file Terms ∷ file Counts ∷ file (Alive 7) ∷ file Store ∷ file BlockTables ∷ []))).files
 
-loads_all : loaded_by All ≡ Terms ∷ Counts ∷ Alive 7 ∷ Store ∷ []
+loads_all : loaded_by All ≡ Terms ∷ Counts ∷ Alive 7 ∷ Store ∷ BlockTables ∷ []
 loads_all = refl
 
 loads_no_store : loaded_by WithoutStore ≡ Terms ∷ Counts ∷ Alive 7 ∷ []
@@ -114,15 +114,15 @@ third = refl
 lists_terms : (listed_segment 3 (words 5)).num_living ≡ 5
 lists_terms = refl
 
--- stored documents are the last file of a segment, and those of a segment without counts come after the norms
+-- tables of blocks are the last file of a segment, after stored documents; those of a segment without counts come after the norms
 
 abbrev listed_components : SegmentContents → List SegmentComponent
 listed_components s = map (λ (f : FileMeta). f.component) (listed_segment 3 s).files
 
-lists_store : listed_components (record (words 5) { counts = Some []; store = Some (7 ∷ []) }) ≡ Terms ∷ Postings ∷ Positions ∷ FieldNorms ∷ Counts ∷ Store ∷ []
+lists_store : listed_components (record (words 5) { counts = Some []; store = Some (7 ∷ []) }) ≡ Terms ∷ Postings ∷ Positions ∷ FieldNorms ∷ Counts ∷ Store ∷ BlockTables ∷ []
 lists_store = refl
 
-lists_store_alone : listed_components (record (words 5) { store = Some [] }) ≡ Terms ∷ Postings ∷ Positions ∷ FieldNorms ∷ Store ∷ []
+lists_store_alone : listed_components (record (words 5) { store = Some [] }) ≡ Terms ∷ Postings ∷ Positions ∷ FieldNorms ∷ Store ∷ BlockTables ∷ []
 lists_store_alone = refl
 
 -- a file of stored documents that isn't listed, and one that isn't there

@@ -9,7 +9,7 @@ use Rattle.ii_directory.specs.declared.name.Name.{Name}
 use Rattle.ii_directory.specs.declared.name.Name.TheVariants.{File, Meta, Segment}
 use Rattle.ii_directory.specs.declared.name.SegmentComponent.{SegmentComponent}
 use Rattle.ii_directory.specs.declared.name.Slot.{Slot}
-use Rattle.ii_directory.specs.declared.name.SegmentComponent.TheVariants.{Counts, FieldNorms, Positions, Postings, Store, Terms}
+use Rattle.ii_directory.specs.declared.name.SegmentComponent.TheVariants.{BlockTables, Counts, FieldNorms, Positions, Postings, Store, Terms}
 use Rattle.ii_directory.specs.Directory.{Elapses, Files}
 use Rattle.ii_store.specs.Faults.{IsRefused}
 use Rattle.ii_store.specs.Index.{Fails}
@@ -17,6 +17,7 @@ use Rattle.ii_store.specs.IndexMeta.{IsValidMeta, MetaState, SegmentState, file_
 use Rattle.ii_store.specs.Segments.{list_in}
 use Rattle.ii_segment_store.specs.declared.faults.CommitFault.{CommitFault}
 use Rattle.ii_segment_store.specs.declared.faults.CommitFault.TheVariants as faults
+use Rattle.ii_segment_store.specs.BlockTables.{segment_tables}
 use Rattle.ii_segment_store.specs.Contents.{IndexContents, SegmentContents, index_contents}
 
 -- a file that a segment may not have, as `meta` lists it
@@ -30,7 +31,7 @@ listed_segment id s = record {
   id = id;
   num_docs = s.num_docs;
   num_living = s.num_docs;
-  files = file_meta Terms s.terms ∷ file_meta Postings s.postings ∷ file_meta Positions s.positions ∷ file_meta FieldNorms s.fieldnorms ∷ listed_if Counts s.counts ++ listed_if Store s.store;
+  files = file_meta Terms s.terms ∷ file_meta Postings s.postings ∷ file_meta Positions s.positions ∷ file_meta FieldNorms s.fieldnorms ∷ listed_if Counts s.counts ++ listed_if Store s.store ++ file_meta BlockTables (segment_tables s) ∷ [];
 }
 
 -- the next list, with one segment more under the next id
@@ -79,6 +80,7 @@ pub record HasSegment (id : ℕ) (s : SegmentContents) (files : Files) : Type 0 
   pub fieldnorms : files (Segment id FieldNorms) ≡ Some s.fieldnorms
   pub counts : HasFileIf id Counts s.counts files
   pub store : HasFileIf id Store s.store files
+  pub tables : files (Segment id BlockTables) ≡ Some (segment_tables s)
 
 -- Why a segment isn't added to a list: there is no list, or it would hold too much.
 abbrev pub IsCommitFault : CommitFault → Result MetaState IndexFault → SegmentContents → Type 0

@@ -1,5 +1,6 @@
 pub mod Contents
 pub mod Commits
+pub mod BlockTables
 pub mod Changes
 pub mod Joins
 pub mod WantedFiles

@@ -5,7 +5,7 @@ use Rattle.ii_store.specs.declared.faults.IndexFault.TheVariants.{NoIndex}
 use Rattle.ii_store.specs.declared.index_meta.FileMeta.{FileMeta}
 use Rattle.ii_directory.specs.declared.name.Name.TheVariants.{Meta}
 use Rattle.ii_directory.specs.declared.name.SegmentComponent.{SegmentComponent}
-use Rattle.ii_directory.specs.declared.name.SegmentComponent.TheVariants.{Counts, Store}
+use Rattle.ii_directory.specs.declared.name.SegmentComponent.TheVariants.{BlockTables, Counts, Store}
 use Rattle.ii_directory.specs.Directory.{Files}
 use Rattle.ii_store.specs.Index.{◌>>=◌, index_of, version_in}
 use Rattle.ii_store.specs.IndexMeta.{MetaState, SegmentState, meta_of}
@@ -17,8 +17,8 @@ use Rattle.ii_segment_store.specs.Contents.{IndexContents, list_contents, one_se
 -- whether the file of a component is wanted
 abbrev pub is_wanted : WantedFiles → SegmentComponent → Bool
 is_wanted All component = true
-is_wanted WithoutStore component = not (same_component component Store)
-is_wanted WithoutCountsAndStore component = not (same_component component Store) && not (same_component component Counts)
+is_wanted WithoutStore component = not (same_component component Store) && not (same_component component BlockTables)
+is_wanted WithoutCountsAndStore component = not (same_component component Store) && not (same_component component BlockTables) && not (same_component component Counts)
 
 -- a segment that lists the wanted files alone
 abbrev pub wanted_segment : WantedFiles → SegmentState → SegmentState

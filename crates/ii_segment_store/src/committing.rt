@@ -7,6 +7,7 @@ ghost use Rattle.ii_store.specs.Index.{index_of, view};
 ghost use Rattle.ii_store.specs.IndexMeta.{IsValidMeta, meta_view, segment_view};
 ghost use Rattle.ii_store.specs.Segments.{list_in};
 ghost use Rattle.ii_segment_store.specs.Commits.{HasFileIf, HasList, HasSegment, HaveIdsBelow, HoldsOldOr, IsCommitFault, IsFresh, IsRefusedCommit, KeepsButSegment, LeavesOneIndex, listed_if, listed_segment, next_list};
+ghost use Rattle.ii_segment_store.specs.BlockTables.{segment_tables};
 ghost use Rattle.ii_segment_store.specs.Contents.{index_contents, list_contents, files_contents, with_segment};
 
 use crate::faults::CommitFault;
@@ -143,12 +144,14 @@ pub(crate) fn commit_segment<D: Directory>(
     }
 }
 
-// Returns a segment, as `meta` lists it.
+// Returns a segment with the tables of its files, as `meta` lists it.
 pub(crate) fn listed_segment(
     alloc: Global,
     id: SegmentId,
     segment: &SegmentFiles,
+    tables: &[u8],
 ) -> Result<SegmentMeta, AllocError>
+    requires { tables.now ≡ segment_tables (files_contents segment.now) }
     ensures { IfOk result (λ s. segment_view s ≡ listed_segment id (files_contents segment.now)) }
 {
     let mut files = Vec::new(alloc);
@@ -158,6 +161,7 @@ pub(crate) fn listed_segment(
     files.push(FileMeta::new(SegmentComponent::FieldNorms, segment.fieldnorms.as_slice()))?;
     push_if_some(&mut files, SegmentComponent::Counts, &segment.counts)?;
     push_if_some(&mut files, SegmentComponent::Store, &segment.store)?;
+    files.push(FileMeta::new(SegmentComponent::BlockTables, tables))?;
     Ok(SegmentMeta {
         id,
         num_docs: segment.num_docs,
@@ -180,12 +184,14 @@ fn push_if_some(
     }
 }
 
-// Writes the files of a segment.
+// Writes the files of a segment, and the tables of these.
 pub(crate) fn write_segment<D: Directory>(
     directory: &mut D,
     id: SegmentId,
     segment: &SegmentFiles,
+    tables: &[u8],
 ) -> Result<(), DirectoryFault>
+    requires { tables.now ≡ segment_tables (files_contents segment.now) }
     ensures known { D.is_known directory.old → OnOk result (D.is_known directory.new) }
     ensures obeys { Obeys IsRefusal (D.may_refuse directory.old) (D.may_refuse directory.new) result }
     ensures there { D.is_known directory.old → OnOk result (HasSegment id (files_contents segment.now) (D.seen directory.new)) }
@@ -209,7 +215,8 @@ pub(crate) fn write_segment<D: Directory>(
         segment.fieldnorms.as_slice(),
     )?;
     write_if_some(directory, id, SegmentComponent::Counts, &segment.counts)?;
-    write_if_some(directory, id, SegmentComponent::Store, &segment.store)
+    write_if_some(directory, id, SegmentComponent::Store, &segment.store)?;
+    directory.write(Name::Segment(id, SegmentComponent::BlockTables), tables)
 }
 
 // Writes a file that a segment may not have.

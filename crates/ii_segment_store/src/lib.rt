@@ -2,6 +2,7 @@
 //! a stop leaves the old index or the new one.
 #![tactic(auto)]
 
+pub mod block_tables;
 pub mod clearing;
 pub mod committing;
 pub mod deleting;

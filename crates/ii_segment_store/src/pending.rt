@@ -4,11 +4,13 @@ ghost use Rattle.ii_directory.specs.declared.name.Name.TheVariants.{Meta};
 ghost use Rattle.ii_directory.specs.Directory.{Obeys, is_obeyed};
 ghost use Rattle.ii_store.specs.IndexMeta.{IsValidMeta, MetaState, meta_view};
 ghost use Rattle.ii_store.specs.Segments.{KeepsOtherFiles, list_in};
+ghost use Rattle.ii_segment_store.specs.BlockTables.{segment_tables};
 ghost use Rattle.ii_segment_store.specs.Changes.{IsFlaggedList, index_without};
 ghost use Rattle.ii_segment_store.specs.Commits.{HaveIdsBelow, IsRefusedCommit, KeepsButSegment, LeavesOneIndex, emptied};
 ghost use Rattle.ii_segment_store.specs.Contents.{files_contents, index_contents, list_contents, with_segment};
 ghost use Rattle.ii_segment_store.specs.Pending.{FollowsFlags, IsBeginFault, IsFlaggingFault, IsPending, IsPendingFault, begun, with_next};
 
+use crate::block_tables::segment_tables;
 use crate::committing::{listed_segment, write_segment};
 use crate::deleting::{first_uncounted, write_deletes};
 use crate::faults::CommitFault;
@@ -130,11 +132,12 @@ impl PendingSegments {
         ensures fault { IfErr result (λ e. IsPendingFault e (with_next self (files_contents segment.now))) }
     {
         let id = self.list.next_segment_id;
-        let list = match with_next(alloc, self.list, segment) {
+        let tables = segment_tables(alloc, segment)?;
+        let list = match with_next(alloc, self.list, segment, tables.as_slice()) {
             Ok(list) => list,
             Err(fault) => return Err(fault),
         };
-        match write_segment(directory, id, segment) {
+        match write_segment(directory, id, segment, tables.as_slice()) {
             Ok(()) => Ok(PendingSegments { list }),
             Err(fault) => Err(CommitFault::from(fault)),
         }
@@ -205,12 +208,14 @@ impl PendingSegments {
     }
 }
 
-// Returns a list with one segment more, or `TooMany` if no `meta` can hold it.
+// Returns a list with one segment more, with the tables of its files, or `TooMany` if no `meta` can hold it.
 fn with_next(
     alloc: Global,
     list: IndexMeta,
     segment: &SegmentFiles,
+    tables: &[u8],
 ) -> Result<IndexMeta, CommitFault>
+    requires { tables.now ≡ segment_tables (files_contents segment.now) }
     ensures next { IfOk result (λ m. meta_view m ≡ with_next (meta_view list) (files_contents segment.now)) }
     ensures valid { IfOk result (λ m. IsValidMeta (meta_view m)) }
     ensures fault { IfErr result (λ e. IsPendingFault e (with_next (meta_view list) (files_contents segment.now))) }
@@ -220,7 +225,7 @@ fn with_next(
     if next.next_segment_id == u64::MAX {
         return Err(CommitFault::TooMany);
     }
-    let listed = listed_segment(alloc, next.next_segment_id, segment)?;
+    let listed = listed_segment(alloc, next.next_segment_id, segment, tables)?;
     next.segments.push(listed)?;
     next.next_segment_id += 1;
     if !is_valid(&next) {

@@ -11,9 +11,9 @@ use ii_store::{IndexMeta, SegmentComponent, SegmentMeta};
 pub enum WantedFiles {
     /// All files.
     All,
-    /// All but the stored documents.
+    /// All but the stored documents and the tables of blocks.
     WithoutStore,
-    /// All but the counts of tokens and the stored documents.
+    /// All but the counts of tokens, the stored documents and the tables of blocks.
     WithoutCountsAndStore,
 }
 
@@ -24,9 +24,13 @@ impl WantedFiles {
     {
         match self {
             WantedFiles::All => true,
-            WantedFiles::WithoutStore => !component.is_same(SegmentComponent::Store),
+            WantedFiles::WithoutStore => {
+                !component.is_same(SegmentComponent::Store)
+                    & !component.is_same(SegmentComponent::BlockTables)
+            }
             WantedFiles::WithoutCountsAndStore => {
                 !component.is_same(SegmentComponent::Store)
+                    & !component.is_same(SegmentComponent::BlockTables)
                     & !component.is_same(SegmentComponent::Counts)
             }
         }

@@ -15,7 +15,7 @@ use Rattle.ii_store.specs.declared.file_digest.FileDigest.{FileDigest}
 use Rattle.ii_store.specs.declared.file_digest.FileDigest.TheVariants.{Sha256, Blocks}
 use Rattle.ii_store.specs.declared.index_meta.FileMeta.{FileMeta}
 use Rattle.ii_directory.specs.declared.name.SegmentComponent.{SegmentComponent}
-use Rattle.ii_directory.specs.declared.name.SegmentComponent.TheVariants.{Alive, Counts, FieldNorms, Positions, Postings, Store, Terms}
+use Rattle.ii_directory.specs.declared.name.SegmentComponent.TheVariants.{Alive, BlockTables, Counts, FieldNorms, Positions, Postings, Store, Terms}
 use Rattle.ii_store.specs.FileDigest.{digest_items, digest_kind}
 use Rattle.ii_store.specs.Index.{◌>>=◌, format, version_in}
 use Rattle.ii_store.specs.IndexMeta.{FileFits, IsValidMeta, MetaFits, MetaState, SegmentFits, SegmentState, body_bytes, byte_at, bytes_at, checked_list, component_of, digest_at, digest_bytes, digest_of, file_at, file_bytes, file_head, has_only_sha256, is_consistent, is_list_version, items_at, digest_kind_at, list_at, list_bytes, list_file, list_head, list_numbers, meta_bytes, meta_of, number_at, segment_at, segment_bytes, segment_head}
@@ -66,6 +66,7 @@ component_again FieldNorms = refl
 component_again Counts = refl
 component_again (Alive generation) = refl
 component_again Store = refl
+component_again BlockTables = refl
 
 number_small : (c : SegmentComponent) → component_number c < 2 ^ 16
 number_small Terms = omega arith
@@ -75,6 +76,7 @@ number_small FieldNorms = omega arith
 number_small Counts = omega arith
 number_small (Alive generation) = omega arith
 number_small Store = omega arith
+number_small BlockTables = omega arith
 
 -- some parts and what comes after them
 

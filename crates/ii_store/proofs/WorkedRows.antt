@@ -9,12 +9,12 @@ use Rattle.ii_store.specs.declared.file_digest.FileDigest.TheVariants.{Sha256, B
 use Rattle.ii_store.specs.declared.index_meta.FileMeta.{FileMeta}
 use Rattle.ii_directory.specs.declared.name.Name.TheVariants.{Meta, NewMeta, Segment}
 use Rattle.ii_directory.specs.declared.name.SegmentComponent.{SegmentComponent}
-use Rattle.ii_directory.specs.declared.name.SegmentComponent.TheVariants.{Alive, Counts, FieldNorms, Positions, Store, Terms}
+use Rattle.ii_directory.specs.declared.name.SegmentComponent.TheVariants.{Alive, BlockTables, Counts, FieldNorms, Positions, Store, Terms}
 use Rattle.ii_store.specs.Collect.{is_garbage}
 use Rattle.ii_store.specs.FileDigest.{block_checksum, blocks}
 use Rattle.ii_store.specs.IndexMeta.{MetaState, SegmentState, bytes_at, component_of, digest_at, digest_of, file_at, is_consistent, is_segment, items_at, digest_kind_at, number_at, segment_at}
 
--- the components of the numbers 2, 5, 6 and 7; only living documents have a generation
+-- the components of the numbers 2, 5, 6, 7 and 8; only living documents have a generation
 
 abbrev damaged : Result SegmentComponent IndexFault
 damaged = Err DamagedMeta
@@ -34,9 +34,13 @@ component_6 : component_of 6 0 ≡ component Store
 unfolding component_of
 component_6 = refl
 
-component_7 : component_of 7 0 ≡ damaged
+component_7 : component_of 7 0 ≡ component BlockTables
 unfolding component_of
 component_7 = refl
+
+component_8 : component_of 8 0 ≡ damaged
+unfolding component_of
+component_8 = refl
 
 positions_of_a_generation : component_of 2 7 ≡ damaged
 unfolding component_of

@@ -11,7 +11,7 @@ use Rattle.ii_store.specs.declared.index_meta.FileMeta.{FileMeta}
 use Rattle.ii_store.specs.declared.index_meta.IndexMeta.{IndexMeta}
 use Rattle.ii_store.specs.declared.index_meta.SegmentMeta.{SegmentMeta}
 use Rattle.ii_directory.specs.declared.name.SegmentComponent.{SegmentComponent}
-use Rattle.ii_directory.specs.declared.name.SegmentComponent.TheVariants.{Alive, Counts, FieldNorms, Positions, Postings, Store, Terms}
+use Rattle.ii_directory.specs.declared.name.SegmentComponent.TheVariants.{Alive, BlockTables, Counts, FieldNorms, Positions, Postings, Store, Terms}
 use Rattle.ii_store.specs.FileDigest.{blocks_digest, digest_items, digest_kind}
 use Rattle.ii_store.specs.Index.{◌>>=◌, format, version_in}
 use Rattle.ii_directory.specs.Names.{component_generation, component_number}
@@ -137,6 +137,7 @@ component_of number generation =
     else if number == 3 then Ok FieldNorms
     else if number == 4 then Ok Counts
     else if number == 6 then Ok Store
+    else if number == 7 then Ok BlockTables
     else Err DamagedMeta
 
 -- a file at the start of the bytes, and the bytes after it

@@ -206,6 +206,7 @@ fn component_at(number: u16, generation: Generation) -> Result<SegmentComponent,
         3 => Ok(SegmentComponent::FieldNorms),
         4 => Ok(SegmentComponent::Counts),
         6 => Ok(SegmentComponent::Store),
+        7 => Ok(SegmentComponent::BlockTables),
         _ => Err(damaged()),
     }
 }

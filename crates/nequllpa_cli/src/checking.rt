@@ -291,6 +291,11 @@ fn check_others(
     if let Err(status) = check_store(rt, path, segment, sum)? {
         return Ok(Err(status));
     }
+    if let Some(file) = file_of(segment.files.as_slice(), SegmentComponent::BlockTables) {
+        if let Err(fault) = left_of_file(rt, path, segment, file.component, sum)? {
+            return Ok(Err(refuse_path(rt, path, fault)?));
+        }
+    }
     if let Some(file) = alive_file(segment.files.as_slice()) {
         if let Err(fault) = left_of_file(rt, path, segment, file.component, sum)? {
             return Ok(Err(refuse_path(rt, path, fault)?));

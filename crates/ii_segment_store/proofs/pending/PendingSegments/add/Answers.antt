@@ -14,6 +14,13 @@ returns-in-Err-clause-leaves_same g c = λ known pending.
     let wanted = index_contents (d.seen old) in
     leaves_index d.moment d.left_since d.seen old (λ f left. g.met.D.Directory.only_now old f known left) old wanted (holds_none d.moment d.left_since d.seen old wanted)
 
+pub returns-in_err-tables-clause-leaves_same : goal.returns-in_err-tables-clause-leaves_same
+returns-in_err-tables-clause-leaves_same g c = λ known pending.
+    let d = g.D.Directory in
+    let old = c.args.directory.now in
+    let wanted = index_contents (d.seen old) in
+    leaves_index d.moment d.left_since d.seen old (λ f left. g.met.D.Directory.only_now old f known left) old wanted (holds_none d.moment d.left_since d.seen old wanted)
+
 pub returns-in-Ok-write_segment-clause-holds : goal.returns-in-Ok-write_segment-clause-holds
 returns-in-Ok-write_segment-clause-holds g c = λ known.
     let d = g.D.Directory in
@@ -60,8 +67,8 @@ returns-in-Ok-write_segment-clause-leaves_same g c = λ known.
     (λ pending. leaves_index d.moment d.left_since d.seen old (λ f left. g.met.D.Directory.only_now old f known left) new wanted
     (written_time d.moment d.left_since d.seen old new new m (files_contents c.args.segment.now) pending (c.write_segment.ensures.time known)))
 
-pub returns-in-Err-write_segment-clause-leaves_same : goal.returns-in-Err-write_segment-clause-leaves_same
-returns-in-Err-write_segment-clause-leaves_same g c = λ known.
+pub returns-clause-leaves_same : goal.returns-clause-leaves_same
+returns-clause-leaves_same g c = λ known.
     let d = g.D.Directory in
     let old = c.args.directory.now in
     let new = c.write_segment.new.directory in
