@@ -1,0 +1,11 @@
+pub mod CopyLemmas
+pub mod CopyingLemmas
+pub mod CountLemmas
+pub mod FinishLemmas
+pub mod FoundLemmas
+pub mod KnownLemmas
+pub mod PartLemmas
+pub mod SameLemmas
+pub mod SliceLemmas
+pub mod TermLemmas
+pub mod WantedLemmas

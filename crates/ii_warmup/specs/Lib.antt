@@ -1,0 +1,7 @@
+pub mod CopiedTerms
+pub mod Faults
+pub mod FileSlice
+pub mod Parts
+pub mod QueryTerms
+pub mod SameFor
+pub mod Warmup

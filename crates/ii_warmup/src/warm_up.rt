@@ -1,0 +1,72 @@
+//! A small index in memory that has what a query reads of an index.
+ghost use Rattle.std.specs.Prelude.{◌≡◌, ◌<◌, ℕ, List, Some, IfOk, IsErrOf, false, length, map, true};
+ghost use Rattle.std.specs.List.{list_all};
+ghost use Rattle.ii_io.specs.declared.faults.Fault.TheVariants as faults;
+ghost use Rattle.ii_io.specs.declared.faults.Part.TheVariants as parts;
+ghost use Rattle.ii_reader.specs.InvertedIndexReader.{InvertedIndexReaderState};
+ghost use Rattle.ii_warmup.specs.QueryTerms.{range_view, requested_of, term_view};
+ghost use Rattle.ii_warmup.specs.Parts.{IsPartOf};
+ghost use Rattle.ii_warmup.specs.Warmup.{known_reader};
+ghost use Rattle.ii_warmup.specs.declared.faults.WarmupFault.TheVariants.{Index};
+
+use crate::copying::copy_terms;
+use crate::faults::WarmupFault;
+use crate::file_handle::FileHandle;
+use crate::file_slice::FileSlice;
+use crate::terms::{QueryRange, QueryTerm};
+use crate::wanted_terms::wanted_terms;
+use ii_base::{Fault, Field, IndexRecordOption, Part};
+use ii_reader::InvertedIndexReader;
+use ii_termdict::TermDictionary;
+use std::alloc::Global;
+
+// The number of bytes before the postings of a field: its number of tokens.
+const COUNT_SIZE: u64 = 8;
+
+/// The files of a field: its dictionary, and its bodies in the files of postings and positions.
+#[derive(Drop)]
+pub struct FieldFiles<'a, P: FileHandle, Q: FileHandle> {
+    /// The dictionary.
+    pub terms: &'a TermDictionary,
+    /// The number of tokens of the field, 8 bytes, and its postings.
+    pub postings: &'a P,
+    /// The positions.
+    pub positions: &'a Q,
+    /// What the field records.
+    pub option: IndexRecordOption,
+}
+
+/// Returns a reader over the terms of a field that terms and ranges of a query have, each with what these request of it:
+/// only its bytes are read.
+pub fn warm_up_field<P: FileHandle, Q: FileHandle>(
+    alloc: Global,
+    field: Field,
+    files: &FieldFiles<'_, P, Q>,
+    terms: &[QueryTerm<'_>],
+    ranges: &[QueryRange<'_>],
+) -> Result<InvertedIndexReader, WarmupFault>
+    ensures part { (whole : InvertedIndexReaderState) → known_reader files.now.terms.now (P.bytes files.now.postings.now) (Q.bytes files.now.positions.now) files.now.option ≡ Some whole
+        → IfOk result (λ part. IsPartOf (requested_of (map term_view terms.now) (map range_view ranges.now) field) part whole) }
+{
+    let wanted = match wanted_terms(alloc, files.terms, field, terms, ranges) {
+        Ok(wanted) => wanted,
+        Err(fault) => return Err(WarmupFault::Index(fault)),
+    };
+    let len = files.postings.len();
+    if len < COUNT_SIZE {
+        return Err(WarmupFault::Index(Fault::Damaged(Part::TokenCount)));
+    }
+    let count = match files.postings.read_bytes(alloc, 0, COUNT_SIZE as usize) {
+        Ok(count) => count,
+        Err(fault) => return Err(WarmupFault::from(fault)),
+    };
+    let postings = FileSlice::new(files.postings, COUNT_SIZE, len - COUNT_SIZE);
+    copy_terms(
+        alloc,
+        &wanted,
+        count.as_slice(),
+        &postings,
+        files.positions,
+        files.option,
+    )
+}
