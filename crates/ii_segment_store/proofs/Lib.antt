@@ -4,6 +4,7 @@ mod WantedLaws
 pub mod CommitLaws
 pub mod PendingLaws
 mod FlagLaws
+mod OpenLaws
 mod OrderLaws
 mod ClearLaws
 mod WorkedRows

@@ -6,7 +6,7 @@ ghost use Rattle.ii_store.specs.IndexMeta.{IsValidMeta, MetaState, meta_view};
 ghost use Rattle.ii_store.specs.Segments.{KeepsOtherFiles, list_in};
 ghost use Rattle.ii_segment_store.specs.BlockTables.{segment_tables};
 ghost use Rattle.ii_segment_store.specs.Changes.{IsFlaggedList, index_without};
-ghost use Rattle.ii_segment_store.specs.Commits.{HaveIdsBelow, IsRefusedCommit, KeepsButSegment, LeavesOneIndex, emptied};
+ghost use Rattle.ii_segment_store.specs.Commits.{HasSegment, HaveIdsBelow, IsRefusedCommit, KeepsButSegment, LeavesOneIndex, emptied};
 ghost use Rattle.ii_segment_store.specs.Contents.{files_contents, index_contents, list_contents, with_segment};
 ghost use Rattle.ii_segment_store.specs.Pending.{FollowsFlags, IsBeginFault, IsFlaggingFault, IsPending, IsPendingFault, begun, with_next};
 
@@ -123,6 +123,7 @@ impl PendingSegments {
         ensures list { IfOk result (λ p. p ≡ with_next self (files_contents segment.now)) }
         ensures valid { IfOk result (λ p. IsValidMeta p) }
         ensures holds { D.is_known directory.old → HaveIdsBelow self.next_segment_id self.segments → IfOk result (λ p. list_contents p (D.seen directory.new) ≡ with_segment (files_contents segment.now) (list_contents self (D.seen directory.old))) }
+        ensures written { D.is_known directory.old → OnOk result (HasSegment self.next_segment_id (files_contents segment.now) (D.seen directory.new)) }
         // what stays
         ensures pending { D.is_known directory.old → IsPending self (D.seen directory.old) → IfOk result (λ p. IsPending p (D.seen directory.new)) }
         ensures follows { D.is_known directory.old → FollowsFlags self (D.seen directory.old) → IfOk result (λ p. FollowsFlags p (D.seen directory.new)) }

@@ -22,16 +22,13 @@ impl WantedFiles {
     pub fn has(self, component: SegmentComponent) -> bool
         ensures { result ≡ is_wanted self component }
     {
+        let is_store = component.is_same(SegmentComponent::Store);
+        let is_tables = component.is_same(SegmentComponent::BlockTables);
         match self {
             WantedFiles::All => true,
-            WantedFiles::WithoutStore => {
-                !component.is_same(SegmentComponent::Store)
-                    & !component.is_same(SegmentComponent::BlockTables)
-            }
+            WantedFiles::WithoutStore => !is_store & !is_tables,
             WantedFiles::WithoutCountsAndStore => {
-                !component.is_same(SegmentComponent::Store)
-                    & !component.is_same(SegmentComponent::BlockTables)
-                    & !component.is_same(SegmentComponent::Counts)
+                !is_store & !is_tables & !component.is_same(SegmentComponent::Counts)
             }
         }
     }
