@@ -26,6 +26,7 @@ PLACES = {
         'from'},  # the kit's error becomes a fault
     'ii_alive/src/faults.rt': {'from'},
     'ii_block_file/src/faults.rt': {'from'},
+    'ii_warmup/src/faults.rt': {'from'},
     'ii_doc_store/src/faults.rt': {'from'},
     'ii_documents/src/faults.rt': {'of_json', 'of_hex', 'from'},  # errors of the kit's crates become faults
     'ii_documents/src/line_fields.rt': {

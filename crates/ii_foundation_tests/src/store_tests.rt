@@ -4,7 +4,7 @@ use ii_store::{
     load, salvage,
 };
 use std::alloc::Global;
-use std::fs;
+use std::fs::{self, File, Files};
 use std::test::Fail;
 
 // Builds an index whose files hold its number.
@@ -173,7 +173,7 @@ fn files_are_left_with_their_faults(rt: HostRuntime) -> Result<(), Fail> {
 }
 
 // Returns what is found in a folder before and after two saves; unused files are removed at the end.
-fn found_in_folder<R: std::rt::Files + AllocGlobal>(
+fn found_in_folder<R: Files<File = File> + AllocGlobal>(
     rt: &R,
     path: &str,
 ) -> Result<[u8; 3], DirectoryFault> {

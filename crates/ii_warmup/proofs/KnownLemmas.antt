@@ -1,14 +1,16 @@
 -- A reader over known bodies.
-use Rattle.std.proofs.Common.{◌≡◌, ℕ, ◌+◌, ◌-◌, ◌≤◌, Bool, true, false, List, [], ◌∷◌, Option, None, Some, drop, length, map, nat_le, take, refl, sym, ap, arith}
+use Rattle.std.proofs.Common.{◌≡◌, ◌∙◌, ℕ, ◌+◌, ◌-◌, ◌<◌, ◌≤◌, Bool, true, false, List, [], ◌∷◌, Option, None, Some, drop, length, map, nat_le, take, refl, sym, ap, subst, arith}
 use Rattle.std.specs.List.{list_all}
 use Rattle.std.proofs.lemmas.Bool.{le-leb, leb-true}
 use Rattle.std.proofs.lemmas.List.{take_rest}
 use Rattle.ii_io.specs.Numbers.{little_endian, number_at}
 use Rattle.ii_base.specs.declared.schema.index_record_option.IndexRecordOption.{IndexRecordOption}
 use Rattle.ii_reader.specs.InvertedIndexReader.{InvertedIndexReaderState, reader_over}
+use Rattle.ii_termstore.specs.TermInfos.{is_sound}
 use Rattle.ii_termdict.specs.Dictionary.{TermEntry}
 use Rattle.ii_warmup.specs.FileSlice.{slice_if}
-use Rattle.ii_warmup.specs.Warmup.{known_reader}
+use Rattle.ii_warmup.specs.Warmup.{WantedTermState, all_lie, all_sound, do_ranges_lie, known_reader, wanted_of, wanted_view}
+use Rattle.ii_warmup.specs.declared.wanted_terms.WantedTerm.{WantedTerm}
 use Rattle.ii_warmup.proofs.FinishLemmas.{reader_is}
 
 -- The parts of a reader over known bodies.
@@ -54,3 +56,18 @@ slice_body start len n file p body start_is len_is n_is long file_is body_is =
 pub all_viewed : {A B : Type 0} (view : A → B) (f : B → Bool) (xs : List A) → list_all f (map view xs) ≡ list_all (λ x. f (view x)) xs
 all_viewed view f [] = refl
 all_viewed view f (x ∷ xs) = rw (all_viewed view f xs) refl
+
+-- what holds of wanted terms and of those of a dictionary
+pub lie_moved : (requested : List ℕ → Option IndexRecordOption) (whole : InvertedIndexReaderState) (option : IndexRecordOption) (wanted : List WantedTerm) → whole.option ≡ option → map wanted_view wanted ≡ wanted_of requested whole.terms
+    → list_all (λ (t : WantedTerm). do_ranges_lie option whole.postings whole.positions (wanted_view t)) wanted ≡ all_lie requested whole
+lie_moved requested whole option wanted option_is wanted_is =
+    subst (λ (o : IndexRecordOption). list_all (λ (t : WantedTerm). do_ranges_lie o whole.postings whole.positions (wanted_view t)) wanted ≡ all_lie requested whole) option_is
+    (sym (all_viewed wanted_view (do_ranges_lie whole.option whole.postings whole.positions) wanted) ∙ ap (list_all (do_ranges_lie whole.option whole.postings whole.positions)) wanted_is)
+
+pub sound_moved : (requested : List ℕ → Option IndexRecordOption) (terms : List TermEntry) (wanted : List WantedTerm) → map wanted_view wanted ≡ wanted_of requested terms → list_all (λ (t : WantedTerm). is_sound t.info) wanted ≡ all_sound requested terms
+sound_moved requested terms wanted wanted_is =
+    sym (all_viewed wanted_view (λ (t : WantedTermState). is_sound t.info) wanted) ∙ ap (list_all (λ (t : WantedTermState). is_sound t.info)) wanted_is
+
+-- a body that is known to be long isn't short
+pub not_short : (n : ℕ) (p : List ℕ) → n ≡ length p → 8 ≤ length p → n < 8 → ⊥
+not_short n p is long short = absurd (omega (arith, is, long, short))

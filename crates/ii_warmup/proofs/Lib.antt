@@ -9,3 +9,4 @@ pub mod SameLemmas
 pub mod SliceLemmas
 pub mod TermLemmas
 pub mod WantedLemmas
+pub mod WorkedRows

@@ -101,3 +101,7 @@ requested_of terms ranges field key =
     if names_key WithFreqsAndPositions terms ranges field key then Some WithFreqsAndPositions
     else if names_key Basic terms ranges field key then Some Basic
     else None
+
+-- the same, of a program's terms and ranges
+abbrev pub requests_of : List QueryTerm → List QueryRange → ℕ → List ℕ → Option IndexRecordOption
+requests_of terms ranges field = requested_of (map term_view terms) (map range_view ranges) field

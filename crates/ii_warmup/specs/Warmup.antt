@@ -1,6 +1,6 @@
 -- A small index in memory that has of another one what is requested.
 use Rattle.std.specs.Prelude.{◌≡◌, ℕ, Bool, true, ◌&&◌, ◌||◌, not, List, Option, None, Some, map}
-use Rattle.std.specs.List.{filter_map}
+use Rattle.std.specs.List.{filter_map, list_all}
 use Rattle.std.specs.Option.{option_map}
 use Rattle.std.specs.declared.ops.Range.{Range}
 use Rattle.ii_base.specs.Options.{downgrade, has_positions}
@@ -11,6 +11,13 @@ use Rattle.ii_definitions.specs.Files.{bytes_in}
 use Rattle.ii_reader.specs.InvertedIndexReader.{InvertedIndexReaderState, lies_in, reader_over}
 use Rattle.ii_warmup.specs.CopiedTerms.{CopiedTermsState, with_copy}
 use Rattle.ii_warmup.specs.declared.wanted_terms.WantedTerm.{WantedTerm}
+use Rattle.std.specs.Prelude.{false, IfOk, IsErrOf, Result}
+use Rattle.ii_io.specs.declared.faults.Fault.TheVariants as faults
+use Rattle.ii_io.specs.declared.faults.Part.TheVariants as parts
+use Rattle.ii_termstore.specs.TermInfos.{is_sound}
+use Rattle.ii_warmup.specs.Parts.{IsPartOf}
+use Rattle.ii_warmup.specs.declared.faults.WarmupFault.{WarmupFault}
+use Rattle.ii_warmup.specs.declared.faults.WarmupFault.TheVariants.{Index}
 
 -- a wanted term: its key, its info, and what is requested of its postings
 pub record WantedTermState : Type 0 where
@@ -56,3 +63,16 @@ abbrev pub known_reader : List TermEntry → Option (List ℕ) → Option (List 
 known_reader terms None positions option = None
 known_reader terms (Some postings) None option = None
 known_reader terms (Some postings) (Some positions) option = reader_over terms postings positions option
+
+-- whether the ranges of each wanted term lie within the bodies of a reader
+abbrev pub all_lie : (List ℕ → Option IndexRecordOption) → InvertedIndexReaderState → Bool
+all_lie requested whole = list_all (do_ranges_lie whole.option whole.postings whole.positions) (wanted_of requested whole.terms)
+
+-- whether each range of each wanted term begins at or before its end and has fewer than 2^32 bytes
+abbrev pub all_sound : (List ℕ → Option IndexRecordOption) → List TermEntry → Bool
+all_sound requested terms = list_all (λ (t : WantedTermState). is_sound t.info) (wanted_of requested terms)
+
+-- A part of a reader was made, or the ranges of a wanted term don't lie within the bodies, or another fault came.
+pub record WarmsUp (requested : List ℕ → Option IndexRecordOption) (whole : InvertedIndexReaderState) (result : Result InvertedIndexReaderState WarmupFault) : Type 0 where
+  pub part : IfOk result (λ (part : InvertedIndexReaderState). IsPartOf requested part whole)
+  pub range : IsErrOf result (Index (faults.Damaged parts.Range)) → all_lie requested whole ≡ false

@@ -1,12 +1,11 @@
 //! A small index in memory that has what a query reads of an index.
-ghost use Rattle.std.specs.Prelude.{◌≡◌, ◌<◌, ℕ, List, Some, IfOk, IsErrOf, false, length, map, true};
-ghost use Rattle.std.specs.List.{list_all};
+ghost use Rattle.std.specs.Prelude.{◌≡◌, Some, IsErrOf, false, true};
 ghost use Rattle.ii_io.specs.declared.faults.Fault.TheVariants as faults;
 ghost use Rattle.ii_io.specs.declared.faults.Part.TheVariants as parts;
 ghost use Rattle.ii_reader.specs.InvertedIndexReader.{InvertedIndexReaderState};
-ghost use Rattle.ii_warmup.specs.QueryTerms.{range_view, requested_of, term_view};
-ghost use Rattle.ii_warmup.specs.Parts.{IsPartOf};
-ghost use Rattle.ii_warmup.specs.Warmup.{known_reader};
+ghost use Rattle.ii_warmup.specs.Faults.{OnlyMemoryOrLimit};
+ghost use Rattle.ii_warmup.specs.QueryTerms.{requests_of};
+ghost use Rattle.ii_warmup.specs.Warmup.{WarmsUp, all_lie, all_sound, known_reader};
 ghost use Rattle.ii_warmup.specs.declared.faults.WarmupFault.TheVariants.{Index};
 
 use crate::copying::copy_terms;
@@ -36,8 +35,16 @@ pub struct FieldFiles<'a, P: FileHandle, Q: FileHandle> {
     pub option: IndexRecordOption,
 }
 
-/// Returns a reader over the terms of a field that terms and ranges of a query have, each with what these request of it:
-/// only its bytes are read.
+/// Returns a reader over the terms of a field that terms and ranges of a query have, each with what these request of it.
+/// Of the postings and positions, only the bytes of these terms and the number of tokens are read.
+///
+/// # Errors
+///
+/// * `Damaged(TokenCount)` if the postings have fewer than 8 bytes.
+/// * `Damaged(Range)` if the postings of one of these terms aren't within the body, or its positions, if they are
+///   requested; `Damaged(TermStore)` if one of these ranges has 2^32 bytes or more.
+/// * `Read` if a file can't be read.
+/// * `Limit(Offset)` if the dictionary of these terms would have 2^64 bytes or more; `OutOfMemory`.
 pub fn warm_up_field<P: FileHandle, Q: FileHandle>(
     alloc: Global,
     field: Field,
@@ -45,8 +52,11 @@ pub fn warm_up_field<P: FileHandle, Q: FileHandle>(
     terms: &[QueryTerm<'_>],
     ranges: &[QueryRange<'_>],
 ) -> Result<InvertedIndexReader, WarmupFault>
-    ensures part { (whole : InvertedIndexReaderState) → known_reader files.now.terms.now (P.bytes files.now.postings.now) (Q.bytes files.now.positions.now) files.now.option ≡ Some whole
-        → IfOk result (λ part. IsPartOf (requested_of (map term_view terms.now) (map range_view ranges.now) field) part whole) }
+    ensures warms { (whole : InvertedIndexReaderState) → known_reader files.now.terms.now (P.bytes files.now.postings.now) (Q.bytes files.now.positions.now) files.now.option ≡ Some whole → WarmsUp (requests_of terms.now ranges.now field) whole result }
+    ensures long { IsErrOf result (Index (faults.Damaged parts.TermStore)) → all_sound (requests_of terms.now ranges.now field) files.now.terms.now ≡ false }
+    // where the bytes can be read, and the terms' are within them
+    ensures sound { (whole : InvertedIndexReaderState) → known_reader files.now.terms.now (P.bytes files.now.postings.now) (Q.bytes files.now.positions.now) files.now.option ≡ Some whole → P.is_sound files.now.postings.now → Q.is_sound files.now.positions.now
+        → all_lie (requests_of terms.now ranges.now field) whole ≡ true → all_sound (requests_of terms.now ranges.now field) whole.terms ≡ true → OnlyMemoryOrLimit result }
 {
     let wanted = match wanted_terms(alloc, files.terms, field, terms, ranges) {
         Ok(wanted) => wanted,
