@@ -41,11 +41,7 @@ pub(crate) fn take_run(
 }
 
 // Returns the share of the current document.
-fn share_here(
-    cursor: &SegmentPostings,
-    norms: &Option<FieldNormReader>,
-    weight: &Bm25Weight,
-) -> u64
+fn share_here(cursor: &SegmentPostings, norms: &Option<FieldNormReader>, weight: &Bm25Weight) -> u64
     requires { IsCurrent cursor.now.rest }
     ensures value { (e : Entry) (es : List Entry) → cursor.now.rest ≡ e ∷ es → result ≡ share_of weight.now norms.now e }
     ensures below { result < 2 ^ 28 }

@@ -54,10 +54,17 @@ impl<'a> ShareReader<'a> {
         ensures same { self.new ≡ self.old }
         ensures first { IsFirstReaching self.old weight.now.weight least target result }
         ensures reaches { result < TERMINATED → MayReach weight.now.weight least (bound_at self.old result) }
+        ensures up_to { result ≤ TERMINATED }
     {
-        let mut from = Place { block: 0, doc: target };
+        let mut from = Place {
+            block: 0,
+            doc: target,
+        };
         if self.place.doc <= target {
-            from = Place { block: self.place.block, doc: target };
+            from = Place {
+                block: self.place.block,
+                doc: target,
+            };
         }
         let place = place_reaching(self.shares.blocks(), from, weight, least);
         self.place = place;
