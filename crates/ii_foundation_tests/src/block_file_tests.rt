@@ -145,8 +145,8 @@ fn an_open_file_stays_as_it_was(rt: HostRuntime) -> Result<(), Fail> {
     let path = "/tmp/ii_foundation_tests_open";
     let _ = fs::remove_dir_all(&rt, path);
     fs::create_dir(&rt, path)?;
-    let found = opened(rt.alloc(), &mut Folder::new(&rt, path));
+    let found = opened(rt.alloc(), &mut Folder::new(&rt, path))?;
     fs::remove_dir_all(&rt, path)?;
-    assert!(rt; found? == ([1, 2, 3], false));
+    assert!(rt; found == ([1, 2, 3], false));
     Ok(())
 }

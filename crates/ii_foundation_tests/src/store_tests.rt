@@ -173,7 +173,7 @@ fn files_are_left_with_their_faults(rt: HostRuntime) -> Result<(), Fail> {
 }
 
 // Returns what is found in a folder before and after two saves; unused files are removed at the end.
-fn found_in_folder<R: std::rt::Files + AllocGlobal>(
+fn found_in_folder<R: fs::Files<File = fs::File> + AllocGlobal>(
     rt: &R,
     path: &str,
 ) -> Result<[u8; 3], DirectoryFault> {
