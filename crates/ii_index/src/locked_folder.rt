@@ -1,5 +1,7 @@
 //! Directories that one program at a time writes to.
-use ii_directory::{Directory, DirectoryFault, Folder, FolderLock, MemoryDirectory, Name};
+use ii_directory::{
+    Directory, DirectoryFault, FileSystem, FlushedDirectory, Folder, FolderLock, MemoryFile, Name,
+};
 use std::alloc::Global;
 use std::fs::{File, Files};
 
@@ -80,4 +82,5 @@ impl<D: Directory + Drop> Directory for Locked<D> {
 
 impl<D: Directory + Drop> WritableDirectory for Locked<D> {}
 
-impl WritableDirectory for MemoryDirectory {}
+// `MemoryDirectory` is one.
+impl<S: FileSystem<File = MemoryFile> + Drop> WritableDirectory for FlushedDirectory<S> {}

@@ -17,10 +17,13 @@ returns-in-Err-clause-fault c =
     damaged_before (terms_damage segments (query_terms c.args.query.now)) (number_damage c.args.query.now c.args.doc segments) c.in-Err.fault c.in-Err.ensures.fault
 
 pub returns-in-Ok-explain_segments-clause-shares : goal.returns-in-Ok-explain_segments-clause-shares
-returns-in-Ok-explain_segments-clause-shares c = λ before after s doc whole living number.
+returns-in-Ok-explain_segments-clause-shares c =
     let a = query_statistics c.in-Ok.statistics in
     let b = segments_statistics (searcher_tokens c.args.tokens.now) (map segment_of c.args.segments.now) in
-    c.in-Ok-explain_segments.ensures.shares before after s doc whole living number ∙ same_shares_in a b c.in-Ok.ensures.docs c.args.query.now c.in-Ok.ensures.same s doc
+    record {
+      here = λ before after s doc whole living number. c.in-Ok-explain_segments.ensures.shares.here before after s doc whole living number ∙ same_shares_in a b c.in-Ok.ensures.docs c.args.query.now c.in-Ok.ensures.same s doc;
+      none = c.in-Ok-explain_segments.ensures.shares.none;
+    }
 
 pub returns-in-Ok-explain_segments-clause-sum : goal.returns-in-Ok-explain_segments-clause-sum
 returns-in-Ok-explain_segments-clause-sum c = λ score scored.
