@@ -122,7 +122,7 @@ TYPES = {'s': 'text', 'i': 'i64', 'u': 'u64', 'o': 'bool'}
 FILE_KINDS = {'schema': 'schema', 'terms': 'term', 'postings': 'idx', 'positions': 'pos', 'field_norms': 'norm', 'counts': 'count', 'stored_documents': 'store'}
 # a row of `check`: the file that is not as it was saved; or the segment, file, field, term, damage, bytes and document
 CHANGED = re.compile(r'small: ((?:the file|the flags) of (?:the )?(.+?)(?: of segment (\d+))? (?:has|is|are) .+?)(?:, bytes (\d+)\.\.(\d+))?$')
-DAMAGED = re.compile(r'(?:segment (\d+): )?the file of ([a-z ]+)(?:, field ([^,:]*))?(?:, term (.*?))?: ((?:damaged|document|the f|[0-9]+ field norms).*?)(?:, bytes (\d+)\.\.(\d+)|, document (\d+))$')
+DAMAGED = re.compile(r'(?:segment (\d+): )?the file of ([a-z ]+)(?:, field ([^,:]*))?(?:, term (.*?))?: ((?:damaged|document|the f|[0-9]+ field norms).*?)(?:, bytes (\d+)\.\.(\d+)|, document (\d+))$', re.S)
 
 
 def told(rows):
@@ -270,7 +270,14 @@ def checks_agree(user, folder, status):
     """Compares `check --json` with `check`."""
     text = user.wants(['check', folder], status).decode()
     rows = rows_of(user.wants(['check', folder, '--json'], status))
-    *damages, documents, walked, count = text.splitlines()
+    *lines, documents, walked, count = text.removesuffix('\n').split('\n')
+    damages = []
+    for line in lines:
+        # a term may have line breaks
+        if damages and not CHANGED.match(damages[-1]) and not DAMAGED.match(damages[-1]):
+            damages[-1] += '\n' + line
+        else:
+            damages.append(line)
     wanted = []
     for line in damages:
         changed, damage = CHANGED.match(line), DAMAGED.match(line)
