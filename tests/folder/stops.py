@@ -274,7 +274,7 @@ def replaced(folder):
     folder.holds(2)
     left = sorted(os.listdir(folder.path('index')))
     named = {name.split('.')[0] for name in left}
-    if len(named) != 3 or sorted(name.split('.')[-1] for name in left) != ['count', 'idx', 'lock', 'meta', 'norm', 'pos', 'term']:
+    if len(named) != 3 or sorted(name.split('.')[-1] for name in left) != ['blocks', 'count', 'idx', 'lock', 'meta', 'norm', 'pos', 'term']:
         raise Failed(f'index over segments leaves {left}')
 
 
