@@ -314,10 +314,10 @@ fn documents_become_segments_by_the_budget(rt: HostRuntime) -> Result<(), Fail> 
         let mut writer = index.writer(rt.alloc(), *budget)?;
         add(rt.alloc(), &mut writer, &DOCUMENTS)?;
         writer.commit(rt.alloc())?;
-        // terms, postings, positions, norms and counts
+        // terms, postings, positions, norms, counts and tables of blocks
         assert!(rt;
             num_files(rt.alloc(), writer.index())?
-                == before.saturating_add(segments.saturating_mul(5))
+                == before.saturating_add(segments.saturating_mul(6))
         );
     }
     Ok(())
@@ -329,7 +329,7 @@ fn written_documents_are_not_found_before_a_commit(rt: HostRuntime) -> Result<()
     let before = num_files(rt.alloc(), writer.index())?;
     add(rt.alloc(), &mut writer, &DOCUMENTS)?;
     make(rt.alloc(), &mut writer, &Step::Delete("sea"))?;
-    assert!(rt; num_files(rt.alloc(), writer.index())? == before.saturating_add(20));
+    assert!(rt; num_files(rt.alloc(), writer.index())? == before.saturating_add(24));
     for (text, wanted) in &ROWS {
         let found = found(rt.alloc(), writer.index(), text)?;
         assert!(rt; found.as_str() == *wanted);
@@ -350,7 +350,7 @@ fn written_documents_are_dropped(rt: HostRuntime) -> Result<(), Fail> {
         let found = found(rt.alloc(), writer.index(), text)?;
         assert!(rt; found.as_str() == *wanted);
     }
-    assert!(rt; writer.garbage_collect_files(rt.alloc())? == 20);
+    assert!(rt; writer.garbage_collect_files(rt.alloc())? == 24);
     add(rt.alloc(), &mut writer, &[DOCUMENTS[0]])?;
     writer.commit(rt.alloc())?;
     let found = found(rt.alloc(), writer.index(), "sea")?;
