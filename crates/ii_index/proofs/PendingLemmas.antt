@@ -26,7 +26,7 @@ use Rattle.ii_index.specs.Segments.{HaveLines, HaveTokens, HoldsIndexOf, after, 
 use Rattle.ii_index.proofs.IndexLemmas.{same_holds, zip_more}
 use Rattle.ii_segments.proofs.MergeLaws.{docs_of_both}
 use Rattle.ii_segment_store.specs.Changes.{segments_without}
-use Rattle.ii_segment_store.specs.Contents.{IndexContents, SegmentContents, all_contents, files_contents, index_contents, list_contents, segment_in, with_segment}
+use Rattle.ii_segment_store.specs.Contents.{IndexContents, SegmentContents, all_contents, files_contents, index_contents, list_contents, segment_in, with_segment, all_of}
 use Rattle.ii_segment_store.specs.Pending.{FollowsFlags, IsPending}
 use Rattle.ii_segments.specs.Segments.{Segment, at_rank, index_tokens, is_living, living_tokens, num_docs_of, tokens_from}
 use Rattle.ii_segments.proofs.MergeLaws.{from_append, from_shift}
@@ -140,7 +140,7 @@ read_first (Ok one) (Err fault) cs is = absurd (cc)
 read_first (Err fault) others cs is = absurd (cc)
 
 all_many : (ss : List SegmentState) (files : Files) (cs : List SegmentContents) → all_contents ss files ≡ Ok cs → length ss ≡ length cs
-unfolding all_contents
+unfolding all_of
 all_many [] files cs is = ap length nothing
   where
     nothing : [] ≡ cs
@@ -150,7 +150,7 @@ all_many (s ∷ ss) files cs is =
     ap suc (all_many ss files read.more read.others_are) ∙ sym (ap length read.are)
 
 all_dropped : (n : ℕ) (ss : List SegmentState) (files : Files) (cs : List SegmentContents) → all_contents ss files ≡ Ok cs → all_contents (drop n ss) files ≡ Ok (drop n cs)
-unfolding all_contents
+unfolding all_of
 all_dropped zero ss files cs is = is
 all_dropped (suc n) [] files cs is = ap (λ (x : List SegmentContents). Ok x) nothing
   where

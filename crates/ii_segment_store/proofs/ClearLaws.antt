@@ -15,7 +15,7 @@ use Rattle.ii_store.specs.IndexMeta.{MetaState, SegmentState}
 use Rattle.ii_store.specs.Segments.{ListedFile, files_of_segment, list_in, listed}
 use Rattle.ii_directory.proofs.Elapsing.{elapses_implies, elapses_then}
 use Rattle.ii_segment_store.specs.Commits.{KeepsButSlot, KeepsButSlots}
-use Rattle.ii_segment_store.specs.Contents.{all_contents, index_contents, list_contents}
+use Rattle.ii_segment_store.specs.Contents.{all_contents, index_contents, list_contents, all_of}
 use Rattle.ii_segment_store.proofs.CommitLaws.{KeepsFileOf, list_kept, listed_below, listed_contents, listed_same}
 
 -- files of one slot are files of slots
@@ -82,7 +82,7 @@ last_part P [] ys all = all
 last_part P (x ∷ xs) ys all = last_part P xs ys all.1
 
 segments_kept : (a c : Files) (ss : List SegmentState) → AllByRecursion (KeepsFile a c) (flat_map files_of_segment ss) → all_contents ss c ≡ all_contents ss a
-unfolding all_contents
+unfolding all_of
 segments_kept a c [] each = refl
 segments_kept a c (s ∷ ss) each =
     let all = subst (AllByRecursion (KeepsFile a c)) (flat_map-cons files_of_segment s ss) each in

@@ -27,7 +27,7 @@ use Rattle.ii_store.proofs.ListLaws.{list_consistent, list_version}
 use Rattle.ii_store.proofs.SaveLaws.{index_outside}
 use Rattle.ii_segment_store.specs.BlockTables.{segment_tables}
 use Rattle.ii_segment_store.specs.Commits.{HasFileIf, HasSegment, HaveIdsBelow, HoldsOldOr, IsFresh, LeavesOneIndex, emptied, index_of_segment, listed_if, listed_segment}
-use Rattle.ii_segment_store.specs.Contents.{IndexContents, SegmentContents, alive_file, bytes_if_listed, contents_at, contents_in, index_contents, file_of, bytes_of_component, flags_with, list_contents, one_segment, only_segment, segment_in, all_contents, with_segment}
+use Rattle.ii_segment_store.specs.Contents.{IndexContents, SegmentContents, alive_file, bytes_if_listed, contents_at, contents_in, index_contents, file_of, bytes_of_component, flags_with, list_contents, one_segment, only_segment, segment_in, all_contents, with_segment, all_of}
 use Rattle.ii_segment_store.specs.Pending.{with_next}
 
 -- lists that a `meta` file holds
@@ -137,7 +137,7 @@ pub segment_same : (s : SegmentState) (a c : Files) → ((component : SegmentCom
 segment_same s a c each = listed_same s a c (each_kept s.id a c each s.files)
 
 pub segments_same : (next id : ℕ) (ss : List SegmentState) (a c : Files) → next ≤ id → KeepsBelow id a c → HaveIdsBelow next ss → all_contents ss c ≡ all_contents ss a
-unfolding all_contents
+unfolding all_of
 segments_same next id [] a c le keeps all = refl
 segments_same next id (s ∷ ss) a c le keeps all =
     rw (segment_same s a c (λ component. keeps s.id component (omega (arith, le, all.0))), segments_same next id ss a c le keeps all.1) refl
@@ -206,13 +206,13 @@ store_again id a b d e tables (Some bytes) None files there = refl
 store_again id a b d e tables None (Some lines) files there = rw (read_back id Store lines (files (Segment id Store)) there) refl
 store_again id a b d e tables (Some bytes) (Some lines) files there = rw (read_back id Store lines (files (Segment id Store)) there) refl
 
-no_flags : (a b d e tables : List ℕ) (counts store : Option (List ℕ)) → alive_file (listed_files a b d e counts store tables) ≡ None
+pub no_flags : (a b d e tables : List ℕ) (counts store : Option (List ℕ)) → alive_file (listed_files a b d e counts store tables) ≡ None
 no_flags a b d e tables None None = refl
 no_flags a b d e tables None (Some lines) = refl
 no_flags a b d e tables (Some bytes) None = refl
 no_flags a b d e tables (Some bytes) (Some lines) = refl
 
-flags_again : (s : SegmentState) → s.num_living ≡ s.num_docs → (files : Files) → flags_with s None files ≡ Ok (replicate s.num_docs true)
+pub flags_again : (s : SegmentState) → s.num_living ≡ s.num_docs → (files : Files) → flags_with s None files ≡ Ok (replicate s.num_docs true)
 unfolding flags_with
 flags_again s all files = rw (all_living s.num_docs, eq-eqb s.num_docs s.num_living (sym all)) refl
 
@@ -237,7 +237,7 @@ one_more (Ok f) (Err fault) z = refl
 one_more (Err fault) rs z = refl
 
 segments_more : (ss : List SegmentState) (s : SegmentState) (files : Files) (z : SegmentContents) → segment_in s files ≡ Ok z → all_contents (ss ++ s ∷ []) files ≡ (all_contents ss files >>= λ cs. Ok (cs ++ z ∷ []))
-unfolding all_contents
+unfolding all_of
 segments_more [] s files z e = rw e refl
 segments_more (x ∷ ss) s files z e = rw (segments_more ss s files z e) (one_more (segment_in x files) (all_contents ss files) z)
 
@@ -297,7 +297,7 @@ emptied_fresh schema files m is = omega (arith, below_next (list_in (files Meta)
 
 -- a list of one segment holds that segment
 pub emptied_contents : (schema : List ℕ) (found : Result MetaState IndexFault) (s : SegmentContents) (files : Files) → with_segment s (list_contents (emptied schema found) files) ≡ Ok (index_of_segment schema s)
-unfolding list_contents all_contents
+unfolding list_contents all_of
 emptied_contents schema (Ok m) s files = refl
 emptied_contents schema (Err fault) s files = refl
 
@@ -360,7 +360,7 @@ abbrev pub empty_list : List ℕ → List SegmentMeta → MetaState
 empty_list schema none = record { generation = 0; next_segment_id = 0; schema = schema; segments = map segment_view none }
 
 empty_contents : (schema : List ℕ) (none : List SegmentMeta) (files : Files) → none ≡ [] → list_contents (empty_list schema none) files ≡ Ok (record { schema = schema; segments = [] })
-unfolding list_contents all_contents
+unfolding list_contents all_of
 empty_contents schema none files e = rw e refl
 
 -- an index of version 1 and a list of its one segment hold the same

@@ -10,7 +10,7 @@ use Rattle.ii_store.specs.IndexMeta.{MetaState, SegmentState, segment_view}
 use Rattle.ii_store.specs.declared.index_meta.SegmentMeta.{SegmentMeta}
 use Rattle.ii_store.specs.Segments.{list_in}
 use Rattle.ii_segment_store.specs.Commits.{HaveIdsBelow}
-use Rattle.ii_segment_store.specs.Contents.{IndexContents, SegmentContents, all_contents, index_contents, list_contents, segment_contents, segment_in}
+use Rattle.ii_segment_store.specs.Contents.{IndexContents, SegmentContents, all_contents, index_contents, list_contents, segment_contents, segment_in, all_of}
 use Rattle.ii_segment_store.specs.declared.stored_segments.StoredSegment.{StoredSegment}
 use Rattle.ii_segment_store.specs.Joins.{first_contents, first_listed}
 use Rattle.ii_segment_store.proofs.CommitLaws.{listed_contents}
@@ -36,7 +36,7 @@ none_read cs e = cc
 
 -- no segment is left
 pub none_left : (first : ℕ) (listed : List SegmentMeta) (none : List StoredSegment) (files : Files) → length listed < first → none ≡ [] → all_contents (drop first (map segment_view listed)) files ≡ Ok (map segment_contents none)
-unfolding all_contents
+unfolding all_of
 none_left first listed none files over is = rw (is, drop_all first (map segment_view listed) (let many = length-map listed segment_view in omega (arith, many, over))) refl
 
 -- Segments that are read are read in two parts.
@@ -45,7 +45,7 @@ record AreRead (first : ℕ) (ss : List SegmentState) (files : Files) (cs : List
   from : all_contents (drop first ss) files ≡ Ok (drop first cs)
 
 parts_read : (first : ℕ) (ss : List SegmentState) (files : Files) (cs : List SegmentContents) → all_contents ss files ≡ Ok cs → AreRead first ss files cs
-unfolding all_contents
+unfolding all_of
 parts_read zero ss files cs read = record { before = refl; from = read }
 parts_read (suc n) [] files cs read = subst (AreRead (suc n) [] files) (sym (none_read cs read)) (record { before = refl; from = refl })
 parts_read (suc n) (s ∷ ss) files cs read =

@@ -5,6 +5,7 @@ pub mod CommitLaws
 pub mod PendingLaws
 mod FlagLaws
 mod OpenLaws
+mod OpenSegmentLaws
 mod OrderLaws
 mod ClearLaws
 mod WorkedRows

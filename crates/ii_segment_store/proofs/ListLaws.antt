@@ -18,7 +18,7 @@ use Rattle.ii_store.specs.Segments.{KeepsOtherFiles, MayBeReplaced, list_in}
 use Rattle.ii_directory.proofs.Elapsing.{elapses_implies, elapses_then}
 use Rattle.ii_segment_store.specs.Changes.{AreChanged, FailsForFlags, IsChangedTo, IsFlagged, IsFlaggedList, IsFlagsFault, KeepsButFlags, KeepsOlder, first_uncounted, index_without, is_uncounted, latest_file, latest_generation, result_without, segments_without}
 use Rattle.ii_segment_store.specs.Commits.{HaveIdsBelow, HoldsOldOr}
-use Rattle.ii_segment_store.specs.Contents.{IndexContents, SegmentContents, all_contents, index_contents, list_contents, segment_in}
+use Rattle.ii_segment_store.specs.Contents.{IndexContents, SegmentContents, all_contents, index_contents, list_contents, segment_in, all_of}
 use Rattle.ii_segment_store.proofs.ChangeLaws.{flagged_id, flagged_latest, later_keeps, older_flags, older_segment, older_then}
 use Rattle.ii_segment_store.proofs.CommitLaws.{listed_contents, meta_same_contents, segment_same}
 
@@ -112,7 +112,7 @@ docs_of_others (docs ∷ deleted) place = refl
 
 contents_changed : (deleted : List (List ℕ)) (ss ts : List SegmentState) (old new : Files) → length ts ≡ length ss
     → ((place : ℕ) (d : SegmentState) → place < length ts → segment_in (get_or ts place d) new ≡ result_without (get_or deleted place []) (segment_in (get_or ss place d) old)) → all_contents ts new ≡ contents_without deleted (all_contents ss old)
-unfolding all_contents
+unfolding all_of
 contents_changed deleted [] [] old new many each = refl
 contents_changed deleted [] (t ∷ ts) old new many each = absurd (omega (arith, many))
 contents_changed deleted (s ∷ ss) [] old new many each = absurd (omega (arith, many))
@@ -149,12 +149,12 @@ flagged_below deleted m n files h below =
 -- the same files of all segments
 
 all_kept : (ss : List SegmentState) (a c : Files) → ((i : ℕ) (component : SegmentComponent) → c (Segment i component) ≡ a (Segment i component)) → all_contents ss c ≡ all_contents ss a
-unfolding all_contents
+unfolding all_of
 all_kept [] a c keeps = refl
 all_kept (s ∷ ss) a c keeps = rw (segment_same s a c (keeps s.id), all_kept ss a c keeps) refl
 
 older_all : (g : ℕ) (ss : List SegmentState) (a c : Files) → latest_generation ss ≤ g → KeepsOlder g a c → all_contents ss c ≡ all_contents ss a
-unfolding all_contents
+unfolding all_of
 older_all g [] a c le keeps = refl
 older_all g (s ∷ ss) a c le keeps = rw (older_segment g s a c (omega (arith, le)) keeps, older_all g ss a c (omega (arith, le)) keeps) refl
 

@@ -116,13 +116,17 @@ segment_in s files = do
   alive ← flags_in s files
   Ok (record { num_docs = s.num_docs; terms = terms; postings = postings; positions = positions; fieldnorms = fieldnorms; counts = counts; store = store; alive = alive })
 
--- what segments hold, or the first fault
-unfoldable pub all_contents : List SegmentState → Files → Result (List SegmentContents) IndexFault
-all_contents [] files = Ok []
-all_contents (s ∷ ss) files = do
-  first ← segment_in s files
-  others ← all_contents ss files
+-- what each of some segments gives, in their order, or the first fault
+unfoldable pub all_of : {X : Type 0} → (SegmentState → Files → Result X IndexFault) → List SegmentState → Files → Result (List X) IndexFault
+all_of of_one [] files = Ok []
+all_of of_one (s ∷ ss) files = do
+  first ← of_one s files
+  others ← all_of of_one ss files
   Ok (first ∷ others)
+
+-- what segments hold, or the first fault
+abbrev pub all_contents : List SegmentState → Files → Result (List SegmentContents) IndexFault
+all_contents ss files = all_of segment_in ss files
 
 -- what the segments of a list hold, with its schema
 unfoldable pub list_contents : MetaState → Files → Result IndexContents IndexFault

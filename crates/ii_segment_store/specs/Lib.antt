@@ -4,5 +4,6 @@ pub mod BlockTables
 pub mod Changes
 pub mod Joins
 pub mod OpenFiles
+pub mod OpenSegments
 pub mod WantedFiles
 pub mod Pending

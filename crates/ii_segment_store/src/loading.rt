@@ -24,7 +24,7 @@ use ii_store::{
 use std::alloc::Global;
 
 // How often an index is read again while its list changes.
-const MOST_RETRIES: u32 = 10;
+pub(crate) const MOST_RETRIES: u32 = 10;
 
 /// Loads the index of a directory, of any version: its schema, exactly the bytes of each segment, and which
 /// of its documents are alive. An index of version 1 is one segment.
