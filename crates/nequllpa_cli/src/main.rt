@@ -9,6 +9,7 @@ mod commands;
 mod deleting;
 mod getting;
 mod host_lines;
+mod query_opening;
 mod query_texts;
 mod replacing;
 mod searching;

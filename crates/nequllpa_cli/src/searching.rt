@@ -3,6 +3,7 @@ use crate::batch::answer_batch;
 use crate::commands::{ended, field_named, format_given, number_given, opened_at};
 use crate::getting::NOT_STORED;
 use crate::host_lines::HostLines;
+use crate::query_opening::{OpenedQuery, opened_for_query};
 use crate::query_texts::{refuse_query, tell_left_out};
 use crate::snippet_style::style_given;
 use crate::timing::Timing;
@@ -52,6 +53,18 @@ pub fn answer_search(
         return Ok(ExitCode::from(status));
     }
     let timing = Timing::begin(rt, given)?;
+    if let Some(text) = given.get_str("QUERY") {
+        if prints_numbers(given) {
+            match opened_for_query(rt, path, given, text)? {
+                Some(Ok(found)) => {
+                    timing.tell(rt, "opening")?;
+                    return search_parts(rt, path, &found, given, limit);
+                }
+                Some(Err(status)) => return Ok(ExitCode::from(status)),
+                None => (),
+            }
+        }
+    }
     match opened_for(rt, path, given)? {
         Ok(opened) => {
             timing.tell(rt, "opening")?;
@@ -59,6 +72,13 @@ pub fn answer_search(
         }
         Err(status) => Ok(ExitCode::from(status)),
     }
+}
+
+// Returns whether only the numbers of documents are printed, and scores, or how many they are. Then a search reads no more of
+// the files than the documents of its terms.
+fn prints_numbers(given: &ArgMatches<'_>) -> bool {
+    let with_more = given.get_flag("ids") || given.get_flag("positions") || given.get_flag("explain");
+    !with_more && option_of_line(given).is_none()
 }
 
 // Opens an index with the files that a search reads. That ids are stored is known when the index is open: then it is
@@ -140,12 +160,37 @@ fn search_one(
         Ok(query) => query,
         Err(status) => return Ok(ExitCode::from(status)),
     };
+    print_query(rt, path, opened, given, limit, &query, &timing)
+}
+
+// Prints the matching documents of a query of which the parts of the index that it reads are open.
+fn search_parts(
+    rt: &HostRuntime,
+    path: &str,
+    found: &OpenedQuery,
+    given: &ArgMatches<'_>,
+    limit: u32,
+) -> anyhow::Result<ExitCode> {
+    let timing = Timing::begin(rt, given)?;
+    print_query(rt, path, &found.opened, given, limit, &found.query, &timing)
+}
+
+// Prints what is wanted of the matching documents, and how long that took.
+fn print_query(
+    rt: &HostRuntime,
+    path: &str,
+    opened: &OpenedIndex,
+    given: &ArgMatches<'_>,
+    limit: u32,
+    query: &Query,
+    timing: &Timing,
+) -> anyhow::Result<ExitCode> {
     let names = match names_given(rt, opened, given)? {
         Ok(names) => names,
         Err(status) => return Ok(ExitCode::from(status)),
     };
     let status = match wanted_given(rt, opened, given, limit, &names) {
-        Ok(Ok(wanted)) => print_wanted(rt, path, opened, &query, &wanted)?,
+        Ok(Ok(wanted)) => print_wanted(rt, path, opened, query, &wanted)?,
         Ok(Err(status)) => return Ok(ExitCode::from(status)),
         Err(error) => return Err(error),
     };
@@ -465,8 +510,8 @@ fn query_of(
     }
 }
 
-// Returns the fields for words without a field name: those given, or all indexed text fields.
-fn default_fields(
+/// Returns the fields for words without a field name: those given, or all indexed text fields.
+pub(crate) fn default_fields(
     rt: &HostRuntime,
     opened: &OpenedIndex,
     given: &ArgMatches<'_>,

@@ -5,3 +5,4 @@ pub mod LivingTokens
 pub mod OpenedSegments
 pub mod RowFormats
 pub mod Stored
+pub mod WarmedSegments

@@ -110,6 +110,27 @@ impl Opened {
         }
     }
 
+    // Makes an index of its parts, without counts and stored documents.
+    pub(crate) fn of_parts(
+        schema: Schema,
+        index: OpenIndex,
+        num_docs: u32,
+        alive: AliveBits,
+    ) -> Opened
+        requires { length index.readers ≡ length schema }
+        ensures parts { (result.schema ≡ schema) × (result.index ≡ index) × (result.num_docs ≡ num_docs) × (result.alive ≡ alive) }
+        ensures none { (result.counts ≡ None) × (result.store ≡ None) }
+    {
+        Opened {
+            schema,
+            index,
+            num_docs,
+            alive,
+            counts: None,
+            store: None,
+        }
+    }
+
     /// Adds a file of counts. Returns `Damaged(Composite)` if its table is corrupt.
     pub fn with_counts(self, alloc: Global, bytes: Vec<u8>) -> Result<Opened, Fault>
         ensures counts { IfOk result (λ o. option_map Some o.counts ≡ Some (composite bytes.items)) }

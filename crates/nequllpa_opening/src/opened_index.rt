@@ -1,5 +1,5 @@
 //! An open index of several segments.
-ghost use Rattle.std.specs.Prelude.{◌≡◌, ◌<◌, ◌≤◌, ℕ, IfOk, IfSome, IsOkAnd, List, None, Ok, Some, length, map};
+ghost use Rattle.std.specs.Prelude.{◌≡◌, ◌<◌, ◌≤◌, ℕ, [], IfErr, IfOk, IfSome, IsOkAnd, List, None, Ok, Some, length, map};
 ghost use Rattle.std.specs.Option.{option_map};
 ghost use Rattle.ii_io.specs.Composite.{composite};
 ghost use Rattle.std.specs.List.{AllByRecursion, AllZip};
@@ -10,16 +10,21 @@ ghost use Rattle.ii_query_parser.specs.QueryTexts.{IsQueryOfTextBy, field_named}
 ghost use Rattle.ii_schema_text.specs.SchemaText.{text_schema, tokenized_schema};
 ghost use Rattle.ii_tokenizers.specs.Tokenizers.{analyzed_in, prefix_tokenizer};
 ghost use Rattle.nequllpa_opening.specs.OpenedSegments.{OpensAs};
+ghost use Rattle.nequllpa_opening.specs.Stored.{IsTextSchemaRefusal};
+ghost use Rattle.nequllpa_opening.specs.WarmedSegments.{HoldsOfOne, IsWarmupRefusal, WarmsAs};
 
-use crate::faults::OpenFault;
+use crate::faults::{OpenFault, WarmupFault};
 use crate::opened::{Opened, text_schema_of};
+use crate::warmed::warmed_each;
 use ii_base::{DocId, Field, FieldEntry, Schema};
 use ii_query_parser::{Query, QueryParserError, field_named, parse_query_by};
 use ii_reader::InvertedIndexReader;
 use ii_schema_text::Stored;
-use ii_segment_store::{SegmentFiles, StoredSegment, StoredSegments};
+use ii_segment_store::{OpenSegments, SegmentFiles, StoredSegment, StoredSegments};
 use ii_store::StoredIndex;
 use ii_tokenizers::FieldTokenizers;
+use ii_directory::ReadAt;
+use ii_warmup::EnableScoring;
 use std::alloc::Global;
 
 /// An open index: its schema, the tokenizers of its fields, what is stored of its documents, and its open segments in
@@ -62,6 +67,70 @@ impl OpenedIndex {
         match text_schema_of(alloc, schema.as_slice()) {
             Ok(schema) => {
                 let (schema, tokenizers, stored) = schema.into_parts();
+                Ok(OpenedIndex {
+                    schema,
+                    tokenizers,
+                    stored,
+                    segments,
+                })
+            }
+            Err(fault) => Err(fault),
+        }
+    }
+
+    /// Reads the schema of an index, given as bytes, and opens no segment. Returns `SchemaBytes` if the bytes aren't UTF-8,
+    /// and `Schema` if the text is no schema.
+    #[tactic(auto, using(ii_schema_text::proofs::SchemaLaws::schema_alone))]
+    pub fn of_schema(alloc: Global, schema: &[u8]) -> Result<OpenedIndex, OpenFault>
+        ensures schema { IfOk result (λ o. text_schema schema.now ≡ Ok o.schema) }
+        ensures tokenizers { IfOk result (λ o. IsOkAnd (tokenized_schema schema.now) (λ s. (s.schema ≡ o.schema) × (s.tokenizers ≡ o.tokenizers) × (s.stored ≡ o.stored))) }
+        ensures none { IfOk result (λ o. o.segments.items ≡ []) }
+        ensures refused { IfErr result (IsTextSchemaRefusal schema.now) }
+    {
+        match text_schema_of(alloc, schema) {
+            Ok(schema) => {
+                let (schema, tokenizers, stored) = schema.into_parts();
+                Ok(OpenedIndex {
+                    schema,
+                    tokenizers,
+                    stored,
+                    segments: Vec::new(alloc),
+                })
+            }
+            Err(fault) => Err(fault),
+        }
+    }
+
+    /// Opens of each open segment what a query reads (`ii_warmup::warm_up`), in the place of the segments. The index must
+    /// have been read of this schema (`of_schema`). The readers have the terms of the query alone, each with the documents
+    /// that it has in the files, wherever these are as they were written; there are no counts and no stored documents.
+    ///
+    /// # Errors
+    ///
+    /// Those of the first segment that has one: `NoTables` if it has no tables of blocks, so that its files aren't open;
+    /// `File` with the error of `ii_warmup::warm_up`, which is an allocation failure, a limit, or the range of a term that
+    /// passes its file's end, where the files are as they were written; `Open` if an allocation fails for the schema.
+    pub fn warm_up<F: ReadAt + Drop>(
+        self,
+        alloc: Global,
+        segments: OpenSegments<F>,
+        query: &Query,
+        scoring: EnableScoring,
+    ) -> Result<OpenedIndex, WarmupFault>
+        requires { text_schema segments.schema.items ≡ Ok self.schema }
+        ensures same { IfOk result (λ o. (o.schema ≡ self.schema) × (o.tokenizers ≡ self.tokenizers) × (o.stored ≡ self.stored)) }
+        ensures segments { IfOk result (λ o. AllZip (WarmsAs self.schema query.now scoring) segments.segments.items o.segments.items) }
+        ensures refused { IfErr result (λ fault. HoldsOfOne (λ s. IsWarmupRefusal segments.schema.items self.schema query.now s fault) segments.segments.items) }
+    {
+        let OpenSegments { schema, segments } = segments;
+        match warmed_each(alloc, schema.as_slice(), segments, query, scoring) {
+            Ok(segments) => {
+                let OpenedIndex {
+                    schema,
+                    tokenizers,
+                    stored,
+                    segments: _,
+                } = self;
                 Ok(OpenedIndex {
                     schema,
                     tokenizers,

@@ -1,0 +1,88 @@
+//! Opens of an index what one query reads.
+use crate::query_texts::{refuse_query, tell_left_out};
+use crate::searching::default_fields;
+use clap::ArgMatches;
+use ii_directory::ReadAt;
+use ii_query_parser::Query;
+use ii_segment_store::{OpenSegments, open_latest};
+use ii_store::Folder;
+use ii_warmup::EnableScoring;
+use nequllpa_opening::{OpenedIndex, bound_by};
+use nequllpa_writing::refuse_path;
+
+/// An index of which what a query reads is open, and the query.
+#[derive(Drop)]
+pub struct OpenedQuery {
+    pub opened: OpenedIndex,
+    pub query: Query,
+}
+
+/// Opens of the index of a folder what the query of a text reads, or returns the status if the text is none. Returns
+/// `None` if the complete files must be loaded: they are those of an earlier program, or one can't be read as `meta` says.
+pub fn opened_for_query(
+    rt: &HostRuntime,
+    path: &str,
+    given: &ArgMatches<'_>,
+    text: &str,
+) -> anyhow::Result<Option<Result<OpenedQuery, u8>>> {
+    let Ok(Some(segments)) = open_latest(rt.alloc(), &Folder::new(rt, path)) else {
+        return Ok(None);
+    };
+    if given.get_str("top").is_some() && has_deletes(&segments) {
+        return Ok(None);
+    }
+    opened_of_query(rt, path, segments, given, text)
+}
+
+// Does the same for open segments.
+fn opened_of_query<F: ReadAt + Drop>(
+    rt: &HostRuntime,
+    path: &str,
+    segments: OpenSegments<F>,
+    given: &ArgMatches<'_>,
+    text: &str,
+) -> anyhow::Result<Option<Result<OpenedQuery, u8>>> {
+    let Ok(index) = OpenedIndex::of_schema(rt.alloc(), segments.schema.as_slice()) else {
+        return Ok(None);
+    };
+    let fields = match default_fields(rt, &index, given)? {
+        Ok(fields) => fields,
+        Err(status) => return Ok(Some(Err(status))),
+    };
+    let mut query = match index.parse_query(rt.alloc(), &fields, text) {
+        Ok(query) => query,
+        Err(error) => return Ok(Some(Err(refuse_query(rt, &index, text, error)?))),
+    };
+    bound_by(segments.segments.as_slice(), &mut query);
+    match index.warm_up(rt.alloc(), segments, &query, scoring_given(given)) {
+        Ok(opened) => {
+            tell_left_out(rt, &opened, &fields, text)?;
+            Ok(Some(Ok(OpenedQuery { opened, query })))
+        }
+        Err(fault) => {
+            if fault.is_memory() {
+                return Ok(Some(Err(refuse_path(rt, path, fault)?)));
+            }
+            Ok(None)
+        }
+    }
+}
+
+// Returns whether the documents are ranked.
+fn scoring_given(given: &ArgMatches<'_>) -> EnableScoring {
+    if given.get_str("top").is_some() {
+        return EnableScoring::Enabled;
+    }
+    EnableScoring::Disabled
+}
+
+// Returns whether a document was deleted: only the counts of tokens, which aren't read by ranges, tell then how many
+// tokens are left.
+fn has_deletes<F: ReadAt + Drop>(segments: &OpenSegments<F>) -> bool {
+    for segment in &segments.segments {
+        if segment.alive().num_living() < segment.num_docs() {
+            return true;
+        }
+    }
+    false
+}

@@ -1,0 +1,129 @@
+//! Opens of segments what a query reads.
+ghost use Rattle.std.specs.Prelude.{◌≡◌, ◌≤◌, ℕ, IfErr, IfOk, List, None, Ok, length, true};
+ghost use Rattle.std.specs.List.{AllByRecursion, AllZip};
+ghost use Rattle.ii_base.specs.Schema.{SchemaEntry};
+ghost use Rattle.ii_definitions.specs.Tokens.{IndexToken};
+ghost use Rattle.ii_query_parser.specs.Queries.{has_fields, keeps_positions, matches};
+ghost use Rattle.ii_reader.specs.OpenIndex.{OpenIndexState};
+ghost use Rattle.ii_schema_text.specs.SchemaText.{text_schema};
+ghost use Rattle.ii_warmup.specs.IndexParts.{HaveNormsFor, IsWarmupFault, requests};
+ghost use Rattle.ii_warmup.specs.Parts.{IsPartFor};
+ghost use Rattle.ii_warmup.specs.QueryTerms.{query_ranges, query_terms};
+ghost use Rattle.nequllpa_opening.specs.WarmedSegments.{HasItsTables, HoldsOfOne, IsWarmupRefusal, SegmentHolds, WarmsAs};
+
+use crate::faults::WarmupFault;
+use crate::opened::{Opened, schema_of};
+use ii_base::{DocId, Schema};
+use ii_directory::ReadAt;
+use ii_query_parser::Query;
+use ii_reader::OpenIndex;
+use ii_segment_store::OpenSegment;
+use ii_warmup::{EnableScoring, IndexHandles, warm_up};
+use std::alloc::Global;
+
+// Opens of each segment what a query reads. The schema is given as bytes.
+pub(crate) fn warmed_each<F: ReadAt + Drop>(
+    alloc: Global,
+    schema: &[u8],
+    segments: Vec<OpenSegment<F>>,
+    query: &Query,
+    scoring: EnableScoring,
+) -> Result<Vec<Opened>, WarmupFault>
+    ensures opened { (entries : List SchemaEntry) → text_schema schema.now ≡ Ok entries → IfOk result (λ opened. AllZip (WarmsAs entries query.now scoring) segments.items opened.items) }
+    ensures refused { (entries : List SchemaEntry) → text_schema schema.now ≡ Ok entries → IfErr result (λ fault. HoldsOfOne (λ s. IsWarmupRefusal schema.now entries query.now s fault) segments.items) }
+{
+    let mut opened = Vec::new(alloc);
+    for segment in segments {
+        let one = match warmed_segment(alloc, schema, segment, query, scoring) {
+            Ok(one) => one,
+            Err(fault) => return Err(fault),
+        };
+        opened.push(one)?;
+    }
+    Ok(opened)
+}
+
+// Opens of a segment what a query reads.
+fn warmed_segment<F: ReadAt + Drop>(
+    alloc: Global,
+    schema: &[u8],
+    segment: OpenSegment<F>,
+    query: &Query,
+    scoring: EnableScoring,
+) -> Result<Opened, WarmupFault>
+    ensures opened { (entries : List SchemaEntry) → text_schema schema.now ≡ Ok entries → IfOk result (WarmsAs entries query.now scoring segment) }
+    ensures refused { (entries : List SchemaEntry) → text_schema schema.now ≡ Ok entries → IfErr result (IsWarmupRefusal schema.now entries query.now segment) }
+{
+    let schema = match schema_of(alloc, schema) {
+        Ok(schema) => schema,
+        Err(fault) => return Err(WarmupFault::Open(fault)),
+    };
+    match warmed_index(alloc, &schema, &segment, query, scoring) {
+        Ok(index) => {
+            let num_docs = segment.num_docs();
+            Ok(Opened::of_parts(schema, index, num_docs, segment.into_alive()))
+        }
+        Err(fault) => {
+            drop(schema);
+            Err(fault)
+        }
+    }
+}
+
+// Reads what a query needs of the files of a segment.
+fn warmed_index<F: ReadAt + Drop>(
+    alloc: Global,
+    schema: &Schema,
+    segment: &OpenSegment<F>,
+    query: &Query,
+    scoring: EnableScoring,
+) -> Result<OpenIndex, WarmupFault>
+    ensures many { IfOk result (λ index. length index.readers ≡ length schema.now) }
+    ensures part { (whole : OpenIndexState) → SegmentHolds segment.now schema.now whole → IfOk result (λ index. IsPartFor query.now index whole) }
+    ensures norms { (whole : OpenIndexState) → SegmentHolds segment.now schema.now whole → IfOk result (λ index. HaveNormsFor scoring (query_terms query.now) (query_ranges query.now) (length schema.now) index.fieldnorms whole.fieldnorms) }
+    ensures refused { (bytes : List ℕ) → IfErr result (IsWarmupRefusal bytes schema.now query.now segment.now) }
+{
+    let Some(terms) = segment.terms() else {
+        return Err(WarmupFault::NoTables);
+    };
+    let Some(postings) = segment.postings() else {
+        return Err(WarmupFault::NoTables);
+    };
+    let Some(positions) = segment.positions() else {
+        return Err(WarmupFault::NoTables);
+    };
+    let Some(fieldnorms) = segment.fieldnorms() else {
+        return Err(WarmupFault::NoTables);
+    };
+    let files = IndexHandles {
+        terms,
+        postings,
+        positions,
+        fieldnorms,
+    };
+    match warm_up(alloc, &files, schema, query, scoring) {
+        Ok(index) => Ok(index),
+        Err(fault) => Err(WarmupFault::File(fault)),
+    }
+}
+
+/// Bounds what a query says of all documents by those of the largest open segment (`Query::bound`), so that a search
+/// passes no more. In each segment the query matches what it did.
+pub fn bound_by<F: ReadAt + Drop>(segments: &[OpenSegment<F>], query: &mut Query)
+    ensures same { AllByRecursion (λ s. (ts : List IndexToken) (doc : ℕ) → doc < length s.alive → matches query.new ts doc ≡ matches query.old ts doc) segments.now }
+    ensures fields { (n : ℕ) → has_fields n query.new ≡ has_fields n query.old }
+    ensures positions { (entries : List SchemaEntry) → keeps_positions entries query.new ≡ keeps_positions entries query.old }
+{
+    query.bound(most_docs(segments));
+}
+
+// Returns how many documents the largest segment has, living and dead; 0 if there is no segment.
+fn most_docs<F: ReadAt + Drop>(segments: &[OpenSegment<F>]) -> DocId
+    ensures { AllByRecursion (λ s. length s.alive ≤ result) segments.now }
+{
+    let mut most = 0;
+    for segment in segments {
+        most = most.max(segment.alive().num_docs());
+    }
+    most
+}
