@@ -1,6 +1,5 @@
 -- The terms of an index, field by field.
-use Rattle.std.specs.Prelude.{MatchOption, ⊤, ◌^◌, if◌then◌else◌, IsTrue, [], ℕ, ◌==◌, ◌<◌, ◌≤◌, List, ◌++◌, drop, filter, length, map, Option, None, Some}
-use Rattle.std.specs.Borrow.{Bor}
+use Rattle.std.specs.Prelude.{MatchOption, ⊤, ◌^◌, if◌then◌else◌, IsTrue, [], ℕ, ◌==◌, ◌<◌, ◌≤◌, List, ◌++◌, drop, filter, length, map, slice_index_or, Option, None, Some}
 use Rattle.ii_base.specs.Values.{json_key}
 use Rattle.ii_recorder.specs.AnyRecorder.{any_state}
 use Rattle.ii_recorder.specs.declared.recorder.AnyRecorder.{AnyRecorder}
@@ -26,14 +25,14 @@ pub record SortedTerm : Type 0 where
   pub key : List ℕ
   pub recorder : RecorderState
 
--- the key of a value, which begins with a path in a JSON field
-abbrev pub key_under : Option (Bor (List ℕ)) → List ℕ → List ℕ
-key_under None value = value
-key_under (Some path) value = json_key path.now value
+-- the key of a term: the bytes after its field, where the path replaces its id if there is one
+abbrev pub key_under : List (List ℕ) → Option ℕ → List ℕ → List ℕ
+key_under paths None term = drop 4 term
+key_under paths (Some id) term = json_key (slice_index_or paths id []) (drop 8 term)
 
 -- the model of a borrowed term
 abbrev pub state_of : TermOfField → SortedTerm
-state_of t = record { key = key_under t.path t.value.now; recorder = any_state t.recorder.now }
+state_of t = record { key = key_under t.paths.now t.id t.term.now; recorder = any_state t.recorder.now }
 
 -- a term of the context, as a term of its field
 abbrev pub term_of : List ℕ × RecorderState → SortedTerm

@@ -8,9 +8,13 @@ pub mod indexing_term;
 pub mod json_postings_writer;
 pub mod per_field_postings_writer;
 pub mod postings_writer;
-pub mod serialize_postings;
 pub mod sorted_terms;
 mod term_key;
+
+/// Re-exports `serialize_postings`.
+pub mod serialize_postings {
+    pub use crate::postings_writer::serialize_postings;
+}
 
 pub use indexing_context::IndexingContext;
 pub use indexing_position::IndexingPosition;

@@ -1,11 +1,11 @@
-ghost use Rattle.std.specs.Prelude.{◌≡◌, ◌≤◌, ◌<◌, ◌+◌, ◌++◌, ◌∷◌, ◌^◌, [], ℕ, List, Bool, length, max, map, nat_le, nat_lt, if◌then◌else◌, true, false, Err, Ok, Option, Some, None, IfErr, IfOk, OnErr, OnOk, IfSome};
+ghost use Rattle.std.specs.Prelude.{◌≡◌, ◌≤◌, ◌<◌, ◌+◌, ◌++◌, ◌∷◌, ◌^◌, [], ℕ, List, Bool, length, max, map, nat_le, nat_lt, if◌then◌else◌, true, false, Err, Ok, Option, Some, None, IfErr, IfOk, OnErr, OnOk, IfSome, ◌⊎◌, IsTrue, slice_index_or};
 ghost use Rattle.std.specs.List.{AllByRecursion};
 ghost use Rattle.ii_io.specs.declared.faults.LimitName.TheVariants as limit;
 ghost use Rattle.ii_base.specs.Words.{Word, seen_word};
 ghost use Rattle.ii_base.specs.declared.doc_id.TheConstants.{TERMINATED};
 ghost use Rattle.ii_fieldnorm.specs.Readers.{Norms};
 ghost use Rattle.ii_termdict.specs.ReadBack.{AreAscending};
-ghost use Rattle.ii_recorder.specs.IndexBodies.{AllGrow, IndexBodiesState};
+ghost use Rattle.ii_recorder.specs.IndexBodies.{AllGrow, IndexBodiesState, LacksField};
 ghost use Rattle.ii_recorder.specs.IndexSerializer.{EndsWriting, IsInField, IsWriting};
 ghost use Rattle.ii_recorder.specs.Recorded.{u32_max};
 ghost use Rattle.ii_recorder.specs.Terms.{WrittenTerm};
@@ -15,23 +15,33 @@ ghost use Rattle.ii_postings_writer.specs.IndexingContext.{AllEndBy, IsRecorded,
 ghost use Rattle.ii_postings_writer.specs.IndexingTerm.{term_bytes, AreTermBytes};
 ghost use Rattle.ii_postings_writer.specs.PostingsWriter.{HasTokens, IndexesWords, PostingsWriterState, RefusesWords, TextState, subscribe_fault, term_token, text_fault, text_piece, text_state, tokens_counted};
 ghost use Rattle.ii_postings_writer.specs.Records.{Records};
-ghost use Rattle.ii_postings_writer.specs.SortedTerms.{IsTold, IsWritable, state_of, written_term};
+ghost use Rattle.ii_postings_writer.specs.SortedTerms.{IsTold, IsWritable, state_of, written_term, norms_in};
 ghost use Rattle.ii_postings_writer.specs.WordRefusals.{gap_fault, u64_max, words_fault};
-ghost use Rattle.ii_postings_writer.specs.WriteFaults.{IsTermsFaultAfter, IsTermFaultAfter};
+ghost use Rattle.ii_postings_writer.specs.WriteFaults.{IsTermsFaultAfter, IsTermFaultAfter, ClosesOrStays, EndsParts, IsContextFault, IsPartFault, IsPartsFault};
 ghost use Rattle.ii_json.specs.LeafVisit.{IsRefusedBy, first_fault};
-ghost use Rattle.ii_base.specs.Values.{json_key};
 ghost use Rattle.ii_io.specs.Faults.{OnlyMemory};
 ghost use Rattle.ii_recorder.specs.AnyRecorder.{any_state};
+ghost use Rattle.ii_postings_writer.specs.FieldParts.{AreShortNorms, FieldPart, HasFields, WroteContext, first_parts, parts_of, tokens_in};
+ghost use Rattle.ii_definitions.specs.JsonKeys.{is_json};
+ghost use Rattle.ii_io.specs.Composite.{Body};
+ghost use Rattle.ii_postings_writer.specs.HeldBodies.{HaveTokens, WroteTokens};
+ghost use Rattle.ii_postings_writer.specs.ResolvedTerms.{AreFieldTerms, HaveHeldTokens, HaveUnlessMemory, MayWriteTerms, json_fields, resolved_terms};
 
 use crate::indexing_context::IndexingContext;
 use crate::indexing_position::IndexingPosition;
 use crate::indexing_term::IndexingTerm;
 use crate::json_postings_writer::JsonPostingsWriter;
-use crate::sorted_terms::TermOfField;
+use crate::per_field_postings_writer::PerFieldPostingsWriter;
+use crate::sorted_terms::{FieldTerms, TermOfField, behind_id};
 use crate::term_key::{TermBytes, TermKey};
-use ii_base::{DocId, Fault, IndexRecordOption, LimitName, TokenStream, TokenView};
+use ii_base::{
+    DocId, Fault, Field, FieldEntry, IndexRecordOption, LimitName, Schema, TokenStream, TokenView,
+    ValueType,
+};
+use ii_fieldnorm::FieldNormReaders;
 use ii_json::JsonTermSerializer;
-use ii_recorder::{AnyRecorder, BufferLender, FieldSerializer, Recorder};
+use ii_recorder::held_terms::{bounds_its_tokens, holds_its_tokens};
+use ii_recorder::{AnyRecorder, BufferLender, FieldSerializer, InvertedIndexSerializer, Recorder};
 use indexmap::IndexMap;
 use std::alloc::Global;
 use std::io::Write;
@@ -333,23 +343,26 @@ fn serialize_one_term<W: Write>(
 
 // Composes the key of a term in a buffer, if the term has a path.
 fn compose_key(term: TermOfField<'_>, keys: &mut JsonTermSerializer) -> Result<(), Fault>
-    ensures ok { OnOk result (IfSome term.entry.path (λ path. keys.new ≡ json_key path.now term.entry.value.now)) }
+    ensures ok { OnOk result (IfSome term.entry.id (λ _. keys.new ≡ (state_of term.entry).key)) }
     ensures only { OnlyMemory result }
 {
-    let Some(path) = term.path else {
+    let Some(id) = term.id else {
         return Ok(());
     };
     keys.clear();
-    keys.append_key(path, term.value)
+    keys.append_key(
+        term.paths.path(id),
+        behind_id(term.id, term.term.as_slice()),
+    )
 }
 
 // Returns the key of a term, which `keys` holds if the term has a path.
 fn key_of<'a>(term: TermOfField<'a>, keys: &'a JsonTermSerializer) -> &'a [u8]
-    requires { IfSome term.path (λ path. keys.now ≡ json_key path.now term.value.now) }
+    requires { IfSome term.id (λ _. keys.now ≡ (state_of term).key) }
     ensures { result.now ≡ (state_of term.entry).key }
 {
-    match term.path {
-        None => term.value,
+    match term.id {
+        None => behind_id(None, term.term.as_slice()),
         Some(_) => keys.as_bytes(),
     }
 }
@@ -548,4 +561,156 @@ fn open_doc(recorder: &mut AnyRecorder, doc: DocId) -> Result<(), Fault>
     }
     recorder.close_doc()?;
     recorder.new_doc(doc)
+}
+
+// Writes a field with the number of tokens of its writer and its terms, if it has any.
+fn serialize_field<W: Write>(
+    field: Field,
+    writers: &PerFieldPostingsWriter,
+    norms: &FieldNormReaders,
+    terms: &FieldTerms<'_>,
+    keys: &mut JsonTermSerializer,
+    buffer_lender: &mut BufferLender,
+    serializer: &mut InvertedIndexSerializer<W>,
+) -> Result<(), Fault>
+    requires known { field < length serializer.old.entries }
+    requires writer { field < length writers.now }
+    requires lacks { serializer.old.closed ≡ false → LacksField field serializer.old.bodies }
+    requires norms { AreShortNorms norms.now }
+    requires ascending { AreAscending (map (λ t. t.key) terms.now) }
+    requires writable { AllByRecursion (IsWritable (norms_in norms.now field)) terms.now }
+    ensures wrote { (initial : IndexBodiesState) (fs : List FieldPart) → HasFields serializer.old.entries initial serializer.old.bodies fs
+        → OnOk result (HasFields serializer.old.entries initial serializer.new.bodies (fs ++ parts_of serializer.old.entries field (tokens_in writers.now field) (norms_in norms.now field) terms.now)) }
+
+    // The state afterwards, and the errors.
+    ensures ends { EndsParts terms.now serializer.old serializer.new result }
+    ensures fault { IfErr result (λ e. (e ≡ Fault.SerializerClosed)
+        ⊎ IsPartFault serializer.old.entries serializer.old.bodies (record { field = field; tokens = tokens_in writers.now field; norms = norms_in norms.now field; terms = terms.now }) e) }
+    ensures some { OnErr result (0 < length terms.now) }
+    ensures err { IfErr result (λ e. IsTrue serializer.new.closed ⊎ ((e ≡ Fault.OutOfMemory) × (serializer.new ≡ serializer.old))) }
+{
+    let terms = terms.as_slice();
+    if terms.is_empty() {
+        return Ok(());
+    }
+    let writer = writers.get_for_field(field);
+    let fieldnorm_reader = norms.get_field(field)?;
+    let total_num_tokens = writer.total_num_tokens();
+    let mut serializer = serializer.new_field(field, total_num_tokens, fieldnorm_reader)?;
+    writer.serialize(terms, keys, buffer_lender, &mut serializer)?;
+    serializer.close()
+}
+
+// Returns for each field of a schema whether it holds JSON values.
+fn json_fields(alloc: Global, schema: &Schema) -> Result<Vec<bool>, Fault>
+    ensures ok { IfOk result (λ flags. flags.items ≡ json_fields schema.now) }
+    ensures only { OnlyMemory result }
+{
+    let mut flags = Vec::with_capacity(alloc, schema.num_fields())?;
+    for (_field, entry) in schema.fields() {
+        flags.push(holds_json(entry))?;
+    }
+    Ok(flags)
+}
+
+// Returns whether a field holds JSON values.
+fn holds_json(entry: &FieldEntry) -> bool
+    ensures { result ≡ is_json entry.now.value_type }
+{
+    entry.value_type().to_code() == ValueType::Json.to_code()
+}
+
+// Returns the terms of each field of a context, by their keys.
+fn field_terms<'a>(
+    alloc: Global,
+    ctx: &'a IndexingContext,
+    schema: &Schema,
+) -> Result<Vec<FieldTerms<'a>>, Fault>
+    requires terms { (norms : List Body) × MayWriteTerms schema.now norms ctx.now.path_to_unordered_id ctx.now.term_index }
+    ensures ok { IfOk result (λ terms. AreFieldTerms schema.now ctx.entry.now.path_to_unordered_id ctx.entry.now.term_index terms.items) }
+    ensures only { OnlyMemory result }
+{
+    let flags = json_fields(alloc, schema)?;
+    let ranks = ctx.path_to_unordered_id.unordered_id_to_ordered_id(alloc)?;
+    let sorted = ctx.term_index.sorted(alloc, &flags, &ranks)?;
+    sorted.by_field(
+        alloc,
+        &flags,
+        &ctx.path_to_unordered_id,
+        schema.num_fields(),
+    )
+}
+
+/// Writes the terms of a context and the numbers of tokens, in ascending order of fields. Fields
+/// without terms are skipped. If a field has norms, its full blocks get bounds.
+///
+/// The serializer and the writers must have this schema, and no field may have been written yet. Each
+/// term must belong to a field of the schema, with documents that may be written. The norms of its
+/// field must cover these documents.
+///
+/// # Errors
+///
+/// - `Write` if a writer fails.
+/// - `Limit(Offset)` if a writer would count more than `u64::MAX` bytes, or the terms of a field reach
+///   2^56 bytes in total.
+/// - `Limit(TermBytes)` if the postings or the positions of a term exceed `u32::MAX` bytes.
+/// - `Limit(BlockFrequencySum)` if term frequencies in a block sum up above `u32::MAX`, for a term
+///   with positions.
+/// - `OutOfMemory` if an allocation fails.
+/// - `SerializerClosed` after an earlier fault, if there is a term.
+///
+/// A fault closes the serializer, except `OutOfMemory` between two fields, which leaves it as it was
+/// there.
+pub fn serialize_postings<W: Write>(
+    alloc: Global,
+    ctx: IndexingContext,
+    schema: &Schema,
+    per_field_postings_writers: &PerFieldPostingsWriter,
+    fieldnorm_readers: &FieldNormReaders,
+    serializer: &mut InvertedIndexSerializer<W>,
+) -> Result<(), Fault>
+    requires schema { schema.now ≡ serializer.old.entries }
+    requires writers { length per_field_postings_writers.now ≡ length schema.now }
+    requires fresh { HasFields serializer.old.entries serializer.old.bodies serializer.old.bodies [] }
+    requires norms { AreShortNorms fieldnorm_readers.now }
+    requires terms { MayWriteTerms schema.now fieldnorm_readers.now ctx.path_to_unordered_id ctx.term_index }
+    ensures wrote { OnOk result (WroteContext serializer.old serializer.new per_field_postings_writers.now fieldnorm_readers.now (resolved_terms (json_fields schema.now) ctx.path_to_unordered_id ctx.term_index)) }
+    ensures holds { (ts : List IndexToken) → HaveHeldTokens serializer.old.entries ctx.path_to_unordered_id ctx.term_index per_field_postings_writers.now ts → OnOk result (WroteTokens serializer.old serializer.new fieldnorm_readers.now ts) }
+    ensures tokens { (ts : List IndexToken) → HaveHeldTokens serializer.old.entries ctx.path_to_unordered_id ctx.term_index per_field_postings_writers.now ts
+        → HaveUnlessMemory (HaveTokens serializer.old.entries (resolved_terms (json_fields schema.now) ctx.path_to_unordered_id ctx.term_index) per_field_postings_writers.now ts) result }
+
+    // The state afterwards, and the errors.
+    ensures ends { EndsParts ctx.term_index serializer.old serializer.new result }
+    ensures fault { IfErr result (λ e. (e ≡ Fault.OutOfMemory) ⊎ (e ≡ Fault.SerializerClosed) ⊎ IsContextFault serializer.old per_field_postings_writers.now fieldnorm_readers.now (resolved_terms (json_fields schema.now) ctx.path_to_unordered_id ctx.term_index) e) }
+    ensures err { IfErr result (ClosesOrStays serializer.old serializer.new) }
+{
+    holds_its_tokens();
+    bounds_its_tokens();
+    let terms = field_terms(alloc, &ctx, schema)?;
+    let mut keys = JsonTermSerializer::new(alloc);
+    let mut buffer_lender = BufferLender::new(alloc);
+    for place in 0..terms.len() {
+        let field = Field::from_field_id(place as u32);
+        let told = serialize_field(
+            field,
+            per_field_postings_writers,
+            fieldnorm_readers,
+            &terms[place],
+            &mut keys,
+            &mut buffer_lender,
+            serializer,
+        );
+        let Ok(()) = told else {
+            drop(keys);
+            drop(buffer_lender);
+            drop(terms);
+            drop(ctx);
+            return told;
+        };
+    }
+    drop(keys);
+    drop(buffer_lender);
+    drop(terms);
+    drop(ctx);
+    Ok(())
 }

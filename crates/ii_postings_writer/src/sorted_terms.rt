@@ -30,16 +30,16 @@ const ID_LEN: usize = 4;
 /// A term of a context, with its recorder.
 #[derive(Clone, Copy)]
 pub struct KeptTerm<'a> {
-    /// Its bytes, which hold a path id in a JSON field.
-    pub term: &'a [u8],
-    /// The recorder of its postings.
-    pub recorder: &'a AnyRecorder,
-    /// Its field.
-    pub field: u32,
-    /// The rank of its path, or 0 if it has none.
-    pub rank: u32,
-    /// The first 8 bytes of its value as a big-endian number, with 0 for each byte that is missing.
-    pub start: u64,
+    // Its bytes, which hold a path id in a JSON field.
+    pub(crate) term: &'a TermKey,
+    // The recorder of its postings.
+    pub(crate) recorder: &'a AnyRecorder,
+    // Its field.
+    pub(crate) field: u32,
+    // The rank of its path, or 0 if it has none.
+    pub(crate) rank: u32,
+    // The first 8 bytes of its value as a big-endian number, with 0 for each byte that is missing.
+    pub(crate) start: u64,
 }
 
 /// The borrowed terms of a context, in an order of their own.
@@ -99,7 +99,7 @@ fn lent_terms<'a>(
         let Some((term, recorder)) = recorders.get_index(place) else {
             return Ok(terms);
         };
-        terms.push(kept(flags, ranks, term.as_slice(), recorder))?;
+        terms.push(kept(flags, ranks, term, recorder))?;
     }
     Ok(terms)
 }
@@ -108,20 +108,21 @@ fn lent_terms<'a>(
 fn kept<'a>(
     flags: &[bool],
     ranks: &[OrderedPathId],
-    term: &'a [u8],
+    term: &'a TermKey,
     recorder: &'a AnyRecorder,
 ) -> KeptTerm<'a>
     requires long { 4 ≤ length term.now }
     ensures same { kept_state result ≡ (term.entry.now, any_state recorder.entry.now) }
     ensures kept { IsKept flags.now ranks.now result }
 {
-    let id = path_id_in(flags, term);
+    let bytes = term.as_slice();
+    let id = path_id_in(flags, bytes);
     KeptTerm {
         term,
         recorder,
-        field: number_in(term),
+        field: number_in(bytes),
         rank: rank_of(ranks, id),
-        start: padded_number(behind_id(id, term)),
+        start: padded_number(behind_id(id, bytes)),
     }
 }
 
@@ -147,7 +148,7 @@ fn compare(flags: &[bool], left: &KeptTerm<'_>, right: &KeptTerm<'_>) -> Orderin
     if by_numbers.is_ne() {
         return by_numbers;
     }
-    value_of(flags, left.term).cmp(value_of(flags, right.term))
+    value_of(flags, left.term.as_slice()).cmp(value_of(flags, right.term.as_slice()))
 }
 
 // Returns the bytes of a term's value.
@@ -158,7 +159,7 @@ fn value_of<'a>(flags: &[bool], term: &'a [u8]) -> &'a [u8]
 }
 
 // Returns the bytes of a term after the field, and after the path id if there is one.
-fn behind_id(id: Option<u32>, term: &[u8]) -> &[u8]
+pub(crate) fn behind_id(id: Option<u32>, term: &[u8]) -> &[u8]
     ensures { result.now ≡ drop (value_place id) term.now }
 {
     let place = if id.is_some() {
@@ -214,15 +215,17 @@ fn number_in(bytes: &[u8]) -> u32
     u32::from_be_bytes([bytes[0], bytes[1], bytes[2], bytes[3]])
 }
 
-/// A term of a field, with its recorder.
+/// A term of a field, with its recorder. Its key is composed when it is written.
 #[derive(Clone, Copy)]
 pub struct TermOfField<'a> {
-    /// The path that its key begins with, in a JSON field.
-    pub path: Option<&'a str>,
-    /// The bytes of its value.
-    pub value: &'a [u8],
-    /// The recorder of its postings.
-    pub recorder: &'a AnyRecorder,
+    // Its bytes, which hold a path id in a JSON field.
+    pub(crate) term: &'a TermKey,
+    // The recorder of its postings.
+    pub(crate) recorder: &'a AnyRecorder,
+    // The paths, by their ids.
+    pub(crate) paths: &'a PathToUnorderedId,
+    // The id of its path, in a JSON field.
+    pub(crate) id: Option<u32>,
 }
 
 /// Some terms of one field.
@@ -264,29 +267,21 @@ impl<'a> FieldTerms<'a> {
     }
 }
 
-// Returns a term by its key.
+// Returns a term with what its key is composed of.
 fn keyed<'a>(
     flags: &[bool],
     paths: &'a PathToUnorderedId,
-    term: &'a [u8],
+    term: &'a TermKey,
     recorder: &'a AnyRecorder,
 ) -> TermOfField<'a>
     requires long { 4 ≤ length term.now }
     ensures { state_of result ≡ record { key = drop 4 (resolved flags.now paths.now term.now); recorder = any_state recorder.now } }
 {
-    let id = path_id_in(flags, term);
-    let value = behind_id(id, term);
-    let Some(id) = id else {
-        return TermOfField {
-            path: None,
-            value,
-            recorder,
-        };
-    };
     TermOfField {
-        path: Some(paths.path(id)),
-        value,
+        term,
         recorder,
+        paths,
+        id: path_id_in(flags, term.as_slice()),
     }
 }
 
@@ -295,7 +290,7 @@ fn add_term<'a>(
     fields: &mut Vec<FieldTerms<'a>>,
     flags: &[bool],
     paths: &'a PathToUnorderedId,
-    term: &'a [u8],
+    term: &'a TermKey,
     recorder: &'a AnyRecorder,
 ) -> Result<(), Fault>
     requires long { 4 ≤ length term.now }
@@ -304,7 +299,7 @@ fn add_term<'a>(
         (slice_index_or fields.old.items (field_in term.now) [] ++ record { key = drop 4 (resolved flags.now paths.now term.now); recorder = any_state recorder.now } ∷ [])) }
     ensures only { OnlyMemory result }
 {
-    let field = number_in(term) as usize;
+    let field = number_in(term.as_slice()) as usize;
     fields[field].push(keyed(flags, paths, term, recorder))
 }
 

@@ -1,4 +1,4 @@
-ghost use Rattle.std.specs.Prelude.{◌≡◌, ◌^◌, ◌<◌, ◌++◌, length, min, if◌then◌else◌, None, Some, Err, IfErr, IfSome, IsSome, IsTrue, MatchOption, OnErr, OnOk, [], ◌∷◌, false, map, drop, slice_get, unwrap_or, IfOk};
+ghost use Rattle.std.specs.Prelude.{◌≡◌, ◌^◌, ◌<◌, ◌++◌, length, min, if◌then◌else◌, None, Some, Err, IfErr, IfSome, IsSome, IsTrue, MatchOption, OnErr, OnOk, [], ◌∷◌, false, drop, slice_get, unwrap_or, IfOk};
 ghost use Rattle.ii_recorder.specs.VintRows.{AreVints, numbers};
 ghost use Rattle.std.specs.List.{sum};
 ghost use Rattle.ii_codes.specs.Sums.{running_sums, differences};
@@ -10,7 +10,7 @@ ghost use Rattle.ii_recorder.specs.Recorded.{RecorderState, begun, current_doc, 
 ghost use Rattle.ii_io.specs.Vints.{vint_u32};
 ghost use Rattle.ii_base.specs.Entries.{document, counted};
 ghost use Rattle.ii_base.specs.declared.schema.index_record_option.IndexRecordOption.TheVariants.{Basic, WithFreqs, WithFreqsAndPositions};
-ghost use Rattle.ii_recorder.specs.Gathered.{counted_all, counts_in, behind_positions, first_positions, located_at};
+ghost use Rattle.ii_recorder.specs.Gathered.{behind_positions, first_positions, located_at};
 ghost use Rattle.ii_recorder.specs.AnyRecorder.{any_state};
 
 use crate::buffer_lender::BufferLender;
@@ -254,28 +254,6 @@ fn push_doc<W: Write>(doc: DocId, serializer: &mut FieldSerializer<'_, W>) -> Re
     serializer.write_doc(doc, 0, &[])
 }
 
-// Adds documents.
-fn push_docs<W: Write>(
-    docs: &mut SumReader<'_>,
-    serializer: &mut FieldSerializer<'_, W>,
-) -> Result<(), Fault>
-    requires { MayPush Basic serializer.old.index.now (map document docs.old) }
-    ensures same_reference { serializer.new.index.ghost_name ≡ serializer.old.index.ghost_name }
-    ensures pushes { Pushes Basic serializer.old.index.now serializer.new.index.now (map document docs.old) result }
-{
-    let checked = serializer.check_open();
-    if checked.is_err() {
-        return checked;
-    }
-    while let Some(doc) = docs.next() {
-        let pushed = push_doc(doc, serializer);
-        if pushed.is_err() {
-            return pushed;
-        }
-    }
-    Ok(())
-}
-
 impl Recorder for DocIdRecorder {
     ghost state = { λ r. r };
 
@@ -310,7 +288,17 @@ impl Recorder for DocIdRecorder {
         serializer: &mut FieldSerializer<'_, W>,
     ) -> Result<(), Fault> {
         let mut docs = SumReader::new(VInt32Reader::new(self.deltas.as_slice()));
-        push_docs(&mut docs, serializer)
+        let checked = serializer.check_open();
+        if checked.is_err() {
+            return checked;
+        }
+        while let Some(doc) = docs.next() {
+            let pushed = push_doc(doc, serializer);
+            if pushed.is_err() {
+                return pushed;
+            }
+        }
+        Ok(())
     }
 
     fn term_doc_freq(&self) -> Option<u32> {
@@ -390,34 +378,6 @@ fn push_counted_doc<W: Write>(
     serializer.write_doc(doc, term_freq, &[])
 }
 
-// Adds documents with their term frequencies. `open_freq` is that of the last document if the numbers end
-// before it.
-fn push_counted_docs<W: Write>(
-    numbers: &mut VInt32Reader<'_>,
-    open_freq: u32,
-    serializer: &mut FieldSerializer<'_, W>,
-) -> Result<(), Fault>
-    requires { MayPush WithFreqs serializer.old.index.now (counted_all open_freq (counts_in numbers.old)) }
-    ensures same_reference { serializer.new.index.ghost_name ≡ serializer.old.index.ghost_name }
-    ensures pushes { Pushes WithFreqs serializer.old.index.now serializer.new.index.now (counted_all open_freq (counts_in numbers.old)) result }
-{
-    let checked = serializer.check_open();
-    if checked.is_err() {
-        return checked;
-    }
-    let mut last = 0;
-    while let Some(delta) = numbers.next() {
-        let term_freq = next_or(numbers, open_freq);
-        let doc = last + delta;
-        let pushed = push_counted_doc(doc, term_freq, serializer);
-        if pushed.is_err() {
-            return pushed;
-        }
-        last = doc;
-    }
-    Ok(())
-}
-
 impl Recorder for TermFrequencyRecorder {
     ghost state = { λ r. r };
 
@@ -455,7 +415,22 @@ impl Recorder for TermFrequencyRecorder {
         serializer: &mut FieldSerializer<'_, W>,
     ) -> Result<(), Fault> {
         let mut numbers = VInt32Reader::new(&self.counts);
-        push_counted_docs(&mut numbers, self.term_freq, serializer)
+        let checked = serializer.check_open();
+        if checked.is_err() {
+            return checked;
+        }
+        let mut last = 0;
+        while let Some(delta) = numbers.next() {
+            // The numbers end before the term frequency of the open document.
+            let term_freq = next_or(&mut numbers, self.term_freq);
+            let doc = last + delta;
+            let pushed = push_counted_doc(doc, term_freq, serializer);
+            if pushed.is_err() {
+                return pushed;
+            }
+            last = doc;
+        }
+        Ok(())
     }
 
     fn term_doc_freq(&self) -> Option<u32> {

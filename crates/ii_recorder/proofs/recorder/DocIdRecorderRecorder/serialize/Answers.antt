@@ -1,22 +1,45 @@
-use Rattle.std.proofs.Common.{◌≡◌, map, sym, ap, ◌∙◌}
+use Rattle.std.proofs.Common.{◌≡◌, List, map, refl, subst, sym, ap, ◌∙◌}
 use Rattle.ii_codes.specs.Sums.{running_sums}
-use Rattle.ii_base.specs.Entries.{document}
+use Rattle.ii_base.specs.Entries.{Entry, document}
+use Rattle.ii_base.specs.declared.schema.index_record_option.IndexRecordOption.TheVariants.{Basic}
+use Rattle.ii_base.specs.declared.schema.index_record_option.IndexRecordOption.{IndexRecordOption}
 use Rattle.ii_recorder.specs.Gathered.{docs_state}
-use Rattle.ii_recorder.specs.Recorded.{entries_of_recorder}
+use Rattle.ii_recorder.specs.Pushed.{MayPush, Pushes}
+use Rattle.ii_recorder.specs.Recorded.{RecorderState, entries_of_recorder}
 use Rattle.ii_recorder.specs.VintRows.{numbers}
+use Rattle.ii_recorder.proofs.PushLemmas.{IsPushing, pushing_may, pushing_next, pushing_none, pushing_refused}
 use Rattle.ii_recorder.proofs.StateLemmas.{docs_are}
 use Rattle.ii_recorder.proofs.recorder.DocIdRecorderRecorder.serialize.Goals as goal
 
-pub push_docs-requires : goal.push_docs-requires
-push_docs-requires g c =
-    let docs : map document c.new-docs.result ≡ entries_of_recorder (docs_state c.self.inside.deltas.items c.self.inside.is_open) = ap (map document) (c.new-docs.ensures ∙ ap (running_sums 0) (c.new.ensures ∙ ap numbers c.as_slice.ensures))
-    ∙ sym (docs_are c.self.inside.deltas.items c.self.inside.last c.self.inside.is_open c.self.invariant)
-    in
-    rw docs (rw (← c.self.view_is) at c.requires)
+pub push_doc-pushed-requires : goal.push_doc-pushed-requires
+push_doc-pushed-requires g c =
+    let all = entries_of_recorder c.args.self.now in
+    let option = ap (λ (r : RecorderState). r.option) c.self.view_is in
+    let may = subst (λ (o : IndexRecordOption). MayPush o c.args.serializer.now.index.now all) (sym option) c.requires in
+    pushing_may Basic c.args.serializer.now.index.now c.loop-doc.serializer.index.now all (map document c.loop-doc.docs) (document c.in-Some.doc) (map document c.next.new.self)
+    c.loop-doc.invariant.3 (ap (map document) c.in-Some.ensures.steps) may
 
-pub returns-clause-pushes : goal.returns-clause-pushes
-returns-clause-pushes g c =
+pub loop-doc-init : goal.loop-doc-init
+loop-doc-init g c =
+    let s = c.args.serializer.now.index.now in
     let docs : map document c.new-docs.result ≡ entries_of_recorder (docs_state c.self.inside.deltas.items c.self.inside.is_open) = ap (map document) (c.new-docs.ensures ∙ ap (running_sums 0) (c.new.ensures ∙ ap numbers c.as_slice.ensures))
-    ∙ sym (docs_are c.self.inside.deltas.items c.self.inside.last c.self.inside.is_open c.self.invariant)
-    in
-    rw (← c.self.view_is) (rw docs at c.push_docs.ensures.pushes)
+    ∙ sym (docs_are c.self.inside.deltas.items c.self.inside.last c.self.inside.is_open c.self.invariant) in
+    let none = pushing_none Basic s (map document c.new-docs.result) c.check_open-checked.result c.check_open-checked.ensures (sym c.is_err.ensures.value ∙ c.if-is_err.false) in
+    (tt, tt, refl, subst (λ (es : List Entry). IsPushing Basic s s es (map document c.new-docs.result)) (docs ∙ ap entries_of_recorder c.self.view_is) none)
+
+pub returns-then-is_err-2-clause-pushes : goal.returns-then-is_err-2-clause-pushes
+returns-then-is_err-2-clause-pushes g c =
+    let all = entries_of_recorder c.args.self.now in
+    let refused = sym c.if-is_err-2.true ∙ c.is_err-in-Some.ensures.value in
+    let option = ap (λ (r : RecorderState). r.option) c.self.view_is in
+    subst (λ (o : IndexRecordOption). Pushes o c.args.serializer.now.index.now c.push_doc-pushed.new.serializer.index.now all c.push_doc-pushed.result) option
+    (pushing_refused Basic c.args.serializer.now.index.now c.loop-doc.serializer.index.now c.push_doc-pushed.new.serializer.index.now all (map document c.loop-doc.docs) (document c.in-Some.doc) (map document c.next.new.self)
+    c.push_doc-pushed.result c.loop-doc.invariant.3 (ap (map document) c.in-Some.ensures.steps) refused c.push_doc-pushed.ensures.pushes)
+
+pub loop-doc-preserved : goal.loop-doc-preserved
+loop-doc-preserved g c =
+    let all = entries_of_recorder c.args.self.now in
+    let went = sym c.if-is_err-2.false ∙ c.is_err-in-Some.ensures.value in
+    let next = pushing_next Basic c.args.serializer.now.index.now c.loop-doc.serializer.index.now c.push_doc-pushed.new.serializer.index.now all (map document c.loop-doc.docs) (document c.in-Some.doc) (map document c.next.new.self)
+    c.push_doc-pushed.result c.loop-doc.invariant.3 (ap (map document) c.in-Some.ensures.steps) went c.push_doc-pushed.ensures.pushes in
+    (tt, tt, c.push_doc-pushed.ensures.same_reference ∙ c.loop-doc.invariant.2, next)

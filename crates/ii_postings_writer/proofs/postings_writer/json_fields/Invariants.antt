@@ -2,7 +2,7 @@ use Rattle.std.proofs.Common.{◌≡◌, ◌++◌, ℕ, map}
 use Rattle.std.specs.List.{enumerate_from}
 use Rattle.ii_base.specs.Schema.{SchemaEntry}
 use Rattle.ii_definitions.specs.JsonKeys.{is_json}
-use Rattle.ii_postings_writer.proofs.serialize_postings.json_fields.Given as goal
+use Rattle.ii_postings_writer.proofs.postings_writer.json_fields.Given as goal
 
 abbrev pub invariant-loop-field : goal.invariant-loop-field
 invariant-loop-field l =

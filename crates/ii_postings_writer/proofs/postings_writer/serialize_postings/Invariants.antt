@@ -1,7 +1,7 @@
 use Rattle.std.proofs.Common.{◌≡◌, []}
 use Rattle.std.specs.Prelude.{IsTrue}
 use Rattle.ii_postings_writer.specs.FieldParts.{HasFields, first_parts}
-use Rattle.ii_postings_writer.proofs.serialize_postings.serialize_postings.Given as goal
+use Rattle.ii_postings_writer.proofs.postings_writer.serialize_postings.Given as goal
 
 abbrev pub invariant-loop-place : goal.invariant-loop-place
 invariant-loop-place g l =

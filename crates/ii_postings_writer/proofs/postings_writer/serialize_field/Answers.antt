@@ -24,7 +24,7 @@ use Rattle.ii_postings_writer.specs.FieldParts.{FieldPart, HasFields, parts_of, 
 use Rattle.ii_postings_writer.specs.PostingsWriterKind.{state_of_kind}
 use Rattle.ii_postings_writer.specs.SortedTerms.{IsTold, SortedTerm, norms_in, state_of}
 use Rattle.ii_postings_writer.specs.WriteFaults.{IsPartFault, IsTermsFaultAfter}
-use Rattle.ii_postings_writer.proofs.serialize_postings.serialize_field.Goals as goal
+use Rattle.ii_postings_writer.proofs.postings_writer.serialize_field.Goals as goal
 
 pub serialize-requires-clause-ascending : goal.serialize-requires-clause-ascending
 serialize-requires-clause-ascending g c =

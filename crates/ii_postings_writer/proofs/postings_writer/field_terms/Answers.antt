@@ -4,7 +4,7 @@ use Rattle.std.proofs.lemmas.Result.{IfOk-weaker}
 use Rattle.ii_postings_writer.specs.ResolvedTerms.{json_fields, resolved_terms}
 use Rattle.ii_postings_writer.specs.SortedTerms.{IsTermBelow, terms_in}
 use Rattle.ii_postings_writer.proofs.ResolvedParts.{fields_below, sorted_by}
-use Rattle.ii_postings_writer.proofs.serialize_postings.field_terms.Goals as goal
+use Rattle.ii_postings_writer.proofs.postings_writer.field_terms.Goals as goal
 
 pub by_field-requires : goal.by_field-requires
 by_field-requires c =

@@ -17,7 +17,7 @@ use Rattle.ii_postings_writer.proofs.ResolvedParts.{have_unless}
 use Rattle.ii_postings_writer.specs.FieldParts.{HasFields, first_parts}
 use Rattle.ii_postings_writer.specs.ResolvedTerms.{json_fields, resolved_terms}
 use Rattle.ii_postings_writer.specs.SortedTerms.{IsWritable, SortedTerm, norms_in}
-use Rattle.ii_postings_writer.proofs.serialize_postings.serialize_postings.Goals as goal
+use Rattle.ii_postings_writer.proofs.postings_writer.serialize_postings.Goals as goal
 
 pub field_terms-requires : goal.field_terms-requires
 field_terms-requires g c = record { terms = (c.args.fieldnorm_readers.now, c.requires.terms) }
