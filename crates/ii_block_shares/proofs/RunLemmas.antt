@@ -2,7 +2,7 @@
 use Rattle.std.proofs.Common.{◌≡◌, ◌∙◌, ℕ, ◌+◌, ◌*◌, ◌/◌, ◌^◌, ◌<◌, ◌≤◌, Bool, true, false, inl, inr, List, [], ◌∷◌, ◌++◌, Option, None, Some, drop, get_or, if◌then◌else◌, length, max, nat_lt, refl, sym, ap, subst, arith}
 use Rattle.std.proofs.Common.{append-nil}
 use Rattle.std.proofs.lemmas.Bool.{cases_lt, le-ltb, lt-ltb}
-use Rattle.std.proofs.lemmas.List.{append_assoc, at_drop_more, drop_all}
+use Rattle.std.proofs.lemmas.List.{append_assoc, at_drop_more}
 use Rattle.ii_base.specs.Entries.{Entry}
 use Rattle.ii_base.specs.declared.doc_id.TheConstants.{TERMINATED}
 use Rattle.ii_bm25.specs.Bm25.{Bm25State}
@@ -40,10 +40,6 @@ module _ (blocks : List BlockShare) (b : BlockShare) (place doc : ℕ) (inside :
     where
       here : doc ≤ d → d < b.end → weight * share / 2 ^ 12 < least
       here above inside = low (omega (arith, above, inside)) share (subst (λ (o : Option ℕ). IsWithin o share) (in_run d above inside) within)
-
--- after all runs no document has a bound
-pub past_runs : (blocks : List BlockShare) (place doc d share : ℕ) → length blocks ≤ place → IsPlace blocks place doc → doc ≤ d → IsWithin (bound_at blocks d) share → ⊥
-past_runs blocks place doc d share over from low within = subst (λ (o : Option ℕ). IsWithin o share) (from d low ∙ ap (λ (bs : List BlockShare). bound_at bs d) (drop_all place blocks over)) within
 
 -- ---- the runs of a list
 module _ (w : Bm25State) (norms : Option Norms) where
