@@ -1,1 +1,2 @@
 pub mod PreparedLemmas
+mod WorkedRows

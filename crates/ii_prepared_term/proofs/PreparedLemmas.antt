@@ -1,18 +1,21 @@
 -- Laws of a prepared term: what its bounds pass, and its scorer.
-use Rattle.std.proofs.Common.{◌≡◌, ◌≢◌, ◌⊎◌, ◌∙◌, ℕ, ◌+◌, ◌*◌, ◌/◌, ◌^◌, ◌<◌, ◌≤◌, false, inl, inr, List, [], ◌∷◌, Option, None, Some, max, refl, sym, ap, subst, arith}
+use Rattle.std.proofs.Common.{◌≡◌, ◌≢◌, ◌⊎◌, ◌∙◌, ℕ, ◌+◌, ◌-◌, ◌*◌, ◌/◌, ◌^◌, ◌<◌, ◌≤◌, true, false, true≢false, inl, inr, List, [], ◌∷◌, Option, None, Some, length, max, refl, sym, ap, subst, arith}
 use Rattle.std.proofs.lemmas.Bool.{cases_eq, cases_lt, le-leb, ne_eqb}
 use Rattle.std.proofs.lemmas.Bool.Decides.{leb_tells}
 use Rattle.ii_base.specs.Entries.{Entry}
 use Rattle.ii_base.specs.declared.doc_id.TheConstants.{TERMINATED}
-use Rattle.ii_block_shares.specs.BlockShares.{AreBounds, IsFirstReaching, IsWithin, bound_at, share_of}
+use Rattle.ii_block_shares.specs.BlockShares.{AreBounds, EndWithDocs, IsFirstReaching, IsWithin, MayReach, bound_at, share_of}
 use Rattle.ii_block_shares.specs.NormIds as shares
 use Rattle.ii_block_shares.specs.declared.block_shares.BlockShare.{BlockShare}
+use Rattle.ii_block_shares.proofs.RunLemmas.{bound_here, bound_later}
 use Rattle.ii_bm25.specs.Bm25.{Bm25State, bm25_score}
+use Rattle.ii_check.proofs.DecodedBlocksLaws.{allowed_last, allowed_none, allowed_on, allowed_weaker}
 use Rattle.ii_docset.specs.Cursor.{IsAscending, IsSound, doc_at, from_doc, term_freq_at}
+use Rattle.ii_docset.specs.Intersection.{has_doc}
 use Rattle.ii_docset.proofs.CursorLemmas.{doc_below, from_doc_here}
-use Rattle.ii_docset.proofs.IntersectionLemmas.{doc_at-from_doc}
+use Rattle.ii_docset.proofs.IntersectionLemmas.{doc_at-from_doc, has_doc-from_doc, has_doc_below}
 use Rattle.ii_fieldnorm.specs.Readers.{Norms}
-use Rattle.ii_reader.specs.SegmentPostings.{SegmentPostingsState}
+use Rattle.ii_reader.specs.SegmentPostings.{DecodesOnce, SegmentPostingsState, StandsInBlock, WentLazily}
 use Rattle.ii_scorer.specs.Scorers.{IsBelow, IsNext, IsPassed, KeepsFrom, ScorerState, score_of}
 use Rattle.ii_scorer.proofs.PartsLemmas.{row_next}
 use Rattle.ii_scorer.proofs.ScorerLemmas.{below_none}
@@ -23,7 +26,7 @@ use Rattle.ii_ranking.proofs.EntryLemmas.{count_here, entry_here, none_below}
 use Rattle.ii_ranking.proofs.LeafLemmas.{IsRow, entry_row, keeps_later, leaf_is, leaf_went, row_ends}
 use Rattle.ii_ranking.proofs.ShareEntryLemmas.{entry_from}
 use Rattle.ii_ranking.proofs.SkipLemmas.{from_later}
-use Rattle.ii_prepared_term.specs.PreparedTerms.{GoesToScore, IsPrepared, PreparedTermState, prepared_score, prepared_state}
+use Rattle.ii_prepared_term.specs.PreparedTerms.{DecodesReaching, EndAhead, GoesToScore, HasReaching, IsPrepared, PreparedTermState, prepared_score, prepared_state}
 
 -- the state of a term, by its parts
 abbrev pub state_of : Bm25State → Option Norms → List BlockShare → SegmentPostingsState → PreparedTermState
@@ -40,6 +43,25 @@ bounds_later w blocks from (e ∷ es) all =
   where
     keeps : AreBounds w.weight w.norms blocks (from_doc from es) → AreBounds w.weight w.norms blocks (e ∷ from_doc from es)
     keeps later = (all.0, later)
+
+-- the first document that is left isn't an earlier one
+first_up : (from : ℕ) (es : List Entry) → IsAscending es → doc_at es ≤ doc_at (from_doc from es)
+first_up from [] up = omega arith
+first_up from (e ∷ es) up =
+    elim (leb_tells from e.doc) [
+      | inl h ↦ rw h.0 (omega arith)
+      | inr h ↦ rw h.0 (let first = up.0 in let later = first_up from es up.1 in omega (arith, first, later))
+    ]
+
+ends_later : (runs : List BlockShare) (from : ℕ) (es : List Entry) → IsAscending es → from ≤ TERMINATED → EndAhead runs es → EndAhead runs (from_doc from es)
+ends_later [] from es up end each = tt
+ends_later (run ∷ runs) from es up end each = (here, ends_later runs from es up end each.1)
+  where
+    here : doc_at (from_doc from es) < run.end → has_doc (from_doc from es) (run.end - 1) ≡ true
+    here ahead =
+        let later = first_up from es up in
+        let low = doc_at-from_doc from es end in
+        has_doc-from_doc from (run.end - 1) es (omega (arith, low, ahead)) ∙ each.0 (omega (arith, later, ahead))
 
 from_earlier : (doc earlier : ℕ) (es : List Entry) → earlier ≤ doc → from_doc earlier (from_doc doc es) ≡ from_doc doc es
 from_earlier doc earlier [] low = refl
@@ -153,6 +175,107 @@ module _ (w : TermWeightState) (blocks : List BlockShare) (least : ℕ) where
             | inr above ↦ absurd (other (omega (arith, low, above)))
           ]
 
+-- ---- what is decoded
+-- a list that has a document has a first one
+has_current : (doc : ℕ) (es : List Entry) → IsAscending es → has_doc es doc ≡ true → doc_at es < TERMINATED
+has_current doc [] up has = absurd (true≢false (sym has))
+has_current doc (e ∷ es) up has = let first = up.0 in let low = doc_below es up.1 in omega (arith, first, low)
+
+-- a document that a list has isn't before its first one
+has_above : (doc : ℕ) (es : List Entry) → IsAscending es → has_doc es doc ≡ true → doc_at es ≤ doc
+has_above doc es up has = elim (cases_lt doc (doc_at es)) [
+  | inl low ↦ absurd (true≢false (sym has ∙ has_doc_below doc es up low))
+  | inr above ↦ above
+]
+
+-- a cursor that goes to a document of a run stays in the run
+pub stays_in_run : (weight least first : ℕ) (runs : List BlockShare) (old new : List Entry) → EndAhead runs old → new ≡ from_doc first old → IsAscending new → first ≤ TERMINATED → doc_at old < first → MayReach weight least (bound_at runs first)
+    → (doc_at new < TERMINATED) × MayReach weight least (bound_at runs (doc_at new))
+stays_in_run weight least first [] old new each is up end behind reaches = absurd reaches
+stays_in_run weight least first (run ∷ runs) old new each is up end behind reaches = elim (cases_lt first run.end) [
+  | inl inside ↦ here inside
+  | inr after ↦ later after (stays_in_run weight least first runs old new each.1 is up end behind (subst (MayReach weight least) (bound_later run runs first after) reaches))
+]
+  where
+    here : first < run.end → (doc_at new < TERMINATED) × MayReach weight least (bound_at (run ∷ runs) (doc_at new))
+    here inside =
+        let has : has_doc new (run.end - 1) ≡ true = ap (λ (es : List Entry). has_doc es (run.end - 1)) is ∙ has_doc-from_doc first (run.end - 1) old (omega (arith, inside)) ∙ each.0 (omega (arith, behind, inside)) in
+        let low = has_above (run.end - 1) new up has in
+        (has_current (run.end - 1) new up has, subst (MayReach weight least) (bound_here run runs first inside ∙ sym (bound_here run runs (doc_at new) (omega (arith, low, inside)))) reaches)
+
+    later : run.end ≤ first → (doc_at new < TERMINATED) × MayReach weight least (bound_at runs (doc_at new)) → (doc_at new < TERMINATED) × MayReach weight least (bound_at (run ∷ runs) (doc_at new))
+    later after found =
+        let low : first ≤ doc_at new = subst (λ (es : List Entry). first ≤ doc_at es) (sym is) (doc_at-from_doc first old end) in
+        (found.0, subst (MayReach weight least) (sym (bound_later run runs (doc_at new) (omega (arith, low, after)))) found.1)
+
+module _ (weight least : ℕ) (runs : List BlockShare) where
+  -- nothing
+  pub decodes_none : (cursor : SegmentPostingsState) → DecodesReaching weight least runs cursor cursor
+  decodes_none cursor = record {
+    doc_freq = refl;
+    forward = omega arith;
+    doc_blocks = allowed_none (HasReaching weight least runs cursor) cursor.block cursor.doc_blocks;
+    freq_blocks = allowed_none (HasReaching weight least runs cursor) cursor.block cursor.freq_blocks;
+  }
+
+  -- the block of a document to which a cursor goes
+  pub decodes_one : (first : ℕ) (old new : SegmentPostingsState) → EndAhead runs old.rest → first ≤ TERMINATED → doc_at old.rest < first → MayReach weight least (bound_at runs first) → new.rest ≡ from_doc first old.rest → IsAscending new.rest
+      → WentLazily old new → DecodesOnce old new → StandsInBlock new → DecodesReaching weight least runs old new
+  decodes_one first old new ends end behind reaches is up went once place = record {
+    doc_freq = went.doc_freq;
+    forward = went.forward;
+    doc_blocks = allowed_last (HasReaching weight least runs old) old.block new.block old.doc_blocks new.doc_blocks here once.doc_blocks;
+    freq_blocks = allowed_last (HasReaching weight least runs old) old.block new.block old.freq_blocks new.freq_blocks here once.freq_blocks;
+  }
+    where
+      some : (es : List Entry) → doc_at es < TERMINATED → 0 < length es
+      some [] low = absurd (omega (arith, low))
+      some (e ∷ es) low = omega arith
+
+      here : HasReaching weight least runs old new.block
+      here =
+          let found = stays_in_run weight least first runs old.rest new.rest ends is up end behind reaches in
+          let many = went.doc_freq in
+          let inside = place.here (some new.rest found.0) in
+          let near = place.near in
+          record {
+            left = new.rest;
+            remain = sym (from_doc_here (doc_at new.rest) new.rest up (omega arith)) ∙ ap (from_doc (doc_at new.rest)) is ∙ from_later first (doc_at new.rest) old.rest (subst (λ (es : List Entry). first ≤ doc_at es) (sym is) (doc_at-from_doc first old.rest end));
+            current = found.0;
+            first = omega (arith, many, inside);
+            last = omega (arith, many, near);
+            reaches = found.1;
+          }
+
+  -- of a cursor over fewer documents the same blocks have such a document
+  still_reaching : (dropped block : ℕ) (old now : SegmentPostingsState) → now.doc_freq ≡ old.doc_freq → now.rest ≡ from_doc dropped old.rest → dropped ≤ TERMINATED → IsAscending now.rest → HasReaching weight least runs now block → HasReaching weight least runs old block
+  still_reaching dropped block old now many is end up h = record {
+    left = h.left;
+    remain = h.remain ∙ ap (from_doc (doc_at h.left)) is ∙ from_later dropped (doc_at h.left) old.rest (omega (arith, low, above));
+    current = h.current;
+    first = let first = h.first in omega (arith, many, first);
+    last = let last = h.last in omega (arith, many, last);
+    reaches = h.reaches;
+  }
+    where
+      low : dropped ≤ doc_at now.rest
+      low = subst (λ (es : List Entry). dropped ≤ doc_at es) (sym is) (doc_at-from_doc dropped old.rest end)
+
+      above : doc_at now.rest ≤ doc_at h.left
+      above = subst (λ (es : List Entry). doc_at now.rest ≤ doc_at es) (sym h.remain) (first_up (doc_at h.left) now.rest up)
+
+  -- more of them
+  pub decodes_on : (dropped : ℕ) (old now new : SegmentPostingsState) → now.rest ≡ from_doc dropped old.rest → dropped ≤ TERMINATED → IsAscending now.rest → DecodesReaching weight least runs old now → DecodesReaching weight least runs now new → DecodesReaching weight least runs old new
+  decodes_on dropped old now new is end up d e =
+      let P = HasReaching weight least runs old in
+      let weaker : (block : ℕ) → now.block < block → block ≤ new.block → HasReaching weight least runs now block → HasReaching weight least runs old block = λ block low high h. still_reaching dropped block old now d.doc_freq is end up h in
+      record {
+        doc_freq = e.doc_freq ∙ d.doc_freq;
+        forward = let low = d.forward in let high = e.forward in omega (arith, low, high);
+        doc_blocks = allowed_on P old.block now.block new.block old.doc_blocks now.doc_blocks new.doc_blocks d.forward e.forward d.doc_blocks (allowed_weaker (HasReaching weight least runs now) P now.block new.block now.doc_blocks new.doc_blocks weaker e.doc_blocks);
+        freq_blocks = allowed_on P old.block now.block new.block old.freq_blocks now.freq_blocks new.freq_blocks d.forward e.forward d.freq_blocks (allowed_weaker (HasReaching weight least runs now) P now.block new.block now.freq_blocks new.freq_blocks weaker e.freq_blocks);
+      }
+
 -- ---- the scorer
 pub prepared_row : (w : TermWeightState) → IsRow (λ (es : List Entry) (doc : ℕ). score_by_entry w doc (entry_at es doc))
 prepared_row w = entry_row (score_by_entry w) (λ doc. refl)
@@ -179,6 +302,22 @@ passes_next s target least next is low up_to passed = row_next target least next
 pub keeps_all : (from : ℕ) (s : ScorerState) → KeepsFrom from s s
 keeps_all from s = record { alike = λ d up. refl; most = refl; depth = refl; bounded = λ b. b }
 
--- the documents that are left
-pub still_prepared : (w : TermWeightState) (blocks : List BlockShare) (dropped : ℕ) (old new : List Entry) → AreBounds w.weight w.norms blocks old → new ≡ from_doc dropped old → AreBounds w.weight w.norms blocks new
-still_prepared w blocks dropped old new all is = subst (AreBounds w.weight w.norms blocks) (sym is) (bounds_later w blocks dropped old all)
+-- a cursor over fewer documents
+pub still_prepared : (s : PreparedTermState) (dropped : ℕ) (cursor : SegmentPostingsState) → IsPrepared s → dropped ≤ TERMINATED → cursor.rest ≡ from_doc dropped s.cursor.rest → IsSound cursor.rest → IsPrepared (record s { cursor = cursor })
+still_prepared s dropped cursor is end rest sound = record {
+  sound = sound;
+  bounds = subst (AreBounds s.by.weight s.by.norms s.shares) (sym rest) (bounds_later s.by s.shares dropped s.cursor.rest is.bounds);
+  ends = subst (EndAhead s.shares) (sym rest) (ends_later s.shares dropped s.cursor.rest is.sound.ascending end is.ends);
+}
+
+-- a cursor at the start of the list of which the runs were made
+pub first_prepared : (s : PreparedTermState) (walked : SegmentPostingsState) → walked ≡ s.cursor → IsSound s.cursor.rest → AreBounds s.by.weight s.by.norms s.shares walked.rest → EndWithDocs s.shares walked.rest → IsPrepared s
+first_prepared s walked same sound bounds ends = record {
+  sound = sound;
+  bounds = subst (λ (cursor : SegmentPostingsState). AreBounds s.by.weight s.by.norms s.shares cursor.rest) same bounds;
+  ends = ends_ahead s.shares (subst (λ (cursor : SegmentPostingsState). EndWithDocs s.shares cursor.rest) same ends);
+}
+  where
+    ends_ahead : (runs : List BlockShare) → EndWithDocs runs s.cursor.rest → EndAhead runs s.cursor.rest
+    ends_ahead [] each = tt
+    ends_ahead (run ∷ runs) each = (λ ahead. each.0, ends_ahead runs each.1)

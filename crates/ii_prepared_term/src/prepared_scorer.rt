@@ -1,15 +1,14 @@
 //! The scorer of a prepared term.
 ghost use Rattle.std.specs.Prelude.{◌≡◌, ◌≤◌, ◌<◌};
 ghost use Rattle.ii_base.specs.declared.doc_id.TheConstants.{TERMINATED};
-ghost use Rattle.ii_block_shares.specs.BlockShares.{AreBounds};
-ghost use Rattle.ii_docset.specs.Cursor.{IsSound};
+ghost use Rattle.ii_scorer.specs.Scorers.{IsNext, KeepsFrom, score_of};
 ghost use Rattle.ii_ranking.specs.TermWeights.{score_by_entry};
-ghost use Rattle.ii_prepared_term.specs.PreparedTerms.{GoesToScore, IsPrepared, prepared_state};
+ghost use Rattle.ii_prepared_term.specs.PreparedTerms.{DecodesReaching, GoesToScore, IsPrepared, prepared_state};
 
 use ii_base::{DocId, TERMINATED};
 use ii_block_shares::{BlockShares, ShareReader, norm_id};
 use ii_bm25::{Bm25Weight, Score};
-use ii_docset::Postings;
+use ii_docset::{DocSet, Postings};
 use ii_fieldnorm::FieldNormReader;
 use ii_ranking::term_scorer::go_on;
 use ii_reader::SegmentPostings;
@@ -66,7 +65,13 @@ impl<'a> Scorer for PreparedScorer<'a> {
         self.shares.first_reaching(self.weight, target, least)
     }
 
-    fn skip_to_score(&mut self, target: DocId, least: Score) -> DocId {
+    fn skip_to_score(&mut self, target: DocId, least: Score) -> DocId
+        requires { target ≤ TERMINATED }
+        ensures next { IsNext target least (score_of (prepared_state self.old)) result }
+        ensures kept { KeepsFrom result (prepared_state self.old) (prepared_state self.new) }
+        // What a caller learns beyond the trait.
+        ensures decodes { DecodesReaching self.old.by.weight.weight least self.old.shares self.old.cursor self.new.cursor }
+    {
         go_to_score(
             &mut self.cursor,
             &mut self.shares,
@@ -81,12 +86,15 @@ impl<'a> Scorer for PreparedScorer<'a> {
         if go_on(&mut self.cursor, doc) != doc {
             return None;
         }
-        let score = self.weight.score(norm_id(self.norms, doc), self.cursor.term_freq());
+        let score = self
+            .weight
+            .score(norm_id(self.norms, doc), self.cursor.term_freq());
         if_at_least(least, Some(score))
     }
 }
 
-// Goes to the first document from a target on that scores at least `least`, and returns it, or `TERMINATED`.
+// Goes to the first document from a target on that scores at least `least`, and returns it, or `TERMINATED`. Decodes only
+// blocks that have a document of a run whose bound reaches that score.
 fn go_to_score(
     cursor: &mut SegmentPostings,
     shares: &mut ShareReader<'_>,
@@ -96,10 +104,10 @@ fn go_to_score(
     least: Score,
 ) -> DocId
     requires up_to { target ≤ TERMINATED }
-    requires sound { IsSound cursor.old.rest }
-    requires bounds { AreBounds weight.now norms.now shares.old cursor.old.rest }
+    requires prepared { IsPrepared (record { by = record { weight = weight.now; norms = norms.now }; shares = shares.old; cursor = cursor.old }) }
     ensures went { GoesToScore (score_by_entry (record { weight = weight.now; norms = norms.now })) target least result cursor.old.rest cursor.new.rest }
     ensures same { shares.new ≡ shares.old }
+    ensures decodes { DecodesReaching weight.now.weight least shares.old cursor.old cursor.new }
 {
     let mut doc = go_to_bound(cursor, shares, weight, norms, target, least);
     while doc < TERMINATED {
@@ -111,8 +119,8 @@ fn go_to_score(
     doc
 }
 
-// Goes to the first document from a target on that may score at least `least` by its bound, and returns it. Returns
-// `TERMINATED`, and stays, if none may.
+// Goes to the first document from a target on that may score at least `least` by the bound of its run, and returns it.
+// Returns `TERMINATED`, and stays, if none may. Decodes only the block of that document.
 fn go_to_bound(
     cursor: &mut SegmentPostings,
     shares: &mut ShareReader<'_>,
@@ -122,14 +130,18 @@ fn go_to_bound(
     least: Score,
 ) -> DocId
     requires up_to { target ≤ TERMINATED }
-    requires sound { IsSound cursor.old.rest }
-    requires bounds { AreBounds weight.now norms.now shares.old cursor.old.rest }
+    requires prepared { IsPrepared (record { by = record { weight = weight.now; norms = norms.now }; shares = shares.old; cursor = cursor.old }) }
     ensures went { GoesToScore (score_by_entry (record { weight = weight.now; norms = norms.now })) target least result cursor.old.rest cursor.new.rest }
     ensures same { shares.new ≡ shares.old }
+    ensures decodes { DecodesReaching weight.now.weight least shares.old cursor.old cursor.new }
 {
     let first = shares.first_reaching(weight, target, least);
     if first >= TERMINATED {
         return first;
     }
-    go_on(cursor, first)
+    let doc = cursor.doc();
+    if doc >= first {
+        return doc;
+    }
+    cursor.seek(first)
 }

@@ -133,11 +133,6 @@ impl PreparedTerm {
         ensures only { OnlyMemory result }
     {
         let cursor = self.cursor.clone()?;
-        Ok(PreparedScorer::new(
-            cursor,
-            &self.weight,
-            &self.norms,
-            &self.shares,
-        ))
+        Ok(PreparedScorer::new(cursor, &self.weight, &self.norms, &self.shares))
     }
 }

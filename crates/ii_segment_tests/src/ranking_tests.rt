@@ -75,7 +75,11 @@ fn index_of_three(alloc: Global, first: &str, second: &str, third: &str) -> Resu
 }
 
 // Returns the numbers of an index that scores need.
-pub(crate) fn statistics(alloc: Global, index: &OpenIndex, num_docs: u64) -> Result<GatheredStatistics, Fault>
+pub(crate) fn statistics(
+    alloc: Global,
+    index: &OpenIndex,
+    num_docs: u64,
+) -> Result<GatheredStatistics, Fault>
     requires { length index.now.readers ≡ 1 }
 {
     let body = Field::from_field_id(0);

@@ -1,4 +1,4 @@
-use Rattle.std.proofs.Common.{◌∙◌, ◌*◌, ◌^◌, ℕ, Some, ap, sym}
+use Rattle.std.proofs.Common.{◌∙◌, ◌*◌, ◌^◌, ℕ, Some, ap, arith, sym}
 use Rattle.ii_bm25.specs.Bm25.{bm25_score}
 use Rattle.ii_ranking.specs.NormIds.{id_among}
 use Rattle.ii_ranking.proofs.EntryLemmas.{count_here}
@@ -10,13 +10,15 @@ pub invariant_of-self : goal.invariant_of-self
 invariant_of-self c =
     let s = state_of c.self.inside.weight.now c.self.inside.norms.now c.self.inside.shares c.self.inside.cursor in
     let is = c.self.invariant in
-    record { sound = c.go_on.ensures.sound; bounds = still_prepared s.by s.shares c.args.doc s.cursor.rest c.go_on.new.cursor.rest is.bounds c.go_on.ensures.rest }
+    let end = c.requires in
+    still_prepared s c.args.doc c.go_on.new.cursor is (omega (arith, end)) c.go_on.ensures.rest c.go_on.ensures.sound
 
 pub invariant_of-self-2 : goal.invariant_of-self-2
 invariant_of-self-2 c =
     let s = state_of c.self.inside.weight.now c.self.inside.norms.now c.self.inside.shares c.self.inside.cursor in
     let is = c.self.invariant in
-    record { sound = c.go_on.ensures.sound; bounds = still_prepared s.by s.shares c.args.doc s.cursor.rest c.go_on.new.cursor.rest is.bounds c.go_on.ensures.rest }
+    let end = c.requires in
+    still_prepared s c.args.doc c.go_on.new.cursor is (omega (arith, end)) c.go_on.ensures.rest c.go_on.ensures.sound
 
 pub returns-then-go_on-doc-clause-score : goal.returns-then-go_on-doc-clause-score
 returns-then-go_on-doc-clause-score c =
