@@ -117,7 +117,7 @@ module _ (w : TermWeightState) (blocks : List BlockShare) (least : ℕ) where
       up_to = up_to;
       current = λ low. absurd (omega (arith, low, end));
       dropped = 0;
-      behind = omega arith;
+      kept = omega arith;
       rest = from_first old sound.ascending;
       sound = sound;
       passed = passed_by;
@@ -130,7 +130,7 @@ module _ (w : TermWeightState) (blocks : List BlockShare) (least : ℕ) where
       up_to = let end = doc_below new later.ascending in omega (arith, at, end);
       current = λ low. at;
       dropped = first;
-      behind = above;
+      kept = above;
       rest = is;
       sound = later;
       passed = λ d from before. elim (cases_lt d first) [
@@ -150,7 +150,7 @@ module _ (w : TermWeightState) (blocks : List BlockShare) (least : ℕ) where
     up_to = t.up_to;
     current = t.current;
     dropped = max s.dropped t.dropped;
-    behind = let low = s.behind in let up = t.behind in let more = t.low in omega (arith, low, up, more);
+    kept = let low = s.kept in let up = t.kept in let more = t.low in omega (arith, low, up, more);
     rest = t.rest ∙ ap (from_doc t.dropped) s.rest ∙ from_both s.dropped t.dropped old;
     sound = t.sound;
     passed = λ d from before. elim (cases_lt d doc) [
@@ -160,7 +160,7 @@ module _ (w : TermWeightState) (blocks : List BlockShare) (least : ℕ) where
   }
     where
       same : (d : ℕ) → doc ≤ d → score_by_entry w d (entry_at now d) ≡ score_by_entry w d (entry_at old d)
-      same d up = ap (score_by_entry w d) (ap (λ (es : List Entry). entry_at es d) s.rest ∙ entry_from s.dropped d old (let low = s.behind in omega (arith, low, up)))
+      same d up = ap (score_by_entry w d) (ap (λ (es : List Entry). entry_at es d) s.rest ∙ entry_from s.dropped d old (let low = s.kept in omega (arith, low, up)))
 
       here : IsBelow least (score_by_entry w doc (entry_at old doc))
       here = subst (IsBelow least) (sym (count_here (bm25_score w.weight (id_among w.norms doc)) doc count now (s.current inside) inside counted) ∙ same doc (omega arith)) (subst (λ (n : ℕ). n < least) is less)
@@ -191,15 +191,15 @@ has_above doc es up has = elim (cases_lt doc (doc_at es)) [
 -- a cursor that goes to a document of a run stays in the run
 pub stays_in_run : (weight least first : ℕ) (runs : List BlockShare) (old new : List Entry) → EndAhead runs old → new ≡ from_doc first old → IsAscending new → first ≤ TERMINATED → doc_at old < first → MayReach weight least (bound_at runs first)
     → (doc_at new < TERMINATED) × MayReach weight least (bound_at runs (doc_at new))
-stays_in_run weight least first [] old new each is up end behind reaches = absurd reaches
-stays_in_run weight least first (run ∷ runs) old new each is up end behind reaches = elim (cases_lt first run.end) [
+stays_in_run weight least first [] old new each is up end ahead reaches = absurd reaches
+stays_in_run weight least first (run ∷ runs) old new each is up end ahead reaches = elim (cases_lt first run.end) [
   | inl inside ↦ here inside
-  | inr after ↦ later after (stays_in_run weight least first runs old new each.1 is up end behind (subst (MayReach weight least) (bound_later run runs first after) reaches))
+  | inr after ↦ later after (stays_in_run weight least first runs old new each.1 is up end ahead (subst (MayReach weight least) (bound_later run runs first after) reaches))
 ]
   where
     here : first < run.end → (doc_at new < TERMINATED) × MayReach weight least (bound_at (run ∷ runs) (doc_at new))
     here inside =
-        let has : has_doc new (run.end - 1) ≡ true = ap (λ (es : List Entry). has_doc es (run.end - 1)) is ∙ has_doc-from_doc first (run.end - 1) old (omega (arith, inside)) ∙ each.0 (omega (arith, behind, inside)) in
+        let has : has_doc new (run.end - 1) ≡ true = ap (λ (es : List Entry). has_doc es (run.end - 1)) is ∙ has_doc-from_doc first (run.end - 1) old (omega (arith, inside)) ∙ each.0 (omega (arith, ahead, inside)) in
         let low = has_above (run.end - 1) new up has in
         (has_current (run.end - 1) new up has, subst (MayReach weight least) (bound_here run runs first inside ∙ sym (bound_here run runs (doc_at new) (omega (arith, low, inside)))) reaches)
 
@@ -221,7 +221,7 @@ module _ (weight least : ℕ) (runs : List BlockShare) where
   -- the block of a document to which a cursor goes
   pub decodes_one : (first : ℕ) (old new : SegmentPostingsState) → EndAhead runs old.rest → first ≤ TERMINATED → doc_at old.rest < first → MayReach weight least (bound_at runs first) → new.rest ≡ from_doc first old.rest → IsAscending new.rest
       → WentLazily old new → DecodesOnce old new → StandsInBlock new → DecodesReaching weight least runs old new
-  decodes_one first old new ends end behind reaches is up went once place = record {
+  decodes_one first old new ends end ahead reaches is up went once place = record {
     doc_freq = went.doc_freq;
     forward = went.forward;
     doc_blocks = allowed_last (HasReaching weight least runs old) old.block new.block old.doc_blocks new.doc_blocks here once.doc_blocks;
@@ -234,7 +234,7 @@ module _ (weight least : ℕ) (runs : List BlockShare) where
 
       here : HasReaching weight least runs old new.block
       here =
-          let found = stays_in_run weight least first runs old.rest new.rest ends is up end behind reaches in
+          let found = stays_in_run weight least first runs old.rest new.rest ends is up end ahead reaches in
           let many = went.doc_freq in
           let inside = place.here (some new.rest found.0) in
           let near = place.near in

@@ -44,7 +44,7 @@ pub record GoesToScore (score_by : ℕ → Option Entry → Option ℕ) (target 
   pub up_to : doc ≤ TERMINATED
   pub current : doc < TERMINATED → doc ≡ doc_at new
   pub dropped : ℕ
-  pub behind : dropped ≤ doc
+  pub kept : dropped ≤ doc
   pub rest : new ≡ from_doc dropped old
   pub sound : IsSound new
   pub passed : (d : ℕ) → target ≤ d → d < doc → IsBelow least (score_by d (entry_at old d))

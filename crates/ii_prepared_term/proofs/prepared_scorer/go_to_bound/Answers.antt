@@ -35,6 +35,6 @@ returns-clause-decodes c =
     let f = c.first_reaching-first.ensures in
     let low = c.if-first-ge-TERMINATED.false in
     let at = c.doc-doc.ensures.doc in
-    let behind = c.if-doc-first.false in
-    decodes_one c.args.weight.now.weight c.args.least c.args.shares.now c.first_reaching-first.result c.args.cursor.now c.seek.new.self c.requires.prepared.ends f.up_to (omega (arith, at, behind)) (f.reaches low) c.seek.ensures.rest c.seek.ensures.sound.ascending
+    let ahead = c.if-doc-first.false in
+    decodes_one c.args.weight.now.weight c.args.least c.args.shares.now c.first_reaching-first.result c.args.cursor.now c.seek.new.self c.requires.prepared.ends f.up_to (omega (arith, at, ahead)) (f.reaches low) c.seek.ensures.rest c.seek.ensures.sound.ascending
     c.seek.ensures.work c.seek.ensures.once c.seek.ensures.place

@@ -10,7 +10,7 @@ go_to_bound-doc-requires-in-loop-doc-clause-prepared c =
     let l = c.loop-doc in
     let went = l.invariant.went in
     let s = state_of c.args.weight.now c.args.norms.now c.args.shares.now c.args.cursor.now in
-    let low = went.behind in
+    let low = went.kept in
     let end = went.up_to in
     subst (λ (runs : List BlockShare). IsPrepared (state_of c.args.weight.now c.args.norms.now runs l.cursor)) (sym l.invariant.same) (still_prepared s went.dropped l.cursor c.requires.prepared (omega (arith, low, end)) went.rest went.sound)
 
@@ -22,7 +22,7 @@ loop-doc-preserved c =
       went = goes_on (record { weight = c.args.weight.now; norms = c.args.norms.now }) c.args.shares.now c.args.least c.args.target l.doc c.go_to_bound-doc-in-loop-doc.result c.term_freq.result c.score.result c.args.cursor.now.rest l.cursor.rest c.go_to_bound-doc-in-loop-doc.new.cursor.rest
           c.loop-doc-test.true c.term_freq.ensures.entry (c.score.ensures.value ∙ ap (λ (id : ℕ). bm25_score c.args.weight.now id c.term_freq.result) (c.norm_id.ensures ∙ ids_same c.args.norms.now l.doc)) c.if-score-least.false i.went c.go_to_bound-doc-in-loop-doc.ensures.went;
       same = c.go_to_bound-doc-in-loop-doc.ensures.same ∙ i.same;
-      decodes = let low = i.went.behind in let end = i.went.up_to in
+      decodes = let low = i.went.kept in let end = i.went.up_to in
           decodes_on c.args.weight.now.weight c.args.least c.args.shares.now i.went.dropped c.args.cursor.now l.cursor c.go_to_bound-doc-in-loop-doc.new.cursor i.went.rest (omega (arith, low, end)) i.went.sound.ascending i.decodes
           (subst (λ (runs : List BlockShare). DecodesReaching c.args.weight.now.weight c.args.least runs l.cursor c.go_to_bound-doc-in-loop-doc.new.cursor) i.same c.go_to_bound-doc-in-loop-doc.ensures.decodes);
     }

@@ -10,7 +10,7 @@ invariant_of-self c =
     let s = state_of c.self.inside.weight.now c.self.inside.norms.now c.self.inside.shares c.self.inside.cursor in
     let is = c.self.invariant in
     let went = c.go_to_score.ensures.went in
-    let low = went.behind in
+    let low = went.kept in
     let end = went.up_to in
     subst (λ (runs : List BlockShare). IsPrepared (state_of s.by.weight s.by.norms runs c.go_to_score.new.cursor)) (sym c.go_to_score.ensures.same) (still_prepared s went.dropped c.go_to_score.new.cursor is (omega (arith, low, end)) went.rest went.sound)
 
@@ -26,7 +26,7 @@ returns-clause-kept c =
     rw (← c.self.view_is) (let s = state_of c.self.inside.weight.now c.self.inside.norms.now c.self.inside.shares c.self.inside.cursor in
     let went = c.go_to_score.ensures.went in
     let most = s.by.weight.weight * 2 ^ 16 in
-    keeps_later went.dropped c.go_to_score.result (prepared_state s) _ went.behind (leaf_went _ (prepared_row s.by) most went.dropped s.cursor.rest c.go_to_score.new.cursor.rest went.rest))
+    keeps_later went.dropped c.go_to_score.result (prepared_state s) _ went.kept (leaf_went _ (prepared_row s.by) most went.dropped s.cursor.rest c.go_to_score.new.cursor.rest went.rest))
 
 pub returns-clause-decodes : goal.returns-clause-decodes
 returns-clause-decodes c = rw (← c.self.view_is) c.go_to_score.ensures.decodes
