@@ -1,5 +1,4 @@
-use Rattle.std.proofs.Common.{◌+◌, ◌-◌, ◌<◌, ◌≡◌, ℕ, arith, subst, sym, true}
-use Rattle.ii_base.specs.declared.doc_id.TheConstants.{TERMINATED}
+use Rattle.std.proofs.Common.{◌<◌, ◌≡◌, ℕ, arith, subst, true}
 use Rattle.ii_docset.specs.Cursor.{doc_at}
 use Rattle.ii_docset.specs.Intersection.{has_doc}
 use Rattle.ii_block_shares.specs.BlockShares.{share_bound}
