@@ -16,14 +16,14 @@ use Rattle.ii_docset.proofs.CursorLemmas.{doc_below, from_doc_here}
 use Rattle.ii_docset.proofs.IntersectionLemmas.{doc_at-from_doc, has_doc-from_doc, has_doc_below}
 use Rattle.ii_fieldnorm.specs.Readers.{Norms}
 use Rattle.ii_reader.specs.SegmentPostings.{DecodesOnce, SegmentPostingsState, StandsInBlock, WentLazily}
-use Rattle.ii_scorer.specs.Scorers.{IsBelow, IsNext, IsPassed, KeepsFrom, ScorerState, score_of}
+use Rattle.ii_scorer.specs.Scorers.{IsBelow, IsNext, IsPassed, score_of}
 use Rattle.ii_scorer.proofs.PartsLemmas.{row_next}
 use Rattle.ii_scorer.proofs.ScorerLemmas.{below_none}
 use Rattle.ii_ranking.specs.NormIds.{id_among}
 use Rattle.ii_ranking.specs.Scores.{entry_at}
 use Rattle.ii_ranking.specs.TermWeights.{TermWeightState, score_by_entry}
 use Rattle.ii_ranking.proofs.EntryLemmas.{count_here, entry_here, none_below}
-use Rattle.ii_ranking.proofs.LeafLemmas.{IsRow, entry_row, keeps_later, leaf_is, leaf_went, row_ends}
+use Rattle.ii_ranking.proofs.LeafLemmas.{IsRow, entry_row, leaf_is, row_ends}
 use Rattle.ii_ranking.proofs.ShareEntryLemmas.{entry_from}
 use Rattle.ii_ranking.proofs.SkipLemmas.{from_later}
 use Rattle.ii_prepared_term.specs.PreparedTerms.{DecodesReaching, EndAhead, GoesToScore, HasReaching, IsPrepared, PreparedTermState, prepared_score, prepared_state}
@@ -297,10 +297,6 @@ passes_next s target least next is low up_to passed = row_next target least next
       | inl before ↦ passed doc from before
       | inr above ↦ below_none least (prepared_score s doc) (prepared_ends s is doc (omega (arith, end, above)))
     ]
-
--- a scorer that passes nothing
-pub keeps_all : (from : ℕ) (s : ScorerState) → KeepsFrom from s s
-keeps_all from s = record { alike = λ d up. refl; most = refl; depth = refl; bounded = λ b. b }
 
 -- a cursor over fewer documents
 pub still_prepared : (s : PreparedTermState) (dropped : ℕ) (cursor : SegmentPostingsState) → IsPrepared s → dropped ≤ TERMINATED → cursor.rest ≡ from_doc dropped s.cursor.rest → IsSound cursor.rest → IsPrepared (record s { cursor = cursor })
