@@ -1,15 +1,16 @@
 -- Laws of the bounds of runs.
-use Rattle.std.proofs.Common.{◌≡◌, ◌∙◌, ℕ, ◌+◌, ◌*◌, ◌/◌, ◌^◌, ◌<◌, ◌≤◌, Bool, true, false, inl, inr, List, [], ◌∷◌, ◌++◌, Option, None, Some, drop, get_or, if◌then◌else◌, length, max, nat_lt, refl, sym, ap, subst, arith}
+use Rattle.std.proofs.Common.{◌≡◌, ◌∙◌, ℕ, ◌+◌, ◌-◌, ◌*◌, ◌/◌, ◌^◌, ◌<◌, ◌≤◌, Bool, true, false, inl, inr, List, [], ◌∷◌, ◌++◌, Option, Some, drop, get_or, length, max, nat_eq, refl, sym, ap, subst, arith}
 use Rattle.std.proofs.Common.{append-nil}
-use Rattle.std.proofs.lemmas.Bool.{cases_lt, le-ltb, lt-ltb}
-use Rattle.std.proofs.lemmas.List.{append_assoc, at_drop_more, drop_all}
+use Rattle.std.proofs.lemmas.Bool.{cases_lt, eq-eqb, le-ltb, lt-ltb}
+use Rattle.std.proofs.lemmas.List.{append_assoc, at_drop_more}
 use Rattle.ii_base.specs.Entries.{Entry}
 use Rattle.ii_base.specs.declared.doc_id.TheConstants.{TERMINATED}
 use Rattle.ii_bm25.specs.Bm25.{Bm25State}
 use Rattle.ii_docset.specs.Cursor.{IsAscending, doc_at}
+use Rattle.ii_docset.specs.Intersection.{has_doc}
 use Rattle.ii_docset.proofs.CursorLemmas.{nothing_left}
 use Rattle.ii_fieldnorm.specs.Readers.{Norms}
-use Rattle.ii_block_shares.specs.BlockShares.{AreBounds, IsPlace, IsWithin, TakesRun, bound_at, share_bound, share_of}
+use Rattle.ii_block_shares.specs.BlockShares.{AreBounds, EndWithDocs, IsPlace, IsWithin, TakesRun, bound_at, share_bound, share_of}
 use Rattle.ii_block_shares.specs.declared.block_shares.BlockShare.{BlockShare}
 
 -- the bound of a document of the first run, and that of a later one
@@ -40,10 +41,6 @@ module _ (blocks : List BlockShare) (b : BlockShare) (place doc : ℕ) (inside :
     where
       here : doc ≤ d → d < b.end → weight * share / 2 ^ 12 < least
       here above inside = low (omega (arith, above, inside)) share (subst (λ (o : Option ℕ). IsWithin o share) (in_run d above inside) within)
-
--- after all runs no document has a bound
-pub past_runs : (blocks : List BlockShare) (place doc d share : ℕ) → length blocks ≤ place → IsPlace blocks place doc → doc ≤ d → IsWithin (bound_at blocks d) share → ⊥
-past_runs blocks place doc d share over from low within = subst (λ (o : Option ℕ). IsWithin o share) (from d low ∙ ap (λ (bs : List BlockShare). bound_at bs d) (drop_all place blocks over)) within
 
 -- ---- the runs of a list
 module _ (w : Bm25State) (norms : Option Norms) where
@@ -80,3 +77,28 @@ module _ (w : Bm25State) (norms : Option Norms) where
 pub ascends : (es : List Entry) → IsAscending es → doc_at es < TERMINATED → doc_at es < doc_at (drop 1 es)
 ascends [] up low = absurd (omega arith)
 ascends (e ∷ es) up low = up.0
+
+-- one before one more
+pub less_one : (n : ℕ) → n ≡ n + 1 - 1
+less_one n = omega arith
+
+-- a list has its first document, and those of the rest
+pub has_first : (doc : ℕ) (es : List Entry) → doc ≡ doc_at es → doc < TERMINATED → has_doc es doc ≡ true
+has_first doc [] at low = absurd (omega (arith, at, low))
+has_first doc (e ∷ es) at low = rw (eq-eqb e.doc doc (sym at)) refl
+
+pub has_later : (doc : ℕ) (old new : List Entry) → new ≡ drop 1 old → has_doc new doc ≡ true → has_doc old doc ≡ true
+has_later doc [] new is has = sym (ap (λ (es : List Entry). has_doc es doc) is) ∙ has
+has_later doc (e ∷ es) new is has = by (nat_eq e.doc doc) refl (sym (ap (λ (row : List Entry). has_doc row doc) is) ∙ has)
+  where
+    by : (t : Bool) → nat_eq e.doc doc ≡ t → has_doc es doc ≡ true → has_doc (e ∷ es) doc ≡ true
+    by true test later = rw test refl
+    by false test later = rw test later
+
+-- one run more ends with a document of a list
+pub ends_with : (blocks pushed : List BlockShare) (b : BlockShare) (all : List Entry) → pushed ≡ blocks ++ b ∷ [] → EndWithDocs blocks all → has_doc all (b.end - 1) ≡ true → EndWithDocs pushed all
+ends_with blocks pushed b all is ends last = subst (λ (bs : List BlockShare). EndWithDocs bs all) (sym is) (more blocks ends)
+  where
+    more : (bs : List BlockShare) → EndWithDocs bs all → EndWithDocs (bs ++ b ∷ []) all
+    more [] each = (last, tt)
+    more (c ∷ cs) each = (each.0, more cs each.1)

@@ -1,9 +1,10 @@
 -- The greatest shares of runs of documents, by which documents are passed that score too little.
-use Rattle.std.specs.Prelude.{◌≡◌, ℕ, ◌+◌, ◌*◌, ◌/◌, ◌^◌, ◌<◌, ◌≤◌, List, [], ◌∷◌, Option, None, Some, drop, if◌then◌else◌, nat_lt}
+use Rattle.std.specs.Prelude.{◌≡◌, ℕ, ◌+◌, ◌-◌, ◌*◌, ◌/◌, ◌^◌, ◌<◌, ◌≤◌, List, [], ◌∷◌, Option, None, Some, drop, if◌then◌else◌, nat_lt, true}
 use Rattle.std.specs.List.{AllByRecursion}
 use Rattle.ii_base.specs.Entries.{Entry}
 use Rattle.ii_bm25.specs.Bm25.{Bm25State, bm25_share}
 use Rattle.ii_docset.specs.Cursor.{IsSound, doc_at}
+use Rattle.ii_docset.specs.Intersection.{has_doc}
 use Rattle.ii_fieldnorm.specs.Readers.{Norms}
 use Rattle.ii_block_shares.specs.NormIds.{id_among}
 use Rattle.ii_block_shares.specs.declared.block_shares.BlockShare.{BlockShare}
@@ -30,6 +31,10 @@ share_of w norms e = bm25_share w (id_among norms e.doc) e.term_freq
 abbrev pub AreBounds : Bm25State → Option Norms → List BlockShare → List Entry → Type 0
 AreBounds w norms blocks es = AllByRecursion (λ (e : Entry). IsWithin (bound_at blocks e.doc) (share_of w norms e)) es
 
+-- The document before the end of each run is one of a list.
+abbrev pub EndWithDocs : List BlockShare → List Entry → Type 0
+EndWithDocs blocks es = AllByRecursion (λ (b : BlockShare). has_doc es (b.end - 1) ≡ true) blocks
+
 -- The bounds of documents from one on are those of the runs from a place on.
 abbrev pub IsPlace : List BlockShare → ℕ → ℕ → Type 0
 IsPlace blocks place doc = (d : ℕ) → doc ≤ d → bound_at blocks d ≡ bound_at (drop place blocks) d
@@ -49,4 +54,6 @@ pub record TakesRun (w : Bm25State) (norms : Option Norms) (old new : List Entry
   pub ahead : doc_at old < b.end
   pub up_to : b.end ≤ doc_at new
   pub sound : IsSound new
+  pub last : has_doc old (b.end - 1) ≡ true
+  pub left : (d : ℕ) → has_doc new d ≡ true → has_doc old d ≡ true
   pub each : (blocks : List BlockShare) → ((d : ℕ) → doc_at old ≤ d → d < b.end → bound_at blocks d ≡ Some (share_bound b.share)) → AreBounds w norms blocks new → AreBounds w norms blocks old

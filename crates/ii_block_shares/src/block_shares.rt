@@ -1,7 +1,7 @@
 //! The greatest share of a term's score in each run of its list.
 ghost use Rattle.std.specs.Prelude.{◌≡◌, IfOk, List};
 ghost use Rattle.ii_io.specs.Faults.{OnlyMemory};
-ghost use Rattle.ii_block_shares.specs.BlockShares.{AreBounds};
+ghost use Rattle.ii_block_shares.specs.BlockShares.{AreBounds, EndWithDocs};
 
 use crate::runs::take_run;
 use ii_base::{DocId, Fault, TERMINATED};
@@ -40,7 +40,8 @@ impl Model for BlockShares {
 
 impl BlockShares {
     /// Returns bounds for the remaining documents of a cursor, by their counts, the norms of their field and the length
-    /// parts of a weight. The cursor is at its end afterwards. Fails only with `OutOfMemory`.
+    /// parts of a weight. Each run ends after one of them. The cursor is at its end afterwards. Fails only with
+    /// `OutOfMemory`.
     pub fn of_postings(
         alloc: Global,
         cursor: &mut SegmentPostings,
@@ -48,6 +49,7 @@ impl BlockShares {
         weight: &Bm25Weight,
     ) -> Result<BlockShares, Fault>
         ensures bounds { IfOk result (λ shares. AreBounds weight.now norms.now shares cursor.old.rest) }
+        ensures ends { IfOk result (λ shares. EndWithDocs shares cursor.old.rest) }
         ensures only { OnlyMemory result }
     {
         let mut blocks = Vec::new(alloc);

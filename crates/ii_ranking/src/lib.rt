@@ -7,7 +7,7 @@ pub mod combination;
 mod found_scorer;
 pub mod laws;
 mod leaf_scorer;
-mod numbers;
+pub mod numbers;
 mod opening;
 mod phrase_scorer;
 pub mod phrase_scores;
@@ -17,7 +17,7 @@ pub mod scores;
 pub mod segments;
 pub mod shares;
 pub mod statistics;
-mod term_scorer;
+pub mod term_scorer;
 pub mod term_scores;
 mod term_weight;
 

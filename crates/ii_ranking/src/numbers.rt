@@ -5,10 +5,10 @@ use ii_alive::AliveBits;
 use ii_base::DocId;
 use ii_scorer::DocNumbers;
 
-// Gives each document below a number its own.
+/// Counts each document below `num_docs`, and keeps its number.
 #[derive(Clone, Copy)]
-pub(crate) struct AllNumbers {
-    pub(crate) num_docs: DocId,
+pub struct AllNumbers {
+    pub num_docs: DocId,
 }
 
 impl DocNumbers for AllNumbers {
@@ -29,11 +29,11 @@ impl DocNumbers for AllNumbers {
     }
 }
 
-// Numbers the living documents of a segment from `base` on.
+/// Numbers the living documents of a segment from `base` on, in their order.
 #[derive(Clone, Copy)]
-pub(crate) struct LivingNumbers<'a> {
-    pub(crate) base: DocId,
-    pub(crate) alive: &'a AliveBits,
+pub struct LivingNumbers<'a> {
+    pub base: DocId,
+    pub alive: &'a AliveBits,
 }
 
 impl<'a> DocNumbers for LivingNumbers<'a> {

@@ -108,8 +108,9 @@ fn go_to_freq(cursor: &mut SegmentPostings, target: DocId, freq: u32) -> DocId
     cursor.seek_with_freq(target.max(doc), freq)
 }
 
-// Drops the documents below a target, which may be below the current document. Returns the current document.
-pub(crate) fn go_on<D: DocSet>(cursor: &mut D, target: DocId) -> DocId
+/// Drops the documents below a target, which may be below the current document, and returns the current document, or
+/// `TERMINATED`. The target must be at most `TERMINATED`.
+pub fn go_on<D: DocSet>(cursor: &mut D, target: DocId) -> DocId
     requires { target ≤ TERMINATED }
     ensures doc { result ≡ doc_at (D.rest cursor.new) }
     ensures rest { D.rest cursor.new ≡ from_doc target (D.rest cursor.old) }

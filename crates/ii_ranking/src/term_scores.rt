@@ -43,8 +43,8 @@ pub(crate) fn add_term<S: Bm25StatisticsProvider>(
     Ok(())
 }
 
-// Returns the weight of a term.
-pub(crate) fn weight_of<S: Bm25StatisticsProvider>(
+/// Returns the weight of a term by the numbers of an index. Fails only with `OutOfMemory`.
+pub fn weight_of<S: Bm25StatisticsProvider>(
     alloc: Global,
     statistics: &S,
     term: &Term,
@@ -58,8 +58,11 @@ pub(crate) fn weight_of<S: Bm25StatisticsProvider>(
     Bm25Weight::new(alloc, idf, num_docs, num_tokens)
 }
 
-// Returns the norms of a field, if it has some.
-pub(crate) fn norms_of(index: &OpenIndex, field: Field) -> Result<Option<FieldNormReader>, Fault>
+/// Opens the norms of a field, or returns `None` if the index has none for it.
+///
+/// Returns `Damaged(FieldNorms)` if it has more than `u32::MAX` of them, or `OutOfMemory` if the file's buffer can't be
+/// shared again.
+pub fn norms_of(index: &OpenIndex, field: Field) -> Result<Option<FieldNormReader>, Fault>
     ensures found { IfOk result (λ norms. norms ≡ option_map norms_of_ids (body_of field index.now.fieldnorms)) }
     ensures sound { OnOk result (norms_damage (body_of field index.now.fieldnorms) ≡ None) }
     ensures fault { IfErr result (IsScoreFault (norms_damage (body_of field index.now.fieldnorms))) }

@@ -1,9 +1,30 @@
-use Rattle.std.proofs.Common.{◌<◌, ◌≡◌, arith, subst, sym}
-use Rattle.ii_base.specs.declared.doc_id.TheConstants.{TERMINATED}
+use Rattle.std.proofs.Common.{◌<◌, ◌≡◌, ℕ, arith, subst, true}
 use Rattle.ii_docset.specs.Cursor.{doc_at}
+use Rattle.ii_docset.specs.Intersection.{has_doc}
 use Rattle.ii_block_shares.specs.BlockShares.{share_bound}
-use Rattle.ii_block_shares.proofs.RunLemmas.{ascends, takes_one}
+use Rattle.ii_block_shares.proofs.RunLemmas.{ascends, has_first, has_later, less_one, takes_one}
 use Rattle.ii_block_shares.proofs.runs.take_run.Goals as goal
+
+pub loop-left-init : goal.loop-left-init
+loop-left-init c =
+    let low = c.requires in
+    let at = c.doc-end.ensures.doc in
+    let old = c.args.cursor.now.rest in
+    let new = c.advance-doc.new.self.rest in
+    let next = c.advance-doc.ensures.doc in
+    let rest = c.advance-doc.ensures.rest in
+    let later : doc_at old < doc_at new = rw rest (ascends old c.doc-end.ensures.sound.ascending low) in
+    record {
+      doc_is = next;
+      sound = c.advance-doc.ensures.sound;
+      ahead = omega (arith, at);
+      up_to = omega (arith, at, next, later);
+      few = c.share_here-greatest.ensures.below;
+      last = subst (λ (d : ℕ). has_doc old d ≡ true) (less_one c.doc-end.result) (has_first c.doc-end.result old at (omega (arith, at, low)));
+      left = λ d has. has_later d old new rest has;
+      each = λ bound blocks enough here more.
+          takes_one c.args.weight.now c.args.norms.now c.doc-end.result c.share_here-greatest.result old new at (omega (arith, at, low)) rest c.share_here-greatest.ensures.value bound blocks enough (here c.doc-end.result (omega (arith, at)) (omega arith)) more;
+    }
 
 pub loop-left-preserved : goal.loop-left-preserved
 loop-left-preserved c =
@@ -22,6 +43,8 @@ loop-left-preserved c =
       sound = c.advance-doc-in-loop-left.ensures.sound;
       ahead = omega (arith, ahead, up_to);
       up_to = omega (arith, at, next, later);
+      last = subst (λ (d : ℕ). has_doc c.args.cursor.now.rest d ≡ true) (less_one l.doc) (i.left l.doc (has_first l.doc l.cursor.rest at low));
+      left = λ d has. i.left d (has_later d l.cursor.rest c.advance-doc-in-loop-left.new.self.rest rest has);
       few = let few = i.few in let below = c.share_here.ensures.below in omega (arith, few, below, most);
       each = λ bound blocks enough here left.
           i.each bound blocks (omega (arith, most, enough)) (λ d from before. here d from (omega (arith, before, up_to)))
@@ -37,5 +60,7 @@ returns c =
       ahead = i.ahead;
       up_to = omega (arith, at, up_to);
       sound = i.sound;
+      last = i.last;
+      left = i.left;
       each = λ blocks here left. i.each (share_bound c.rounded_up.result) blocks c.rounded_up.ensures here left;
     }

@@ -1,6 +1,9 @@
-use Rattle.std.proofs.Common.{arith}
-use Rattle.ii_block_shares.proofs.RunLemmas.{all_taken, next_each, next_past}
+use Rattle.std.proofs.Common.{◌-◌, arith, refl}
+use Rattle.ii_block_shares.proofs.RunLemmas.{all_taken, ends_with, next_each, next_past}
 use Rattle.ii_block_shares.proofs.block_shares.BlockShares.of_postings.Goals as goal
+
+pub loop-doc-init : goal.loop-doc-init
+loop-doc-init c = rw c.new-blocks.ensures.items (record { doc_is = c.doc-doc.ensures.doc; sound = c.doc-doc.ensures.sound; ends = tt; left = λ d has. has; each = λ more left. left; past = λ d more low. refl })
 
 pub loop-doc-preserved : goal.loop-doc-preserved
 loop-doc-preserved c =
@@ -11,6 +14,8 @@ loop-doc-preserved c =
     record {
       doc_is = next;
       sound = t.sound;
+      ends = ends_with l.blocks.items c.push.new.self.items c.take_run-block.result c.args.cursor.now.rest c.in_ok-push.ensures.items i.ends (i.left (c.take_run-block.result.end - 1) t.last);
+      left = λ d has. i.left d (t.left d has);
       each = next_each c.args.weight.now c.args.norms.now l.blocks.items c.push.new.self.items c.take_run-block.result l.doc l.cursor.rest c.take_run-block.new.cursor.rest c.in_ok-push.ensures.items i.doc_is t i.past c.args.cursor.now.rest i.each;
       past = λ d more low. next_past c.args.weight.now c.args.norms.now l.blocks.items c.push.new.self.items c.take_run-block.result l.doc l.cursor.rest c.take_run-block.new.cursor.rest c.in_ok-push.ensures.items i.doc_is t i.past d more (omega (arith, next, low));
     }
@@ -22,3 +27,6 @@ returns-clause-bounds c =
     let over = c.loop-doc-test.false in
     let at = i.doc_is in
     all_taken c.args.weight.now c.args.norms.now l.blocks.items c.args.cursor.now.rest l.cursor.rest i.sound.ascending (omega (arith, at, over)) i.each
+
+pub returns-clause-ends : goal.returns-clause-ends
+returns-clause-ends c = c.loop-doc.invariant.ends

@@ -1,0 +1,2 @@
+pub mod PreparedLemmas
+mod WorkedRows

@@ -1,0 +1,18 @@
+use Rattle.std.proofs.Common.{◌∙◌, ℕ, ap, sym}
+use Rattle.std.specs.Option.{option_map}
+use Rattle.ii_io.specs.Composite.{body_of}
+use Rattle.ii_fieldnorm.specs.Readers.{norms_of_ids}
+use Rattle.ii_ranking.proofs.LeafLemmas.{term_opened}
+use Rattle.ii_prepared_term.proofs.PreparedLemmas.{first_prepared, state_of}
+use Rattle.ii_prepared_term.proofs.prepared_term.PreparedTerm.open.Goals as goal
+
+pub invariant_of-result : goal.invariant_of-result
+invariant_of-result g c = first_prepared (state_of c.in_ok-weight.weight c.in_ok-norms.norms c.in_ok-shares.shares c.in_ok-cursor.cursor) c.in_ok-walked.walked c.in_ok-walked.ensures.same c.doc-first.ensures.sound c.in_ok-shares.ensures.bounds c.in_ok-shares.ensures.ends
+
+pub returns-clause-scores : goal.returns-clause-scores
+returns-clause-scores g c =
+    term_opened c.args.index.now (g.S.Bm25StatisticsProvider.statistics c.args.statistics.now) c.args.term.now c.in_ok-cursor.cursor.rest c.in_ok-norms.norms c.in_ok-weight.weight c.in_ok-cursor.ensures.listed
+    (c.in_ok-norms.ensures.found ∙ ap (λ (field : ℕ). option_map norms_of_ids (body_of field c.args.index.now.fieldnorms)) c.field.ensures) c.in_ok-weight.ensures.made
+
+pub returns-clause-sound : goal.returns-clause-sound
+returns-clause-sound g c = rw (c.in_ok-cursor.ensures.listed, ← c.field.ensures) c.in_ok-norms.ensures.sound
