@@ -6,8 +6,8 @@ use ii_directory::ReadAt;
 use ii_query_parser::Query;
 use ii_segment_store::{OpenSegments, open_latest};
 use ii_store::Folder;
-use ii_warmup::EnableScoring;
-use nequllpa_opening::{OpenedIndex, bound_by};
+use nequllpa_opening::OpenedIndex;
+use nequllpa_warming::{EnableScoring, bound_by, warm_up_index};
 use nequllpa_writing::refuse_path;
 
 /// An index of which what a query reads is open, and the query.
@@ -54,7 +54,7 @@ fn opened_of_query<F: ReadAt + Drop>(
         Err(error) => return Ok(Some(Err(refuse_query(rt, &index, text, error)?))),
     };
     bound_by(segments.segments.as_slice(), &mut query);
-    match index.warm_up(rt.alloc(), segments, &query, scoring_given(given)) {
+    match warm_up_index(rt.alloc(), index, segments, &query, scoring_given(given)) {
         Ok(opened) => {
             tell_left_out(rt, &opened, &fields, text)?;
             Ok(Some(Ok(OpenedQuery { opened, query })))

@@ -5,4 +5,3 @@ pub mod LivingTokens
 pub mod OpenedSegments
 pub mod RowFormats
 pub mod Stored
-pub mod WarmedSegments

@@ -110,13 +110,9 @@ impl Opened {
         }
     }
 
-    // Makes an index of its parts, without counts and stored documents.
-    pub(crate) fn of_parts(
-        schema: Schema,
-        index: OpenIndex,
-        num_docs: u32,
-        alive: AliveBits,
-    ) -> Opened
+    /// Makes an open index of its parts, without counts and stored documents. There must be a reader for each field of the
+    /// schema.
+    pub fn of_parts(schema: Schema, index: OpenIndex, num_docs: u32, alive: AliveBits) -> Opened
         requires { length index.readers ≡ length schema }
         ensures parts { (result.schema ≡ schema) × (result.index ≡ index) × (result.num_docs ≡ num_docs) × (result.alive ≡ alive) }
         ensures none { (result.counts ≡ None) × (result.store ≡ None) }

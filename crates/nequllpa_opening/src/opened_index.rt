@@ -11,20 +11,16 @@ ghost use Rattle.ii_schema_text.specs.SchemaText.{text_schema, tokenized_schema}
 ghost use Rattle.ii_tokenizers.specs.Tokenizers.{analyzed_in, prefix_tokenizer};
 ghost use Rattle.nequllpa_opening.specs.OpenedSegments.{OpensAs};
 ghost use Rattle.nequllpa_opening.specs.Stored.{IsTextSchemaRefusal};
-ghost use Rattle.nequllpa_opening.specs.WarmedSegments.{HoldsOfOne, IsWarmupRefusal, WarmsAs};
 
-use crate::faults::{OpenFault, WarmupFault};
+use crate::faults::OpenFault;
 use crate::opened::{Opened, text_schema_of};
-use crate::warmed::warmed_each;
 use ii_base::{DocId, Field, FieldEntry, Schema};
 use ii_query_parser::{Query, QueryParserError, field_named, parse_query_by};
 use ii_reader::InvertedIndexReader;
 use ii_schema_text::Stored;
-use ii_segment_store::{OpenSegments, SegmentFiles, StoredSegment, StoredSegments};
+use ii_segment_store::{SegmentFiles, StoredSegment, StoredSegments};
 use ii_store::StoredIndex;
 use ii_tokenizers::FieldTokenizers;
-use ii_directory::ReadAt;
-use ii_warmup::EnableScoring;
 use std::alloc::Global;
 
 /// An open index: its schema, the tokenizers of its fields, what is stored of its documents, and its open segments in
@@ -101,44 +97,22 @@ impl OpenedIndex {
         }
     }
 
-    /// Opens of each open segment what a query reads (`ii_warmup::warm_up`), in the place of the segments. The index must
-    /// have been read of this schema (`of_schema`). The readers have the terms of the query alone, each with the documents
-    /// that it has in the files, wherever these are as they were written; there are no counts and no stored documents.
-    ///
-    /// # Errors
-    ///
-    /// Those of the first segment that has one: `NoTables` if it has no tables of blocks, so that its files aren't open;
-    /// `File` with the error of `ii_warmup::warm_up`, which is an allocation failure, a limit, or the range of a term that
-    /// passes its file's end, where the files are as they were written; `Open` if an allocation fails for the schema.
-    pub fn warm_up<F: ReadAt + Drop>(
-        self,
-        alloc: Global,
-        segments: OpenSegments<F>,
-        query: &Query,
-        scoring: EnableScoring,
-    ) -> Result<OpenedIndex, WarmupFault>
-        requires { text_schema segments.schema.items ≡ Ok self.schema }
-        ensures same { IfOk result (λ o. (o.schema ≡ self.schema) × (o.tokenizers ≡ self.tokenizers) × (o.stored ≡ self.stored)) }
-        ensures segments { IfOk result (λ o. AllZip (WarmsAs self.schema query.now scoring) segments.segments.items o.segments.items) }
-        ensures refused { IfErr result (λ fault. HoldsOfOne (λ s. IsWarmupRefusal segments.schema.items self.schema query.now s fault) segments.segments.items) }
+    /// Puts open segments in the place of those that the index has.
+    pub fn with_segments(self, segments: Vec<Opened>) -> OpenedIndex
+        ensures same { (result.schema ≡ self.schema) × (result.tokenizers ≡ self.tokenizers) × (result.stored ≡ self.stored) }
+        ensures segments { result.segments.items ≡ segments.items }
     {
-        let OpenSegments { schema, segments } = segments;
-        match warmed_each(alloc, schema.as_slice(), segments, query, scoring) {
-            Ok(segments) => {
-                let OpenedIndex {
-                    schema,
-                    tokenizers,
-                    stored,
-                    segments: _,
-                } = self;
-                Ok(OpenedIndex {
-                    schema,
-                    tokenizers,
-                    stored,
-                    segments,
-                })
-            }
-            Err(fault) => Err(fault),
+        let OpenedIndex {
+            schema,
+            tokenizers,
+            stored,
+            segments: _,
+        } = self;
+        OpenedIndex {
+            schema,
+            tokenizers,
+            stored,
+            segments,
         }
     }
 

@@ -9,20 +9,52 @@ ghost use Rattle.ii_schema_text.specs.SchemaText.{text_schema};
 ghost use Rattle.ii_warmup.specs.IndexParts.{HaveNormsFor, IsWarmupFault, requests};
 ghost use Rattle.ii_warmup.specs.Parts.{IsPartFor};
 ghost use Rattle.ii_warmup.specs.QueryTerms.{query_ranges, query_terms};
-ghost use Rattle.nequllpa_opening.specs.WarmedSegments.{HasItsTables, HoldsOfOne, IsWarmupRefusal, SegmentHolds, WarmsAs};
+ghost use Rattle.nequllpa_warming.specs.WarmedSegments.{HasItsTables, HoldsOfOne, IsWarmupRefusal, SegmentHolds, WarmsAs};
 
 use crate::faults::WarmupFault;
-use crate::opened::{Opened, schema_of};
 use ii_base::{DocId, Schema};
 use ii_directory::ReadAt;
 use ii_query_parser::Query;
 use ii_reader::OpenIndex;
-use ii_segment_store::OpenSegment;
+use ii_segment_store::{OpenSegment, OpenSegments};
 use ii_warmup::{EnableScoring, IndexHandles, warm_up};
+use nequllpa_opening::{Opened, OpenedIndex, schema_of};
 use std::alloc::Global;
 
+/// Opens of each open segment what a query reads (`ii_warmup::warm_up`), in the place of the segments of an index. This must
+/// have been read of their schema (`OpenedIndex::of_schema`). The readers have the terms of the query alone, each with the
+/// documents that it has in the files, wherever these are as they were written; there are no counts and no stored
+/// documents.
+///
+/// # Errors
+///
+/// Those of the first segment that has one: `NoTables` if it has no tables of blocks, so that its files aren't open;
+/// `File` with the error of `ii_warmup::warm_up`, which is an allocation failure, a limit, or a range of a term that passes
+/// its file's end, where the files are as they were written; `Open` if an allocation fails for the schema.
+pub fn warm_up_index<F: ReadAt + Drop>(
+    alloc: Global,
+    index: OpenedIndex,
+    segments: OpenSegments<F>,
+    query: &Query,
+    scoring: EnableScoring,
+) -> Result<OpenedIndex, WarmupFault>
+    requires { text_schema segments.schema.items ≡ Ok index.schema }
+    ensures same { IfOk result (λ o. (o.schema ≡ index.schema) × (o.tokenizers ≡ index.tokenizers) × (o.stored ≡ index.stored)) }
+    ensures segments { IfOk result (λ o. AllZip (WarmsAs index.schema query.now scoring) segments.segments.items o.segments.items) }
+    ensures refused { IfErr result (λ fault. HoldsOfOne (λ s. IsWarmupRefusal segments.schema.items index.schema query.now s fault) segments.segments.items) }
+{
+    let OpenSegments { schema, segments } = segments;
+    match warmed_each(alloc, schema.as_slice(), segments, query, scoring) {
+        Ok(segments) => Ok(index.with_segments(segments)),
+        Err(fault) => {
+            drop(index);
+            Err(fault)
+        }
+    }
+}
+
 // Opens of each segment what a query reads. The schema is given as bytes.
-pub(crate) fn warmed_each<F: ReadAt + Drop>(
+fn warmed_each<F: ReadAt + Drop>(
     alloc: Global,
     schema: &[u8],
     segments: Vec<OpenSegment<F>>,

@@ -11,8 +11,8 @@ use Rattle.ii_warmup.specs.Parts.{IsPartFor}
 use Rattle.ii_warmup.specs.QueryTerms.{query_ranges, query_terms}
 use Rattle.ii_warmup.specs.declared.scoring.EnableScoring.{EnableScoring}
 use Rattle.nequllpa_opening.specs.Stored.{IsSchemaRefusal}
-use Rattle.nequllpa_opening.specs.declared.faults.WarmupFault.{WarmupFault}
-use Rattle.nequllpa_opening.specs.declared.faults.WarmupFault.TheVariants.{File, NoTables, Open}
+use Rattle.nequllpa_warming.specs.declared.faults.WarmupFault.{WarmupFault}
+use Rattle.nequllpa_warming.specs.declared.faults.WarmupFault.TheVariants.{File, NoTables, Open}
 use Rattle.nequllpa_opening.specs.declared.opened.Opened.{Opened}
 
 -- the bytes of an open file, if they are known, and as many as its table says
