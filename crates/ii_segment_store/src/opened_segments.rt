@@ -16,9 +16,7 @@ use ii_block_file::BlockFile;
 use ii_directory::ReadAt;
 use ii_store::index_meta_reader::decode;
 use ii_store::meta::{VERSION, version_of};
-use ii_store::{
-    Directory, IndexFault, IndexMeta, Name, SegmentComponent, SegmentMeta, StoreFault,
-};
+use ii_store::{Directory, IndexFault, IndexMeta, Name, SegmentComponent, SegmentMeta, StoreFault};
 use std::alloc::Global;
 use std::marker::Model;
 
