@@ -1,12 +1,12 @@
 pub mod CopyLemmas
 pub mod CopyingLemmas
 pub mod CountLemmas
+pub mod FaultLemmas
 pub mod FinishLemmas
 pub mod FoundLemmas
 pub mod KnownLemmas
 pub mod PartLemmas
 pub mod SameLemmas
-pub mod SliceLemmas
 pub mod TermLemmas
 pub mod WantedLemmas
 pub mod WorkedRows

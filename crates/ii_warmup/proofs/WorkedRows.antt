@@ -3,7 +3,6 @@ use Rattle.std.proofs.Common.{◌≡◌, [], ◌∷◌, None, Some, refl}
 use Rattle.ii_base.specs.Terms.{TermState}
 use Rattle.ii_base.specs.declared.schema.index_record_option.IndexRecordOption.TheVariants.{Basic, WithFreqsAndPositions}
 use Rattle.ii_query_parser.specs.Queries.{one_phrase, one_term, without}
-use Rattle.ii_warmup.specs.FileSlice.{slice_if}
 use Rattle.ii_warmup.specs.QueryTerms.{docs_only, requested_of, tree_terms, with_positions}
 
 abbrev sea : TermState
@@ -26,9 +25,3 @@ docs_row = refl
 -- the same key in another field isn't wanted
 other_row : requested_of (docs_only sea ∷ []) [] 1 (115 ∷ []) ≡ None
 other_row = refl
-
-slice_row : slice_if 1 2 (Some (5 ∷ 6 ∷ 7 ∷ 8 ∷ [])) ≡ Some (6 ∷ 7 ∷ [])
-slice_row = refl
-
-short_row : slice_if 3 2 (Some (5 ∷ 6 ∷ 7 ∷ 8 ∷ [])) ≡ None
-short_row = refl

@@ -1,6 +1,5 @@
 pub mod CopiedTerms
 pub mod Faults
-pub mod FileSlice
 pub mod Parts
 pub mod QueryTerms
 pub mod SameFor

@@ -2,7 +2,7 @@
 use Rattle.std.proofs.Common.{◌≡◌, ◌∙◌, ℕ, ◌+◌, ◌-◌, ◌≤◌, Bool, true, false, List, Option, None, Some, Result, drop, length, nat_le, take, refl, sym, ap, subst, arith}
 use Rattle.std.specs.Prelude.{IfOk, if◌then◌else◌}
 use Rattle.std.proofs.lemmas.List.{drop-drop, drop-take, take-take}
-use Rattle.ii_warmup.specs.FileSlice.{slice_if}
+use Rattle.ii_file_slice.specs.FileSlice.{slice_if}
 
 -- a range of a range
 range_of_range : (start len from n : ℕ) (bs : List ℕ) → from + n ≤ len → take n (drop (start + from) bs) ≡ take n (drop from (take len (drop start bs)))

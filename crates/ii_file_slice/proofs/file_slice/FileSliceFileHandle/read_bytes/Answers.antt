@@ -1,6 +1,6 @@
 use Rattle.std.proofs.Common.{arith}
-use Rattle.ii_warmup.proofs.SliceLemmas.{read_of_slice}
-use Rattle.ii_warmup.proofs.file_slice.FileSliceFileHandle.read_bytes.Goals as goal
+use Rattle.ii_file_slice.proofs.SliceLemmas.{read_of_slice}
+use Rattle.ii_file_slice.proofs.file_slice.FileSliceFileHandle.read_bytes.Goals as goal
 
 pub returns-clause-exact : goal.returns-clause-exact
 returns-clause-exact g c =

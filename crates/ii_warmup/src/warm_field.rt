@@ -1,20 +1,18 @@
 //! A small index in memory that has what a query reads of an index.
-ghost use Rattle.std.specs.Prelude.{◌≡◌, Some, IsErrOf, false, true};
+ghost use Rattle.std.specs.Prelude.{◌≡◌, Some, IfErr, IsErrOf, false};
 ghost use Rattle.ii_io.specs.declared.faults.Fault.TheVariants as faults;
 ghost use Rattle.ii_io.specs.declared.faults.Part.TheVariants as parts;
 ghost use Rattle.ii_reader.specs.InvertedIndexReader.{InvertedIndexReaderState};
-ghost use Rattle.ii_warmup.specs.Faults.{OnlyMemoryOrLimit};
+ghost use Rattle.ii_warmup.specs.Faults.{IsTermFault};
 ghost use Rattle.ii_warmup.specs.QueryTerms.{requests_of};
 ghost use Rattle.ii_warmup.specs.Warmup.{WarmsUp, all_lie, all_sound, known_reader};
-ghost use Rattle.ii_warmup.specs.declared.faults.WarmupFault.TheVariants.{Index};
+ghost use Rattle.ii_file_slice.specs.declared.faults.FileFault.TheVariants.{Index};
 
 use crate::copying::copy_terms;
-use crate::faults::WarmupFault;
-use crate::file_handle::FileHandle;
-use crate::file_slice::FileSlice;
 use crate::terms::{QueryRange, QueryTerm};
 use crate::wanted_terms::wanted_terms;
 use ii_base::{Fault, Field, IndexRecordOption, Part};
+use ii_file_slice::{FileFault, FileHandle, FileSlice};
 use ii_reader::InvertedIndexReader;
 use ii_termdict::TermDictionary;
 use std::alloc::Global;
@@ -51,24 +49,24 @@ pub fn warm_up_field<P: FileHandle, Q: FileHandle>(
     files: &FieldFiles<'_, P, Q>,
     terms: &[QueryTerm<'_>],
     ranges: &[QueryRange<'_>],
-) -> Result<InvertedIndexReader, WarmupFault>
+) -> Result<InvertedIndexReader, FileFault>
     ensures warms { (whole : InvertedIndexReaderState) → known_reader files.now.terms.now (P.bytes files.now.postings.now) (Q.bytes files.now.positions.now) files.now.option ≡ Some whole → WarmsUp (requests_of terms.now ranges.now field) whole result }
     ensures long { IsErrOf result (Index (faults.Damaged parts.TermStore)) → all_sound (requests_of terms.now ranges.now field) files.now.terms.now ≡ false }
-    // where the bytes can be read, and the terms' are within them
+    // where the bytes can be read
     ensures sound { (whole : InvertedIndexReaderState) → known_reader files.now.terms.now (P.bytes files.now.postings.now) (Q.bytes files.now.positions.now) files.now.option ≡ Some whole → P.is_sound files.now.postings.now → Q.is_sound files.now.positions.now
-        → all_lie (requests_of terms.now ranges.now field) whole ≡ true → all_sound (requests_of terms.now ranges.now field) whole.terms ≡ true → OnlyMemoryOrLimit result }
+        → IfErr result (IsTermFault (all_lie (requests_of terms.now ranges.now field) whole) (all_sound (requests_of terms.now ranges.now field) whole.terms)) }
 {
     let wanted = match wanted_terms(alloc, files.terms, field, terms, ranges) {
         Ok(wanted) => wanted,
-        Err(fault) => return Err(WarmupFault::Index(fault)),
+        Err(fault) => return Err(FileFault::Index(fault)),
     };
     let len = files.postings.len();
     if len < COUNT_SIZE {
-        return Err(WarmupFault::Index(Fault::Damaged(Part::TokenCount)));
+        return Err(FileFault::Index(Fault::Damaged(Part::TokenCount)));
     }
     let count = match files.postings.read_bytes(alloc, 0, COUNT_SIZE as usize) {
         Ok(count) => count,
-        Err(fault) => return Err(WarmupFault::from(fault)),
+        Err(fault) => return Err(FileFault::from(fault)),
     };
     let postings = FileSlice::new(files.postings, COUNT_SIZE, len - COUNT_SIZE);
     copy_terms(

@@ -1,9 +1,9 @@
 //! A range of a file, read as a file.
 ghost use Rattle.std.specs.Prelude.{◌≡◌};
 
-use crate::faults::RangeFault;
 use crate::file_handle::FileHandle;
 use bytes::Bytes;
+use ii_block_file::ReadFault;
 use std::alloc::Global;
 
 /// A range of a file, as the body of a field in a composite file. It should end within the file: else each read of a
@@ -27,7 +27,7 @@ impl<'a, H: FileHandle> FileSlice<'a, H> {
 }
 
 impl<'a, H: FileHandle> FileHandle for FileSlice<'a, H> {
-    ghost use Rattle.ii_warmup.specs.FileSlice.{slice_if};
+    ghost use Rattle.ii_file_slice.specs.FileSlice.{slice_if};
 
     ghost bytes = { λ s. slice_if s.start s.len (H.bytes s.file.now) };
 
@@ -37,13 +37,13 @@ impl<'a, H: FileHandle> FileHandle for FileSlice<'a, H> {
         self.len
     }
 
-    fn read_bytes(&self, alloc: Global, from: u64, len: usize) -> Result<Bytes, RangeFault> {
+    fn read_bytes(&self, alloc: Global, from: u64, len: usize) -> Result<Bytes, ReadFault> {
         if from > self.len || len as u64 > self.len - from {
-            return Err(RangeFault::Range);
+            return Err(ReadFault::Range);
         }
         let all = self.file.len();
         if self.start > all || self.len > all - self.start {
-            return Err(RangeFault::Range);
+            return Err(ReadFault::Range);
         }
         self.file.read_bytes(alloc, self.start + from, len)
     }
