@@ -5,6 +5,7 @@ ghost use Rattle.std.specs.Option.{option_map};
 ghost use Rattle.ii_io.specs.Composite.{Body, body_of, composite, table_of, valid_places};
 ghost use Rattle.ii_io.specs.declared.composite_file.place.Place.{Place};
 ghost use Rattle.ii_io.specs.declared.faults.Fault.TheVariants as faults;
+ghost use Rattle.ii_io.specs.declared.faults.Part.{Part};
 ghost use Rattle.ii_io.specs.declared.faults.Part.TheVariants.{Composite};
 ghost use Rattle.ii_file_slice.specs.Faults.{OnlyMemoryOrTable};
 ghost use Rattle.ii_file_slice.specs.FileSlice.{slice_if};
@@ -52,6 +53,7 @@ impl<'a, H: FileHandle> CompositeSlices<'a, H> {
         ensures file { IfOk result (λ slices. slices.file ≡ file.now) }
         ensures opened { (bytes : List ℕ) → H.bytes file.now ≡ Some bytes → IfOk result (λ _. IsSome (composite bytes)) }
         ensures damaged { (bytes : List ℕ) → H.bytes file.now ≡ Some bytes → IsErrOf result (Index (faults.Damaged Composite)) → composite bytes ≡ None }
+        ensures part { IfErr result (λ e. (part : Part) → e ≡ Index (faults.Damaged part) → part ≡ Composite) }
         ensures sound { (bytes : List ℕ) → H.bytes file.now ≡ Some bytes → H.is_sound file.now → OnlyMemoryOrTable result }
     {
         match read_table(alloc, file) {
@@ -90,6 +92,7 @@ fn place_of_field(places: &[Place], field: Field) -> Option<Place>
 fn read_table<H: FileHandle>(alloc: Global, file: &H) -> Result<Vec<Place>, FileFault>
     ensures read { (bytes : List ℕ) → H.bytes file.now ≡ Some bytes → IfOk result (λ places. table_of bytes ≡ Some places.items) }
     ensures damaged { (bytes : List ℕ) → H.bytes file.now ≡ Some bytes → IsErrOf result (Index (faults.Damaged Composite)) → table_of bytes ≡ None }
+    ensures part { IfErr result (λ e. (part : Part) → e ≡ Index (faults.Damaged part) → part ≡ Composite) }
     ensures sound { (bytes : List ℕ) → H.bytes file.now ≡ Some bytes → H.is_sound file.now → OnlyMemoryOrTable result }
 {
     let len = file.len();

@@ -1,5 +1,5 @@
 -- The bytes of copied terms.
-use Rattle.std.proofs.Common.{◌≡◌, ◌∙◌, ℕ, ◌+◌, ◌-◌, Bool, true, false, ◌||◌, not, List, [], ◌∷◌, ◌++◌, Option, Some, length, nat_le, refl, sym, subst, arith, length-append}
+use Rattle.std.proofs.Common.{◌≡◌, ◌∙◌, ℕ, ◌+◌, ◌-◌, true, List, [], ◌∷◌, ◌++◌, Option, Some, length, nat_le, refl, sym, subst, arith, length-append}
 use Rattle.std.specs.Prelude.{⊤}
 use Rattle.std.specs.declared.ops.Range.{Range}
 use Rattle.std.proofs.Math.Seq.{drop-append_seam, take-append_seam, take-length}
@@ -9,9 +9,9 @@ use Rattle.ii_base.specs.declared.schema.index_record_option.IndexRecordOption.{
 use Rattle.ii_definitions.specs.Files.{bytes_in}
 use Rattle.ii_reader.specs.InvertedIndexReader.{lies_in}
 use Rattle.ii_termstore.specs.declared.term_info.TermInfo.{TermInfo}
-use Rattle.ii_termstore.specs.TermInfos.{is_short, is_sound, term_info_from}
+use Rattle.ii_termstore.specs.TermInfos.{term_info_from}
 use Rattle.ii_warmup.specs.CopiedTerms.{CopiedTermsState}
-use Rattle.ii_warmup.specs.Warmup.{CopiesTerm, IsRangeOf, WantedTermState, do_ranges_lie, reads_positions_of}
+use Rattle.ii_warmup.specs.Warmup.{CopiesTerm, IsRangeOf, WantedTermState, reads_positions_of}
 
 -- The bytes in a range of a body are those of a range of known bytes.
 pub record IsHeld (known : Option (List ℕ)) (range : Range ℕ) (body : List ℕ) (held : Range ℕ) : Type 0 where
