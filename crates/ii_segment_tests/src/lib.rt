@@ -1,4 +1,4 @@
-//! Tests `ii_segment_search`, `ii_ranking` and `ii_snippet` through their public calls.
+//! Tests `ii_segment_search`, `ii_ranking`, `ii_warmup` and `ii_snippet` through their public calls.
 #![tactic(auto)]
 
 #[cfg(test)]
@@ -7,3 +7,5 @@ mod ranking_tests;
 mod searcher_tests;
 #[cfg(test)]
 mod snippet_tests;
+#[cfg(test)]
+mod warmup_tests;
