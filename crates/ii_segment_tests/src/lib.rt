@@ -1,4 +1,8 @@
+<<<<<<< HEAD
 //! Tests `ii_segment_search`, `ii_ranking`, `ii_prepared_term` and `ii_snippet` through their public calls.
+=======
+//! Tests `ii_segment_search`, `ii_ranking`, `ii_warmup` and `ii_snippet` through their public calls.
+>>>>>>> w-work
 #![tactic(auto)]
 
 #[cfg(test)]
@@ -9,3 +13,5 @@ mod ranking_tests;
 mod searcher_tests;
 #[cfg(test)]
 mod snippet_tests;
+#[cfg(test)]
+mod warmup_tests;

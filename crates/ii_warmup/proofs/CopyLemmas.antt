@@ -1,5 +1,5 @@
 -- The bytes of copied terms.
-use Rattle.std.proofs.Common.{◌≡◌, ◌∙◌, ℕ, ◌+◌, ◌-◌, Bool, true, false, ◌||◌, not, List, [], ◌∷◌, ◌++◌, Option, Some, length, nat_le, refl, sym, subst, arith, length-append}
+use Rattle.std.proofs.Common.{◌≡◌, ◌∙◌, ℕ, ◌+◌, ◌-◌, true, List, [], ◌∷◌, ◌++◌, Option, Some, length, nat_le, refl, sym, subst, arith, length-append}
 use Rattle.std.specs.Prelude.{⊤}
 use Rattle.std.specs.declared.ops.Range.{Range}
 use Rattle.std.proofs.Math.Seq.{drop-append_seam, take-append_seam, take-length}
@@ -9,9 +9,9 @@ use Rattle.ii_base.specs.declared.schema.index_record_option.IndexRecordOption.{
 use Rattle.ii_definitions.specs.Files.{bytes_in}
 use Rattle.ii_reader.specs.InvertedIndexReader.{lies_in}
 use Rattle.ii_termstore.specs.declared.term_info.TermInfo.{TermInfo}
-use Rattle.ii_termstore.specs.TermInfos.{is_short, is_sound, term_info_from}
+use Rattle.ii_termstore.specs.TermInfos.{term_info_from}
 use Rattle.ii_warmup.specs.CopiedTerms.{CopiedTermsState}
-use Rattle.ii_warmup.specs.Warmup.{CopiesTerm, IsRangeOf, WantedTermState, do_ranges_lie, reads_positions_of}
+use Rattle.ii_warmup.specs.Warmup.{CopiesTerm, IsRangeOf, WantedTermState, reads_positions_of}
 
 -- The bytes in a range of a body are those of a range of known bytes.
 pub record IsHeld (known : Option (List ℕ)) (range : Range ℕ) (body : List ℕ) (held : Range ℕ) : Type 0 where
@@ -92,16 +92,3 @@ module _ (option : IndexRecordOption) (from_postings from_positions : Option (Li
         positions_are = λ reads. held_at_end from_positions t.info.positions_range old.positions c.of_positions (c.positions_are reads);
       } in
       subst (HasCopied (ts ++ t ∷ [])) (sym c.copied) (copies_more old.postings old.positions c.of_docs c.of_positions ts old.keys old.infos t i all copy)
-
--- a fact that follows from a test and from its failure
-pub either_way : {P : Type 0} (b : Bool) → (b ≡ true → P) → (b ≡ false → P) → P
-either_way true passes fails = passes refl
-either_way false passes fails = fails refl
-
-pub lie_both : (option : IndexRecordOption) (p q : List ℕ) (t : WantedTermState) → do_ranges_lie option p q t ≡ true → (lies_in p t.info.postings_range ≡ true) × (reads_positions_of option t ≡ true → lies_in q t.info.positions_range ≡ true)
-lie_both option p q t lie =
-    let h = and_parts (lies_in p t.info.postings_range) (not (reads_positions_of option t) || lies_in q t.info.positions_range) lie in
-    (h.0, λ reads. rw reads at h.1)
-
-pub sound_both : (info : TermInfo) → is_sound info ≡ true → (is_short info.postings_range ≡ true) × (is_short info.positions_range ≡ true)
-sound_both info sound = and_parts (is_short info.postings_range) (is_short info.positions_range) sound

@@ -1,9 +1,8 @@
 -- Copying wanted terms one after the other.
-use Rattle.std.proofs.Common.{◌≡◌, ◌∙◌, ℕ, zero, suc, ◌+◌, ◌<◌, ◌≤◌, Bool, true, false, List, [], ◌∷◌, ◌++◌, Option, Some, get_or, length, map, refl, sym, ap, subst, take, arith, length-append, true≢false}
-use Rattle.std.specs.List.{AllByRecursion, list_all, zip}
+use Rattle.std.proofs.Common.{◌≡◌, ◌∙◌, ℕ, zero, suc, ◌+◌, ◌<◌, ◌≤◌, false, List, [], ◌∷◌, ◌++◌, Option, Some, get_or, length, map, refl, sym, ap, subst, take, arith, length-append}
+use Rattle.std.specs.List.{AllByRecursion, zip}
 use Rattle.std.specs.List.Sorted.{IsStrictlySortedBy}
 use Rattle.std.proofs.lemmas.List.{length-map}
-use Rattle.std.proofs.lemmas.List.Folds.{list_all_at}
 use Rattle.ii_base.specs.declared.schema.index_record_option.IndexRecordOption.{IndexRecordOption}
 use Rattle.ii_io.specs.Numbers.{little_endian}
 use Rattle.ii_check.specs.declared.validation.Validation.TheVariants.{Complete}
@@ -65,17 +64,6 @@ module _ (option : IndexRecordOption) (postings positions : Option (List ℕ)) (
   pub copying_key : (i : ℕ) (t : WantedTerm) (s : CopiedTermsState) → AreAscending (wanted_keys wanted) → i < length wanted → t ≡ get_or wanted i t → IsCopying i s → AreAscending (s.keys ++ t.key.items ∷ [])
   copying_key i t s ascend inside is c =
       subst AreAscending (taken_more (λ (u : WantedTerm). u.key.items) wanted i t inside is ∙ ap (λ (ks : List (List ℕ)). ks ++ t.key.items ∷ []) (sym c.keys)) (ascending_taken (suc i) (wanted_keys wanted) ascend)
-
--- what holds of all holds at a place
-pub at_place : {A : Type 0} (f : A → Bool) (xs : List A) (i : ℕ) (x : A) → i < length xs → x ≡ get_or xs i x → list_all f xs ≡ true → f x ≡ true
-at_place f xs i x inside is all = by (f x) refl
-  where
-    by : (b : Bool) → f x ≡ b → f x ≡ true
-    by true passes = passes
-    by false fails = absurd (true≢false (sym all ∙ list_all_at f xs i x inside (ap f (sym is) ∙ fails)))
-
-pub not_at_place : {A : Type 0} (f : A → Bool) (xs : List A) (i : ℕ) (x : A) → i < length xs → x ≡ get_or xs i x → f x ≡ false → list_all f xs ≡ false
-not_at_place f xs i x inside is fails = list_all_at f xs i x inside (ap f (sym is) ∙ fails)
 
 past_end : {A : Type 0} (n : ℕ) (xs : List A) → length xs ≤ n → take n xs ≡ xs
 past_end zero [] h = refl

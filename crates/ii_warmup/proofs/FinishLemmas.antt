@@ -1,21 +1,11 @@
 -- The reader over copied terms.
-use Rattle.std.proofs.Common.{◌≡◌, ◌∙◌, ℕ, ◌≤◌, List, [], Option, None, Some, Ok, drop, length, refl, sym, subst, take}
-use Rattle.std.specs.Io.KnownBytes.{Appends}
+use Rattle.std.proofs.Common.{◌≡◌, ◌∙◌, ℕ, ◌≤◌, List, None, Some, drop, length, refl, sym, take}
 use Rattle.std.proofs.lemmas.Bool.{le-leb}
-use Rattle.ii_io.specs.CountingWriter.{CountingWriterState, Writes}
 use Rattle.ii_io.specs.Numbers.{little_endian, number_at}
 use Rattle.ii_base.specs.declared.schema.index_record_option.IndexRecordOption.{IndexRecordOption}
 use Rattle.ii_check.specs.declared.validation.Validation.TheVariants.{Complete}
 use Rattle.ii_reader.specs.InvertedIndexReader.{InvertedIndexReaderState, reader_over}
 use Rattle.ii_termdict.specs.Dictionary.{TermEntry}
-
--- what a writer without bytes holds after these bytes
-appended : (new : Option (List ℕ)) (bytes items : List ℕ) → Appends (Some []) new bytes → Some items ≡ new → items ≡ bytes
-appended None bytes items h is = absurd h
-appended (Some ys) bytes items h is = let same : items ≡ ys = cc in same ∙ h
-
-pub written_items : (old new : CountingWriterState) (bytes items : List ℕ) → old ≡ record { contents = Some []; written_bytes = 0; failed_calls = 0 } → Writes old new bytes (Ok tt) → Some items ≡ new.contents → items ≡ bytes
-written_items old new bytes items empty writes is = appended new.contents bytes items (subst (λ (o : CountingWriterState). Appends o.contents new.contents bytes) empty writes.ok.appends) is
 
 -- a reader over bytes that begin with a number
 number_there : (items : List ℕ) → 8 ≤ length items → number_at 8 items ≡ Some (little_endian (take 8 items), drop 8 items)

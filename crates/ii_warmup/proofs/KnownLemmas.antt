@@ -1,5 +1,5 @@
 -- A reader over known bodies.
-use Rattle.std.proofs.Common.{◌≡◌, ◌∙◌, ℕ, ◌+◌, ◌-◌, ◌<◌, ◌≤◌, Bool, true, false, List, [], ◌∷◌, Option, None, Some, drop, length, map, nat_le, take, refl, sym, ap, subst, arith}
+use Rattle.std.proofs.Common.{◌≡◌, ◌∙◌, ℕ, ◌+◌, ◌-◌, ◌≤◌, Bool, true, false, List, [], ◌∷◌, Option, None, Some, drop, length, map, nat_le, take, refl, sym, ap, subst, arith}
 use Rattle.std.specs.List.{list_all}
 use Rattle.std.proofs.lemmas.Bool.{le-leb, leb-true}
 use Rattle.std.proofs.lemmas.List.{take_rest}
@@ -8,7 +8,7 @@ use Rattle.ii_base.specs.declared.schema.index_record_option.IndexRecordOption.{
 use Rattle.ii_reader.specs.InvertedIndexReader.{InvertedIndexReaderState, reader_over}
 use Rattle.ii_termstore.specs.TermInfos.{is_sound}
 use Rattle.ii_termdict.specs.Dictionary.{TermEntry}
-use Rattle.ii_warmup.specs.FileSlice.{slice_if}
+use Rattle.ii_file_slice.specs.FileSlice.{slice_if}
 use Rattle.ii_warmup.specs.Warmup.{WantedTermState, all_lie, all_sound, do_ranges_lie, known_reader, wanted_of, wanted_view}
 use Rattle.ii_warmup.specs.declared.wanted_terms.WantedTerm.{WantedTerm}
 use Rattle.ii_warmup.proofs.FinishLemmas.{reader_is}
@@ -67,7 +67,3 @@ lie_moved requested whole option wanted option_is wanted_is =
 pub sound_moved : (requested : List ℕ → Option IndexRecordOption) (terms : List TermEntry) (wanted : List WantedTerm) → map wanted_view wanted ≡ wanted_of requested terms → list_all (λ (t : WantedTerm). is_sound t.info) wanted ≡ all_sound requested terms
 sound_moved requested terms wanted wanted_is =
     sym (all_viewed wanted_view (λ (t : WantedTermState). is_sound t.info) wanted) ∙ ap (list_all (λ (t : WantedTermState). is_sound t.info)) wanted_is
-
--- a body that is known to be long isn't short
-pub not_short : (n : ℕ) (p : List ℕ) → n ≡ length p → 8 ≤ length p → n < 8 → ⊥
-not_short n p is long short = absurd (omega (arith, is, long, short))

@@ -1,12 +1,15 @@
 pub mod CopyLemmas
 pub mod CopyingLemmas
 pub mod CountLemmas
+pub mod FaultLemmas
+pub mod FieldPartLemmas
 pub mod FinishLemmas
 pub mod FoundLemmas
+pub mod IndexPartLemmas
 pub mod KnownLemmas
+pub mod NormLemmas
 pub mod PartLemmas
 pub mod SameLemmas
-pub mod SliceLemmas
 pub mod TermLemmas
 pub mod WantedLemmas
 pub mod WorkedRows

@@ -1,10 +1,15 @@
 -- The definitions on small rows.
-use Rattle.std.proofs.Common.{◌≡◌, [], ◌∷◌, None, Some, refl}
+use Rattle.std.proofs.Common.{◌≡◌, [], ◌∷◌, None, Some, false, inl, inr, refl, true}
 use Rattle.ii_base.specs.Terms.{TermState}
 use Rattle.ii_base.specs.declared.schema.index_record_option.IndexRecordOption.TheVariants.{Basic, WithFreqsAndPositions}
 use Rattle.ii_query_parser.specs.Queries.{one_phrase, one_term, without}
-use Rattle.ii_warmup.specs.FileSlice.{slice_if}
-use Rattle.ii_warmup.specs.QueryTerms.{docs_only, requested_of, tree_terms, with_positions}
+use Rattle.ii_file_slice.specs.declared.faults.FileFault.TheVariants.{Index}
+use Rattle.ii_io.specs.declared.faults.Fault.TheVariants.{Damaged}
+use Rattle.ii_io.specs.declared.faults.Part.TheVariants.{Range, TermStore}
+use Rattle.ii_warmup.specs.Faults.{IsTermFault}
+use Rattle.ii_warmup.specs.IndexParts.{reads_norms}
+use Rattle.ii_warmup.specs.QueryTerms.{docs_only, names_field, requested_of, tree_terms, with_positions}
+use Rattle.ii_warmup.specs.declared.scoring.EnableScoring.TheVariants.{Disabled, Enabled}
 
 abbrev sea : TermState
 sea = record { field = 0; value = 115 ∷ [] }
@@ -27,8 +32,20 @@ docs_row = refl
 other_row : requested_of (docs_only sea ∷ []) [] 1 (115 ∷ []) ≡ None
 other_row = refl
 
-slice_row : slice_if 1 2 (Some (5 ∷ 6 ∷ 7 ∷ 8 ∷ [])) ≡ Some (6 ∷ 7 ∷ [])
-slice_row = refl
+-- a query names the fields of its terms alone
+named_row : names_field (docs_only sea ∷ []) [] 0 ≡ true
+named_row = refl
 
-short_row : slice_if 3 2 (Some (5 ∷ 6 ∷ 7 ∷ 8 ∷ [])) ≡ None
-short_row = refl
+unnamed_row : names_field (docs_only sea ∷ []) [] 1 ≡ false
+unnamed_row = refl
+
+-- norms are read for a search that ranks
+ranking_row : (reads_norms Enabled ≡ true) × (reads_norms Disabled ≡ false)
+ranking_row = (refl, refl)
+
+-- a term whose range passes the end of its body, or has 2^32 bytes, can't be read
+fault_row : IsTermFault false true (Index (Damaged Range))
+fault_row = inr (inr (inl (refl, refl)))
+
+long_row : IsTermFault true false (Index (Damaged TermStore))
+long_row = inr (inr (inr (refl, refl)))

@@ -1,23 +1,12 @@
 -- Why what a query needs can't be read.
-use Rattle.std.specs.Prelude.{◌≡◌, ◌⊎◌, Result, IfErr}
-use Rattle.ii_io.specs.declared.faults.Fault.TheVariants as index
+use Rattle.std.specs.Prelude.{◌≡◌, ◌⊎◌, Bool, false}
+use Rattle.ii_io.specs.declared.faults.Fault.TheVariants as faults
 use Rattle.ii_io.specs.declared.faults.LimitName.TheVariants.{Offset}
-use Rattle.ii_warmup.specs.declared.faults.RangeFault.{RangeFault}
-use Rattle.ii_warmup.specs.declared.faults.RangeFault.TheVariants as ranges
-use Rattle.ii_warmup.specs.declared.faults.WarmupFault.{WarmupFault}
-use Rattle.ii_warmup.specs.declared.faults.WarmupFault.TheVariants.{Index, Read}
+use Rattle.ii_io.specs.declared.faults.Part.TheVariants as parts
+use Rattle.ii_file_slice.specs.declared.faults.FileFault.{FileFault}
+use Rattle.ii_file_slice.specs.declared.faults.FileFault.TheVariants.{Index}
 
--- the fault of a range that can't be read
-abbrev pub warmup_fault : RangeFault → WarmupFault
-warmup_fault ranges.OutOfMemory = Index index.OutOfMemory
-warmup_fault ranges.Range = Read ranges.Range
-warmup_fault (ranges.Refused kind) = Read (ranges.Refused kind)
-warmup_fault (ranges.Damaged block) = Read (ranges.Damaged block)
-
--- A call fails only with `OutOfMemory`.
-abbrev pub OnlyMemory : {A : Type 0} → Result A WarmupFault → Type 0
-OnlyMemory result = IfErr result (λ e. e ≡ Index index.OutOfMemory)
-
--- A call fails only with `OutOfMemory`, or with `Limit(Offset)` if a dictionary in memory would have 2^64 bytes or more.
-abbrev pub OnlyMemoryOrLimit : {A : Type 0} → Result A WarmupFault → Type 0
-OnlyMemoryOrLimit result = IfErr result (λ e. (e ≡ Index index.OutOfMemory) ⊎ (e ≡ Index (index.Limit Offset)))
+-- Why terms of a field can't be read of sound files: memory; their dictionary in memory would have 2^64 bytes or more; their ranges don't all lie within the bodies, or aren't all short.
+abbrev pub IsTermFault : Bool → Bool → FileFault → Type 0
+IsTermFault lie short e =
+    (e ≡ Index faults.OutOfMemory) ⊎ (e ≡ Index (faults.Limit Offset)) ⊎ ((e ≡ Index (faults.Damaged parts.Range)) × (lie ≡ false)) ⊎ ((e ≡ Index (faults.Damaged parts.TermStore)) × (short ≡ false))

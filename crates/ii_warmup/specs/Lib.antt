@@ -1,6 +1,7 @@
+pub mod CopiedNorms
 pub mod CopiedTerms
 pub mod Faults
-pub mod FileSlice
+pub mod IndexParts
 pub mod Parts
 pub mod QueryTerms
 pub mod SameFor

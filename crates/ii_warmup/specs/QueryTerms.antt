@@ -95,6 +95,10 @@ names_key option terms ranges field key =
     list_any (λ (t : QueryTermState). serves option t.option && (t.term.field == field) && bytes_eq t.term.value key) terms
     || list_any (λ (r : QueryRangeState). serves option r.option && (r.range.prefix.field == field) && in_range r.range key) ranges
 
+-- whether a term or a range of a query is of a field
+abbrev pub names_field : List QueryTermState → List QueryRangeState → ℕ → Bool
+names_field terms ranges field = list_any (λ (t : QueryTermState). t.term.field == field) terms || list_any (λ (r : QueryRangeState). r.range.prefix.field == field) ranges
+
 -- what terms and ranges request of a key's postings: its positions, or its documents alone, or nothing
 abbrev pub requested_of : List QueryTermState → List QueryRangeState → ℕ → List ℕ → Option IndexRecordOption
 requested_of terms ranges field key =

@@ -16,8 +16,8 @@ use Rattle.ii_io.specs.declared.faults.Fault.TheVariants as faults
 use Rattle.ii_io.specs.declared.faults.Part.TheVariants as parts
 use Rattle.ii_termstore.specs.TermInfos.{is_sound}
 use Rattle.ii_warmup.specs.Parts.{IsPartOf}
-use Rattle.ii_warmup.specs.declared.faults.WarmupFault.{WarmupFault}
-use Rattle.ii_warmup.specs.declared.faults.WarmupFault.TheVariants.{Index}
+use Rattle.ii_file_slice.specs.declared.faults.FileFault.{FileFault}
+use Rattle.ii_file_slice.specs.declared.faults.FileFault.TheVariants.{Index}
 
 -- a wanted term: its key, its info, and what is requested of its postings
 pub record WantedTermState : Type 0 where
@@ -73,6 +73,6 @@ abbrev pub all_sound : (List ℕ → Option IndexRecordOption) → List TermEntr
 all_sound requested terms = list_all (λ (t : WantedTermState). is_sound t.info) (wanted_of requested terms)
 
 -- A part of a reader was made, or the ranges of a wanted term don't lie within the bodies, or another fault came.
-pub record WarmsUp (requested : List ℕ → Option IndexRecordOption) (whole : InvertedIndexReaderState) (result : Result InvertedIndexReaderState WarmupFault) : Type 0 where
+pub record WarmsUp (requested : List ℕ → Option IndexRecordOption) (whole : InvertedIndexReaderState) (result : Result InvertedIndexReaderState FileFault) : Type 0 where
   pub part : IfOk result (λ (part : InvertedIndexReaderState). IsPartOf requested part whole)
   pub range : IsErrOf result (Index (faults.Damaged parts.Range)) → all_lie requested whole ≡ false

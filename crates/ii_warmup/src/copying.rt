@@ -1,5 +1,5 @@
 //! Copying terms of a field out of its files.
-ghost use Rattle.std.specs.Prelude.{◌≡◌, ◌+◌, ◌^◌, ◌<◌, ◌&&◌, ◌∷◌, [], ◌++◌, ℕ, List, Option, Some, IfOk, IsErrOf, false, length, map, not, true};
+ghost use Rattle.std.specs.Prelude.{◌≡◌, ◌+◌, ◌^◌, ◌<◌, ◌||◌, ◌∷◌, [], ◌++◌, ℕ, List, Option, Some, IfErr, IfOk, IsErrOf, false, length, map, not, true};
 ghost use Rattle.std.specs.List.{list_all};
 ghost use Rattle.ii_io.specs.Numbers.{little_endian};
 ghost use Rattle.ii_io.specs.declared.faults.Fault.TheVariants as faults;
@@ -9,17 +9,16 @@ ghost use Rattle.ii_definitions.specs.Files.{bytes_in};
 ghost use Rattle.ii_reader.specs.InvertedIndexReader.{InvertedIndexReaderState, lies_in};
 ghost use Rattle.ii_termdict.specs.ReadBack.{AreAscending};
 ghost use Rattle.ii_termstore.specs.TermInfos.{is_short, is_sound};
-ghost use Rattle.ii_warmup.specs.Faults.{OnlyMemory, OnlyMemoryOrLimit};
+ghost use Rattle.ii_warmup.specs.Faults.{IsTermFault};
 ghost use Rattle.ii_warmup.specs.Parts.{IsPartOf};
 ghost use Rattle.ii_warmup.specs.Warmup.{CopiesTerm, IsRangeOf, do_ranges_lie, reads_positions_of, wanted_keys, wanted_of, wanted_view};
-ghost use Rattle.ii_warmup.specs.declared.faults.WarmupFault.TheVariants.{Index};
+ghost use Rattle.ii_file_slice.specs.declared.faults.FileFault.TheVariants.{Index};
 
 use crate::copied_terms::CopiedTerms;
-use crate::faults::WarmupFault;
-use crate::file_handle::FileHandle;
 use crate::wanted_terms::WantedTerm;
 use bytes::Bytes;
 use ii_base::{Fault, IndexRecordOption, Part};
+use ii_file_slice::{FileFault, FileHandle};
 use ii_reader::InvertedIndexReader;
 use std::alloc::Global;
 use std::ops::Range;
@@ -32,23 +31,23 @@ fn read_range<H: FileHandle>(
     alloc: Global,
     body: &H,
     range: &Range<usize>,
-) -> Result<Bytes, WarmupFault>
+) -> Result<Bytes, FileFault>
     ensures short { IfOk result (λ read. length read < 2 ^ 32) }
     ensures read { IfOk result (IsRangeOf (H.bytes body.now) range.now) }
     ensures range { (bs : List ℕ) → H.bytes body.now ≡ Some bs → IsErrOf result (Index (faults.Damaged parts.Range)) → lies_in bs range.now ≡ false }
     ensures long { IsErrOf result (Index (faults.Damaged parts.TermStore)) → is_short range.now ≡ false }
-    ensures sound { (bs : List ℕ) → H.bytes body.now ≡ Some bs → H.is_sound body.now → lies_in bs range.now ≡ true → is_short range.now ≡ true → OnlyMemory result }
+    ensures sound { (bs : List ℕ) → H.bytes body.now ≡ Some bs → H.is_sound body.now → IfErr result (IsTermFault (lies_in bs range.now) (is_short range.now)) }
 {
     if range.start > range.end || range.end as u64 > body.len() {
-        return Err(WarmupFault::Index(Fault::Damaged(Part::Range)));
+        return Err(FileFault::Index(Fault::Damaged(Part::Range)));
     }
     let len = range.end - range.start;
     if len as u64 > MAX_TERM_BYTES {
-        return Err(WarmupFault::Index(Fault::Damaged(Part::TermStore)));
+        return Err(FileFault::Index(Fault::Damaged(Part::TermStore)));
     }
     match body.read_bytes(alloc, range.start as u64, len) {
         Ok(bytes) => Ok(bytes),
-        Err(fault) => Err(WarmupFault::from(fault)),
+        Err(fault) => Err(FileFault::from(fault)),
     }
 }
 
@@ -58,13 +57,12 @@ fn read_positions<H: FileHandle>(
     body: &H,
     term: &WantedTerm,
     option: IndexRecordOption,
-) -> Result<Bytes, WarmupFault>
+) -> Result<Bytes, FileFault>
     ensures short { IfOk result (λ read. length read < 2 ^ 32) }
     ensures read { reads_positions_of option (wanted_view term.now) ≡ true → IfOk result (IsRangeOf (H.bytes body.now) term.now.info.positions_range) }
     ensures range { (bs : List ℕ) → H.bytes body.now ≡ Some bs → IsErrOf result (Index (faults.Damaged parts.Range)) → (reads_positions_of option (wanted_view term.now) ≡ true) × (lies_in bs term.now.info.positions_range ≡ false) }
     ensures long { IsErrOf result (Index (faults.Damaged parts.TermStore)) → is_short term.now.info.positions_range ≡ false }
-    ensures sound { (bs : List ℕ) → H.bytes body.now ≡ Some bs → H.is_sound body.now → lies_in bs term.now.info.positions_range ≡ true → is_short term.now.info.positions_range ≡ true → OnlyMemory result }
-    ensures unread { reads_positions_of option (wanted_view term.now) ≡ false → OnlyMemory result }
+    ensures sound { (bs : List ℕ) → H.bytes body.now ≡ Some bs → H.is_sound body.now → IfErr result (IsTermFault (not (reads_positions_of option (wanted_view term.now)) || lies_in bs term.now.info.positions_range) (is_short term.now.info.positions_range)) }
 {
     if !option.downgrade(term.option).has_positions() {
         return Ok(Bytes::new());
@@ -80,7 +78,7 @@ fn copy_term<P: FileHandle, Q: FileHandle>(
     postings: &P,
     positions: &Q,
     option: IndexRecordOption,
-) -> Result<CopiedTerms, WarmupFault>
+) -> Result<CopiedTerms, FileFault>
     requires open { copied.closed ≡ false }
     requires whole { length copied.keys ≡ length copied.infos }
     requires ascending { AreAscending (copied.keys ++ term.now.key.items ∷ []) }
@@ -88,7 +86,7 @@ fn copy_term<P: FileHandle, Q: FileHandle>(
     ensures range { (p q : List ℕ) → P.bytes postings.now ≡ Some p → Q.bytes positions.now ≡ Some q → IsErrOf result (Index (faults.Damaged parts.Range)) → do_ranges_lie option p q (wanted_view term.now) ≡ false }
     ensures long { IsErrOf result (Index (faults.Damaged parts.TermStore)) → is_sound term.now.info ≡ false }
     ensures sound { (p q : List ℕ) → P.bytes postings.now ≡ Some p → Q.bytes positions.now ≡ Some q → P.is_sound postings.now → Q.is_sound positions.now
-        → do_ranges_lie option p q (wanted_view term.now) ≡ true → is_sound term.now.info ≡ true → OnlyMemory result }
+        → IfErr result (IsTermFault (do_ranges_lie option p q (wanted_view term.now)) (is_sound term.now.info)) }
 {
     let of_docs = match read_range(alloc, postings, &term.info.postings_range) {
         Ok(bytes) => bytes,
@@ -105,7 +103,7 @@ fn copy_term<P: FileHandle, Q: FileHandle>(
         of_positions.as_slice(),
     ) {
         Ok(copied) => Ok(copied),
-        Err(fault) => Err(WarmupFault::Index(fault)),
+        Err(fault) => Err(FileFault::Index(fault)),
     }
 }
 
@@ -118,7 +116,7 @@ pub(crate) fn copy_terms<P: FileHandle, Q: FileHandle>(
     postings: &P,
     positions: &Q,
     option: IndexRecordOption,
-) -> Result<InvertedIndexReader, WarmupFault>
+) -> Result<InvertedIndexReader, FileFault>
     requires count { length count.now ≡ 8 }
     requires ascending { AreAscending (wanted_keys wanted.now) }
     ensures part { (requested : List ℕ → Option IndexRecordOption) (whole : InvertedIndexReaderState) → P.bytes postings.now ≡ Some whole.postings → Q.bytes positions.now ≡ Some whole.positions → whole.option ≡ option
@@ -126,11 +124,11 @@ pub(crate) fn copy_terms<P: FileHandle, Q: FileHandle>(
     ensures range { (p q : List ℕ) → P.bytes postings.now ≡ Some p → Q.bytes positions.now ≡ Some q → IsErrOf result (Index (faults.Damaged parts.Range)) → list_all (λ t. do_ranges_lie option p q (wanted_view t)) wanted.now ≡ false }
     ensures long { IsErrOf result (Index (faults.Damaged parts.TermStore)) → list_all (λ t. is_sound t.info) wanted.now ≡ false }
     ensures sound { (p q : List ℕ) → P.bytes postings.now ≡ Some p → Q.bytes positions.now ≡ Some q → P.is_sound postings.now → Q.is_sound positions.now
-        → list_all (λ t. do_ranges_lie option p q (wanted_view t)) wanted.now ≡ true → list_all (λ t. is_sound t.info) wanted.now ≡ true → OnlyMemoryOrLimit result }
+        → IfErr result (IsTermFault (list_all (λ t. do_ranges_lie option p q (wanted_view t)) wanted.now) (list_all (λ t. is_sound t.info) wanted.now)) }
 {
     let mut copied = match CopiedTerms::new(alloc, count) {
         Ok(copied) => copied,
-        Err(fault) => return Err(WarmupFault::Index(fault)),
+        Err(fault) => return Err(FileFault::Index(fault)),
     };
     for term in wanted {
         copied = match copy_term(alloc, copied, term, postings, positions, option) {
@@ -140,6 +138,6 @@ pub(crate) fn copy_terms<P: FileHandle, Q: FileHandle>(
     }
     match copied.finish(option) {
         Ok(reader) => Ok(reader),
-        Err(fault) => Err(WarmupFault::Index(fault)),
+        Err(fault) => Err(FileFault::Index(fault)),
     }
 }

@@ -3,16 +3,15 @@
 
 mod copied_terms;
 mod copying;
-pub mod faults;
-pub mod file_handle;
-pub mod file_slice;
+pub mod index_parts;
 pub mod laws;
+mod norms;
+pub mod scoring;
 pub mod terms;
 pub mod wanted_terms;
-pub mod warm_up;
+pub mod warm_field;
 
-pub use faults::{RangeFault, WarmupFault};
-pub use file_handle::FileHandle;
-pub use file_slice::FileSlice;
+pub use index_parts::{IndexHandles, warm_up};
+pub use scoring::EnableScoring;
 pub use terms::{QueryRange, QueryTerm, query_ranges, query_terms};
 pub use wanted_terms::WantedTerm;

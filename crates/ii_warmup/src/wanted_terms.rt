@@ -4,7 +4,7 @@ ghost use Rattle.std.specs.List.{list_any};
 ghost use Rattle.ii_io.specs.Faults.{OnlyMemory};
 ghost use Rattle.ii_query_parser.specs.Ranges.{in_range};
 ghost use Rattle.ii_termdict.specs.ReadBack.{AreAscending};
-ghost use Rattle.ii_warmup.specs.QueryTerms.{names_key, range_view, requested_of, serves, term_view};
+ghost use Rattle.ii_warmup.specs.QueryTerms.{names_field, names_key, range_view, requested_of, serves, term_view};
 ghost use Rattle.ii_warmup.specs.Warmup.{wanted_keys, wanted_of, wanted_view};
 
 use crate::terms::{QueryRange, QueryTerm};
@@ -139,6 +139,37 @@ fn is_in_range(
             && range.range.prefix.field() == field
             && range.range.contains(key)
         {
+            return true;
+        }
+    }
+    false
+}
+
+// Returns whether a term or a range is of a field.
+pub(crate) fn names_field(field: Field, terms: &[QueryTerm<'_>], ranges: &[QueryRange<'_>]) -> bool
+    ensures { result ≡ names_field (map term_view terms.now) (map range_view ranges.now) field }
+{
+    has_term(field, terms) || has_range(field, ranges)
+}
+
+// Returns whether one of these terms is of a field.
+fn has_term(field: Field, terms: &[QueryTerm<'_>]) -> bool
+    ensures { result ≡ list_any (λ t. t.term.field == field) (map term_view terms.now) }
+{
+    for term in terms {
+        if term.term.field() == field {
+            return true;
+        }
+    }
+    false
+}
+
+// Returns whether one of these ranges is of a field.
+fn has_range(field: Field, ranges: &[QueryRange<'_>]) -> bool
+    ensures { result ≡ list_any (λ r. r.range.prefix.field == field) (map range_view ranges.now) }
+{
+    for range in ranges {
+        if range.range.prefix.field() == field {
             return true;
         }
     }

@@ -2,12 +2,13 @@
 use crate::query_texts::{refuse_query, tell_left_out};
 use crate::searching::default_fields;
 use clap::ArgMatches;
+use ii_base::DocId;
 use ii_directory::ReadAt;
 use ii_query_parser::Query;
 use ii_segment_store::{OpenSegments, open_latest};
 use ii_store::Folder;
 use nequllpa_opening::OpenedIndex;
-use nequllpa_warming::{EnableScoring, bound_by, warm_up_index};
+use nequllpa_warming::{EnableScoring, warm_up_index};
 use nequllpa_writing::refuse_path;
 
 /// An index of which what a query reads is open, and the query.
@@ -53,7 +54,7 @@ fn opened_of_query<F: ReadAt + Drop>(
         Ok(query) => query,
         Err(error) => return Ok(Some(Err(refuse_query(rt, &index, text, error)?))),
     };
-    bound_by(segments.segments.as_slice(), &mut query);
+    query.bound(most_docs(&segments));
     match warm_up_index(rt.alloc(), index, segments, &query, scoring_given(given)) {
         Ok(opened) => {
             tell_left_out(rt, &opened, &fields, text)?;
@@ -66,6 +67,15 @@ fn opened_of_query<F: ReadAt + Drop>(
             Ok(None)
         }
     }
+}
+
+// Returns how many documents the largest segment has, living and dead; 0 if there is no segment.
+fn most_docs<F: ReadAt + Drop>(segments: &OpenSegments<F>) -> DocId {
+    let mut most = 0;
+    for segment in &segments.segments {
+        most = most.max(segment.num_docs());
+    }
+    most
 }
 
 // Returns whether the documents are ranked.

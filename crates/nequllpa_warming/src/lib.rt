@@ -6,4 +6,4 @@ pub mod warming;
 
 pub use faults::WarmupFault;
 pub use ii_warmup::EnableScoring;
-pub use warming::{bound_by, warm_up_index};
+pub use warming::warm_up_index;

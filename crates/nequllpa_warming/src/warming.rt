@@ -1,18 +1,16 @@
 //! Opens of segments what a query reads.
-ghost use Rattle.std.specs.Prelude.{◌≡◌, ◌≤◌, ℕ, IfErr, IfOk, List, None, Ok, length, true};
-ghost use Rattle.std.specs.List.{AllByRecursion, AllZip};
+ghost use Rattle.std.specs.Prelude.{◌≡◌, IfErr, IfOk, List, None, Ok, length};
+ghost use Rattle.std.specs.List.{AllZip};
 ghost use Rattle.ii_base.specs.Schema.{SchemaEntry};
-ghost use Rattle.ii_definitions.specs.Tokens.{IndexToken};
-ghost use Rattle.ii_query_parser.specs.Queries.{has_fields, keeps_positions, matches};
 ghost use Rattle.ii_reader.specs.OpenIndex.{OpenIndexState};
 ghost use Rattle.ii_schema_text.specs.SchemaText.{text_schema};
-ghost use Rattle.ii_warmup.specs.IndexParts.{HaveNormsFor, IsWarmupFault, requests};
+ghost use Rattle.ii_warmup.specs.IndexParts.{HaveNormsFor};
 ghost use Rattle.ii_warmup.specs.Parts.{IsPartFor};
 ghost use Rattle.ii_warmup.specs.QueryTerms.{query_ranges, query_terms};
-ghost use Rattle.nequllpa_warming.specs.WarmedSegments.{HasItsTables, HoldsOfOne, IsWarmupRefusal, SegmentHolds, WarmsAs};
+ghost use Rattle.nequllpa_warming.specs.WarmedSegments.{HoldsOfOne, IsWarmupRefusal, SegmentHolds, WarmsAs};
 
 use crate::faults::WarmupFault;
-use ii_base::{DocId, Schema};
+use ii_base::Schema;
 use ii_directory::ReadAt;
 use ii_query_parser::Query;
 use ii_reader::OpenIndex;
@@ -137,25 +135,4 @@ fn warmed_index<F: ReadAt + Drop>(
         Ok(index) => Ok(index),
         Err(fault) => Err(WarmupFault::File(fault)),
     }
-}
-
-/// Bounds what a query says of all documents by those of the largest open segment (`Query::bound`), so that a search
-/// passes no more. In each segment the query matches what it did.
-pub fn bound_by<F: ReadAt + Drop>(segments: &[OpenSegment<F>], query: &mut Query)
-    ensures same { AllByRecursion (λ s. (ts : List IndexToken) (doc : ℕ) → doc < length s.alive → matches query.new ts doc ≡ matches query.old ts doc) segments.now }
-    ensures fields { (n : ℕ) → has_fields n query.new ≡ has_fields n query.old }
-    ensures positions { (entries : List SchemaEntry) → keeps_positions entries query.new ≡ keeps_positions entries query.old }
-{
-    query.bound(most_docs(segments));
-}
-
-// Returns how many documents the largest segment has, living and dead; 0 if there is no segment.
-fn most_docs<F: ReadAt + Drop>(segments: &[OpenSegment<F>]) -> DocId
-    ensures { AllByRecursion (λ s. length s.alive ≤ result) segments.now }
-{
-    let mut most = 0;
-    for segment in segments {
-        most = most.max(segment.alive().num_docs());
-    }
-    most
 }

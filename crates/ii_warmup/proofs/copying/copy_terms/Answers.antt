@@ -1,4 +1,9 @@
 use Rattle.std.proofs.Common.{◌<◌, ◌≤◌, length, rules}
+use Rattle.std.specs.List.{list_all}
+use Rattle.ii_termstore.specs.TermInfos.{is_sound}
+use Rattle.ii_warmup.specs.Warmup.{do_ranges_lie, wanted_view}
+use Rattle.ii_warmup.specs.declared.wanted_terms.WantedTerm.{WantedTerm}
+use Rattle.ii_warmup.proofs.FaultLemmas.{fault_of_more, one_fails}
 use Rattle.ii_warmup.proofs.CopyingLemmas.{copying_key, copying_next, part_of_copies}
 use Rattle.ii_warmup.proofs.copying.copy_terms.Goals as goal
 
@@ -24,3 +29,15 @@ returns-in-Ok-finish-clause-part g c = λ requested whole p_is q_is option_is co
     let end : length a.wanted.now ≤ l.term-index = search rules in
     part_of_copies a.option (g.P.FileHandle.bytes a.postings.now) (g.Q.FileHandle.bytes a.positions.now) a.wanted.now a.count.now l.term-index l.copied c.in-Ok-finish.reader whole requested l.invariant end
     c.in-Ok-finish.ensures.ok p_is q_is option_is counted wanted_is
+
+pub returns-in-Err-copy_term-clause-sound : goal.returns-in-Err-copy_term-clause-sound
+returns-in-Err-copy_term-clause-sound g c = λ p q p_is q_is p_sound q_sound.
+    let a = c.args in
+    let l = c.loop-term in
+    let t = c.term-item.result in
+    let inside : l.term-index < length a.wanted.now = search rules in
+    let lies = λ (u : WantedTerm). do_ranges_lie a.option p q (wanted_view u) in
+    let sound = λ (u : WantedTerm). is_sound u.info in
+    fault_of_more (lies t) (sound t) (list_all lies a.wanted.now) (list_all sound a.wanted.now) c.in-Err-copy_term.fault
+    (one_fails lies a.wanted.now l.term-index t inside c.term-item.is) (one_fails sound a.wanted.now l.term-index t inside c.term-item.is)
+    (c.in-Err-copy_term.ensures.sound p q p_is q_is p_sound q_sound)

@@ -1,0 +1,3 @@
+pub mod CompositeSlices
+pub mod Faults
+pub mod FileSlice
