@@ -26,7 +26,8 @@ PLACES = {
         'from'},  # the kit's error becomes a fault
     'ii_alive/src/faults.rt': {'from'},
     'ii_block_file/src/faults.rt': {'from'},
-    'ii_warmup/src/faults.rt': {'from'},
+    'ii_file_slice/src/faults.rt': {'from'},
+    'ii_warmup/src/index_parts.rt': {'open_fields'},  # the list of readers couldn't grow
     'ii_doc_store/src/faults.rt': {'from'},
     'ii_documents/src/faults.rt': {'of_json', 'of_hex', 'from'},  # errors of the kit's crates become faults
     'ii_documents/src/line_fields.rt': {
@@ -46,6 +47,7 @@ PLACES = {
     'ii_folder_promises/src/stored_fields.rt': {'stored_fields_come_back'},  # a store couldn't be shared
     'ii_index/src/faults.rt': {'from'},
     'nequllpa_opening/src/faults.rt': {'is_memory', 'from'},
+    'nequllpa_warming/src/faults.rt': {'from'},
     'nequllpa_opening/src/opened.rt': {'documents_fault'},  # stored documents couldn't be opened for it
     'nequllpa_indexing/src/documents.rt': {'push_line'},  # the list of calls couldn't grow
     'nequllpa_indexing/src/faults.rt': {'is_memory'},

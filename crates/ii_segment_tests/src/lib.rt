@@ -1,8 +1,4 @@
-<<<<<<< HEAD
-//! Tests `ii_segment_search`, `ii_ranking`, `ii_prepared_term` and `ii_snippet` through their public calls.
-=======
-//! Tests `ii_segment_search`, `ii_ranking`, `ii_warmup` and `ii_snippet` through their public calls.
->>>>>>> w-work
+//! Tests `ii_segment_search`, `ii_ranking`, `ii_prepared_term`, `ii_warmup` and `ii_snippet` through their public calls.
 #![tactic(auto)]
 
 #[cfg(test)]
