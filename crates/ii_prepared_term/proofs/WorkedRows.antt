@@ -1,5 +1,5 @@
 -- Rows that compute the definitions of a prepared term.
-use Rattle.std.proofs.Common.{◌≡◌, ◌<◌, ◌-◌, ℕ, List, [], ◌∷◌, Option, None, Some, refl, true, arith}
+use Rattle.std.proofs.Common.{◌≡◌, List, [], ◌∷◌, None, Some, refl, arith}
 use Rattle.ii_base.specs.Entries.{Entry, counted}
 use Rattle.ii_bm25.specs.Bm25.{Bm25State}
 use Rattle.ii_block_shares.specs.declared.block_shares.BlockShare.{BlockShare}

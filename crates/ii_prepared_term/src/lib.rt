@@ -1,5 +1,5 @@
 //! Terms that are prepared for ranking: the list of a term is opened once, with bounds of what its documents score, and
-//! searched many times. Each search passes the documents that can't be among the best, without decoding them.
+//! searched many times. Each search goes by these bounds from run to run, and passes runs that score too little.
 #![tactic(auto)]
 
 mod prepared_scorer;

@@ -1,4 +1,4 @@
-use Rattle.std.proofs.Common.{◌∙◌, ℕ, ap, sym}
+use Rattle.std.proofs.Common.{◌∙◌, ℕ, ap}
 use Rattle.std.specs.Option.{option_map}
 use Rattle.ii_io.specs.Composite.{body_of}
 use Rattle.ii_fieldnorm.specs.Readers.{norms_of_ids}

@@ -1,4 +1,4 @@
-use Rattle.std.proofs.Common.{◌+◌, ◌++◌, ◌<◌, ◌^◌, ℕ, List, OnOk, Option, None, ap, arith, if◌then◌else◌, length, subst}
+use Rattle.std.proofs.Common.{◌+◌, ◌++◌, ℕ, List, OnOk, Option, None, ap, arith, if◌then◌else◌, length, subst}
 use Rattle.ii_alive.specs.Alive.{rank}
 use Rattle.ii_alive.proofs.RankLemmas.{rank_mono}
 use Rattle.ii_segments.specs.Segments.{is_living}
