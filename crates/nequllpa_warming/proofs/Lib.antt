@@ -1,1 +1,2 @@
 mod WarmingLemmas
+mod WorkedRows
