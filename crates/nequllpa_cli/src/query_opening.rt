@@ -2,14 +2,21 @@
 use crate::query_texts::{refuse_query, tell_left_out};
 use crate::searching::default_fields;
 use clap::ArgMatches;
-use ii_base::DocId;
+use ii_base::{DocId, Schema};
 use ii_directory::ReadAt;
 use ii_query_parser::Query;
 use ii_segment_store::{OpenSegments, open_latest};
 use ii_store::Folder;
+use ii_warmup::{query_ranges, query_terms};
 use nequllpa_opening::OpenedIndex;
 use nequllpa_warming::{EnableScoring, warm_up_index};
 use nequllpa_writing::refuse_path;
+use std::alloc::Global;
+
+// A query of more terms, or with a range of terms, whose lists lie apart, reads the files faster as they are.
+const MOST_TERMS: usize = 16;
+// In an index of more fields, so does any query: the number of tokens is read of each field.
+const MOST_FIELDS: usize = 100;
 
 /// An index of which what a query reads is open, and the query.
 #[derive(Drop)]
@@ -19,7 +26,8 @@ pub struct OpenedQuery {
 }
 
 /// Opens of the index of a folder what the query of a text reads, or returns the status if the text is none. Returns
-/// `None` if the complete files must be loaded: they are those of an earlier program, or one can't be read as `meta` says.
+/// `None` if the complete files must be loaded: the query reads much of them, they are those of an earlier program, or one
+/// can't be read as `meta` says.
 pub fn opened_for_query(
     rt: &HostRuntime,
     path: &str,
@@ -54,6 +62,9 @@ fn opened_of_query<F: ReadAt + Drop>(
         Ok(query) => query,
         Err(error) => return Ok(Some(Err(refuse_query(rt, &index, text, error)?))),
     };
+    if !reads_little(rt.alloc(), index.schema(), &query) {
+        return Ok(None);
+    }
     query.bound(most_docs(&segments));
     match warm_up_index(rt.alloc(), index, segments, &query, scoring_given(given)) {
         Ok(opened) => {
@@ -76,6 +87,27 @@ fn most_docs<F: ReadAt + Drop>(segments: &OpenSegments<F>) -> DocId {
         most = most.max(segment.num_docs());
     }
     most
+}
+
+// Returns whether a query reads a small part of an index with this schema.
+fn reads_little(alloc: Global, schema: &Schema, query: &Query) -> bool {
+    if schema.num_fields() > MOST_FIELDS {
+        return false;
+    }
+    let Ok(ranges) = query_ranges(alloc, query) else {
+        return false;
+    };
+    let has_ranges = !ranges.is_empty();
+    drop(ranges);
+    if has_ranges {
+        return false;
+    }
+    let Ok(terms) = query_terms(alloc, query) else {
+        return false;
+    };
+    let few = terms.len() <= MOST_TERMS;
+    drop(terms);
+    few
 }
 
 // Returns whether the documents are ranked.
