@@ -37,9 +37,6 @@ pub fn opened_for_query(
     let Ok(Some(segments)) = open_latest(rt.alloc(), &Folder::new(rt, path)) else {
         return Ok(None);
     };
-    if given.get_str("top").is_some() && has_deletes(&segments) {
-        return Ok(None);
-    }
     opened_of_query(rt, path, segments, given, text)
 }
 
@@ -66,7 +63,7 @@ fn opened_of_query<F: ReadAt + Drop>(
         return Ok(None);
     }
     query.bound(most_docs(&segments));
-    match warm_up_index(rt.alloc(), index, segments, &query, scoring_given(given)) {
+    match warm_up_index(rt.alloc(), index, segments, &query, EnableScoring::Disabled) {
         Ok(opened) => {
             tell_left_out(rt, &opened, &fields, text)?;
             Ok(Some(Ok(OpenedQuery { opened, query })))
@@ -108,23 +105,4 @@ fn reads_little(alloc: Global, schema: &Schema, query: &Query) -> bool {
     let few = terms.len() <= MOST_TERMS;
     drop(terms);
     few
-}
-
-// Returns whether the documents are ranked.
-fn scoring_given(given: &ArgMatches<'_>) -> EnableScoring {
-    if given.get_str("top").is_some() {
-        return EnableScoring::Enabled;
-    }
-    EnableScoring::Disabled
-}
-
-// Returns whether a document was deleted: only the counts of tokens, which aren't read by ranges, tell then how many
-// tokens are left.
-fn has_deletes<F: ReadAt + Drop>(segments: &OpenSegments<F>) -> bool {
-    for segment in &segments.segments {
-        if segment.alive().num_living() < segment.num_docs() {
-            return true;
-        }
-    }
-    false
 }

@@ -74,12 +74,12 @@ pub fn answer_search(
     }
 }
 
-// Returns whether only the numbers of documents are printed, and scores, or how many they are. Then a search reads no more of
-// the files than the documents of its terms.
+// Returns whether only the numbers of documents are printed, or how many they are. Then a search reads no more of the files
+// than the documents of its terms.
 fn prints_numbers(given: &ArgMatches<'_>) -> bool {
     let with_more = given.get_flag("ids")
         || given.get_flag("positions")
-        || given.get_flag("explain");
+        || given.get_str("top").is_some();
     !with_more && option_of_line(given).is_none()
 }
 
