@@ -1,0 +1,11 @@
+//! The law of the scores in a small index that has what ranking by a query reads of another one.
+ghost use Rattle.ii_part_ranking.specs.PartScores.{PartsAreDamagedTheSame, PartsScoreTheSame};
+
+/// Law: in an index that has of each field of another one the terms that a query reads, each as far as the query
+/// requests it, and the norms of the fields that the query names (`ii_warmup::warm_up` with `EnableScoring::Enabled`
+/// gives one), each document scores what it scores in the other index by the same numbers, and the first damage of what
+/// the scores need is the same.
+pub fn parts_score_the_same()
+    ensures scores { PartsScoreTheSame }
+    ensures damage { PartsAreDamagedTheSame }
+{}

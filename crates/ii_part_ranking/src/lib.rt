@@ -1,0 +1,6 @@
+//! Ranking in a small index that has what a query reads of another one. It has definitions and laws alone.
+#![tactic(auto)]
+
+pub mod laws;
+
+pub use laws::parts_score_the_same;
