@@ -54,7 +54,6 @@ pub fn the_best_come_first(
 /// A term that is prepared gives the best of its documents: at most as many as are wanted, the greatest score first, and
 /// of equal ones the smaller document. Each is returned with its score, and no document of the term that isn't returned
 /// has a greater score than one that is.
-#[tactic(auto, using(crate::proofs::RankingLaws::best_in_order, crate::proofs::RankingLaws::ties_in_order))]
 pub fn the_best_of_a_term_come_first(
     alloc: Global,
     index: &OpenIndex,

@@ -4,11 +4,17 @@ use Rattle.ii_scorer.proofs.TopLemmas.{scored_alike}
 use Rattle.ii_ranking.specs.Scores.{scored_in, term_score}
 use Rattle.ii_ranking.specs.Statistics.{statistics_of}
 use Rattle.ii_prepared_term.specs.PreparedTerms.{prepared_score}
-use Rattle.ii_folder_promises.proofs.RankingLaws.{few_best, given_best, gives_greatest, gives_scored}
+use Rattle.ii_folder_promises.proofs.RankingLaws.{best_in_order, few_best, given_best, gives_greatest, gives_scored, ties_in_order}
 use Rattle.ii_folder_promises.proofs.ranking.the_best_of_a_term_come_first.Goals as goal
 
 pub returns-clause-few : goal.returns-clause-few
 returns-clause-few c = few_best c.args.limit _ c.search.result (rw c.with_limit-docs.ensures at c.search.ensures.best)
+
+pub returns-clause-order : goal.returns-clause-order
+returns-clause-order c = best_in_order c.args.limit _ c.search.result (rw c.with_limit-docs.ensures at c.search.ensures.best)
+
+pub returns-clause-ties : goal.returns-clause-ties
+returns-clause-ties c = ties_in_order c.args.limit _ c.search.result (rw c.with_limit-docs.ensures at c.search.ensures.best)
 
 pub returns-clause-scores : goal.returns-clause-scores
 returns-clause-scores c =
