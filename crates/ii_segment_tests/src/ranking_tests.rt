@@ -17,7 +17,7 @@ use std::test::Fail;
 static WORDS: [&str; 5] = ["the", "old", "sea", "red", "blue"];
 
 // A schema of one field, with positions and norms.
-pub(crate) fn schema(alloc: Global) -> Result<Schema, Fault>
+fn schema(alloc: Global) -> Result<Schema, Fault>
     ensures { IfOk result (λ schema. length schema ≡ 1) }
 {
     let mut entries = Vec::new(alloc);
@@ -75,11 +75,7 @@ fn index_of_three(alloc: Global, first: &str, second: &str, third: &str) -> Resu
 }
 
 // Returns the numbers of an index that scores need.
-pub(crate) fn statistics(
-    alloc: Global,
-    index: &OpenIndex,
-    num_docs: u64,
-) -> Result<GatheredStatistics, Fault>
+fn statistics(alloc: Global, index: &OpenIndex, num_docs: u64) -> Result<GatheredStatistics, Fault>
     requires { length index.now.readers ≡ 1 }
 {
     let body = Field::from_field_id(0);
