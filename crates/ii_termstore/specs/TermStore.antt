@@ -1,5 +1,5 @@
 -- Term infos in blocks of BLOCK_LEN: the first one complete, the others in as few bits as the block needs.
-use Rattle.std.specs.Prelude.{ℕ, ◌+◌, ◌-◌, ◌*◌, ◌/◌, ◌%◌, Bool, false, ◌&&◌, ◌||◌, List, ◌∷◌, [], ◌++◌, map, drop, length, min, nat_le, ◌==◌, if◌then◌else◌, Option, Some, unwrap_or}
+use Rattle.std.specs.Prelude.{ℕ, ◌+◌, ◌-◌, ◌*◌, ◌/◌, ◌%◌, Bool, false, ◌&&◌, ◌||◌, List, ◌∷◌, [], ◌++◌, map, drop, length, min, nat_le, nat_lt, ◌==◌, if◌then◌else◌, Option, None, Some, unwrap_or}
 use Rattle.std.specs.List.{list_all, range_with_len}
 use Rattle.std.specs.Option.{option_map}
 use Rattle.ii_io.specs.Steps.{◌>>=◌, needs}
@@ -84,6 +84,19 @@ bits_lie m terms size = nat_le terms 1 || (block_bits m terms == 0) || nat_le (8
 -- whether a block of a number of terms is valid
 unfoldable pub is_block : Meta → ℕ → List ℕ → Bool
 is_block m terms bits = widths_fit m && bits_lie m terms (length bits) && list_all (λ k. is_sound (block_info m bits k)) (range_with_len 0 terms)
+
+-- a meta whose bits begin at the first byte
+abbrev pub at_start : Meta → Meta
+at_start m = record { offset = 0; ref_term_info = m.ref_term_info; doc_freq_nbits = m.doc_freq_nbits; postings_offset_nbits = m.postings_offset_nbits; positions_offset_nbits = m.positions_offset_nbits }
+
+-- the number of bytes of the bits of a block of a number of terms
+abbrev pub bits_len : Meta → ℕ → ℕ
+bits_len m terms = (block_bits m terms + 7) / 8
+
+-- term k of a block of a number of terms, if widths and bits are valid and the term is
+abbrev pub sound_term : Meta → ℕ → List ℕ → ℕ → Option TermInfo
+sound_term m terms bits k =
+    if nat_le terms BLOCK_LEN && nat_lt k terms && widths_fit m && bits_lie m terms (length bits) && is_sound (block_info m bits k) then Some (block_info m bits k) else None
 
 -- the meta of block b
 unfoldable pub block_meta_at : List ℕ → ℕ → Option Meta

@@ -1,7 +1,7 @@
 ghost use Rattle.std.specs.Prelude.{◌≡◌, ◌+◌, ◌-◌, ◌*◌, ◌^◌, ◌<◌, ◌≤◌, ◌&&◌, true, nat_le, nat_lt, length, drop, Some, None, if◌then◌else◌};
 ghost use Rattle.ii_codes.specs.Packed.{bits_in};
 ghost use Rattle.ii_termstore.specs.TermInfos.{is_short, is_sound};
-ghost use Rattle.ii_termstore.specs.TermStore.{postings_number, positions_number, doc_freq_at, block_info, term_bits, widths_fit, bits_lie, is_block};
+ghost use Rattle.ii_termstore.specs.TermStore.{at_start, bits_len, block_info, bits_lie, doc_freq_at, is_block, positions_number, postings_number, sound_term, term_bits, widths_fit};
 
 use super::BLOCK_LEN;
 use super::block_meta::{MAX_DOC_FREQ_NBITS, MAX_OFFSET_NBITS, TermInfoBlockMeta};
@@ -38,6 +38,49 @@ fn range_after(first: usize, start: u64, end: u64) -> Option<Range<usize>>
         return None;
     };
     Some(first + start as usize..end)
+}
+
+impl TermInfoBlockMeta {
+    /// Returns the number of bytes of the bits of a block of `terms` terms, at most 256. One term has no bits.
+    pub fn bits_len(&self, terms: usize) -> usize
+        requires { terms ≤ BLOCK_LEN }
+        ensures { result ≡ bits_len self.now terms }
+    {
+        (terms.saturating_sub(1) * term_bits(self) + places_bits(self)).div_ceil(8)
+    }
+
+    /// Returns term `k` of a block of `terms` terms, given the bytes of its bits alone, wherever these begin in the
+    /// store. Never allocates.
+    ///
+    /// Returns `None` if:
+    /// * `terms` is above 256, or `k` isn't less than `terms`;
+    /// * bits are missing, or a width is above 56, or above 32 for `doc_freq`;
+    /// * a range of the term ends before it begins, has 2^32 bytes or more, or ends above `u64::MAX`.
+    pub fn term_info(&self, bits: &[u8], terms: usize, k: usize) -> Option<TermInfo>
+        ensures { result ≡ sound_term (at_start self.now) terms bits.now k }
+    {
+        let meta = self.at_start();
+        if terms > BLOCK_LEN || k >= terms || !do_widths_fit(&meta) {
+            return None;
+        }
+        if !do_bits_lie(&meta, terms, bits.len()) {
+            return None;
+        }
+        sound_info(&meta, bits, terms, k)
+    }
+
+    // Returns the meta whose bits begin at the first byte.
+    fn at_start(&self) -> TermInfoBlockMeta
+        ensures { result ≡ at_start self.now }
+    {
+        TermInfoBlockMeta {
+            offset: 0,
+            ref_term_info: self.ref_term_info.copied(),
+            doc_freq_nbits: self.doc_freq_nbits,
+            postings_offset_nbits: self.postings_offset_nbits,
+            positions_offset_nbits: self.positions_offset_nbits,
+        }
+    }
 }
 
 // Returns the number of bits of the two offsets of a term after the first.
