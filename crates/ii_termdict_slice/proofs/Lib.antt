@@ -1,0 +1,4 @@
+pub mod ReadingLemmas
+pub mod MetaLemmas
+pub mod StoreSliceLemmas
+pub mod DictionarySliceLemmas
