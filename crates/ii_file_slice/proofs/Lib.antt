@@ -1,3 +1,4 @@
+pub mod BlockLemmas
 pub mod CompositeLemmas
 pub mod SliceLemmas
 mod WorkedRows

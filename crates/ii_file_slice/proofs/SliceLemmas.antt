@@ -5,7 +5,7 @@ use Rattle.std.proofs.lemmas.List.{drop-drop, drop-take, take-take}
 use Rattle.ii_file_slice.specs.FileSlice.{slice_if}
 
 -- a range of a range
-range_of_range : (start len from n : ℕ) (bs : List ℕ) → from + n ≤ len → take n (drop (start + from) bs) ≡ take n (drop from (take len (drop start bs)))
+pub range_of_range : (start len from n : ℕ) (bs : List ℕ) → from + n ≤ len → take n (drop (start + from) bs) ≡ take n (drop from (take len (drop start bs)))
 range_of_range start len from n bs fits =
     let whole : len ≡ from + (len - from) = omega arith in
     sym (

@@ -1,3 +1,4 @@
+pub mod BlockCache
 pub mod CompositeSlices
 pub mod Faults
 pub mod FileSlice

@@ -24,6 +24,13 @@ impl<'a, H: FileHandle> FileSlice<'a, H> {
     {
         FileSlice { file, start, len }
     }
+
+    /// Returns where the range begins in its file.
+    pub fn start(&self) -> u64
+        ensures { result ≡ self.now.start }
+    {
+        self.start
+    }
 }
 
 impl<'a, H: FileHandle> FileHandle for FileSlice<'a, H> {
