@@ -1,6 +1,6 @@
 -- The meta of a block, read of its own bytes.
-use Rattle.std.proofs.Common.{◌≡◌, ◌∙◌, ℕ, ◌+◌, ◌-◌, ◌≤◌, ◌^◌, Bool, true, false, List, None, Option, Some, drop, length, take, refl, sym, ap, arith}
-use Rattle.std.specs.Prelude.{nat_lt}
+use Rattle.std.proofs.Common.{◌≡◌, ◌∙◌, ℕ, ◌+◌, ◌≤◌, Bool, true, false, List, None, Option, Some, drop, length, take, refl, sym, ap, arith}
+use Rattle.std.specs.Prelude.{IsSome}
 use Rattle.std.specs.Option.{option_map}
 use Rattle.std.proofs.lemmas.Bool.{le-leb}
 use Rattle.std.proofs.lemmas.List.{drop-take, length-drop, length-take-le, take-take}
@@ -62,3 +62,16 @@ meta_front bs h =
     let w4 = number_whole 8 bs4 (omega (arith, h, l1, l2, l3, l4)) in
     let w5 = number_whole 4 bs5 (omega (arith, h, l1, l2, l3, l4, l5)) in
     rw (f0, f1, f2, f3, f4, f5, w0, w1, w2, w3, w4, w5) (widths_front _ _ _ _ (drop 4 bs5) (omega (arith, h, l1, l2, l3, l4, l5, l6)))
+
+-- a meta that is read of its own bytes
+pub meta_read : (read bs rest : List ℕ) (m : Meta) → 39 ≤ length bs → read ≡ take 39 bs → Some (m, rest) ≡ meta_at read → option_map (λ (f : Meta × List ℕ). f.0) (meta_at bs) ≡ Some m
+meta_read read bs rest m long is found =
+    sym (meta_front bs long) ∙ ap (λ (xs : List ℕ). option_map (λ (f : Meta × List ℕ). f.0) (meta_at xs)) (sym is) ∙ ap (option_map (λ (f : Meta × List ℕ). f.0)) (sym found)
+
+pub meta_missing : (read bs : List ℕ) → 39 ≤ length bs → read ≡ take 39 bs → None ≡ meta_at read → IsSome (meta_at bs) → ⊥
+meta_missing read bs long is none there =
+    by (meta_at bs) there (ap (option_map (λ (f : Meta × List ℕ). f.0)) none ∙ ap (λ (xs : List ℕ). option_map (λ (f : Meta × List ℕ). f.0) (meta_at xs)) is ∙ meta_front bs long)
+  where
+    by : (o : Option (Meta × List ℕ)) → IsSome o → None ≡ option_map (λ (f : Meta × List ℕ). f.0) o → ⊥
+    by None there same = absurd (cc)
+    by (Some f) there same = cc

@@ -1,10 +1,10 @@
 -- A term of a store, read of the meta and the bits of its block.
-use Rattle.std.proofs.Common.{◌≡◌, ◌∙◌, ℕ, zero, suc, ◌+◌, ◌-◌, ◌*◌, ◌/◌, ◌%◌, ◌<◌, ◌≤◌, Bool, true, false, ◌&&◌, ◌||◌, List, ◌++◌, None, Option, Some, drop, eqb, length, map, nat_le, nat_lt, take, refl, sym, ap, subst, arith}
-use Rattle.std.specs.Prelude.{IfSome, IsSome, IsSomeAnd, slice_get, unwrap_or, if◌then◌else◌}
-use Rattle.std.specs.List.{list_all, range_with_len}
+use Rattle.std.proofs.Common.{◌≡◌, ◌∙◌, ℕ, zero, suc, ◌+◌, ◌-◌, ◌*◌, ◌/◌, ◌%◌, ◌<◌, ◌≤◌, Bool, true, false, ◌||◌, List, None, Option, Some, drop, eqb, length, map, nat_le, take, refl, sym, ap, subst, arith}
+use Rattle.std.specs.Prelude.{IfSome, IsSome, IsSomeAnd, slice_get, unwrap_or}
+use Rattle.std.specs.List.{range_with_len}
 use Rattle.std.specs.Option.{option_map}
 use Rattle.std.proofs.Math.Nat.{mul-le-mul_right, suc-mul}
-use Rattle.std.proofs.lemmas.Bool.{and_parts, eqb-true, le-leb, leb-true, lt-leb, lt-ltb, ne_eqb}
+use Rattle.std.proofs.lemmas.Bool.{eqb-true, le-leb, leb-true, lt-leb, lt-ltb, ne_eqb}
 use Rattle.std.proofs.lemmas.List.{drop-drop, length-drop, length-take-le, take-append-drop}
 use Rattle.std.proofs.lemmas.List.FromFn.{length-map-range_with_len}
 use Rattle.ii_io.specs.Steps.{◌>>=◌, needs}
@@ -14,8 +14,9 @@ use Rattle.ii_codes.specs.Packed.{bits_in}
 use Rattle.ii_codes.proofs.PackedLaws.{bits_in-append}
 use Rattle.ii_termstore.specs.declared.term_info.TermInfo.{TermInfo}
 use Rattle.ii_termstore.specs.declared.term_info_store.block_meta.TermInfoBlockMeta.{TermInfoBlockMeta as Meta}
-use Rattle.ii_termstore.specs.TermInfos.{is_sound, term_info_from}
-use Rattle.ii_termstore.specs.TermStore.{are_blocks, at_start, bits_len, bits_lie, block_bits, block_count, block_info, block_meta_at, block_terms, doc_freq_at, has_block, is_block, later_info, meta_at, meta_size, positions_number, postings_number, sound_term, store_parts, term_bits, term_info_at, term_store, widths_fit}
+use Rattle.ii_termstore.specs.TermInfos.{is_sound}
+use Rattle.ii_termstore.specs.TermStore.{are_blocks, at_start, bits_len, bits_lie, block_bits, block_count, block_info, block_meta_at, block_terms, doc_freq_at, has_block, is_block, later_info, meta_at, meta_size, positions_number, postings_number, sound_term, store_parts, term_bits, term_info_at, term_store}
+use Rattle.ii_termdict_slice.specs.Slices.{HasBits, HasMeta, HasStore}
 use Rattle.ii_termstore.proofs.ListLemmas.{all_at}
 use Rattle.ii_termstore.proofs.StoreLemmas.{block_parts, block_within, stored_at, term_info_at-is, term_within}
 
@@ -156,28 +157,89 @@ has_blocks n store h =
       infos = found.1 ∙ ap (λ (xs : List TermInfo). Some xs) (sym all ∙ rw (parts.1, parts.2) refl);
     })
 
--- the meta of a term's block, and that the block is valid
-pub block_there : (n ord : ℕ) (store : List ℕ) → HasBlocks n store → ord < n
-    → (m : Meta) × (option_map (λ (f : Meta × List ℕ). f.0) (meta_at (drop (16 + meta_size * (ord / 256)) store)) ≡ Some m) × (is_block m (block_terms n (ord / 256)) (drop (16 + meta_size * block_count n) store) ≡ true)
+-- the bits of a store of n terms that begins at a place of bytes
+abbrev bits_of : ℕ → ℕ → List ℕ → List ℕ
+bits_of n store bs = drop (16 + meta_size * block_count n) (drop store bs)
+
+-- a meta, if one is read
+abbrev meta_in : List ℕ → Option Meta
+meta_in bs = option_map (λ (f : Meta × List ℕ). f.0) (meta_at bs)
+
+-- the place of the meta of a term's block
+meta_place : (ord store : ℕ) (bs : List ℕ) → drop (meta_size * (ord / 256)) (drop 16 (drop store bs)) ≡ drop (store + 16 + meta_size * (ord / 256)) bs
+meta_place ord store bs = ap (drop (meta_size * (ord / 256))) (drop-drop 16 store bs) ∙ drop-drop (meta_size * (ord / 256)) (store + 16) bs
+
+-- the block of a term is valid
+block_valid : (n ord store : ℕ) (bs : List ℕ) → HasStore store n bs → ord < n → has_block (drop 16 (drop store bs)) (bits_of n store bs) n (ord / 256) ≡ true
+block_valid n ord store bs held within =
+    all_at (has_block (drop 16 (drop store bs)) (bits_of n store bs) n) (block_count n) (ord / 256) (block_within ord n within) (has_blocks n (drop store bs) held).blocks
+
+-- the meta of a term's block lies within the bytes
+pub has_meta : (n ord store : ℕ) (bs : List ℕ) → HasStore store n bs → ord < n → HasMeta (store + 16 + meta_size * (ord / 256)) bs
 unfolding block_meta_at
-block_there n ord store h within =
-    let b = ord / 256 in
-    let bits = drop (16 + meta_size * block_count n) store in
-    let one = all_at (has_block (drop 16 store) bits n) (block_count n) b (block_within ord n within) h.blocks in
-    let place = drop-drop (meta_size * b) 16 store in
-    by (option_map (λ (f : Meta × List ℕ). f.0) (meta_at (drop (meta_size * b) (drop 16 store)))) (ap (λ (xs : List ℕ). option_map (λ (f : Meta × List ℕ). f.0) (meta_at xs)) (sym place)) one
+has_meta n ord store bs held within =
+    let blocks = has_blocks n (drop store bs) held in
+    let b = block_within ord n within in
+    record {
+      room = omega (arith, blocks.room, b, length-drop store bs);
+      meta = rw (← meta_place ord store bs) (by (meta_at (drop (meta_size * (ord / 256)) (drop 16 (drop store bs)))) (block_valid n ord store bs held within));
+    }
   where
-    by : (o : Option Meta) → option_map (λ (f : Meta × List ℕ). f.0) (meta_at (drop (16 + meta_size * (ord / 256)) store)) ≡ o → unwrap_or (option_map (λ m. is_block m (block_terms n (ord / 256)) (drop (16 + meta_size * block_count n) store)) o) false ≡ true
-        → (m : Meta) × (option_map (λ (f : Meta × List ℕ). f.0) (meta_at (drop (16 + meta_size * (ord / 256)) store)) ≡ Some m) × (is_block m (block_terms n (ord / 256)) (drop (16 + meta_size * block_count n) store) ≡ true)
-    by None is valid = absurd (cc)
-    by (Some m) is valid = (m, is, valid)
+    by : (o : Option (Meta × List ℕ)) → unwrap_or (option_map (λ m. is_block m (block_terms n (ord / 256)) (bits_of n store bs)) (option_map (λ (f : Meta × List ℕ). f.0) o)) false ≡ true → IsSome o
+    by None valid = absurd (cc)
+    by (Some m) valid = refl
+
+-- a block with this meta is valid
+pub block_is : (n ord store : ℕ) (bs : List ℕ) (m : Meta) → HasStore store n bs → ord < n → meta_in (drop (store + 16 + meta_size * (ord / 256)) bs) ≡ Some m → is_block m (block_terms n (ord / 256)) (bits_of n store bs) ≡ true
+unfolding block_meta_at
+block_is n ord store bs m held within found =
+    let valid = block_valid n ord store bs held within in
+    let here : meta_in (drop (meta_size * (ord / 256)) (drop 16 (drop store bs))) ≡ Some m = ap meta_in (meta_place ord store bs) ∙ found in
+    rw here at valid
 
 -- a term of a store, by its block
-pub term_there : (n ord : ℕ) (store : List ℕ) (m : Meta) (info : TermInfo) → HasBlocks n store → ord < n → option_map (λ (f : Meta × List ℕ). f.0) (meta_at (drop (16 + meta_size * (ord / 256)) store)) ≡ Some m
-    → info ≡ block_info m (drop (16 + meta_size * block_count n) store) (ord % 256) → IfSome (term_store store) (λ infos. slice_get infos ord ≡ Some info)
+term_there : (n ord store : ℕ) (bs : List ℕ) (m : Meta) (info : TermInfo) → HasStore store n bs → ord < n → meta_in (drop (store + 16 + meta_size * (ord / 256)) bs) ≡ Some m → info ≡ block_info m (bits_of n store bs) (ord % 256)
+    → IfSome (term_store (drop store bs)) (λ infos. slice_get infos ord ≡ Some info)
 unfolding block_meta_at
-term_there n ord store m info h within found is =
-    let metas = drop 16 store in
-    let bits = drop (16 + meta_size * block_count n) store in
-    let meta : Some m ≡ option_map (λ (f : Meta × List ℕ). f.0) (meta_at (drop (meta_size * (ord / 256)) metas)) = sym found ∙ ap (λ (xs : List ℕ). option_map (λ (f : Meta × List ℕ). f.0) (meta_at xs)) (sym (drop-drop (meta_size * (ord / 256)) 16 store)) in
-    rw h.infos (stored_at n ord metas bits info within (is ∙ sym (term_info_at-is metas bits ord m meta)))
+term_there n ord store bs m info held within found is =
+    let blocks = has_blocks n (drop store bs) held in
+    let metas = drop 16 (drop store bs) in
+    let meta : Some m ≡ meta_in (drop (meta_size * (ord / 256)) metas) = sym (ap meta_in (meta_place ord store bs) ∙ found) in
+    rw blocks.infos (stored_at n ord metas (bits_of n store bs) info within (is ∙ sym (term_info_at-is metas (bits_of n store bs) ord m meta)))
+
+-- the first term of a block
+pub first_there : (n ord store : ℕ) (bs : List ℕ) (m : Meta) → HasStore store n bs → ord < n → meta_in (drop (store + 16 + meta_size * (ord / 256)) bs) ≡ Some m → ord % 256 ≡ 0
+    → IfSome (term_store (drop store bs)) (λ infos. slice_get infos ord ≡ Some m.ref_term_info)
+first_there n ord store bs m held within found first = term_there n ord store bs m m.ref_term_info held within found (rw first refl)
+
+-- the bits of a later term's block lie within the bytes
+pub has_bits : (n ord store : ℕ) (bs : List ℕ) (m : Meta) → HasStore store n bs → ord < n → meta_in (drop (store + 16 + meta_size * (ord / 256)) bs) ≡ Some m → 0 < ord % 256
+    → (bits_len m (block_terms n (ord / 256)) ≤ length (drop m.offset (bits_of n store bs))) × HasBits (store + (16 + meta_size * block_count n)) m (block_terms n (ord / 256)) bs
+has_bits n ord store bs m held within found later =
+    let blocks = has_blocks n (drop store bs) held in
+    let terms = block_terms n (ord / 256) in
+    let inside = term_within ord n within in
+    let fits = bits_fit m terms (bits_of n store bs) (block_is n ord store bs m held within found) (omega (arith, inside, later)) in
+    (fits, λ some. omega (arith, fits, some, blocks.room, length-drop m.offset (bits_of n store bs), length-drop (16 + meta_size * block_count n) (drop store bs), length-drop store bs))
+
+-- the bits that were read, as those of the store
+bits_place : (n store offset : ℕ) (bs : List ℕ) → drop offset (bits_of n store bs) ≡ drop (store + (16 + meta_size * block_count n) + offset) bs
+bits_place n store offset bs = ap (drop offset) (drop-drop (16 + meta_size * block_count n) store bs) ∙ drop-drop offset (store + (16 + meta_size * block_count n)) bs
+
+-- what the bits of its block say of a later term
+later_is : (n ord store : ℕ) (bs read : List ℕ) (m : Meta) → HasStore store n bs → ord < n → meta_in (drop (store + 16 + meta_size * (ord / 256)) bs) ≡ Some m → 0 < ord % 256
+    → read ≡ take (bits_len m (block_terms n (ord / 256))) (drop (store + (16 + meta_size * block_count n) + m.offset) bs) → sound_term (at_start m) (block_terms n (ord / 256)) read (ord % 256) ≡ Some (block_info m (bits_of n store bs) (ord % 256))
+later_is n ord store bs read m held within found later is =
+    let terms = block_terms n (ord / 256) in
+    let fits = (has_bits n ord store bs m held within found later).0 in
+    term_same m terms (ord % 256) (bits_of n store bs) read (block_is n ord store bs m held within found) (omega arith) later (term_within ord n within)
+    (record { fits = fits; read_is = is ∙ ap (take (bits_len m terms)) (sym (bits_place n store m.offset bs)) })
+
+pub later_there : (n ord store : ℕ) (bs read : List ℕ) (m : Meta) (info : TermInfo) → HasStore store n bs → ord < n → meta_in (drop (store + 16 + meta_size * (ord / 256)) bs) ≡ Some m → 0 < ord % 256
+    → read ≡ take (bits_len m (block_terms n (ord / 256))) (drop (store + (16 + meta_size * block_count n) + m.offset) bs) → Some info ≡ sound_term (at_start m) (block_terms n (ord / 256)) read (ord % 256)
+    → IfSome (term_store (drop store bs)) (λ infos. slice_get infos ord ≡ Some info)
+later_there n ord store bs read m info held within found later is given = term_there n ord store bs m info held within found (some-same (given ∙ later_is n ord store bs read m held within found later is))
+
+pub later_missing : (n ord store : ℕ) (bs read : List ℕ) (m : Meta) → HasStore store n bs → ord < n → meta_in (drop (store + 16 + meta_size * (ord / 256)) bs) ≡ Some m → 0 < ord % 256
+    → read ≡ take (bits_len m (block_terms n (ord / 256))) (drop (store + (16 + meta_size * block_count n) + m.offset) bs) → None ≡ sound_term (at_start m) (block_terms n (ord / 256)) read (ord % 256) → ⊥
+later_missing n ord store bs read m held within found later is none = let there = none ∙ later_is n ord store bs read m held within found later is in cc

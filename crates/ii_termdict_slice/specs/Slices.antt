@@ -1,8 +1,8 @@
 -- The parts of a dictionary in the bytes of its file.
-use Rattle.std.specs.Prelude.{◌≡◌, ℕ, ◌+◌, ◌*◌, ◌<◌, ◌≤◌, IfSome, IsOk, IsSome, IsSomeAnd, List, MatchOption, Option, Some, drop, length}
+use Rattle.std.specs.Prelude.{◌≡◌, ℕ, ◌+◌, ◌*◌, ◌<◌, ◌≤◌, IsOk, IsSome, IsSomeAnd, List, MatchOption, Ok, Option, Some, drop, length}
 use Rattle.ii_termstore.specs.TermStore.{bits_len, meta_at, meta_size, term_store}
 use Rattle.ii_termstore.specs.declared.term_info_store.block_meta.TermInfoBlockMeta.{TermInfoBlockMeta as Meta}
-use Rattle.ii_termdict.specs.Dictionary.{AreOpened, dictionary, key_of}
+use Rattle.ii_termdict.specs.Dictionary.{AreOpened, dictionary, key_of, opened_entries}
 
 -- the bytes from the ends of the keys on
 abbrev pub ends_in : List ℕ → List ℕ
@@ -16,6 +16,7 @@ keys_in n bytes = drop (8 + 8 * n) bytes
 pub record HasParts (n : ℕ) (bytes : List ℕ) : Type 0 where
   pub room : 8 + 8 * n ≤ length bytes
   pub opened : AreOpened n (ends_in bytes) (keys_in n bytes)
+  pub entries : dictionary bytes ≡ Ok (opened_entries n (ends_in bytes) (keys_in n bytes))
 
 -- If a file's bytes are known and hold a dictionary, this is one of n terms.
 abbrev pub CountsTerms : Option (List ℕ) → ℕ → Type 0

@@ -1,5 +1,7 @@
 //! A dictionary that is read by ranges.
-ghost use Rattle.std.specs.Prelude.{◌≡◌, ◌+◌, ◌*◌, ◌<◌, ◌≤◌, ◌^◌, ⊤, IfOk, IfSome, IsOk, Some, drop, length, slice_get};
+ghost use Rattle.std.specs.Prelude.{◌≡◌, ◌+◌, ◌*◌, ◌<◌, ◌≤◌, ◌^◌, ⊤, IfOk, IfSome, IsOk, Some, length, slice_get};
+ghost use Rattle.std.specs.Ordering.{nat_cmp};
+ghost use Rattle.std.specs.Cmp.Lexicographic.{slice_cmp};
 ghost use Rattle.ii_termstore.specs.TermStore.{term_store};
 ghost use Rattle.ii_termdict.specs.Dictionary.{dictionary, end_of, info_under, key_of, start_of, store_after};
 ghost use Rattle.ii_termdict_slice.specs.Reading.{Reads};
@@ -50,8 +52,8 @@ impl<'a, H: FileHandle> TermDictionarySlice<'a, H> {
         alloc: Global,
         file: BlockCache<'a, H>,
     ) -> Result<TermDictionarySlice<'a, H>, FileFault>
-        ensures file { IfOk result (λ terms. terms ≡ file) }
-        ensures reads { Reads (H.bytes file) (H.is_sound file) (λ bs. IsOk (dictionary bs)) (λ bs terms. ⊤) result }
+        ensures file { IfOk result (λ terms. terms ≡ file.entry) }
+        ensures reads { Reads (H.bytes file.entry) (H.is_sound file.entry) (λ bs. IsOk (dictionary bs)) (λ bs terms. ⊤) result }
     {
         let mut file = file;
         let len = file.len();
@@ -85,13 +87,15 @@ impl<'a, H: FileHandle> TermDictionarySlice<'a, H> {
             Ok(found) => found,
             Err(fault) => return Err(fault),
         };
-        let Some(ord) = found else {
-            return Ok(None);
+        let ord = match found {
+            Some(ord) => ord,
+            None => return Ok(None),
         };
-        match read_info(alloc, &mut self.file, self.num_terms, ord) {
-            Ok(info) => Ok(Some(info)),
-            Err(fault) => Err(fault),
-        }
+        let info = match read_info(alloc, &mut self.file, self.num_terms, ord) {
+            Ok(info) => info,
+            Err(fault) => return Err(fault),
+        };
+        Ok(Some(info))
     }
 }
 
@@ -145,13 +149,33 @@ fn read_key<H: FileHandle>(
         Err(fault) => return Err(fault),
     };
     let keys = END_SIZE + END_SIZE * num_terms;
-    let Some(from) = keys.checked_add(start) else {
-        return Err(FileFault::Index(Fault::Damaged(Part::Dictionary)));
-    };
+    let room = file.len().saturating_sub(keys);
     if start > end {
         return Err(FileFault::Index(Fault::Damaged(Part::Dictionary)));
     }
-    read_bytes(alloc, file, from, (end - start) as usize)
+    if end > room {
+        return Err(FileFault::Index(Fault::Damaged(Part::Dictionary)));
+    }
+    read_bytes(alloc, file, keys + start, (end - start) as usize)
+}
+
+// Compares a key with key `i` of `num_terms`, by their bytes.
+fn compare_key<H: FileHandle>(
+    alloc: Global,
+    file: &mut BlockCache<'_, H>,
+    num_terms: u64,
+    i: u64,
+    key: &[u8],
+) -> Result<Ordering, FileFault>
+    requires room { 8 + 8 * num_terms < 2 ^ 64 }
+    requires within { i < num_terms }
+    ensures file { file.new ≡ file.old }
+    ensures reads { Reads (H.bytes file.old) (H.is_sound file.old) (HasParts num_terms) (λ bs order. order ≡ slice_cmp nat_cmp key.now (key_of (ends_in bs) (keys_in num_terms bs) i)) result }
+{
+    match read_key(alloc, file, num_terms, i) {
+        Ok(other) => Ok(key.cmp(other.as_slice())),
+        Err(fault) => Err(fault),
+    }
 }
 
 // Searches for the ordinal of a key by binary search.
@@ -170,11 +194,11 @@ fn find<H: FileHandle>(
     let mut high = num_terms;
     while low < high {
         let middle = low + (high - low) / 2;
-        let other = match read_key(alloc, file, num_terms, middle) {
-            Ok(other) => other,
+        let order = match compare_key(alloc, file, num_terms, middle, key) {
+            Ok(order) => order,
             Err(fault) => return Err(fault),
         };
-        match key.cmp(other.as_slice()) {
+        match order {
             Ordering::Less => high = middle,
             Ordering::Equal => return Ok(Some(middle)),
             Ordering::Greater => low = middle + 1,
@@ -200,8 +224,9 @@ fn read_info<H: FileHandle>(
         Err(fault) => return Err(fault),
     };
     let keys = END_SIZE + END_SIZE * num_terms;
-    let Some(store) = keys.checked_add(end) else {
-        return Err(FileFault::Index(Fault::Damaged(Part::TermStore)));
-    };
-    read_term_info(alloc, file, store, num_terms, ord)
+    let room = file.len().saturating_sub(keys);
+    if end > room {
+        return Err(FileFault::Index(Fault::Damaged(Part::Dictionary)));
+    }
+    read_term_info(alloc, file, keys + end, num_terms, ord)
 }

@@ -1,7 +1,7 @@
 //! What describes a term, read of the store of a dictionary by ranges.
-ghost use Rattle.std.specs.Prelude.{◌≡◌, ◌+◌, ◌*◌, ◌<◌, ◌≤◌, IfSome, Some, drop, length, slice_get, take};
+ghost use Rattle.std.specs.Prelude.{◌≡◌, ◌+◌, ◌<◌, ◌≤◌, IfSome, Some, drop, slice_get, take};
 ghost use Rattle.std.specs.Option.{option_map};
-ghost use Rattle.ii_termstore.specs.TermStore.{bits_len, meta_at, meta_size, term_store};
+ghost use Rattle.ii_termstore.specs.TermStore.{bits_len, block_count, block_terms, meta_at, term_store};
 ghost use Rattle.ii_termdict_slice.specs.Reading.{Reads};
 ghost use Rattle.ii_termdict_slice.specs.Slices.{HasBits, HasMeta, HasStore};
 
@@ -35,11 +35,13 @@ pub(crate) fn read_term_info<H: FileHandle>(
     ensures file { file.new ≡ file.old }
     ensures reads { Reads (H.bytes file.old) (H.is_sound file.old) (HasStore store num_terms) (λ bs info. IfSome (term_store (drop store bs)) (λ infos. slice_get infos ord ≡ Some info)) result }
 {
-    let b = ord / BLOCK_TERMS;
-    let Some(metas) = store.checked_add(HEADER_SIZE) else {
+    let metas_len = HEADER_SIZE + META_SIZE * count_blocks(num_terms);
+    let room = file.len().saturating_sub(store);
+    if metas_len > room {
         return Err(FileFault::Index(Fault::Damaged(Part::TermStore)));
-    };
-    let meta = match read_meta(alloc, file, metas, b) {
+    }
+    let b = ord / BLOCK_TERMS;
+    let meta = match read_meta(alloc, file, store + HEADER_SIZE + META_SIZE * b) {
         Ok(meta) => meta,
         Err(fault) => return Err(fault),
     };
@@ -47,11 +49,8 @@ pub(crate) fn read_term_info<H: FileHandle>(
     if k == 0 {
         return Ok(meta.ref_term_info);
     }
-    let Some(bits_start) = metas.checked_add(META_SIZE * num_terms.div_ceil(BLOCK_TERMS)) else {
-        return Err(FileFault::Index(Fault::Damaged(Part::TermStore)));
-    };
-    let terms = (num_terms - BLOCK_TERMS * b).min(BLOCK_TERMS) as usize;
-    let bits = match read_bits(alloc, file, bits_start, &meta, terms) {
+    let terms = count_terms(num_terms, b);
+    let bits = match read_bits(alloc, file, store + metas_len, &meta, terms) {
         Ok(bits) => bits,
         Err(fault) => return Err(fault),
     };
@@ -61,20 +60,31 @@ pub(crate) fn read_term_info<H: FileHandle>(
     }
 }
 
-// Reads the meta of block `b`, where the metas begin at `metas`.
+// Returns the number of blocks of `terms` terms.
+fn count_blocks(terms: u64) -> u64
+    ensures { result ≡ block_count terms }
+{
+    terms.div_ceil(BLOCK_TERMS)
+}
+
+// Returns how many of `terms` terms are in block `b`.
+fn count_terms(terms: u64, b: u64) -> usize
+    requires { b < block_count terms }
+    ensures value { result ≡ block_terms terms b }
+    ensures few { result ≤ BLOCK_LEN }
+{
+    (terms - BLOCK_TERMS * b).min(BLOCK_TERMS) as usize
+}
+
+// Reads the meta of a block, which begins at `from`.
 fn read_meta<H: FileHandle>(
     alloc: Global,
     file: &mut BlockCache<'_, H>,
-    metas: u64,
-    b: u64,
+    from: u64,
 ) -> Result<TermInfoBlockMeta, FileFault>
-    requires { b ≤ 72057594037927935 }
     ensures file { file.new ≡ file.old }
-    ensures reads { Reads (H.bytes file.old) (H.is_sound file.old) (HasMeta (metas + meta_size * b)) (λ bs meta. option_map (λ found. found.0) (meta_at (drop (metas + meta_size * b) bs)) ≡ Some meta) result }
+    ensures reads { Reads (H.bytes file.old) (H.is_sound file.old) (HasMeta from) (λ bs meta. option_map (λ found. found.0) (meta_at (drop from bs)) ≡ Some meta) result }
 {
-    let Some(from) = metas.checked_add(META_SIZE * b) else {
-        return Err(FileFault::Index(Fault::Damaged(Part::TermStore)));
-    };
     let bytes = match read_bytes(alloc, file, from, TermInfoBlockMeta::SIZE_IN_BYTES) {
         Ok(bytes) => bytes,
         Err(fault) => return Err(fault),
@@ -102,8 +112,9 @@ fn read_bits<H: FileHandle>(
     if len == 0 {
         return Ok(Bytes::new());
     }
-    let Some(from) = start.checked_add(meta.offset) else {
+    let all = file.len();
+    if all < start || meta.offset > all - start {
         return Err(FileFault::Index(Fault::Damaged(Part::TermStore)));
-    };
-    read_bytes(alloc, file, from, len)
+    }
+    read_bytes(alloc, file, start + meta.offset, len)
 }
