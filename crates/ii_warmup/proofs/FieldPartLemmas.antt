@@ -51,40 +51,31 @@ none_requested terms ranges field unnamed key =
     ) refl in
     rw (no_key WithFreqsAndPositions, no_key Basic) refl
 
--- the terms of a field whose dictionary is read, or none
-abbrev pub read_terms : Bool → List TermEntry → List TermEntry
-read_terms named entries = if named then entries else []
-
--- a reader over the terms of the dictionary, if that is read
-abbrev pub read_reader : Bool → InvertedIndexReaderState → InvertedIndexReaderState
-read_reader named whole = record whole { terms = read_terms named whole.terms }
-
 module _ (requested : List ℕ → Option IndexRecordOption) (none : (key : List ℕ) → requested key ≡ None) where
-  no_keys : (keys : List (List ℕ)) → filter (λ (key : List ℕ). is_some (requested key)) keys ≡ []
-  no_keys [] = refl
-  no_keys (k ∷ ks) = rw (none k) (no_keys ks)
-
-  no_terms : (entries : List TermEntry) → wanted_of requested entries ≡ []
+  pub no_terms : (entries : List TermEntry) → wanted_of requested entries ≡ []
   no_terms [] = refl
   no_terms (e ∷ es) = rw (none e.0) (no_terms es)
 
-module _ (requested : List ℕ → Option IndexRecordOption) (whole : InvertedIndexReaderState) where
-  pub part_of_read : (named : Bool) (part : InvertedIndexReaderState) → (named ≡ false → (key : List ℕ) → requested key ≡ None) → IsPartOf requested part (read_reader named whole) → IsPartOf requested part whole
-  part_of_read true part unnamed is = is
-  part_of_read false part unnamed is = record {
-    keys = is.keys ∙ sym (no_keys requested (unnamed refl) (entry_keys whole.terms));
-    docs = λ key wanted option asked served. let other = sym asked ∙ unnamed refl key in absurd (cc);
-    option = is.option;
-    num_tokens = is.num_tokens;
-  }
+-- a key of which something is requested is a term's, where no range is of the field
+kept : (a b c : Bool) → (b && c) ≡ false → (a && b && c) ≡ false
+kept true b c fails = fails
+kept false b c fails = refl
 
-  pub lie_of_read : (named : Bool) → (named ≡ false → (key : List ℕ) → requested key ≡ None) → all_lie requested (read_reader named whole) ≡ all_lie requested whole
-  lie_of_read true unnamed = refl
-  lie_of_read false unnamed = rw (no_terms requested (unnamed refl) whole.terms) refl
-
-  pub sound_of_read : (named : Bool) → (named ≡ false → (key : List ℕ) → requested key ≡ None) → all_sound requested (read_terms named whole.terms) ≡ all_sound requested whole.terms
-  sound_of_read true unnamed = refl
-  sound_of_read false unnamed = rw (no_terms requested (unnamed refl) whole.terms) refl
+pub requested_of_term : (terms : List QueryTermState) (ranges : List QueryRangeState) (field : ℕ) → list_any (λ (r : QueryRangeState). r.range.prefix.field == field) ranges ≡ false → (key : List ℕ) → is_some (requested_of terms ranges field key) ≡ true
+    → list_any (λ (t : QueryTermState). (t.term.field == field) && bytes_eq t.term.value key) terms ≡ true
+requested_of_term terms ranges field no_range key some = by (list_any (λ (t : QueryTermState). (t.term.field == field) && bytes_eq t.term.value key) terms) refl
+  where
+    by : (b : Bool) → list_any (λ (t : QueryTermState). (t.term.field == field) && bytes_eq t.term.value key) terms ≡ b → b ≡ true
+    by true is = refl
+    by false is =
+        let no_key : (option : IndexRecordOption) → names_key option terms ranges field key ≡ false =
+        λ option. rw (
+          none_stronger (λ (t : QueryTermState). serves option t.option && (t.term.field == field) && bytes_eq t.term.value key) (λ (t : QueryTermState). (t.term.field == field) && bytes_eq t.term.value key) terms (λ t other. kept (serves option t.option) (t.term.field == field) (bytes_eq t.term.value key) other) is,
+          none_stronger (λ (r : QueryRangeState). serves option r.option && (r.range.prefix.field == field) && in_range r.range key) (λ (r : QueryRangeState). r.range.prefix.field == field) ranges (λ r other. middle_fails (serves option r.option) (r.range.prefix.field == field) (in_range r.range key) other) no_range,
+        ) refl in
+        let none : requested_of terms ranges field key ≡ None = rw (no_key WithFreqsAndPositions, no_key Basic) refl in
+        let both = rw none at some in
+        absurd (cc)
 
 -- a reader over no terms has all that is requested of it
 pub part_of_none : (requested : List ℕ → Option IndexRecordOption) (option : IndexRecordOption) (whole : InvertedIndexReaderState) → reader_of_none option ≡ whole → IsPartOf requested (reader_of_none option) whole
@@ -128,7 +119,7 @@ module _ (bodies : IndexBodies) (field : ℕ) (option : IndexRecordOption) (whol
 -- The dictionary of a field, and the reader over the terms that are read.
 pub record ReadsField (option : IndexRecordOption) (t p q : List ℕ) (whole : InvertedIndexReaderState) : Type 0 where
   pub entries : dictionary t ≡ Ok whole.terms
-  pub known : (named : Bool) → known_reader (read_terms named whole.terms) (Some p) (Some q) option ≡ Some (read_reader named whole)
+  pub known : known_reader whole.terms (Some p) (Some q) option ≡ Some whole
 
 reads_bodies : (option : IndexRecordOption) (t p q : List ℕ) (whole : InvertedIndexReaderState) (found : Result (List TermEntry) Part) (counted : Option (ℕ × List ℕ)) → dictionary t ≡ found → number_at 8 p ≡ counted
     → reader_of_bodies option t p q ≡ Ok whole → ReadsField option t p q whole
@@ -138,22 +129,12 @@ reads_bodies option t p q whole (Ok entries) (Some c) read number is =
     let made : InvertedIndexReaderState = record { terms = entries; postings = c.1; positions = q; option = option; num_tokens = c.0; validation = Complete } in
     let given : fine made ≡ Ok whole = rw (read, number) at is in
     let same : made ≡ whole = inside given in
-    subst (ReadsField option t p q) same (record { entries = read; known = λ named. rw number refl })
+    subst (ReadsField option t p q) same (record { entries = read; known = rw number refl })
 
 pub reads_field : (bodies : IndexBodies) (field : ℕ) (option : IndexRecordOption) (t p q : List ℕ) (whole : InvertedIndexReaderState) → body_of field bodies.terms ≡ Some t → body_of field bodies.postings ≡ Some p → body_of field bodies.positions ≡ Some q
     → reader_of_field bodies field option ≡ Ok whole → ReadsField option t p q whole
 reads_field bodies field option t p q whole t_is p_is q_is is =
     reads_bodies option t p q whole (dictionary t) (number_at 8 p) refl refl (rw (t_is, p_is, q_is) at is)
-
--- ---- the dictionary of a field
-pub opened_as : (bytes read : List ℕ) (found entries : List TermEntry) → read ≡ bytes → dictionary read ≡ Ok found → dictionary bytes ≡ Ok entries → found ≡ entries
-opened_as bytes read found entries same opened is = inside (sym opened ∙ ap dictionary same ∙ is)
-
-pub damaged_as : (bytes read : List ℕ) (own part : Part) (e : Fault) → read ≡ bytes → e ≡ Damaged own → e ≡ Damaged part → dictionary read ≡ Err own → dictionary bytes ≡ Err part
-damaged_as bytes read own part e same own_is is damaged =
-    let both : Damaged own ≡ Damaged part = sym own_is ∙ is in
-    let parts_are : own ≡ part = cc in
-    ap dictionary (sym same) ∙ damaged ∙ ap Err parts_are
 
 -- ---- tables that are there
 pub table_there : (known : Option (List ℕ)) (bodies : List Body) (e : FileFault) (k : KnownBodies known bodies) → ((part : Part) → e ≡ Index (Damaged part) → part ≡ Composite) → (e ≡ Index (Damaged Composite) → composite k.bytes ≡ None) → (part : Part) → e ≡ Index (Damaged part) → ⊥
@@ -183,16 +164,3 @@ field_slices bodies field option whole t_start t_len p_start p_len q_start q_len
     let p = body_of_slice p_start p_len postings k.postings_are.bytes (body_of field bodies.postings) k.postings_are.known_is p_body in
     let q = body_of_slice q_start q_len positions k.positions_are.bytes (body_of field bodies.positions) k.positions_are.known_is q_body in
     record { t = t.bytes; p = p.bytes; q = q.bytes; t_is = t.slice; p_is = p.slice; q_is = q.slice; reads = reads_field bodies field option t.bytes p.bytes q.bytes whole t.there p.there q.there is }
-
--- a dictionary that opens isn't damaged
-pub opens : (bytes : List ℕ) (entries : List TermEntry) (part : Part) → dictionary bytes ≡ Ok entries → dictionary bytes ≡ Err part → ⊥
-opens bytes entries part is damaged = let both = sym is ∙ damaged in absurd (cc)
-
-pub dictionary_fault : (lie short : Bool) (e : FileFault) → (e ≡ Index OutOfMemory) ⊎ ((part : Part) × (e ≡ Index (Damaged part))) → ((part : Part) → e ≡ Index (Damaged part) → ⊥) → IsTermFault lie short e
-dictionary_fault lie short e (inl memory) undamaged = inl memory
-dictionary_fault lie short e (inr damaged) undamaged = absurd (undamaged damaged.0 damaged.1)
-
--- what was read of the terms of a dictionary, as read of the complete reader
-pub warms_of_read : (requested : List ℕ → Option IndexRecordOption) (whole : InvertedIndexReaderState) (named : Bool) (result : Result InvertedIndexReaderState FileFault) → (named ≡ false → (key : List ℕ) → requested key ≡ None) → WarmsUp requested (read_reader named whole) result → WarmsUp requested whole result
-warms_of_read requested whole named (Ok part) unnamed w = record { part = part_of_read requested whole named part unnamed w.part; range = λ damaged. sym (lie_of_read requested whole named unnamed) ∙ w.range damaged }
-warms_of_read requested whole named (Err e) unnamed w = record { part = tt; range = λ damaged. sym (lie_of_read requested whole named unnamed) ∙ w.range damaged }

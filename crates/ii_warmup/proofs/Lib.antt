@@ -13,3 +13,5 @@ pub mod SameLemmas
 pub mod TermLemmas
 pub mod WantedLemmas
 pub mod WorkedRows
+pub mod LookedUpLemmas
+pub mod KeyLemmas

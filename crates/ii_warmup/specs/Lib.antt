@@ -2,6 +2,7 @@ pub mod CopiedNorms
 pub mod CopiedTerms
 pub mod Faults
 pub mod IndexParts
+pub mod LookedUp
 pub mod Parts
 pub mod QueryTerms
 pub mod SameFor

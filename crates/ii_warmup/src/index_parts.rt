@@ -1,31 +1,26 @@
 //! A small index in memory that has what a query reads of the files of an index.
-ghost use Rattle.std.specs.Prelude.{◌≡◌, ◌^◌, ◌<◌, ◌⊎◌, [], Err, IfErr, IfOk, IsErrOf, List, Ok, Option, Some, false, if◌then◌else◌, length, map, ℕ};
-ghost use Rattle.std.specs.List.{list_any};
-ghost use Rattle.ii_io.specs.Composite.{Body};
+ghost use Rattle.std.specs.Prelude.{◌≡◌, ◌^◌, ◌<◌, IfErr, IfOk, IsErrOf, List, Ok, false, length, ℕ};
 ghost use Rattle.ii_io.specs.declared.faults.Fault.TheVariants as faults;
 ghost use Rattle.ii_io.specs.declared.faults.Part.{Part};
 ghost use Rattle.ii_io.specs.declared.faults.Part.TheVariants as parts;
-ghost use Rattle.ii_file_slice.specs.FileSlice.{slice_if};
 ghost use Rattle.ii_file_slice.specs.declared.faults.FileFault.TheVariants.{Index};
 ghost use Rattle.ii_reader.specs.InvertedIndexReader.{InvertedIndexReaderState};
 ghost use Rattle.ii_reader.specs.OpenIndex.{IndexBodies, OpenIndexState, field_readers, reader_of_field};
-ghost use Rattle.ii_termdict.specs.Dictionary.{TermEntry, dictionary};
 ghost use Rattle.ii_warmup.specs.Faults.{IsTermFault};
 ghost use Rattle.ii_warmup.specs.IndexParts.{AreTooLong, ArePartsOf, HaveNormsFor, HoldIndex, IsWarmupFault, KnownBodies, KnownTables, LieOutside, requests};
 ghost use Rattle.ii_warmup.specs.Parts.{IsPartFor};
-ghost use Rattle.ii_warmup.specs.QueryTerms.{names_field, query_ranges, query_terms, range_view, requests_of, term_view};
+ghost use Rattle.ii_warmup.specs.QueryTerms.{query_ranges, query_terms, requests_of};
 ghost use Rattle.ii_warmup.specs.Warmup.{WarmsUp, all_lie, all_sound};
 
+use crate::looked_up_terms::read_wanted_terms;
 use crate::norms::open_norms;
 use crate::scoring::EnableScoring;
 use crate::terms::{QueryRange, QueryTerm, query_ranges, query_terms};
-use crate::wanted_terms::names_field;
 use crate::warm_field::{FieldFiles, warm_up_field};
 use ii_base::{Fault, Field, IndexRecordOption, Part, Schema};
-use ii_file_slice::{CompositeSlices, FileFault, FileHandle, FileSlice};
+use ii_file_slice::{CompositeSlices, FileFault, FileHandle};
 use ii_query_parser::Query;
 use ii_reader::{InvertedIndexReader, OpenIndex};
-use ii_termdict::TermDictionary;
 use std::alloc::Global;
 
 /// The files of an index.
@@ -44,15 +39,17 @@ pub struct IndexHandles<'a, H: FileHandle> {
 /// Reads what a query needs of an index, and returns a small index in memory that has just this. A search finds in it
 /// what it finds in the whole index.
 ///
-/// Of each file, the table of its bodies is read. Of a field that the query names, the whole dictionary is read, and of
-/// its postings and positions the bytes of the terms that the query has; if the search ranks, also the field's norms.
-/// Of each other field, only the number of tokens is read.
+/// Of each file, the table of its bodies is read. Of a field that the query names, each term is looked up in the
+/// dictionary, by a binary search; if the query has a range of the field's terms, the whole dictionary is read. Of the
+/// postings and positions, the bytes of the terms that the query has are read; if the search ranks, also the field's
+/// norms. Of each other field, only the number of tokens is read.
 ///
 /// # Errors
 ///
 /// * `Damaged(Composite)` if the table of a file is corrupt, or a field has terms, but its postings or positions are
 ///   missing; the table of the file of norms is read only if the search ranks.
-/// * `Damaged(Dictionary)` or `Damaged(TermStore)` if the dictionary of a field that the query names is corrupt.
+/// * `Damaged(Dictionary)` or `Damaged(TermStore)` if what is read of the dictionary of a field that the query names is
+///   corrupt.
 /// * `Damaged(TokenCount)` if the postings of a field with terms have fewer than 8 bytes.
 /// * `Damaged(Range)` if the postings of a term of the query aren't within the field's body, or its positions, if they
 ///   are requested; `Damaged(TermStore)` if one of these ranges has 2^32 bytes or more.
@@ -201,43 +198,16 @@ impl<'a, H: FileHandle> IndexTables<'a, H> {
         let Some(positions) = self.positions.open_read(field) else {
             return Err(FileFault::Index(Fault::Damaged(Part::Composite)));
         };
-        let dictionary = match read_dictionary(alloc, field, &dictionary, terms, ranges) {
-            Ok(dictionary) => dictionary,
+        let wanted = match read_wanted_terms(alloc, field, &dictionary, terms, ranges) {
+            Ok(wanted) => wanted,
             Err(fault) => return Err(fault),
         };
         let files = FieldFiles {
-            terms: &dictionary,
+            wanted: &wanted,
             postings: &postings,
             positions: &positions,
             option,
         };
-        warm_up_field(alloc, field, &files, terms, ranges)
-    }
-}
-
-// Returns the dictionary of a field that terms or ranges of a query name, or else an empty one, without a read.
-fn read_dictionary<H: FileHandle>(
-    alloc: Global,
-    field: Field,
-    body: &FileSlice<'_, H>,
-    terms: &[QueryTerm<'_>],
-    ranges: &[QueryRange<'_>],
-) -> Result<TermDictionary, FileFault>
-    ensures entries { (bytes : List ℕ) (entries : List TermEntry) → slice_if body.now.start body.now.len (H.bytes body.now.file.now) ≡ Some bytes → dictionary bytes ≡ Ok entries
-        → IfOk result (λ found. found ≡ (if names_field (map term_view terms.now) (map range_view ranges.now) field then entries else [])) }
-    ensures damaged { (bytes : List ℕ) (part : Part) → slice_if body.now.start body.now.len (H.bytes body.now.file.now) ≡ Some bytes → IsErrOf result (Index (faults.Damaged part)) → dictionary bytes ≡ Err part }
-    ensures sound { (bytes : List ℕ) → slice_if body.now.start body.now.len (H.bytes body.now.file.now) ≡ Some bytes → H.is_sound body.now.file.now
-        → IfErr result (λ e. (e ≡ Index faults.OutOfMemory) ⊎ ((part : Part) × (e ≡ Index (faults.Damaged part)))) }
-{
-    if !names_field(field, terms, ranges) {
-        return Ok(TermDictionary::empty());
-    }
-    let bytes = match body.read_bytes(alloc, 0, body.len() as usize) {
-        Ok(bytes) => bytes,
-        Err(fault) => return Err(FileFault::from(fault)),
-    };
-    match TermDictionary::open(bytes) {
-        Ok(dictionary) => Ok(dictionary),
-        Err(fault) => Err(FileFault::Index(fault)),
+        warm_up_field(alloc, &files)
     }
 }

@@ -5,6 +5,7 @@ mod copied_terms;
 mod copying;
 pub mod index_parts;
 pub mod laws;
+mod looked_up_terms;
 mod norms;
 pub mod scoring;
 pub mod terms;

@@ -79,7 +79,7 @@ fn push_if_wanted(
 }
 
 // Returns what terms and ranges request of a key's postings.
-fn requested_of(
+pub(crate) fn requested_of(
     field: Field,
     key: &[u8],
     terms: &[QueryTerm<'_>],
@@ -165,7 +165,7 @@ fn has_term(field: Field, terms: &[QueryTerm<'_>]) -> bool
 }
 
 // Returns whether one of these ranges is of a field.
-fn has_range(field: Field, ranges: &[QueryRange<'_>]) -> bool
+pub(crate) fn has_range(field: Field, ranges: &[QueryRange<'_>]) -> bool
     ensures { result ≡ list_any (λ r. r.range.prefix.field == field) (map range_view ranges.now) }
 {
     for range in ranges {

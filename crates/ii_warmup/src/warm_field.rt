@@ -1,30 +1,31 @@
 //! A small index in memory that has what a query reads of an index.
-ghost use Rattle.std.specs.Prelude.{◌≡◌, Some, IfErr, IsErrOf, false};
+ghost use Rattle.std.specs.Prelude.{◌≡◌, List, Option, Some, IfErr, IsErrOf, false, map, ℕ};
+ghost use Rattle.std.specs.List.{list_all};
 ghost use Rattle.ii_io.specs.declared.faults.Fault.TheVariants as faults;
 ghost use Rattle.ii_io.specs.declared.faults.Part.TheVariants as parts;
+ghost use Rattle.ii_base.specs.declared.schema.index_record_option.IndexRecordOption.{IndexRecordOption};
 ghost use Rattle.ii_reader.specs.InvertedIndexReader.{InvertedIndexReaderState};
+ghost use Rattle.ii_termdict.specs.ReadBack.{AreAscending};
+ghost use Rattle.ii_termstore.specs.TermInfos.{is_sound};
 ghost use Rattle.ii_warmup.specs.Faults.{IsTermFault};
-ghost use Rattle.ii_warmup.specs.QueryTerms.{requests_of};
-ghost use Rattle.ii_warmup.specs.Warmup.{WarmsUp, all_lie, all_sound, known_reader};
+ghost use Rattle.ii_warmup.specs.Warmup.{WarmsUp, all_lie, all_sound, known_reader, wanted_keys, wanted_of, wanted_view};
 ghost use Rattle.ii_file_slice.specs.declared.faults.FileFault.TheVariants.{Index};
 
 use crate::copying::copy_terms;
-use crate::terms::{QueryRange, QueryTerm};
-use crate::wanted_terms::wanted_terms;
-use ii_base::{Fault, Field, IndexRecordOption, Part};
+use crate::wanted_terms::WantedTerm;
+use ii_base::{Fault, IndexRecordOption, Part};
 use ii_file_slice::{FileFault, FileHandle, FileSlice};
 use ii_reader::InvertedIndexReader;
-use ii_termdict::TermDictionary;
 use std::alloc::Global;
 
 // The number of bytes before the postings of a field: its number of tokens.
 const COUNT_SIZE: u64 = 8;
 
-/// The files of a field: its dictionary, and its bodies in the files of postings and positions.
+/// The wanted terms of a field, and its bodies in the files of postings and positions.
 #[derive(Drop)]
 pub struct FieldFiles<'a, P: FileHandle, Q: FileHandle> {
-    /// The dictionary.
-    pub terms: &'a TermDictionary,
+    /// The terms, in ascending order of the bytes of their keys.
+    pub wanted: &'a [WantedTerm],
     /// The number of tokens of the field, 8 bytes, and its postings.
     pub postings: &'a P,
     /// The positions.
@@ -33,8 +34,8 @@ pub struct FieldFiles<'a, P: FileHandle, Q: FileHandle> {
     pub option: IndexRecordOption,
 }
 
-/// Returns a reader over the terms of a field that terms and ranges of a query have, each with what these request of it.
-/// Of the postings and positions, only the bytes of these terms and the number of tokens are read.
+/// Returns a reader over the wanted terms of a field, each with what is requested of it. Of the postings and positions,
+/// only the bytes of these terms and the number of tokens are read.
 ///
 /// # Errors
 ///
@@ -45,21 +46,16 @@ pub struct FieldFiles<'a, P: FileHandle, Q: FileHandle> {
 /// * `Limit(Offset)` if the dictionary of these terms would have 2^64 bytes or more; `OutOfMemory`.
 pub fn warm_up_field<P: FileHandle, Q: FileHandle>(
     alloc: Global,
-    field: Field,
     files: &FieldFiles<'_, P, Q>,
-    terms: &[QueryTerm<'_>],
-    ranges: &[QueryRange<'_>],
 ) -> Result<InvertedIndexReader, FileFault>
-    ensures warms { (whole : InvertedIndexReaderState) → known_reader files.now.terms.now (P.bytes files.now.postings.now) (Q.bytes files.now.positions.now) files.now.option ≡ Some whole → WarmsUp (requests_of terms.now ranges.now field) whole result }
-    ensures long { IsErrOf result (Index (faults.Damaged parts.TermStore)) → all_sound (requests_of terms.now ranges.now field) files.now.terms.now ≡ false }
+    requires ascending { AreAscending (wanted_keys files.now.wanted.now) }
+    ensures warms { (requested : List ℕ → Option IndexRecordOption) (whole : InvertedIndexReaderState) → known_reader whole.terms (P.bytes files.now.postings.now) (Q.bytes files.now.positions.now) files.now.option ≡ Some whole
+        → map wanted_view files.now.wanted.now ≡ wanted_of requested whole.terms → WarmsUp requested whole result }
+    ensures long { IsErrOf result (Index (faults.Damaged parts.TermStore)) → list_all (λ t. is_sound t.info) files.now.wanted.now ≡ false }
     // where the bytes can be read
-    ensures sound { (whole : InvertedIndexReaderState) → known_reader files.now.terms.now (P.bytes files.now.postings.now) (Q.bytes files.now.positions.now) files.now.option ≡ Some whole → P.is_sound files.now.postings.now → Q.is_sound files.now.positions.now
-        → IfErr result (IsTermFault (all_lie (requests_of terms.now ranges.now field) whole) (all_sound (requests_of terms.now ranges.now field) whole.terms)) }
+    ensures sound { (requested : List ℕ → Option IndexRecordOption) (whole : InvertedIndexReaderState) → known_reader whole.terms (P.bytes files.now.postings.now) (Q.bytes files.now.positions.now) files.now.option ≡ Some whole
+        → map wanted_view files.now.wanted.now ≡ wanted_of requested whole.terms → P.is_sound files.now.postings.now → Q.is_sound files.now.positions.now → IfErr result (IsTermFault (all_lie requested whole) (all_sound requested whole.terms)) }
 {
-    let wanted = match wanted_terms(alloc, files.terms, field, terms, ranges) {
-        Ok(wanted) => wanted,
-        Err(fault) => return Err(FileFault::Index(fault)),
-    };
     let len = files.postings.len();
     if len < COUNT_SIZE {
         return Err(FileFault::Index(Fault::Damaged(Part::TokenCount)));
@@ -71,7 +67,7 @@ pub fn warm_up_field<P: FileHandle, Q: FileHandle>(
     let postings = FileSlice::new(files.postings, COUNT_SIZE, len - COUNT_SIZE);
     copy_terms(
         alloc,
-        &wanted,
+        files.wanted,
         count.as_slice(),
         &postings,
         files.positions,

@@ -1,4 +1,4 @@
-use Rattle.std.proofs.Common.{◌≡◌, ◌∙◌, Bool, Err, List, None, Some, ap, false, map, subst, sym, ℕ}
+use Rattle.std.proofs.Common.{◌≡◌, ◌∙◌, Bool, Some, ap, inl, map, refl, subst, sym}
 use Rattle.std.specs.Prelude.{IfErr}
 use Rattle.ii_io.specs.Composite.{body_of}
 use Rattle.ii_io.specs.declared.faults.Fault.TheVariants as faults
@@ -6,9 +6,10 @@ use Rattle.ii_io.specs.declared.faults.Part.TheVariants as parts
 use Rattle.ii_file_slice.specs.FileSlice.{slice_if}
 use Rattle.ii_file_slice.specs.declared.faults.FileFault.TheVariants.{Index}
 use Rattle.ii_warmup.specs.Faults.{IsTermFault}
-use Rattle.ii_warmup.specs.QueryTerms.{names_field, range_view, requests_of, term_view}
-use Rattle.ii_warmup.specs.Warmup.{all_lie, all_sound, known_reader}
-use Rattle.ii_warmup.proofs.FieldPartLemmas.{body_of_slice, dictionary_fault, field_slices, lacks_positions, lacks_postings, lie_of_read, no_body_of_slice, none_requested, none_there, opens, part_of_none, read_reader, read_terms, sound_of_read, warms_of_read}
+use Rattle.ii_warmup.specs.QueryTerms.{requests_of}
+use Rattle.ii_warmup.specs.Warmup.{known_reader, wanted_of, wanted_view}
+use Rattle.ii_warmup.proofs.KnownLemmas.{sound_moved}
+use Rattle.ii_warmup.proofs.FieldPartLemmas.{body_of_slice, field_slices, lacks_positions, lacks_postings, no_body_of_slice, none_there, part_of_none}
 use Rattle.ii_warmup.proofs.index_parts.IndexTables.open_field.Goals as goal
 
 pub returns-in_default-clause-warms : goal.returns-in_default-clause-warms
@@ -45,7 +46,7 @@ returns-in-Err-clause-warms g c = λ bodies whole k is.
     let t_here : slice_if t.start t.len (g.H.FileHandle.bytes t.file.now) ≡ Some r.t = rw c.in-Some.ensures.file r.t_is in
     record {
       part = tt;
-      range = λ damaged. let here : c.in-Err.fault ≡ Index (faults.Damaged parts.Range) = cc in absurd (opens r.t whole.terms parts.Range r.reads.entries (c.in-Err.ensures.damaged r.t parts.Range t_here (ap Err here)));
+      range = λ damaged. let here : c.in-Err.fault ≡ Index (faults.Damaged parts.Range) = cc in absurd (c.in-Err.ensures.reads.undamaged r.t t_here (rw r.reads.entries refl) parts.Range here);
     }
 
 pub returns-in-Err-clause-long : goal.returns-in-Err-clause-long
@@ -58,7 +59,7 @@ returns-in-Err-clause-long g c = λ bodies whole k is damaged.
     (c.in-Some.ensures.body k.terms_are.bytes bodies.terms k.terms_are.known_is k.terms_are.bodies_are) (c.in-Some-open_read.ensures.body k.postings_are.bytes bodies.postings k.postings_are.known_is k.postings_are.bodies_are) (c.in-Some-open_read-2.ensures.body k.positions_are.bytes bodies.positions k.positions_are.known_is k.positions_are.bodies_are) in
     let t_here : slice_if t.start t.len (g.H.FileHandle.bytes t.file.now) ≡ Some r.t = rw c.in-Some.ensures.file r.t_is in
     let here : c.in-Err.fault ≡ Index (faults.Damaged parts.TermStore) = cc in
-    absurd (opens r.t whole.terms parts.TermStore r.reads.entries (c.in-Err.ensures.damaged r.t parts.TermStore t_here (ap Err here)))
+    absurd (c.in-Err.ensures.reads.undamaged r.t t_here (rw r.reads.entries refl) parts.TermStore here)
 
 pub returns-in-Err-clause-sound : goal.returns-in-Err-clause-sound
 returns-in-Err-clause-sound g c = λ bodies whole k is t_sound p_sound q_sound.
@@ -69,9 +70,7 @@ returns-in-Err-clause-sound g c = λ bodies whole k is t_sound p_sound q_sound.
     let r = field_slices bodies c.args.field c.args.option whole t.start t.len p.start p.len q.start q.len (g.H.FileHandle.bytes h.terms.file) (g.H.FileHandle.bytes h.postings.file) (g.H.FileHandle.bytes h.positions.file) k is
     (c.in-Some.ensures.body k.terms_are.bytes bodies.terms k.terms_are.known_is k.terms_are.bodies_are) (c.in-Some-open_read.ensures.body k.postings_are.bytes bodies.postings k.postings_are.known_is k.postings_are.bodies_are) (c.in-Some-open_read-2.ensures.body k.positions_are.bytes bodies.positions k.positions_are.known_is k.positions_are.bodies_are) in
     let t_here : slice_if t.start t.len (g.H.FileHandle.bytes t.file.now) ≡ Some r.t = rw c.in-Some.ensures.file r.t_is in
-    let requested = requests_of c.args.terms.now c.args.ranges.now c.args.field in
-    dictionary_fault (all_lie requested whole) (all_sound requested whole.terms) c.in-Err.fault (c.in-Err.ensures.sound r.t t_here (rw c.in-Some.ensures.file t_sound))
-    (λ part damaged. opens r.t whole.terms part r.reads.entries (c.in-Err.ensures.damaged r.t part t_here (ap Err damaged)))
+    inl (c.in-Err.ensures.reads.sound_only r.t t_here (rw r.reads.entries refl) (rw c.in-Some.ensures.file t_sound))
 
 pub returns-clause-warms : goal.returns-clause-warms
 returns-clause-warms g c = λ bodies whole k is.
@@ -85,11 +84,9 @@ returns-clause-warms g c = λ bodies whole k is.
     let p_here : slice_if p.start p.len (g.H.FileHandle.bytes p.file.now) ≡ Some r.p = rw c.in-Some-open_read.ensures.file r.p_is in
     let q_here : slice_if q.start q.len (g.H.FileHandle.bytes q.file.now) ≡ Some r.q = rw c.in-Some-open_read-2.ensures.file r.q_is in
     let requested = requests_of c.args.terms.now c.args.ranges.now c.args.field in
-    let named = names_field (map term_view c.args.terms.now) (map range_view c.args.ranges.now) c.args.field in
-    let unnamed : named ≡ false → (key : List ℕ) → requested key ≡ None = λ none. none_requested (map term_view c.args.terms.now) (map range_view c.args.ranges.now) c.args.field none in
-    let read : c.in-Ok.dictionary ≡ read_terms named whole.terms = c.in-Ok.ensures.entries r.t whole.terms t_here r.reads.entries in
-    let known : known_reader c.in-Ok.dictionary (slice_if p.start p.len (g.H.FileHandle.bytes p.file.now)) (slice_if q.start q.len (g.H.FileHandle.bytes q.file.now)) c.args.option ≡ Some (read_reader named whole) = rw (read, p_here, q_here) (r.reads.known named) in
-    warms_of_read requested whole named c.warm_up_field.result unnamed (c.warm_up_field.ensures.warms (read_reader named whole) known)
+    let known : known_reader whole.terms (slice_if p.start p.len (g.H.FileHandle.bytes p.file.now)) (slice_if q.start q.len (g.H.FileHandle.bytes q.file.now)) c.args.option ≡ Some whole = rw (p_here, q_here) r.reads.known in
+    let read : map wanted_view c.deref.result.now ≡ wanted_of requested whole.terms = rw c.deref.ensures.value (rw r.reads.entries at (c.in-Ok.ensures.reads.exact r.t t_here (rw r.reads.entries refl))) in
+    c.warm_up_field.ensures.warms requested whole known read
 
 pub returns-clause-long : goal.returns-clause-long
 returns-clause-long g c = λ bodies whole k is damaged.
@@ -100,14 +97,9 @@ returns-clause-long g c = λ bodies whole k is damaged.
     let r = field_slices bodies c.args.field c.args.option whole t.start t.len p.start p.len q.start q.len (g.H.FileHandle.bytes h.terms.file) (g.H.FileHandle.bytes h.postings.file) (g.H.FileHandle.bytes h.positions.file) k is
     (c.in-Some.ensures.body k.terms_are.bytes bodies.terms k.terms_are.known_is k.terms_are.bodies_are) (c.in-Some-open_read.ensures.body k.postings_are.bytes bodies.postings k.postings_are.known_is k.postings_are.bodies_are) (c.in-Some-open_read-2.ensures.body k.positions_are.bytes bodies.positions k.positions_are.known_is k.positions_are.bodies_are) in
     let t_here : slice_if t.start t.len (g.H.FileHandle.bytes t.file.now) ≡ Some r.t = rw c.in-Some.ensures.file r.t_is in
-    let p_here : slice_if p.start p.len (g.H.FileHandle.bytes p.file.now) ≡ Some r.p = rw c.in-Some-open_read.ensures.file r.p_is in
-    let q_here : slice_if q.start q.len (g.H.FileHandle.bytes q.file.now) ≡ Some r.q = rw c.in-Some-open_read-2.ensures.file r.q_is in
     let requested = requests_of c.args.terms.now c.args.ranges.now c.args.field in
-    let named = names_field (map term_view c.args.terms.now) (map range_view c.args.ranges.now) c.args.field in
-    let unnamed : named ≡ false → (key : List ℕ) → requested key ≡ None = λ none. none_requested (map term_view c.args.terms.now) (map range_view c.args.ranges.now) c.args.field none in
-    let read : c.in-Ok.dictionary ≡ read_terms named whole.terms = c.in-Ok.ensures.entries r.t whole.terms t_here r.reads.entries in
-    let known : known_reader c.in-Ok.dictionary (slice_if p.start p.len (g.H.FileHandle.bytes p.file.now)) (slice_if q.start q.len (g.H.FileHandle.bytes q.file.now)) c.args.option ≡ Some (read_reader named whole) = rw (read, p_here, q_here) (r.reads.known named) in
-    sym (sound_of_read requested whole named unnamed) ∙ ap (all_sound requested) (sym read) ∙ c.warm_up_field.ensures.long damaged
+    let read : map wanted_view c.deref.result.now ≡ wanted_of requested whole.terms = rw c.deref.ensures.value (rw r.reads.entries at (c.in-Ok.ensures.reads.exact r.t t_here (rw r.reads.entries refl))) in
+    sym (sound_moved requested whole.terms c.deref.result.now read) ∙ c.warm_up_field.ensures.long damaged
 
 pub returns-clause-sound : goal.returns-clause-sound
 returns-clause-sound g c = λ bodies whole k is t_sound p_sound q_sound.
@@ -121,10 +113,6 @@ returns-clause-sound g c = λ bodies whole k is t_sound p_sound q_sound.
     let p_here : slice_if p.start p.len (g.H.FileHandle.bytes p.file.now) ≡ Some r.p = rw c.in-Some-open_read.ensures.file r.p_is in
     let q_here : slice_if q.start q.len (g.H.FileHandle.bytes q.file.now) ≡ Some r.q = rw c.in-Some-open_read-2.ensures.file r.q_is in
     let requested = requests_of c.args.terms.now c.args.ranges.now c.args.field in
-    let named = names_field (map term_view c.args.terms.now) (map range_view c.args.ranges.now) c.args.field in
-    let unnamed : named ≡ false → (key : List ℕ) → requested key ≡ None = λ none. none_requested (map term_view c.args.terms.now) (map range_view c.args.ranges.now) c.args.field none in
-    let read : c.in-Ok.dictionary ≡ read_terms named whole.terms = c.in-Ok.ensures.entries r.t whole.terms t_here r.reads.entries in
-    let known : known_reader c.in-Ok.dictionary (slice_if p.start p.len (g.H.FileHandle.bytes p.file.now)) (slice_if q.start q.len (g.H.FileHandle.bytes q.file.now)) c.args.option ≡ Some (read_reader named whole) = rw (read, p_here, q_here) (r.reads.known named) in
-    subst (λ (lie : Bool). IfErr c.warm_up_field.result (IsTermFault lie (all_sound requested whole.terms))) (lie_of_read requested whole named unnamed)
-    (subst (λ (short : Bool). IfErr c.warm_up_field.result (IsTermFault (all_lie requested (read_reader named whole)) short)) (sound_of_read requested whole named unnamed)
-    (c.warm_up_field.ensures.sound (read_reader named whole) known (rw c.in-Some-open_read.ensures.file p_sound) (rw c.in-Some-open_read-2.ensures.file q_sound)))
+    let known : known_reader whole.terms (slice_if p.start p.len (g.H.FileHandle.bytes p.file.now)) (slice_if q.start q.len (g.H.FileHandle.bytes q.file.now)) c.args.option ≡ Some whole = rw (p_here, q_here) r.reads.known in
+    let read : map wanted_view c.deref.result.now ≡ wanted_of requested whole.terms = rw c.deref.ensures.value (rw r.reads.entries at (c.in-Ok.ensures.reads.exact r.t t_here (rw r.reads.entries refl))) in
+    c.warm_up_field.ensures.sound requested whole known read (rw c.in-Some-open_read.ensures.file p_sound) (rw c.in-Some-open_read-2.ensures.file q_sound)
