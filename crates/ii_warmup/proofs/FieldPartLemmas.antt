@@ -1,12 +1,10 @@
 -- A field that a query doesn't name, and the reader over a field's bodies.
-use Rattle.std.proofs.Common.{◌≡◌, ◌∙◌, ℕ, ◌==◌, ◌&&◌, ◌||◌, Bool, true, false, List, [], ◌∷◌, Option, None, Some, Ok, Err, Result, bytes_eq, filter, inl, inr, is_some, refl, sym, ap, subst}
-use Rattle.std.specs.Prelude.{◌⊎◌, if◌then◌else◌}
+use Rattle.std.proofs.Common.{◌≡◌, ◌∙◌, ℕ, ◌==◌, ◌&&◌, ◌||◌, Bool, true, false, List, [], ◌∷◌, Option, None, Some, Ok, Err, Result, bytes_eq, is_some, refl, sym, ap, subst}
 use Rattle.std.specs.List.{list_any}
 use Rattle.std.specs.Option.{option_map}
 use Rattle.std.proofs.Math.Bool.{and-false}
 use Rattle.ii_io.specs.Composite.{Body, body_of, composite}
-use Rattle.ii_io.specs.declared.faults.Fault.{Fault}
-use Rattle.ii_io.specs.declared.faults.Fault.TheVariants.{Damaged, OutOfMemory}
+use Rattle.ii_io.specs.declared.faults.Fault.TheVariants.{Damaged}
 use Rattle.ii_io.specs.Numbers.{number_at}
 use Rattle.ii_io.specs.declared.faults.Part.{Part}
 use Rattle.ii_io.specs.declared.faults.Part.TheVariants.{Composite}
@@ -19,12 +17,11 @@ use Rattle.ii_file_slice.specs.declared.faults.FileFault.TheVariants.{Index}
 use Rattle.ii_query_parser.specs.Ranges.{in_range}
 use Rattle.ii_reader.specs.InvertedIndexReader.{InvertedIndexReaderState, reader_of_none}
 use Rattle.ii_reader.specs.OpenIndex.{IndexBodies, reader_of_bodies, reader_of_field}
-use Rattle.ii_termdict.specs.Dictionary.{TermEntry, dictionary, entry_keys}
-use Rattle.ii_warmup.specs.Faults.{IsTermFault}
+use Rattle.ii_termdict.specs.Dictionary.{TermEntry, dictionary}
 use Rattle.ii_warmup.specs.IndexParts.{KnownBodies, KnownTables}
 use Rattle.ii_warmup.specs.Parts.{IsPartOf}
 use Rattle.ii_warmup.specs.QueryTerms.{QueryRangeState, QueryTermState, names_field, names_key, requested_of, serves}
-use Rattle.ii_warmup.specs.Warmup.{WarmsUp, all_lie, all_sound, known_reader, wanted_of}
+use Rattle.ii_warmup.specs.Warmup.{known_reader, wanted_of}
 
 -- ---- a field that isn't named
 or_parts : (a b : Bool) → (a || b) ≡ false → (a ≡ false) × (b ≡ false)

@@ -15,7 +15,7 @@ use Rattle.ii_termdict.specs.Dictionary.{TermEntry, dictionary, entry_keys, info
 use Rattle.ii_termdict.specs.ReadBack.{AreAscending}
 use Rattle.ii_termdict.proofs.OrderLemmas.{keys_are_ascending}
 use Rattle.ii_termdict.proofs.SearchLemmas.{found_equal}
-use Rattle.ii_warmup.specs.LookedUp.{found_terms, wanted_if, wanted_under}
+use Rattle.ii_warmup.specs.LookedUp.{found_terms, wanted_under}
 use Rattle.ii_warmup.specs.Warmup.{WantedTermState, wanted_keys, wanted_of, wanted_view}
 use Rattle.ii_warmup.specs.declared.wanted_terms.WantedTerm.{WantedTerm}
 

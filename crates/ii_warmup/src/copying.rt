@@ -18,7 +18,7 @@ use crate::copied_terms::CopiedTerms;
 use crate::wanted_terms::WantedTerm;
 use bytes::Bytes;
 use ii_base::{Fault, IndexRecordOption, Part};
-use ii_file_slice::{FileFault, FileHandle};
+use ii_file_slice::{BlockCache, FileFault, FileHandle};
 use ii_reader::InvertedIndexReader;
 use std::alloc::Global;
 use std::ops::Range;
@@ -29,14 +29,15 @@ const MAX_TERM_BYTES: u64 = 4294967295;
 // Returns the bytes of a range of a body.
 fn read_range<H: FileHandle>(
     alloc: Global,
-    body: &H,
+    body: &mut BlockCache<'_, H>,
     range: &Range<usize>,
 ) -> Result<Bytes, FileFault>
+    ensures file { body.new ≡ body.old }
     ensures short { IfOk result (λ read. length read < 2 ^ 32) }
-    ensures read { IfOk result (IsRangeOf (H.bytes body.now) range.now) }
-    ensures range { (bs : List ℕ) → H.bytes body.now ≡ Some bs → IsErrOf result (Index (faults.Damaged parts.Range)) → lies_in bs range.now ≡ false }
+    ensures read { IfOk result (IsRangeOf (H.bytes body.old) range.now) }
+    ensures range { (bs : List ℕ) → H.bytes body.old ≡ Some bs → IsErrOf result (Index (faults.Damaged parts.Range)) → lies_in bs range.now ≡ false }
     ensures long { IsErrOf result (Index (faults.Damaged parts.TermStore)) → is_short range.now ≡ false }
-    ensures sound { (bs : List ℕ) → H.bytes body.now ≡ Some bs → H.is_sound body.now → IfErr result (IsTermFault (lies_in bs range.now) (is_short range.now)) }
+    ensures sound { (bs : List ℕ) → H.bytes body.old ≡ Some bs → H.is_sound body.old → IfErr result (IsTermFault (lies_in bs range.now) (is_short range.now)) }
 {
     if range.start > range.end || range.end as u64 > body.len() {
         return Err(FileFault::Index(Fault::Damaged(Part::Range)));
@@ -54,15 +55,16 @@ fn read_range<H: FileHandle>(
 // Returns the bytes of a term's positions, or none if they aren't read.
 fn read_positions<H: FileHandle>(
     alloc: Global,
-    body: &H,
+    body: &mut BlockCache<'_, H>,
     term: &WantedTerm,
     option: IndexRecordOption,
 ) -> Result<Bytes, FileFault>
+    ensures file { body.new ≡ body.old }
     ensures short { IfOk result (λ read. length read < 2 ^ 32) }
-    ensures read { reads_positions_of option (wanted_view term.now) ≡ true → IfOk result (IsRangeOf (H.bytes body.now) term.now.info.positions_range) }
-    ensures range { (bs : List ℕ) → H.bytes body.now ≡ Some bs → IsErrOf result (Index (faults.Damaged parts.Range)) → (reads_positions_of option (wanted_view term.now) ≡ true) × (lies_in bs term.now.info.positions_range ≡ false) }
+    ensures read { reads_positions_of option (wanted_view term.now) ≡ true → IfOk result (IsRangeOf (H.bytes body.old) term.now.info.positions_range) }
+    ensures range { (bs : List ℕ) → H.bytes body.old ≡ Some bs → IsErrOf result (Index (faults.Damaged parts.Range)) → (reads_positions_of option (wanted_view term.now) ≡ true) × (lies_in bs term.now.info.positions_range ≡ false) }
     ensures long { IsErrOf result (Index (faults.Damaged parts.TermStore)) → is_short term.now.info.positions_range ≡ false }
-    ensures sound { (bs : List ℕ) → H.bytes body.now ≡ Some bs → H.is_sound body.now → IfErr result (IsTermFault (not (reads_positions_of option (wanted_view term.now)) || lies_in bs term.now.info.positions_range) (is_short term.now.info.positions_range)) }
+    ensures sound { (bs : List ℕ) → H.bytes body.old ≡ Some bs → H.is_sound body.old → IfErr result (IsTermFault (not (reads_positions_of option (wanted_view term.now)) || lies_in bs term.now.info.positions_range) (is_short term.now.info.positions_range)) }
 {
     if !option.downgrade(term.option).has_positions() {
         return Ok(Bytes::new());
@@ -75,17 +77,18 @@ fn copy_term<P: FileHandle, Q: FileHandle>(
     alloc: Global,
     copied: CopiedTerms,
     term: &WantedTerm,
-    postings: &P,
-    positions: &Q,
+    postings: &mut BlockCache<'_, P>,
+    positions: &mut BlockCache<'_, Q>,
     option: IndexRecordOption,
 ) -> Result<CopiedTerms, FileFault>
     requires open { copied.closed ≡ false }
     requires whole { length copied.keys ≡ length copied.infos }
     requires ascending { AreAscending (copied.keys ++ term.now.key.items ∷ []) }
-    ensures copies { IfOk result (CopiesTerm option (P.bytes postings.now) (Q.bytes positions.now) (wanted_view term.now) copied) }
-    ensures range { (p q : List ℕ) → P.bytes postings.now ≡ Some p → Q.bytes positions.now ≡ Some q → IsErrOf result (Index (faults.Damaged parts.Range)) → do_ranges_lie option p q (wanted_view term.now) ≡ false }
+    ensures files { (postings.new ≡ postings.old) × (positions.new ≡ positions.old) }
+    ensures copies { IfOk result (CopiesTerm option (P.bytes postings.old) (Q.bytes positions.old) (wanted_view term.now) copied) }
+    ensures range { (p q : List ℕ) → P.bytes postings.old ≡ Some p → Q.bytes positions.old ≡ Some q → IsErrOf result (Index (faults.Damaged parts.Range)) → do_ranges_lie option p q (wanted_view term.now) ≡ false }
     ensures long { IsErrOf result (Index (faults.Damaged parts.TermStore)) → is_sound term.now.info ≡ false }
-    ensures sound { (p q : List ℕ) → P.bytes postings.now ≡ Some p → Q.bytes positions.now ≡ Some q → P.is_sound postings.now → Q.is_sound positions.now
+    ensures sound { (p q : List ℕ) → P.bytes postings.old ≡ Some p → Q.bytes positions.old ≡ Some q → P.is_sound postings.old → Q.is_sound positions.old
         → IfErr result (IsTermFault (do_ranges_lie option p q (wanted_view term.now)) (is_sound term.now.info)) }
 {
     let of_docs = match read_range(alloc, postings, &term.info.postings_range) {
@@ -113,17 +116,17 @@ pub(crate) fn copy_terms<P: FileHandle, Q: FileHandle>(
     alloc: Global,
     wanted: &[WantedTerm],
     count: &[u8],
-    postings: &P,
-    positions: &Q,
+    postings: &mut BlockCache<'_, P>,
+    positions: &mut BlockCache<'_, Q>,
     option: IndexRecordOption,
 ) -> Result<InvertedIndexReader, FileFault>
     requires count { length count.now ≡ 8 }
     requires ascending { AreAscending (wanted_keys wanted.now) }
-    ensures part { (requested : List ℕ → Option IndexRecordOption) (whole : InvertedIndexReaderState) → P.bytes postings.now ≡ Some whole.postings → Q.bytes positions.now ≡ Some whole.positions → whole.option ≡ option
+    ensures part { (requested : List ℕ → Option IndexRecordOption) (whole : InvertedIndexReaderState) → P.bytes postings.old ≡ Some whole.postings → Q.bytes positions.old ≡ Some whole.positions → whole.option ≡ option
         → whole.num_tokens ≡ little_endian count.now → map wanted_view wanted.now ≡ wanted_of requested whole.terms → IfOk result (λ part. IsPartOf requested part whole) }
-    ensures range { (p q : List ℕ) → P.bytes postings.now ≡ Some p → Q.bytes positions.now ≡ Some q → IsErrOf result (Index (faults.Damaged parts.Range)) → list_all (λ t. do_ranges_lie option p q (wanted_view t)) wanted.now ≡ false }
+    ensures range { (p q : List ℕ) → P.bytes postings.old ≡ Some p → Q.bytes positions.old ≡ Some q → IsErrOf result (Index (faults.Damaged parts.Range)) → list_all (λ t. do_ranges_lie option p q (wanted_view t)) wanted.now ≡ false }
     ensures long { IsErrOf result (Index (faults.Damaged parts.TermStore)) → list_all (λ t. is_sound t.info) wanted.now ≡ false }
-    ensures sound { (p q : List ℕ) → P.bytes postings.now ≡ Some p → Q.bytes positions.now ≡ Some q → P.is_sound postings.now → Q.is_sound positions.now
+    ensures sound { (p q : List ℕ) → P.bytes postings.old ≡ Some p → Q.bytes positions.old ≡ Some q → P.is_sound postings.old → Q.is_sound positions.old
         → IfErr result (IsTermFault (list_all (λ t. do_ranges_lie option p q (wanted_view t)) wanted.now) (list_all (λ t. is_sound t.info) wanted.now)) }
 {
     let mut copied = match CopiedTerms::new(alloc, count) {

@@ -206,6 +206,7 @@ impl<'a, H: FileHandle> IndexTables<'a, H> {
             wanted: &wanted,
             postings: &postings,
             positions: &positions,
+            starts: (postings.start(), positions.start()),
             option,
         };
         warm_up_field(alloc, &files)

@@ -14,12 +14,15 @@ ghost use Rattle.ii_file_slice.specs.declared.faults.FileFault.TheVariants.{Inde
 use crate::copying::copy_terms;
 use crate::wanted_terms::WantedTerm;
 use ii_base::{Fault, IndexRecordOption, Part};
-use ii_file_slice::{FileFault, FileHandle, FileSlice};
+use ii_file_slice::{BlockCache, FileFault, FileHandle, FileSlice};
 use ii_reader::InvertedIndexReader;
 use std::alloc::Global;
 
 // The number of bytes before the postings of a field: its number of tokens.
 const COUNT_SIZE: u64 = 8;
+
+// The number of blocks of a body that are kept: terms whose keys are next to each other have their bytes there, too.
+const CACHED_BLOCKS: usize = 4;
 
 /// The wanted terms of a field, and its bodies in the files of postings and positions.
 #[derive(Drop)]
@@ -30,6 +33,8 @@ pub struct FieldFiles<'a, P: FileHandle, Q: FileHandle> {
     pub postings: &'a P,
     /// The positions.
     pub positions: &'a Q,
+    /// Where these two begin in the files whose blocks are checked.
+    pub starts: (u64, u64),
     /// What the field records.
     pub option: IndexRecordOption,
 }
@@ -64,13 +69,21 @@ pub fn warm_up_field<P: FileHandle, Q: FileHandle>(
         Ok(count) => count,
         Err(fault) => return Err(FileFault::from(fault)),
     };
-    let postings = FileSlice::new(files.postings, COUNT_SIZE, len - COUNT_SIZE);
+    let body = FileSlice::new(files.postings, COUNT_SIZE, len - COUNT_SIZE);
+    let start = files.starts.0.saturating_add(COUNT_SIZE);
+    let Ok(mut postings) = BlockCache::new(alloc, &body, start, CACHED_BLOCKS) else {
+        return Err(FileFault::Index(Fault::OutOfMemory));
+    };
+    let Ok(mut positions) = BlockCache::new(alloc, files.positions, files.starts.1, CACHED_BLOCKS)
+    else {
+        return Err(FileFault::Index(Fault::OutOfMemory));
+    };
     copy_terms(
         alloc,
         files.wanted,
         count.as_slice(),
-        &postings,
-        files.positions,
+        &mut postings,
+        &mut positions,
         files.option,
     )
 }

@@ -1,4 +1,4 @@
-use Rattle.std.proofs.Common.{◌≡◌, ◌∙◌, ap, length, map, refl, sym}
+use Rattle.std.proofs.Common.{◌∙◌, map, refl, sym}
 use Rattle.std.proofs.lemmas.List.{append-nil}
 use Rattle.ii_termdict.specs.Dictionary.{dictionary}
 use Rattle.ii_termdict_slice.proofs.ReadingLemmas.{reads_ok}

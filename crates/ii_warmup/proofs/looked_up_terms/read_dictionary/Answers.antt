@@ -1,4 +1,4 @@
-use Rattle.std.proofs.Common.{◌≡◌, ◌∙◌, ap, sym}
+use Rattle.std.proofs.Common.{◌∙◌, ap, sym}
 use Rattle.ii_termdict.specs.Dictionary.{dictionary}
 use Rattle.ii_termdict_slice.proofs.ReadingLemmas.{reads_no, reads_ok}
 use Rattle.ii_warmup.proofs.LookedUpLemmas.{not_ok}

@@ -1,11 +1,9 @@
-use Rattle.std.proofs.Common.{◌≡◌, ◌∙◌, Bool, Some, ap, inl, map, refl, subst, sym}
-use Rattle.std.specs.Prelude.{IfErr}
+use Rattle.std.proofs.Common.{◌≡◌, ◌∙◌, Some, inl, map, refl, sym}
 use Rattle.ii_io.specs.Composite.{body_of}
 use Rattle.ii_io.specs.declared.faults.Fault.TheVariants as faults
 use Rattle.ii_io.specs.declared.faults.Part.TheVariants as parts
 use Rattle.ii_file_slice.specs.FileSlice.{slice_if}
 use Rattle.ii_file_slice.specs.declared.faults.FileFault.TheVariants.{Index}
-use Rattle.ii_warmup.specs.Faults.{IsTermFault}
 use Rattle.ii_warmup.specs.QueryTerms.{requests_of}
 use Rattle.ii_warmup.specs.Warmup.{known_reader, wanted_of, wanted_view}
 use Rattle.ii_warmup.proofs.KnownLemmas.{sound_moved}
