@@ -13,8 +13,8 @@ use nequllpa_warming::{EnableScoring, warm_up_index};
 use nequllpa_writing::refuse_path;
 use std::alloc::Global;
 
-// A query of more terms, or with a range of terms, whose lists lie apart, reads the files faster as they are.
-const MOST_TERMS: usize = 16;
+// A query of more terms, or with a range of terms, for which the whole dictionary is read, reads the complete files.
+const MOST_TERMS: usize = 1000;
 // In an index of more fields, so does any query: the number of tokens is read of each field.
 const MOST_FIELDS: usize = 100;
 
