@@ -1,6 +1,7 @@
 //! Copying terms of a field out of its files.
 ghost use Rattle.std.specs.Prelude.{◌≡◌, ◌+◌, ◌^◌, ◌<◌, ◌||◌, ◌∷◌, [], ◌++◌, ℕ, List, Option, Some, IfErr, IfOk, IsErrOf, false, length, map, not, true};
 ghost use Rattle.std.specs.List.{list_all};
+ghost use Rattle.ii_io.specs.Faults.{OnlyMemory};
 ghost use Rattle.ii_io.specs.Numbers.{little_endian};
 ghost use Rattle.ii_io.specs.declared.faults.Fault.TheVariants as faults;
 ghost use Rattle.ii_io.specs.declared.faults.Part.TheVariants as parts;
@@ -25,6 +26,19 @@ use std::ops::Range;
 
 // The greatest number of bytes of a term's postings or positions.
 const MAX_TERM_BYTES: u64 = 4294967295;
+
+// Returns a cache of a body that begins at `start` in the file whose blocks are checked.
+pub(crate) fn new_cache<'a, H: FileHandle>(
+    alloc: Global,
+    body: &'a H,
+    start: u64,
+    num_blocks: usize,
+) -> Result<BlockCache<'a, H>, Fault>
+    ensures same { IfOk result (λ cache. cache ≡ body.now) }
+    ensures only { OnlyMemory result }
+{
+    Ok(BlockCache::new(alloc, body, start, num_blocks)?)
+}
 
 // Returns the bytes of a range of a body.
 fn read_range<H: FileHandle>(

@@ -11,10 +11,11 @@ ghost use Rattle.ii_warmup.specs.LookedUp.{found_terms, key_items, wanted_under}
 ghost use Rattle.ii_warmup.specs.QueryTerms.{range_view, requests_of, term_view};
 ghost use Rattle.ii_warmup.specs.Warmup.{wanted_keys, wanted_of, wanted_view};
 
+use crate::copying::new_cache;
 use crate::terms::{QueryRange, QueryTerm};
 use crate::wanted_terms::{WantedTerm, has_range, names_field, requested_of, wanted_terms};
 use ii_base::{Fault, Field};
-use ii_file_slice::{BlockCache, FileFault, FileHandle, FileSlice};
+use ii_file_slice::{FileFault, FileHandle, FileSlice};
 use ii_termdict::TermDictionary;
 use ii_termdict_slice::TermDictionarySlice;
 use std::alloc::Global;
@@ -87,8 +88,9 @@ fn look_up_terms<H: FileHandle>(
         Ok(keys) => keys,
         Err(fault) => return Err(FileFault::Index(fault)),
     };
-    let Ok(cache) = BlockCache::new(alloc, body, body.start(), CACHED_BLOCKS) else {
-        return Err(FileFault::Index(Fault::OutOfMemory));
+    let cache = match new_cache(alloc, body, body.start(), CACHED_BLOCKS) {
+        Ok(cache) => cache,
+        Err(fault) => return Err(FileFault::Index(fault)),
     };
     let mut slice = match TermDictionarySlice::open(alloc, cache) {
         Ok(slice) => slice,
@@ -100,8 +102,9 @@ fn look_up_terms<H: FileHandle>(
             Ok(found) => found,
             Err(fault) => return Err(fault),
         };
-        if let Err(_) = push_found(found, &mut wanted) {
-            return Err(FileFault::Index(Fault::OutOfMemory));
+        match push_found(found, &mut wanted) {
+            Ok(()) => {}
+            Err(fault) => return Err(FileFault::Index(fault)),
         }
     }
     Ok(wanted)

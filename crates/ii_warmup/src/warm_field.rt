@@ -11,10 +11,10 @@ ghost use Rattle.ii_warmup.specs.Faults.{IsTermFault};
 ghost use Rattle.ii_warmup.specs.Warmup.{WarmsUp, all_lie, all_sound, known_reader, wanted_keys, wanted_of, wanted_view};
 ghost use Rattle.ii_file_slice.specs.declared.faults.FileFault.TheVariants.{Index};
 
-use crate::copying::copy_terms;
+use crate::copying::{copy_terms, new_cache};
 use crate::wanted_terms::WantedTerm;
 use ii_base::{Fault, IndexRecordOption, Part};
-use ii_file_slice::{BlockCache, FileFault, FileHandle, FileSlice};
+use ii_file_slice::{FileFault, FileHandle, FileSlice};
 use ii_reader::InvertedIndexReader;
 use std::alloc::Global;
 
@@ -71,12 +71,13 @@ pub fn warm_up_field<P: FileHandle, Q: FileHandle>(
     };
     let body = FileSlice::new(files.postings, COUNT_SIZE, len - COUNT_SIZE);
     let start = files.starts.0.saturating_add(COUNT_SIZE);
-    let Ok(mut postings) = BlockCache::new(alloc, &body, start, CACHED_BLOCKS) else {
-        return Err(FileFault::Index(Fault::OutOfMemory));
+    let mut postings = match new_cache(alloc, &body, start, CACHED_BLOCKS) {
+        Ok(postings) => postings,
+        Err(fault) => return Err(FileFault::Index(fault)),
     };
-    let Ok(mut positions) = BlockCache::new(alloc, files.positions, files.starts.1, CACHED_BLOCKS)
-    else {
-        return Err(FileFault::Index(Fault::OutOfMemory));
+    let mut positions = match new_cache(alloc, files.positions, files.starts.1, CACHED_BLOCKS) {
+        Ok(positions) => positions,
+        Err(fault) => return Err(FileFault::Index(fault)),
     };
     copy_terms(
         alloc,

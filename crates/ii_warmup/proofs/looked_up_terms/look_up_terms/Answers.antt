@@ -14,7 +14,7 @@ loop-key-init g c =
     let requested = requests_of c.args.terms.now c.args.ranges.now c.args.field in
     let has = c.in-Ok.ensures.has in
     record {
-      same = c.in-Ok-open.ensures.file ∙ c.in-Ok-new.ensures;
+      same = c.in-Ok-open.ensures.file ∙ c.in-Ok-new_cache.ensures.same;
       sorted = rw c.new-wanted.ensures.items c.in-Ok.ensures.sorted;
       looked_up = λ bs entries known is.
           rw c.new-wanted.ensures.items
@@ -31,14 +31,14 @@ loop-key-preserved g c =
     let rest = key_items c.pop_first.new.self.keys in
     record {
       same = c.look_up.ensures.file ∙ l.invariant.same;
-      sorted = rw c.in_default-push_found.ensures.pushed (still_sorted l.wanted.items found key rest c.in-Ok-look_up.ensures.key (rw c.in-Some.ensures.removal at l.invariant.sorted));
+      sorted = rw c.in-Ok-push_found.ensures.pushed (still_sorted l.wanted.items found key rest c.in-Ok-look_up.ensures.key (rw c.in-Some.ensures.removal at l.invariant.sorted));
       looked_up = λ bs entries known is.
           let read = c.in-Ok-look_up.ensures.reads.exact bs (rw l.invariant.same known) (rw is refl) in
-          rw c.in_default-push_found.ensures.pushed (still_looked_up requested entries l.wanted.items found key rest (wanted_of requested entries) (rw is at read) (rw c.in-Some.ensures.removal at (l.invariant.looked_up bs entries known is)));
+          rw c.in-Ok-push_found.ensures.pushed (still_looked_up requested entries l.wanted.items found key rest (wanted_of requested entries) (rw is at read) (rw c.in-Some.ensures.removal at (l.invariant.looked_up bs entries known is)));
     }
 
 pub returns-clause-reads : goal.returns-clause-reads
 returns-clause-reads g c =
     let l = c.loop-key in
-    let none = no_keys l.keys.keys c.in_default-pop_first.ensures.variant.1 in
+    let none = no_keys l.keys.keys c.in_default.ensures.variant.1 in
     reads_ok (λ bs known there. if_ok (dictionary bs) (λ entries is. sym (append-nil (map wanted_view l.wanted.items)) ∙ (rw none at (l.invariant.looked_up bs entries known is))))

@@ -33,8 +33,8 @@ returns-clause-warms g c = λ requested whole is wanted.
     slice_body s.start s.len c.len-len.result (g.P.FileHandle.bytes s.file.now) k.p whole.postings c.new-body.ensures.start c.new-body.ensures.len (c.len-len.ensures k.p k.postings_are) k.long (rw c.new-body.ensures.file k.postings_are) k.body in
     let counted : whole.num_tokens ≡ little_endian c.as_slice.result.now = k.counted ∙ ap little_endian (sym (c.as_slice.ensures ∙ c.in-Ok.ensures.exact k.p k.postings_are)) in
     record {
-      part = (rw (c.in-Ok-new.ensures, c.in-Ok-new-2.ensures) at c.copy_terms.ensures.part) requested whole body k.positions_are k.option_is counted wanted;
-      range = λ damaged. sym (lie_moved requested whole files.option files.wanted.now k.option_is wanted) ∙ (rw (c.in-Ok-new.ensures, c.in-Ok-new-2.ensures) at c.copy_terms.ensures.range) whole.postings whole.positions body k.positions_are damaged;
+      part = (rw (c.in-Ok-new_cache.ensures.same, c.in-Ok-new_cache-2.ensures.same) at c.copy_terms.ensures.part) requested whole body k.positions_are k.option_is counted wanted;
+      range = λ damaged. sym (lie_moved requested whole files.option files.wanted.now k.option_is wanted) ∙ (rw (c.in-Ok-new_cache.ensures.same, c.in-Ok-new_cache-2.ensures.same) at c.copy_terms.ensures.range) whole.postings whole.positions body k.positions_are damaged;
     }
 
 pub returns-clause-sound : goal.returns-clause-sound
@@ -46,4 +46,4 @@ returns-clause-sound g c = λ requested whole is wanted p_sound q_sound.
     slice_body s.start s.len c.len-len.result (g.P.FileHandle.bytes s.file.now) k.p whole.postings c.new-body.ensures.start c.new-body.ensures.len (c.len-len.ensures k.p k.postings_are) k.long (rw c.new-body.ensures.file k.postings_are) k.body in
     subst (λ (lie : Bool). IfErr c.copy_terms.result (IsTermFault lie (all_sound requested whole.terms))) (lie_moved requested whole files.option files.wanted.now k.option_is wanted)
     (subst (λ (short : Bool). IfErr c.copy_terms.result (IsTermFault (list_all (λ (t : WantedTerm). do_ranges_lie files.option whole.postings whole.positions (wanted_view t)) files.wanted.now) short)) (sound_moved requested whole.terms files.wanted.now wanted)
-    ((rw (c.in-Ok-new.ensures, c.in-Ok-new-2.ensures) at c.copy_terms.ensures.sound) whole.postings whole.positions body k.positions_are (rw c.new-body.ensures.file p_sound) q_sound))
+    ((rw (c.in-Ok-new_cache.ensures.same, c.in-Ok-new_cache-2.ensures.same) at c.copy_terms.ensures.sound) whole.postings whole.positions body k.positions_are (rw c.new-body.ensures.file p_sound) q_sound))
