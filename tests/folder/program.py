@@ -27,7 +27,7 @@ import versions
 PROGRAM = 'nequllpa_cli'
 FILES = {'schema': 'schema', 'term': 'terms', 'idx': 'postings', 'pos': 'positions', 'fieldnorm': 'field norms'}
 # the options with which a search reads a file that it doesn't need else
-READERS = {'count': ['--top', '1'], 'norm': ['--top', '1']}
+READERS = {'count': ['--top', '1', '--explain'], 'norm': ['--top', '1']}
 SEGMENT_FILES = {'term': 'terms', 'idx': 'postings', 'pos': 'positions', 'norm': 'field norms', 'count': 'counts'}
 
 

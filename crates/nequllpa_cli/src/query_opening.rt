@@ -26,18 +26,22 @@ pub struct OpenedQuery {
 }
 
 /// Opens of the index of a folder what the query of a text reads, or returns the status if the text is none. Returns
-/// `None` if the complete files must be loaded: the query reads much of them, they are those of an earlier program, or one
-/// can't be read as `meta` says.
+/// `None` if the complete files must be loaded: the query reads much of them, the search ranks and a document was deleted,
+/// whose tokens only the file of counts tells, they are those of an earlier program, or one can't be read as `meta` says.
 pub fn opened_for_query(
     rt: &HostRuntime,
     path: &str,
     given: &ArgMatches<'_>,
     text: &str,
+    scoring: EnableScoring,
 ) -> anyhow::Result<Option<Result<OpenedQuery, u8>>> {
     let Ok(Some(segments)) = open_latest(rt.alloc(), &Folder::new(rt, path)) else {
         return Ok(None);
     };
-    opened_of_query(rt, path, segments, given, text)
+    if scoring == EnableScoring::Enabled && !are_all_alive(&segments) {
+        return Ok(None);
+    }
+    opened_of_query(rt, path, segments, given, text, scoring)
 }
 
 // Does the same for open segments.
@@ -47,6 +51,7 @@ fn opened_of_query<F: ReadAt + Drop>(
     segments: OpenSegments<F>,
     given: &ArgMatches<'_>,
     text: &str,
+    scoring: EnableScoring,
 ) -> anyhow::Result<Option<Result<OpenedQuery, u8>>> {
     let Ok(index) = OpenedIndex::of_schema(rt.alloc(), segments.schema.as_slice()) else {
         return Ok(None);
@@ -63,7 +68,7 @@ fn opened_of_query<F: ReadAt + Drop>(
         return Ok(None);
     }
     query.bound(most_docs(&segments));
-    match warm_up_index(rt.alloc(), index, segments, &query, EnableScoring::Disabled) {
+    match warm_up_index(rt.alloc(), index, segments, &query, scoring) {
         Ok(opened) => {
             tell_left_out(rt, &opened, &fields, text)?;
             Ok(Some(Ok(OpenedQuery { opened, query })))
@@ -75,6 +80,16 @@ fn opened_of_query<F: ReadAt + Drop>(
             Ok(None)
         }
     }
+}
+
+// Returns whether no document of the segments is deleted.
+fn are_all_alive<F: ReadAt + Drop>(segments: &OpenSegments<F>) -> bool {
+    for segment in &segments.segments {
+        if segment.alive().num_living() != segment.num_docs() {
+            return false;
+        }
+    }
+    true
 }
 
 // Returns how many documents the largest segment has, living and dead; 0 if there is no segment.

@@ -18,6 +18,7 @@ use nequllpa_searching::{
     BestListing, CountFormat, Listing, MarkStyle, SourceLines, StoredPart, write_best, write_count,
     write_listing,
 };
+use nequllpa_warming::EnableScoring;
 use nequllpa_writing::{PROGRAM, REFUSED, refuse};
 use std::alloc::Global;
 use std::io::{self, BufWriter, Write};
@@ -55,7 +56,7 @@ pub fn answer_search(
     let timing = Timing::begin(rt, given)?;
     if let Some(text) = given.get_str("QUERY") {
         if prints_numbers(given) {
-            match opened_for_query(rt, path, given, text)? {
+            match opened_for_query(rt, path, given, text, scoring_given(given))? {
                 Some(Ok(found)) => {
                     timing.tell(rt, "opening")?;
                     return search_parts(rt, path, &found, given, limit);
@@ -74,13 +75,21 @@ pub fn answer_search(
     }
 }
 
-// Returns whether only the numbers of documents are printed, or how many they are. Then a search reads no more of the files
-// than the documents of its terms.
+// Returns whether only the numbers of documents are printed, with their scores or without, or how many they are. Then a
+// search reads no more of the files than the documents of its terms, and the norms of their fields.
 fn prints_numbers(given: &ArgMatches<'_>) -> bool {
     let with_more = given.get_flag("ids")
         || given.get_flag("positions")
-        || given.get_str("top").is_some();
+        || given.get_flag("explain");
     !with_more && option_of_line(given).is_none()
+}
+
+// Returns whether a search ranks.
+fn scoring_given(given: &ArgMatches<'_>) -> EnableScoring {
+    if given.get_str("top").is_some() {
+        return EnableScoring::Enabled;
+    }
+    EnableScoring::Disabled
 }
 
 // Opens an index with the files that a search reads. That ids are stored is known when the index is open: then it is
