@@ -1,3 +1,4 @@
 pub mod PartLemmas
+pub mod PartStatisticsLemmas
 pub mod ScoreLemmas
 mod WorkedRows

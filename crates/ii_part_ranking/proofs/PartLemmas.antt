@@ -1,5 +1,5 @@
 -- An index that has what ranking by a query reads of another one has the same terms for it, with the same norms.
-use Rattle.std.proofs.Common.{◌≡◌, ◌∙◌, ℕ, ◌<◌, Bool, true, false, ◌&&◌, ◌||◌, ◌==◌, List, [], ◌∷◌, Option, None, Some, bytes_eq, eq-eqb, if◌then◌else◌, length, refl, sym, ap}
+use Rattle.std.proofs.Common.{◌≡◌, ◌∙◌, ℕ, ◌<◌, Bool, true, false, ◌&&◌, ◌||◌, ◌==◌, List, [], ◌∷◌, Option, None, Some, bytes_eq, eq-eqb, if◌then◌else◌, length, not, refl, sym, ap}
 use Rattle.std.specs.Prelude.{nat_lt, slice_get}
 use Rattle.std.specs.List.{AllByRecursion, list_all, list_any}
 use Rattle.std.proofs.lemmas.Bool.{and_parts, ltb-true}
@@ -7,6 +7,8 @@ use Rattle.std.proofs.lemmas.List.Folds.{list_all-append}
 use Rattle.std.proofs.lemmas.Slice.Eq.{bytes_eq-Decides}
 use Rattle.ii_io.specs.Composite.{body_of}
 use Rattle.ii_base.specs.Terms.{TermState}
+use Rattle.ii_base.specs.Options.{has_positions}
+use Rattle.ii_base.specs.declared.schema.index_record_option.IndexRecordOption.{IndexRecordOption}
 use Rattle.ii_base.specs.declared.schema.index_record_option.IndexRecordOption.TheVariants.{Basic, WithFreqs, WithFreqsAndPositions}
 use Rattle.ii_definitions.proofs.ListLaws.{all_both}
 use Rattle.ii_query_parser.specs.declared.phrase_prefix.PhrasePrefix.{PhrasePrefix}
@@ -69,7 +71,7 @@ module _ (n : ℕ) where
         let both = and_parts (holds_for_all (is_within n) (phrase_is_within n) q) (hold_for_all (is_within n) (phrase_is_within n) qs) within in
         all_both (IsBelow n) (tree_terms q) (trees_terms qs) (terms_below q both.0) (all_terms_below qs both.1)
 
-or_true : (b : Bool) → (b || true) ≡ true
+pub or_true : (b : Bool) → (b || true) ≡ true
 or_true true = refl
 or_true false = refl
 
@@ -82,17 +84,17 @@ each_item {A} P Q R (x ∷ xs) implies ps qs = (
   each_item P Q R xs (λ y p q found. implies y p q (λ test passes. rw (found test passes) (or_true (test x)))) ps.1 qs.1,
 )
 
--- the counts of a key of which something is requested
-same_counts : (terms : List QueryTermState) (ranges : List QueryRangeState) (field : ℕ) (key : List ℕ) (part whole : Option InvertedIndexReaderState) → IsPartOfField (requested_of terms ranges field) part whole
-    → names_key Basic terms ranges field key ≡ true → docs_under WithFreqs key part ≡ docs_under WithFreqs key whole
-same_counts terms ranges field key None None parts named = refl
-same_counts terms ranges field key None (Some whole) parts named = absurd parts
-same_counts terms ranges field key (Some part) None parts named = absurd parts
-same_counts terms ranges field key (Some part) (Some whole) parts named = by (names_key WithFreqsAndPositions terms ranges field key) refl
+-- what is read of the list of a key of which something is requested
+pub same_docs : (option : IndexRecordOption) → serves option Basic ≡ true → (terms : List QueryTermState) (ranges : List QueryRangeState) (field : ℕ) (key : List ℕ) (part whole : Option InvertedIndexReaderState) → IsPartOfField (requested_of terms ranges field) part whole
+    → names_key Basic terms ranges field key ≡ true → docs_under option key part ≡ docs_under option key whole
+same_docs option served terms ranges field key None None parts named = refl
+same_docs option served terms ranges field key None (Some whole) parts named = absurd parts
+same_docs option served terms ranges field key (Some part) None parts named = absurd parts
+same_docs option served terms ranges field key (Some part) (Some whole) parts named = by (names_key WithFreqsAndPositions terms ranges field key) refl
   where
-    by : (b : Bool) → names_key WithFreqsAndPositions terms ranges field key ≡ b → docs_under WithFreqs key (Some part) ≡ docs_under WithFreqs key (Some whole)
-    by true all = parts.docs key WithFreqsAndPositions WithFreqs (rw all refl) refl
-    by false none = parts.docs key Basic WithFreqs (rw (none, named) refl) refl
+    by : (b : Bool) → names_key WithFreqsAndPositions terms ranges field key ≡ b → docs_under option key (Some part) ≡ docs_under option key (Some whole)
+    by true all = parts.docs key WithFreqsAndPositions option (rw all refl) (or_true (not (has_positions option)))
+    by false none = parts.docs key Basic option (rw (none, named) refl) served
 
 module _ (query : Query) (part whole : OpenIndexState) (has : IsScoredPartFor query part whole) where
   abbrev terms : List QueryTermState
@@ -111,7 +113,7 @@ module _ (query : Query) (part whole : OpenIndexState) (has : IsScoredPartFor qu
       let of_field : names_field terms ranges field ≡ true = rw (found (λ (u : QueryTermState). u.term.field == field) is_field) refl in
       record {
         documents = documents;
-        counts = same_counts terms ranges field key (slice_get part.readers field) (slice_get whole.readers field) (has.parts field) of_key;
+        counts = same_docs WithFreqs refl terms ranges field key (slice_get part.readers field) (slice_get whole.readers field) (has.parts field) of_key;
         norms = has.norms field below ∙ ap (λ (named : Bool). if named then body_of field whole.fieldnorms else None) of_field;
       }
 

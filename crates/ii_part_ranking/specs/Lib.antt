@@ -1,1 +1,2 @@
 pub mod PartScores
+pub mod PartStatistics

@@ -1,5 +1,6 @@
-//! The law of the scores in a small index that has what ranking by a query reads of another one.
+//! The laws of the scores in a small index that has what ranking by a query reads of another one.
 ghost use Rattle.ii_part_ranking.specs.PartScores.{PartsAreDamagedTheSame, PartsScoreTheSame};
+ghost use Rattle.ii_part_ranking.specs.PartStatistics.{PartsCountTheSame};
 
 /// Law: in an index that has of each field of another one the terms that a query reads, each as far as the query
 /// requests it, and the norms of the fields that the query names (`ii_warmup::warm_up` with `EnableScoring::Enabled`
@@ -8,4 +9,11 @@ ghost use Rattle.ii_part_ranking.specs.PartScores.{PartsAreDamagedTheSame, Parts
 pub fn parts_score_the_same()
     ensures scores { PartsScoreTheSame }
     ensures damage { PartsAreDamagedTheSame }
+{}
+
+/// Law: segments that have of each field of other ones the terms that a query reads, and in which the same documents are
+/// alive, have as many living documents, and as many that have each term of the query, as the other ones. How many tokens
+/// their fields have is in each the same (*IsPartOf*).
+pub fn parts_count_the_same()
+    ensures { PartsCountTheSame }
 {}

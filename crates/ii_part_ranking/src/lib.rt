@@ -3,4 +3,4 @@
 
 pub mod laws;
 
-pub use laws::parts_score_the_same;
+pub use laws::{parts_count_the_same, parts_score_the_same};
