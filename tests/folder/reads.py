@@ -40,20 +40,12 @@ def preloaded(user):
 
 
 def read_by(user, library, *words):
-    """Returns the output of a run, how many bytes it read and in how many reads, and its seconds without counting."""
-    out, into = os.pipe()
+    """Returns the output of a run, how many bytes it read, in how many reads, and the seconds of a run without counting."""
     begun = time.monotonic()
-    user.wants(words, 0)
+    user.run(*words)
     seconds = time.monotonic() - begun
-    if into != 3:
-        os.dup2(into, 3)
-    with open(user.path('counts'), 'wb') as counts:
-        os.dup2(counts.fileno(), 3)
-        done = subprocess.run([user.program, *words], stdout=subprocess.PIPE, stderr=subprocess.PIPE, cwd=user.room, pass_fds=(3,), env={**os.environ, 'LD_PRELOAD': library})
-    user.runs += 1
-    os.close(out)
-    if into != 3:
-        os.close(into)
+    counted = 'exec 3>counts && LD_PRELOAD="$0" exec "$@"'
+    done = subprocess.run(['sh', '-c', counted, library, user.program, *words], stdout=subprocess.PIPE, stderr=subprocess.PIPE, cwd=user.room, timeout=user.timeout)
     with open(user.path('counts'), 'rb') as counts:
         reads = [int(line) for line in counts.read().split()]
     return done.stdout, sum(reads), len(reads), seconds
