@@ -21,5 +21,7 @@ pub mod DecodesLaws
 pub mod SearchingLaws
 pub mod TextLaws
 mod TopLaws
+mod TermInfoLaws
+mod WarmupLaws
 mod WorkedRows
 mod TopDecodes

@@ -14,4 +14,5 @@ pub mod positions;
 pub mod queries;
 pub mod searching;
 pub mod texts;
+pub mod warming;
 pub mod writing;
