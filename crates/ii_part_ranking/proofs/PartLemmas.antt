@@ -1,7 +1,8 @@
 -- An index that has what ranking by a query reads of another one has the same terms for it, with the same norms.
-use Rattle.std.proofs.Common.{◌≡◌, ◌∙◌, ℕ, ◌<◌, Bool, true, false, ◌&&◌, ◌||◌, ◌==◌, List, [], ◌∷◌, Option, None, Some, bytes_eq, eq-eqb, if◌then◌else◌, length, not, refl, sym, ap}
+use Rattle.std.proofs.Common.{◌≡◌, ◌∙◌, ℕ, ◌<◌, Bool, true, false, ◌&&◌, ◌==◌, List, [], ◌∷◌, Option, None, Some, bytes_eq, eq-eqb, if◌then◌else◌, length, not, refl, sym, ap}
 use Rattle.std.specs.Prelude.{nat_lt, slice_get}
 use Rattle.std.specs.List.{AllByRecursion, list_all, list_any}
+use Rattle.std.proofs.Math.Bool.{or-true}
 use Rattle.std.proofs.lemmas.Bool.{and_parts, ltb-true}
 use Rattle.std.proofs.lemmas.List.Folds.{list_all-append}
 use Rattle.std.proofs.lemmas.Slice.Eq.{bytes_eq-Decides}
@@ -71,17 +72,13 @@ module _ (n : ℕ) where
         let both = and_parts (holds_for_all (is_within n) (phrase_is_within n) q) (hold_for_all (is_within n) (phrase_is_within n) qs) within in
         all_both (IsBelow n) (tree_terms q) (trees_terms qs) (terms_below q both.0) (all_terms_below qs both.1)
 
-pub or_true : (b : Bool) → (b || true) ≡ true
-or_true true = refl
-or_true false = refl
-
 -- what two predicates of an item, and its place in a list, imply for each item
 each_item : {A : Type 0} (P Q R : A → Type 0) (xs : List A) → ((x : A) → P x → Q x → ((test : A → Bool) → test x ≡ true → list_any test xs ≡ true) → R x)
     → AllByRecursion P xs → AllByRecursion Q xs → AllByRecursion R xs
 each_item P Q R [] implies ps qs = tt
 each_item {A} P Q R (x ∷ xs) implies ps qs = (
   implies x ps.0 qs.0 (λ test passes. rw passes refl),
-  each_item P Q R xs (λ y p q found. implies y p q (λ test passes. rw (found test passes) (or_true (test x)))) ps.1 qs.1,
+  each_item P Q R xs (λ y p q found. implies y p q (λ test passes. rw (found test passes) (or-true (test x)))) ps.1 qs.1,
 )
 
 -- what is read of the list of a key of which something is requested
@@ -93,7 +90,7 @@ same_docs option served terms ranges field key (Some part) None parts named = ab
 same_docs option served terms ranges field key (Some part) (Some whole) parts named = by (names_key WithFreqsAndPositions terms ranges field key) refl
   where
     by : (b : Bool) → names_key WithFreqsAndPositions terms ranges field key ≡ b → docs_under option key (Some part) ≡ docs_under option key (Some whole)
-    by true all = parts.docs key WithFreqsAndPositions option (rw all refl) (or_true (not (has_positions option)))
+    by true all = parts.docs key WithFreqsAndPositions option (rw all refl) (or-true (not (has_positions option)))
     by false none = parts.docs key Basic option (rw (none, named) refl) served
 
 module _ (query : Query) (part whole : OpenIndexState) (has : IsScoredPartFor query part whole) where

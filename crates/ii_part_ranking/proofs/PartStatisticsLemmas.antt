@@ -2,6 +2,7 @@
 use Rattle.std.proofs.Common.{◌≡◌, ◌∙◌, ℕ, ◌+◌, Bool, true, false, ◌&&◌, ◌||◌, ◌==◌, List, [], ◌∷◌, ◌++◌, bytes_eq, eq-eqb, map, refl, sym, ap}
 use Rattle.std.specs.Prelude.{slice_get}
 use Rattle.std.specs.List.{AllByRecursion, list_any}
+use Rattle.std.proofs.Math.Bool.{or-true}
 use Rattle.std.proofs.lemmas.Slice.Eq.{bytes_eq-Decides}
 use Rattle.ii_alive.specs.Alive.{num_living}
 use Rattle.ii_base.specs.Terms.{TermState}
@@ -12,16 +13,14 @@ use Rattle.ii_query_parser.specs.declared.query.Query.{Query}
 use Rattle.ii_query_parser.specs.declared.query.Query.TheVariants.{Term}
 use Rattle.ii_query_parser.specs.Queries as queries
 use Rattle.ii_query_parser.specs.Queries.{QueryTree, QueryTrees, tree_of}
-use Rattle.ii_query_parser.proofs.QueryLemmas.{term_tree}
-use Rattle.ii_reader.specs.OpenIndex.{OpenIndexState}
-use Rattle.ii_search.specs.Found.{docs_of_term, found_in, tree_found}
+use Rattle.ii_search.specs.Found.{found_in}
 use Rattle.ii_segment_search.specs.Searcher.{OpenSegmentState, found_from, total_living}
+use Rattle.ii_statistics.proofs.ListedLemmas.{term_found}
 use Rattle.ii_statistics.specs.Statistics as statistics
 use Rattle.ii_statistics.specs.Statistics.{doc_freq_in, num_found}
-use Rattle.ii_warmup.specs.Parts.{IsPartFor}
 use Rattle.ii_warmup.specs.QueryTerms.{QueryTermState, later_terms, names_key, query_ranges, query_terms, serves, tree_terms, trees_terms, with_positions}
 use Rattle.ii_part_ranking.specs.PartStatistics.{ArePartSegments, PartsCountTheSame}
-use Rattle.ii_part_ranking.proofs.PartLemmas.{or_true, same_docs}
+use Rattle.ii_part_ranking.proofs.PartLemmas.{same_docs}
 
 -- whether a term of a query is this one
 abbrev is_term : TermState → QueryTermState → Bool
@@ -44,7 +43,7 @@ any_before f (x ∷ xs) ys h = or_first (f x) (list_any f xs) (list_any f (xs ++
 
 any_after : (f : QueryTermState → Bool) (xs ys : List QueryTermState) → list_any f ys ≡ true → list_any f (xs ++ ys) ≡ true
 any_after f [] ys h = h
-any_after f (x ∷ xs) ys h = rw (any_after f xs ys h) (or_true (f x))
+any_after f (x ∷ xs) ys h = rw (any_after f xs ys h) (or-true (f x))
 
 among_before : (xs ys : List QueryTermState) (ts : List TermState) → AllByRecursion (IsAmongTerms xs) ts → AllByRecursion (IsAmongTerms (xs ++ ys)) ts
 among_before xs ys [] h = tt
@@ -82,10 +81,6 @@ mutual
       (among_before (tree_terms q) (trees_terms qs) (statistics.tree_terms q) (terms_among q))
       (among_after (tree_terms q) (trees_terms qs) (statistics.trees_terms qs) (all_among qs))
 
--- the documents of a term in a segment
-docs_found : (index : OpenIndexState) (t : TermState) → found_in index (Term t) ≡ docs_of_term Basic index t
-docs_found index t = ap (tree_found index) (term_tree t)
-
 same_in_each : (query : Query) (t : TermState) (base : ℕ) (parts whole : List OpenSegmentState) → IsAmongTerms (query_terms query) t → ArePartSegments query parts whole → found_from (Term t) base parts ≡ found_from (Term t) base whole
 same_in_each query t base [] [] among h = refl
 same_in_each query t base [] (w ∷ ws) among h = absurd h
@@ -93,7 +88,7 @@ same_in_each query t base (p ∷ ps) [] among h = absurd h
 same_in_each query t base (p ∷ ps) (w ∷ ws) among h =
     let named : names_key Basic (query_terms query) (query_ranges query) t.field t.value ≡ true = rw among refl in
     let docs = same_docs Basic refl (query_terms query) (query_ranges query) t.field t.value (slice_get p.index.readers t.field) (slice_get w.index.readers t.field) (h.0.0 t.field) named in
-    let found : found_in p.index (Term t) ≡ found_in w.index (Term t) = docs_found p.index t ∙ docs ∙ sym (docs_found w.index t) in
+    let found : found_in p.index (Term t) ≡ found_in w.index (Term t) = term_found p.index t ∙ docs ∙ sym (term_found w.index t) in
     let rest = same_in_each query t (base + num_living p.alive) ps ws among h.1 in
     rw (found, rest, h.0.1) refl
 

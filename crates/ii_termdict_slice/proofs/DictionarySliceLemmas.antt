@@ -4,9 +4,9 @@ use Rattle.std.specs.Prelude.{IsOk}
 use Rattle.std.proofs.lemmas.Bool.{le-leb, lt-leb}
 use Rattle.std.proofs.lemmas.List.{drop-drop, length-drop}
 use Rattle.ii_io.specs.Numbers.{little_endian, number_at}
-use Rattle.ii_termdict.specs.Dictionary.{dictionary, end_of, key_of, key_parts, start_of, store_after}
-use Rattle.ii_termdict.proofs.DictionaryLemmas.{dictionary-opened, key_lies, no_dictionary, start_lies}
-use Rattle.ii_termdict_slice.specs.Slices.{HasParts, HasStore, ends_in, keys_in}
+use Rattle.ii_termdict.specs.Dictionary.{dictionary, end_of, key_of, key_parts, start_of}
+use Rattle.ii_termdict.proofs.DictionaryLemmas.{dictionary-opened, key_lies, no_dictionary}
+use Rattle.ii_termdict_slice.specs.Slices.{HasParts, ends_in, from_keys}
 use Rattle.ii_termdict_slice.proofs.MetaLemmas.{number_whole}
 
 -- where key i ends
@@ -34,29 +34,16 @@ unfolding key_parts
 has_parts n bs is room there =
     let long : 8 ≤ length bs = omega (arith, room) in
     let enough : 8 * n ≤ length (drop 8 bs) = omega (arith, room, length-drop 8 bs) in
-    let parts : Some (n, ends_in bs, keys_in n bs) ≡ key_parts bs = rw (number_whole 8 bs long, ← is, le-leb (8 * n) (length (drop 8 bs)) enough, drop-drop (8 * n) 8 bs) refl in
-    let known = dictionary-opened bs n (ends_in bs) (keys_in n bs) parts enough there in
+    let parts : Some (n, ends_in bs, from_keys n bs) ≡ key_parts bs = rw (number_whole 8 bs long, ← is, le-leb (8 * n) (length (drop 8 bs)) enough, drop-drop (8 * n) 8 bs) refl in
+    let known = dictionary-opened bs n (ends_in bs) (from_keys n bs) parts enough there in
     record { room = room; opened = known.0; entries = known.1 }
 
 -- a key lies within the bytes
 pub key_within : (n i : ℕ) (bs : List ℕ) → HasParts n bs → i < n → (start_of (ends_in bs) i ≤ end_of (ends_in bs) i) × (8 + 8 * n + end_of (ends_in bs) i ≤ length bs)
 key_within n i bs parts within =
-    let lies = key_lies n (ends_in bs) (keys_in n bs) i within parts.opened.rise in
+    let lies = key_lies n (ends_in bs) (from_keys n bs) i within parts.opened.rise in
     (lies.0, omega (arith, lies.1, parts.room, length-drop (8 + 8 * n) bs))
 
--- the store begins within the bytes
-pub store_within : (n : ℕ) (bs : List ℕ) → HasParts n bs → 8 + 8 * n + start_of (ends_in bs) n ≤ length bs
-store_within n bs parts =
-    let lies = start_lies n (ends_in bs) (keys_in n bs) parts.opened.rise in
-    omega (arith, lies, parts.room, length-drop (8 + 8 * n) bs)
-
 -- the bytes of a key
-pub key_is : (n i start end : ℕ) (bs key : List ℕ) → start ≡ start_of (ends_in bs) i → end ≡ end_of (ends_in bs) i → key ≡ take (end - start) (drop (8 + 8 * n + start) bs) → key ≡ key_of (ends_in bs) (keys_in n bs) i
+pub key_is : (n i start end : ℕ) (bs key : List ℕ) → start ≡ start_of (ends_in bs) i → end ≡ end_of (ends_in bs) i → key ≡ take (end - start) (drop (8 + 8 * n + start) bs) → key ≡ key_of (ends_in bs) (from_keys n bs) i
 key_is n i start end bs key start_is end_is is = is ∙ ap (take (end - start)) (sym (drop-drop start (8 + 8 * n) bs)) ∙ rw (start_is, end_is) refl
-
--- the store after the keys
-pub store_there : (n end : ℕ) (bs : List ℕ) → end ≡ start_of (ends_in bs) n → store_after n (ends_in bs) (keys_in n bs) ≡ drop (8 + 8 * n + end) bs
-store_there n end bs is = rw is (drop-drop (start_of (ends_in bs) n) (8 + 8 * n) bs)
-
-pub store_held : (n end : ℕ) (bs : List ℕ) → HasParts n bs → end ≡ start_of (ends_in bs) n → HasStore (8 + 8 * n + end) n bs
-store_held n end bs parts is = rw (← store_there n end bs is) parts.opened.store

@@ -3,6 +3,7 @@ use Rattle.std.proofs.Common.{◌≡◌, ◌∙◌, ℕ, zero, suc, ◌+◌, ◌
 use Rattle.std.specs.Prelude.{IfSome, IsSome, IsSomeAnd, slice_get, unwrap_or}
 use Rattle.std.specs.List.{range_with_len}
 use Rattle.std.specs.Option.{option_map}
+use Rattle.std.proofs.Math.Bool.{or-true}
 use Rattle.std.proofs.Math.Nat.{mul-le-mul_right, suc-mul}
 use Rattle.std.proofs.lemmas.Bool.{eqb-true, le-leb, leb-true, lt-leb, lt-ltb, ne_eqb}
 use Rattle.std.proofs.lemmas.List.{drop-drop, length-drop, length-take-le, take-append-drop}
@@ -16,7 +17,7 @@ use Rattle.ii_termstore.specs.declared.term_info.TermInfo.{TermInfo}
 use Rattle.ii_termstore.specs.declared.term_info_store.block_meta.TermInfoBlockMeta.{TermInfoBlockMeta as Meta}
 use Rattle.ii_termstore.specs.TermInfos.{is_sound}
 use Rattle.ii_termstore.specs.TermStore.{are_blocks, at_start, bits_len, bits_lie, block_bits, block_count, block_info, block_meta_at, block_terms, doc_freq_at, has_block, is_block, later_info, meta_at, meta_size, positions_number, postings_number, sound_term, store_parts, term_bits, term_info_at, term_store}
-use Rattle.ii_termdict_slice.specs.Slices.{HasBits, HasMeta, HasStore}
+use Rattle.ii_termdict_slice.specs.Slices.{HasBits, HasMeta, HasStoreAt}
 use Rattle.ii_termstore.proofs.ListLemmas.{all_at}
 use Rattle.ii_termstore.proofs.StoreLemmas.{block_parts, block_within, stored_at, term_info_at-is, term_within}
 
@@ -70,16 +71,12 @@ info_same m terms k bits read r some within =
       positions_same m terms (k + 1) bits read r (omega arith) (omega (arith, within)),
     ) refl
 
-or_true : (b : Bool) → (b || true) ≡ true
-or_true true = refl
-or_true false = refl
-
 -- whether the bits that were read suffice
 read_lies : (m : Meta) (terms : ℕ) (bits read : List ℕ) → IsRead m terms bits read → bits_lie (at_start m) terms (length read) ≡ true
 read_lies m terms bits read r =
     let size : length read ≡ bits_len m terms = ap length r.read_is ∙ length-take-le (bits_len m terms) (drop m.offset bits) r.fits in
     let enough : 8 * 0 + block_bits m terms ≤ 8 * length read = omega (arith, size) in
-    rw (le-leb (8 * 0 + block_bits m terms) (8 * length read) enough) (or_true (nat_le terms 1 || eqb (block_bits m terms) 0))
+    rw (le-leb (8 * 0 + block_bits m terms) (8 * length read) enough) (or-true (nat_le terms 1 || eqb (block_bits m terms) 0))
 
 -- a term after the first of a valid block, read of the block's bits alone
 pub term_same : (m : Meta) (terms k : ℕ) (bits read : List ℕ) → is_block m terms bits ≡ true → terms ≤ 256 → 0 < k → k < terms → IsRead m terms bits read → sound_term (at_start m) terms read k ≡ Some (block_info m bits k)
@@ -170,12 +167,12 @@ meta_place : (ord store : ℕ) (bs : List ℕ) → drop (meta_size * (ord / 256)
 meta_place ord store bs = ap (drop (meta_size * (ord / 256))) (drop-drop 16 store bs) ∙ drop-drop (meta_size * (ord / 256)) (store + 16) bs
 
 -- the block of a term is valid
-block_valid : (n ord store : ℕ) (bs : List ℕ) → HasStore store n bs → ord < n → has_block (drop 16 (drop store bs)) (bits_of n store bs) n (ord / 256) ≡ true
+block_valid : (n ord store : ℕ) (bs : List ℕ) → HasStoreAt store n bs → ord < n → has_block (drop 16 (drop store bs)) (bits_of n store bs) n (ord / 256) ≡ true
 block_valid n ord store bs held within =
     all_at (has_block (drop 16 (drop store bs)) (bits_of n store bs) n) (block_count n) (ord / 256) (block_within ord n within) (has_blocks n (drop store bs) held).blocks
 
 -- the meta of a term's block lies within the bytes
-pub has_meta : (n ord store : ℕ) (bs : List ℕ) → HasStore store n bs → ord < n → HasMeta (store + 16 + meta_size * (ord / 256)) bs
+pub has_meta : (n ord store : ℕ) (bs : List ℕ) → HasStoreAt store n bs → ord < n → HasMeta (store + 16 + meta_size * (ord / 256)) bs
 unfolding block_meta_at
 has_meta n ord store bs held within =
     let blocks = has_blocks n (drop store bs) held in
@@ -190,7 +187,7 @@ has_meta n ord store bs held within =
     by (Some m) valid = refl
 
 -- a block with this meta is valid
-pub block_is : (n ord store : ℕ) (bs : List ℕ) (m : Meta) → HasStore store n bs → ord < n → meta_in (drop (store + 16 + meta_size * (ord / 256)) bs) ≡ Some m → is_block m (block_terms n (ord / 256)) (bits_of n store bs) ≡ true
+pub block_is : (n ord store : ℕ) (bs : List ℕ) (m : Meta) → HasStoreAt store n bs → ord < n → meta_in (drop (store + 16 + meta_size * (ord / 256)) bs) ≡ Some m → is_block m (block_terms n (ord / 256)) (bits_of n store bs) ≡ true
 unfolding block_meta_at
 block_is n ord store bs m held within found =
     let valid = block_valid n ord store bs held within in
@@ -198,7 +195,7 @@ block_is n ord store bs m held within found =
     rw here at valid
 
 -- a term of a store, by its block
-term_there : (n ord store : ℕ) (bs : List ℕ) (m : Meta) (info : TermInfo) → HasStore store n bs → ord < n → meta_in (drop (store + 16 + meta_size * (ord / 256)) bs) ≡ Some m → info ≡ block_info m (bits_of n store bs) (ord % 256)
+term_there : (n ord store : ℕ) (bs : List ℕ) (m : Meta) (info : TermInfo) → HasStoreAt store n bs → ord < n → meta_in (drop (store + 16 + meta_size * (ord / 256)) bs) ≡ Some m → info ≡ block_info m (bits_of n store bs) (ord % 256)
     → IfSome (term_store (drop store bs)) (λ infos. slice_get infos ord ≡ Some info)
 unfolding block_meta_at
 term_there n ord store bs m info held within found is =
@@ -208,12 +205,12 @@ term_there n ord store bs m info held within found is =
     rw blocks.infos (stored_at n ord metas (bits_of n store bs) info within (is ∙ sym (term_info_at-is metas (bits_of n store bs) ord m meta)))
 
 -- the first term of a block
-pub first_there : (n ord store : ℕ) (bs : List ℕ) (m : Meta) → HasStore store n bs → ord < n → meta_in (drop (store + 16 + meta_size * (ord / 256)) bs) ≡ Some m → ord % 256 ≡ 0
+pub first_there : (n ord store : ℕ) (bs : List ℕ) (m : Meta) → HasStoreAt store n bs → ord < n → meta_in (drop (store + 16 + meta_size * (ord / 256)) bs) ≡ Some m → ord % 256 ≡ 0
     → IfSome (term_store (drop store bs)) (λ infos. slice_get infos ord ≡ Some m.ref_term_info)
 first_there n ord store bs m held within found first = term_there n ord store bs m m.ref_term_info held within found (rw first refl)
 
 -- the bits of a later term's block lie within the bytes
-pub has_bits : (n ord store : ℕ) (bs : List ℕ) (m : Meta) → HasStore store n bs → ord < n → meta_in (drop (store + 16 + meta_size * (ord / 256)) bs) ≡ Some m → 0 < ord % 256
+pub has_bits : (n ord store : ℕ) (bs : List ℕ) (m : Meta) → HasStoreAt store n bs → ord < n → meta_in (drop (store + 16 + meta_size * (ord / 256)) bs) ≡ Some m → 0 < ord % 256
     → (bits_len m (block_terms n (ord / 256)) ≤ length (drop m.offset (bits_of n store bs))) × HasBits (store + (16 + meta_size * block_count n)) m (block_terms n (ord / 256)) bs
 has_bits n ord store bs m held within found later =
     let blocks = has_blocks n (drop store bs) held in
@@ -227,7 +224,7 @@ bits_place : (n store offset : ℕ) (bs : List ℕ) → drop offset (bits_of n s
 bits_place n store offset bs = ap (drop offset) (drop-drop (16 + meta_size * block_count n) store bs) ∙ drop-drop offset (store + (16 + meta_size * block_count n)) bs
 
 -- what the bits of its block say of a later term
-later_is : (n ord store : ℕ) (bs read : List ℕ) (m : Meta) → HasStore store n bs → ord < n → meta_in (drop (store + 16 + meta_size * (ord / 256)) bs) ≡ Some m → 0 < ord % 256
+later_is : (n ord store : ℕ) (bs read : List ℕ) (m : Meta) → HasStoreAt store n bs → ord < n → meta_in (drop (store + 16 + meta_size * (ord / 256)) bs) ≡ Some m → 0 < ord % 256
     → read ≡ take (bits_len m (block_terms n (ord / 256))) (drop (store + (16 + meta_size * block_count n) + m.offset) bs) → sound_term (at_start m) (block_terms n (ord / 256)) read (ord % 256) ≡ Some (block_info m (bits_of n store bs) (ord % 256))
 later_is n ord store bs read m held within found later is =
     let terms = block_terms n (ord / 256) in
@@ -235,11 +232,11 @@ later_is n ord store bs read m held within found later is =
     term_same m terms (ord % 256) (bits_of n store bs) read (block_is n ord store bs m held within found) (omega arith) later (term_within ord n within)
     (record { fits = fits; read_is = is ∙ ap (take (bits_len m terms)) (sym (bits_place n store m.offset bs)) })
 
-pub later_there : (n ord store : ℕ) (bs read : List ℕ) (m : Meta) (info : TermInfo) → HasStore store n bs → ord < n → meta_in (drop (store + 16 + meta_size * (ord / 256)) bs) ≡ Some m → 0 < ord % 256
+pub later_there : (n ord store : ℕ) (bs read : List ℕ) (m : Meta) (info : TermInfo) → HasStoreAt store n bs → ord < n → meta_in (drop (store + 16 + meta_size * (ord / 256)) bs) ≡ Some m → 0 < ord % 256
     → read ≡ take (bits_len m (block_terms n (ord / 256))) (drop (store + (16 + meta_size * block_count n) + m.offset) bs) → Some info ≡ sound_term (at_start m) (block_terms n (ord / 256)) read (ord % 256)
     → IfSome (term_store (drop store bs)) (λ infos. slice_get infos ord ≡ Some info)
 later_there n ord store bs read m info held within found later is given = term_there n ord store bs m info held within found (some-same (given ∙ later_is n ord store bs read m held within found later is))
 
-pub later_missing : (n ord store : ℕ) (bs read : List ℕ) (m : Meta) → HasStore store n bs → ord < n → meta_in (drop (store + 16 + meta_size * (ord / 256)) bs) ≡ Some m → 0 < ord % 256
+pub later_missing : (n ord store : ℕ) (bs read : List ℕ) (m : Meta) → HasStoreAt store n bs → ord < n → meta_in (drop (store + 16 + meta_size * (ord / 256)) bs) ≡ Some m → 0 < ord % 256
     → read ≡ take (bits_len m (block_terms n (ord / 256))) (drop (store + (16 + meta_size * block_count n) + m.offset) bs) → None ≡ sound_term (at_start m) (block_terms n (ord / 256)) read (ord % 256) → ⊥
 later_missing n ord store bs read m held within found later is none = let there = none ∙ later_is n ord store bs read m held within found later is in cc

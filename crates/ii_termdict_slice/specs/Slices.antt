@@ -9,27 +9,27 @@ abbrev pub ends_in : List ℕ → List ℕ
 ends_in bytes = drop 8 bytes
 
 -- the bytes from the keys on, after the ends of n
-abbrev pub keys_in : ℕ → List ℕ → List ℕ
-keys_in n bytes = drop (8 + 8 * n) bytes
+abbrev pub from_keys : ℕ → List ℕ → List ℕ
+from_keys n bytes = drop (8 + 8 * n) bytes
 
 -- Bytes hold a dictionary of n terms.
 pub record HasParts (n : ℕ) (bytes : List ℕ) : Type 0 where
   pub room : 8 + 8 * n ≤ length bytes
-  pub opened : AreOpened n (ends_in bytes) (keys_in n bytes)
-  pub entries : dictionary bytes ≡ Ok (opened_entries n (ends_in bytes) (keys_in n bytes))
+  pub opened : AreOpened n (ends_in bytes) (from_keys n bytes)
+  pub entries : dictionary bytes ≡ Ok (opened_entries n (ends_in bytes) (from_keys n bytes))
 
 -- If a file's bytes are known and hold a dictionary, this is one of n terms.
 abbrev pub CountsTerms : Option (List ℕ) → ℕ → Type 0
 CountsTerms known n = (bytes : List ℕ) → known ≡ Some bytes → IsOk (dictionary bytes) → HasParts n bytes
 
 -- The ordinal of a key among n, or none if it isn't one of them.
-abbrev pub IsPlaceOf : ℕ → List ℕ → List ℕ → Option ℕ → Type 0
-IsPlaceOf n key bytes found =
-    MatchOption found ((i : ℕ) → i < n → key_of (ends_in bytes) (keys_in n bytes) i ≡ key → ⊥) (λ ord. (ord < n) × (key_of (ends_in bytes) (keys_in n bytes) ord ≡ key))
+abbrev pub IsOrdinalOf : ℕ → List ℕ → List ℕ → Option ℕ → Type 0
+IsOrdinalOf n key bytes found =
+    MatchOption found ((i : ℕ) → i < n → key_of (ends_in bytes) (from_keys n bytes) i ≡ key → ⊥) (λ ord. (ord < n) × (key_of (ends_in bytes) (from_keys n bytes) ord ≡ key))
 
 -- A store of n terms begins at a place of bytes.
-abbrev pub HasStore : ℕ → ℕ → List ℕ → Type 0
-HasStore start n bytes = IsSomeAnd (term_store (drop start bytes)) (λ infos. length infos ≡ n)
+abbrev pub HasStoreAt : ℕ → ℕ → List ℕ → Type 0
+HasStoreAt start n bytes = IsSomeAnd (term_store (drop start bytes)) (λ infos. length infos ≡ n)
 
 -- A meta begins at a place of bytes.
 pub record HasMeta (start : ℕ) (bytes : List ℕ) : Type 0 where

@@ -5,7 +5,7 @@ ghost use Rattle.std.specs.Cmp.Lexicographic.{slice_cmp};
 ghost use Rattle.ii_termstore.specs.TermStore.{term_store};
 ghost use Rattle.ii_termdict.specs.Dictionary.{dictionary, end_of, info_under, key_of, start_of, store_after};
 ghost use Rattle.ii_termdict_slice.specs.Reading.{Reads};
-ghost use Rattle.ii_termdict_slice.specs.Slices.{HasParts, IsPlaceOf, ends_in, keys_in};
+ghost use Rattle.ii_termdict_slice.specs.Slices.{HasParts, IsOrdinalOf, ends_in, from_keys};
 
 use crate::reading::{read_bytes, read_u64};
 use crate::store_slice::read_term_info;
@@ -138,7 +138,7 @@ fn read_key<H: FileHandle>(
     requires room { 8 + 8 * num_terms < 2 ^ 64 }
     requires within { i < num_terms }
     ensures file { file.new ≡ file.old }
-    ensures reads { Reads (H.bytes file.old) (H.is_sound file.old) (HasParts num_terms) (λ bs key. key ≡ key_of (ends_in bs) (keys_in num_terms bs) i) result }
+    ensures reads { Reads (H.bytes file.old) (H.is_sound file.old) (HasParts num_terms) (λ bs key. key ≡ key_of (ends_in bs) (from_keys num_terms bs) i) result }
 {
     let start = match read_start(alloc, file, i) {
         Ok(start) => start,
@@ -170,7 +170,7 @@ fn compare_key<H: FileHandle>(
     requires room { 8 + 8 * num_terms < 2 ^ 64 }
     requires within { i < num_terms }
     ensures file { file.new ≡ file.old }
-    ensures reads { Reads (H.bytes file.old) (H.is_sound file.old) (HasParts num_terms) (λ bs order. order ≡ slice_cmp nat_cmp key.now (key_of (ends_in bs) (keys_in num_terms bs) i)) result }
+    ensures reads { Reads (H.bytes file.old) (H.is_sound file.old) (HasParts num_terms) (λ bs order. order ≡ slice_cmp nat_cmp key.now (key_of (ends_in bs) (from_keys num_terms bs) i)) result }
 {
     match read_key(alloc, file, num_terms, i) {
         Ok(other) => Ok(key.cmp(other.as_slice())),
@@ -188,7 +188,7 @@ fn find<H: FileHandle>(
     requires { 8 + 8 * num_terms < 2 ^ 64 }
     ensures file { file.new ≡ file.old }
     ensures within { IfOk result (λ found. IfSome found (λ ord. ord < num_terms)) }
-    ensures reads { Reads (H.bytes file.old) (H.is_sound file.old) (HasParts num_terms) (IsPlaceOf num_terms key.now) result }
+    ensures reads { Reads (H.bytes file.old) (H.is_sound file.old) (HasParts num_terms) (IsOrdinalOf num_terms key.now) result }
 {
     let mut low = 0u64;
     let mut high = num_terms;
@@ -217,7 +217,7 @@ fn read_info<H: FileHandle>(
     requires room { 8 + 8 * num_terms < 2 ^ 64 }
     requires within { ord < num_terms }
     ensures file { file.new ≡ file.old }
-    ensures reads { Reads (H.bytes file.old) (H.is_sound file.old) (HasParts num_terms) (λ bs info. IfSome (term_store (store_after num_terms (ends_in bs) (keys_in num_terms bs))) (λ infos. slice_get infos ord ≡ Some info)) result }
+    ensures reads { Reads (H.bytes file.old) (H.is_sound file.old) (HasParts num_terms) (λ bs info. IfSome (term_store (store_after num_terms (ends_in bs) (from_keys num_terms bs))) (λ infos. slice_get infos ord ≡ Some info)) result }
 {
     let end = match read_start(alloc, file, num_terms) {
         Ok(end) => end,

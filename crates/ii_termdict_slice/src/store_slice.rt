@@ -3,7 +3,7 @@ ghost use Rattle.std.specs.Prelude.{◌≡◌, ◌+◌, ◌<◌, ◌≤◌, IfSo
 ghost use Rattle.std.specs.Option.{option_map};
 ghost use Rattle.ii_termstore.specs.TermStore.{bits_len, block_count, block_terms, meta_at, term_store};
 ghost use Rattle.ii_termdict_slice.specs.Reading.{Reads};
-ghost use Rattle.ii_termdict_slice.specs.Slices.{HasBits, HasMeta, HasStore};
+ghost use Rattle.ii_termdict_slice.specs.Slices.{HasBits, HasMeta, HasStoreAt};
 
 use crate::reading::read_bytes;
 use bytes::Bytes;
@@ -33,7 +33,7 @@ pub(crate) fn read_term_info<H: FileHandle>(
 ) -> Result<TermInfo, FileFault>
     requires { ord < num_terms }
     ensures file { file.new ≡ file.old }
-    ensures reads { Reads (H.bytes file.old) (H.is_sound file.old) (HasStore store num_terms) (λ bs info. IfSome (term_store (drop store bs)) (λ infos. slice_get infos ord ≡ Some info)) result }
+    ensures reads { Reads (H.bytes file.old) (H.is_sound file.old) (HasStoreAt store num_terms) (λ bs info. IfSome (term_store (drop store bs)) (λ infos. slice_get infos ord ≡ Some info)) result }
 {
     let metas_len = HEADER_SIZE + META_SIZE * count_blocks(num_terms);
     let room = file.len().saturating_sub(store);

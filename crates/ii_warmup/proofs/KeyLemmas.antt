@@ -1,5 +1,6 @@
 -- The keys of terms, gathered in a set.
 use Rattle.std.proofs.Common.{◌≡◌, ◌∙◌, ℕ, ◌||◌, Bool, true, false, List, [], ◌∷◌, Ordering, Vec, Global, bytes_eq, not, refl, sym}
+use Rattle.std.proofs.Math.Bool.{or-true}
 use Rattle.std.specs.Ordering.{nat_cmp}
 use Rattle.std.specs.Cmp.Lexicographic.{bytes_decides, slice_cmp}
 use Rattle.std.specs.declared.cmp.Ordering.TheVariants.{Less, Equal, Greater}
@@ -22,10 +23,6 @@ pub sorted_items : (ks : List (Vec ℕ Global)) → IsStrictlySortedBy by_items 
 unfolding IsStrictlySortedBy
 sorted_items [] h = tt
 sorted_items (k ∷ ks) h = (later_items k ks h.0, sorted_items ks h.1)
-
-or_true : (b : Bool) → (b || true) ≡ true
-or_true true = refl
-or_true false = refl
 
 or_same : (a r : Bool) → (a || (a || r)) ≡ true → (a || r) ≡ true
 or_same true r h = refl
@@ -56,12 +53,12 @@ one_more_key old new k value key rest new_is value_is h = by (list_any (bytes_eq
     there is = rw is refl
 
     by : (a b : Bool) → list_any (bytes_eq key) (key_items old) ≡ a → bytes_eq value key ≡ b → (a || (b || rest)) ≡ true → (list_any (bytes_eq key) (key_items new) || rest) ≡ true
-    by true b old_is is h = there (rw new_is (inserted key k old (rw old_is (or_true (bytes_eq key k.items)))))
+    by true b old_is is h = there (rw new_is (inserted key k old (rw old_is (or-true (bytes_eq key k.items)))))
     by false true old_is is h =
         let same : key ≡ k.items = sym ((bytes_decides value key).0 is) ∙ sym value_is in
         let here = (bytes_decides key k.items).1 same in
         there (rw new_is (inserted key k old (rw here refl)))
-    by false false old_is is h = rw h (or_true (list_any (bytes_eq key) (key_items new)))
+    by false false old_is is h = rw h (or-true (list_any (bytes_eq key) (key_items new)))
 
 pub is_true : (b : Bool) → false ≡ not b → b ≡ true
 is_true true h = refl

@@ -1,7 +1,8 @@
 -- An index that has what a query reads of another one is the same for the query.
-use Rattle.std.proofs.Common.{◌≡◌, ◌∙◌, ℕ, Bool, true, false, ◌&&◌, ◌||◌, ◌==◌, List, [], ◌∷◌, ◌++◌, Option, None, Some, Result, bytes_eq, eq-eqb, filter, is_some, map, refl, ap}
+use Rattle.std.proofs.Common.{◌≡◌, ◌∙◌, ℕ, Bool, true, false, ◌&&◌, ◌==◌, List, [], ◌∷◌, ◌++◌, Option, None, Some, Result, bytes_eq, eq-eqb, filter, is_some, map, refl, ap}
 use Rattle.std.specs.Prelude.{slice_get}
 use Rattle.std.specs.List.{AllByRecursion, list_any}
+use Rattle.std.proofs.Math.Bool.{or-true}
 use Rattle.std.proofs.lemmas.Slice.Eq.{bytes_eq-Decides}
 use Rattle.ii_io.specs.declared.faults.Part.{Part}
 use Rattle.ii_base.specs.Entries.{Entry}
@@ -18,14 +19,10 @@ use Rattle.ii_warmup.specs.Parts.{IsPartFor, IsPartOfField, PartsAreSame, PartsF
 use Rattle.ii_warmup.specs.SameFor.{SameRange, SameTerm, range_docs}
 use Rattle.ii_warmup.proofs.FoundLemmas.{found_as_there}
 
-or_true : (b : Bool) → (b || true) ≡ true
-or_true true = refl
-or_true false = refl
-
 -- a test that one item of a list passes
 any_here : {A : Type 0} (f : A → Bool) (front : List A) (x : A) (rest : List A) → f x ≡ true → list_any f (front ++ x ∷ rest) ≡ true
 any_here f [] x rest passes = rw passes refl
-any_here f (y ∷ ys) x rest passes = rw (any_here f ys x rest passes) (or_true (f y))
+any_here f (y ∷ ys) x rest passes = rw (any_here f ys x rest passes) (or-true (f y))
 
 -- what holds for an item at any place holds for each
 each_place : {A : Type 0} (P : A → Type 0) (xs : List A) → ((front rest : List A) (x : A) → xs ≡ front ++ x ∷ rest → P x) → AllByRecursion P xs
@@ -57,7 +54,7 @@ module _ (terms : List QueryTermState) (ranges : List QueryRangeState) (field : 
     pub served : serves option wanted ≡ true
 
   with_documents : names_key Basic terms ranges field key ≡ true → (b : Bool) → names_key WithFreqsAndPositions terms ranges field key ≡ b → (option : IndexRecordOption) → serves option Basic ≡ true → IsRequested option
-  with_documents named true all option served = record { wanted = WithFreqsAndPositions; is = rw all refl; served = or_true _ }
+  with_documents named true all option served = record { wanted = WithFreqsAndPositions; is = rw all refl; served = or-true _ }
   with_documents named false none option served = record { wanted = Basic; is = rw (none, named) refl; served = served }
 
   requested : (option : IndexRecordOption) → names_key option terms ranges field key ≡ true → IsRequested option
@@ -92,7 +89,7 @@ module _ (query : Query) (part whole : OpenIndexState) (parts : IsPartFor query 
       let test = λ (s : QueryRangeState). serves r.option s.option && (s.range.prefix.field == r.range.prefix.field) && in_range s.range key in
       let passes : test r ≡ true = rw (serves_itself r.option, eq-eqb r.range.prefix.field r.range.prefix.field refl, inside) refl in
       let found : list_any test (query_ranges query) ≡ true = ap (list_any test) is ∙ any_here test front r rest passes in
-      rw found (or_true _)
+      rw found (or-true _)
 
   same_range : (r : QueryRangeState) → ((key : List ℕ) → in_range r.range key ≡ true → names_key r.option (query_terms query) (query_ranges query) r.range.prefix.field key ≡ true) → SameRange part whole r
   same_range r named = by (slice_get part.readers r.range.prefix.field) (slice_get whole.readers r.range.prefix.field) (parts r.range.prefix.field)

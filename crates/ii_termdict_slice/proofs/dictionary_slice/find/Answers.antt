@@ -1,7 +1,7 @@
 use Rattle.std.proofs.Common.{◌∙◌, ◌+◌, ◌-◌, ◌/◌, ap, arith, sym}
 use Rattle.ii_termdict.proofs.SearchLemmas.{above_less, below_greater, found_equal, none_equal}
 use Rattle.ii_termdict.specs.Dictionary.{key_of}
-use Rattle.ii_termdict_slice.specs.Slices.{ends_in, keys_in}
+use Rattle.ii_termdict_slice.specs.Slices.{ends_in, from_keys}
 use Rattle.ii_termdict_slice.proofs.ReadingLemmas.{reads_err, reads_ok}
 use Rattle.ii_termdict_slice.proofs.dictionary_slice.find.Goals as goal
 
@@ -14,7 +14,7 @@ returns-in-Equal-clause-reads g c =
     reads_ok
     (λ bs known parts. (
       omega (arith, c.loop-low-test.true, c.loop-low.invariant.within),
-      found_equal c.args.key.now (key_of (ends_in bs) (keys_in c.args.num_terms bs) middle) (sym (c.in-Ok.ensures.reads.exact bs (ap g.H.FileHandle.bytes c.loop-low.invariant.same ∙ known) parts) ∙ c.in-Equal.is),
+      found_equal c.args.key.now (key_of (ends_in bs) (from_keys c.args.num_terms bs) middle) (sym (c.in-Ok.ensures.reads.exact bs (ap g.H.FileHandle.bytes c.loop-low.invariant.same ∙ known) parts) ∙ c.in-Equal.is),
     ))
 
 pub loop-low-preserved-in-Less : goal.loop-low-preserved-in-Less
@@ -27,7 +27,7 @@ loop-low-preserved-in-Less g c =
       same = c.compare_key.ensures.file ∙ known.same;
       below = λ bs here parts j h. known.below bs (ap g.H.FileHandle.bytes (sym c.compare_key.ensures.file) ∙ here) parts j h;
       above = λ bs here parts j h w.
-          above_less n (ends_in bs) (keys_in n bs) c.args.key.now (c.loop-low.low + (c.loop-low.high - c.loop-low.low) / 2) j parts.opened.ascend
+          above_less n (ends_in bs) (from_keys n bs) c.args.key.now (c.loop-low.low + (c.loop-low.high - c.loop-low.low) / 2) j parts.opened.ascend
           (sym (c.in-Ok.ensures.reads.exact bs (ap g.H.FileHandle.bytes (sym c.compare_key.ensures.file) ∙ here) parts) ∙ c.in-Less.is) h w;
     }
 
@@ -40,7 +40,7 @@ loop-low-preserved g c =
       within = known.within;
       same = c.compare_key.ensures.file ∙ known.same;
       below = λ bs here parts j h.
-          below_greater n (ends_in bs) (keys_in n bs) c.args.key.now (c.loop-low.low + (c.loop-low.high - c.loop-low.low) / 2) j parts.opened.ascend (omega (arith, c.loop-low-test.true, known.within))
+          below_greater n (ends_in bs) (from_keys n bs) c.args.key.now (c.loop-low.low + (c.loop-low.high - c.loop-low.low) / 2) j parts.opened.ascend (omega (arith, c.loop-low-test.true, known.within))
           (sym (c.in-Ok.ensures.reads.exact bs (ap g.H.FileHandle.bytes (sym c.compare_key.ensures.file) ∙ here) parts) ∙ c.in-Greater.is) h;
       above = λ bs here parts j h w. known.above bs (ap g.H.FileHandle.bytes (sym c.compare_key.ensures.file) ∙ here) parts j h w;
     }
@@ -52,4 +52,4 @@ returns-clause-reads g c =
     reads_ok
     (λ bs known parts.
     let here = ap g.H.FileHandle.bytes inv.same ∙ known in
-    none_equal n c.loop-low.low (ends_in bs) (keys_in n bs) c.args.key.now (inv.below bs here parts) (λ j above within. inv.above bs here parts j (omega (arith, above, c.loop-low-test.false)) within))
+    none_equal n c.loop-low.low (ends_in bs) (from_keys n bs) c.args.key.now (inv.below bs here parts) (λ j above within. inv.above bs here parts j (omega (arith, above, c.loop-low-test.false)) within))

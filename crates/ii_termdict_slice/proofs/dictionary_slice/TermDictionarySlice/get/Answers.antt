@@ -1,6 +1,6 @@
 use Rattle.std.proofs.Common.{◌∙◌, ap}
 use Rattle.ii_termdict.proofs.SearchLemmas.{info_hit, info_miss}
-use Rattle.ii_termdict_slice.specs.Slices.{ends_in, keys_in}
+use Rattle.ii_termdict_slice.specs.Slices.{ends_in, from_keys}
 use Rattle.ii_termdict_slice.proofs.ReadingLemmas.{reads_err, reads_ok}
 use Rattle.ii_termdict_slice.proofs.dictionary_slice.TermDictionarySlice.get.Goals as goal
 
@@ -16,7 +16,7 @@ returns-in-None-clause-reads g c =
     let parts = c.self.invariant.0 bs known there in
     let place = c.in-Ok.ensures.reads.exact bs known parts in
     let missing = rw c.in-None.is at place in
-    rw parts.entries (info_miss n (ends_in bs) (keys_in n bs) c.args.key.now missing)))
+    rw parts.entries (info_miss n (ends_in bs) (from_keys n bs) c.args.key.now missing)))
 
 pub returns-in-Err-read_info-clause-reads : goal.returns-in-Err-read_info-clause-reads
 returns-in-Err-read_info-clause-reads g c = rw (← c.self.view_is) (reads_err (rw c.find.ensures.file at c.in-Err-read_info.ensures.reads) (λ bs known there. c.self.invariant.0 bs known there))
@@ -32,4 +32,4 @@ returns-clause-reads g c =
     let place = c.in-Ok.ensures.reads.exact bs known parts in
     let here = rw c.in-Some.is at place in
     let info = c.in-Ok-read_info.ensures.reads.exact bs (ap g.H.FileHandle.bytes c.find.ensures.file ∙ known) parts in
-    rw parts.entries (info_hit n (ends_in bs) (keys_in n bs) c.args.key.now ord c.in-Ok-read_info.info parts.opened here.0 here.1 info)))
+    rw parts.entries (info_hit n (ends_in bs) (from_keys n bs) c.args.key.now ord c.in-Ok-read_info.info parts.opened here.0 here.1 info)))
