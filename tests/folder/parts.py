@@ -1,6 +1,6 @@
 #!/usr/bin/env python3
 """Searches an index whose files have many blocks, of which a query reads few. Each answer must be the one that the complete
-files give (`search --batch` reads these). Then damages block after block: a search must answer as before, or name the
+files give (`search --batch` reads these). Then damages some blocks, one after another: a search must answer as before, or name the
 damaged file as `check` does, which must name it each time.
 
     parts.py          as the gate runs it
@@ -16,7 +16,7 @@ import users
 
 DOCS = 20_000
 LATER = 100  # documents of a second segment
-BLOCK = 65_536
+BLOCK = 4_096
 SCHEMA = '[[field]]\nname = "title"\ntype = "text"\n\n[[field]]\nname = "body"\ntype = "text"\n\n[[field]]\nname = "year"\ntype = "u64"\n'
 QUERIES = ('w5', 'w3000', 'w1 AND w2', 'w7 OR w900 OR title:w3', '"w1 w2"', '"w1 w2"~3', 'title:w5 NOT body:w3', 'year:1990', '*', 'nothing',
            'w299*', 'year:[1990 TO 1992]', ' OR '.join(f'w{place}' for place in range(40)))
@@ -54,15 +54,21 @@ def answers_as_complete(user):
     return answers
 
 
+def some_blocks(length):
+    """Returns where blocks of a file begin: the first, the last, and some between them."""
+    blocks = range(0, length, BLOCK)
+    return sorted({*blocks[:2], *blocks[-2:], *random.Random(length).sample(blocks, min(12, len(blocks)))})
+
+
 def damages(user, answers):
-    """Damages each block of the files of the first segment, and their lengths. Returns how many answers stayed, and how many
+    """Damages some blocks of the files of the first segment, and their lengths. Returns how many answers stayed, and how many
     named the file."""
     stayed = named = 0
     for kind, what in FILES.items():
         path = user.path('index', f'{0:016x}.{kind}')
         with open(path, 'rb') as file:
             text = file.read()
-        changed = [(text[:place] + bytes([text[place] ^ 1]) + text[place + 1:], 'checksum') for place in range(0, len(text), BLOCK)]
+        changed = [(text[:place] + bytes([text[place] ^ 1]) + text[place + 1:], 'checksum') for place in some_blocks(len(text))]
         for damaged, why in changed + [(text[:-1], 'length'), (text + b'\0', 'length')]:
             with open(path, 'wb') as file:
                 file.write(damaged)

@@ -563,6 +563,31 @@ def second_versions(user, docs):
     shutil.rmtree(user.path('second'))
 
 
+def long_blocks(user, docs):
+    """Reads an index whose digests are of long blocks, as earlier programs wrote them, and adds to it: old files keep their
+    digests, new ones have those of blocks. A damaged file is named."""
+    shutil.copytree(user.path('folder'), user.path('long'))
+    versions.to_long_blocks(user.path('long'))
+    for words in (['fields'], ['search', 'the', '--positions'], ['search', 'a', '--count'], ['postings', 'body', 'a', '--positions']):
+        if user.run(words[0], 'long', *words[1:]).stdout != user.run(words[0], 'folder', *words[1:]).stdout:
+            raise Failed('an index of long blocks answers otherwise')
+    user.wants(['check', 'long'], 0)
+    user.wants(['add', 'long', '--no-merge'], 0, '1 documents added\n', given=b'{"body": "nosuchword"}\n')
+    user.wants(['search', 'long', 'nosuchword'], 0, f'{len(docs)}\n')
+    *others, last = versions.read_meta(user.path('long'))[3]
+    wanted = [(versions.LONG_BLOCKS, others), (versions.BLOCKS, [last])]
+    if not others or any(kind != old for old, segments in wanted for _, _, _, files in segments for _, _, _, kind, _ in files):
+        raise Failed('an index of long blocks and a new segment have other digests')
+    user.wants(['check', 'long'], 0)
+    path = os.path.join(user.path('long'), f'{0:016x}.idx')
+    with open(path, 'r+b') as file:
+        byte = file.read(1)[0]
+        file.seek(0)
+        file.write(bytes([byte ^ 1]))
+    user.wants(['search', 'long', 'a'], 1, 'long: the file of postings of segment 0 has another checksum than meta says\n')
+    shutil.rmtree(user.path('long'))
+
+
 def changed_bits(user, chosen, places):
     """Changes a bit of each file of an index of version 3 at many places, also in the first and the last byte and on both
     sides of the end of a block of its digest: `check` must name this file alone each time."""
@@ -1097,6 +1122,7 @@ def main():
             deletes(user)
             first_versions(user, docs)
             second_versions(user, docs)
+            long_blocks(user, docs)
             changed_bits(user, random.Random(65536), 60)
             ids(user)
             damages(user, chosen, 82)

@@ -1,6 +1,6 @@
 #!/usr/bin/env python3
-"""Counts what a search for one word reads of an index, of one segment and of many: at most `MOST` bytes for each segment beside
-its tables and `meta`, however large the index is.
+"""Counts what a search for one word reads of an index, of one segment and of many: at most `MOST` bytes of each segment for each
+word, beside `meta` and the tables of blocks, however large the index is.
 
     reads.py              as the gate runs it
     reads.py LINES PARTS  an index of that many lines in that many segments; prints times too"""
@@ -15,7 +15,7 @@ sys.dont_write_bytecode = True
 sys.path.insert(0, os.path.dirname(os.path.abspath(__file__)))
 import users
 
-BLOCK = 65_536
+BLOCK = 4_096
 MOST = 32 * BLOCK
 WORDS = 200_000
 PER_LINE = 90
@@ -55,6 +55,11 @@ def size_of(user):
     return sum(os.path.getsize(user.path('index', name)) for name in os.listdir(user.path('index')))
 
 
+def tables_of(user):
+    """Returns the bytes of `meta` and of the tables of blocks."""
+    return sum(os.path.getsize(user.path('index', name)) for name in os.listdir(user.path('index')) if name == 'meta' or name.endswith('.blocks'))
+
+
 def reads(user):
     """Indexes lines in segments, searches them, and counts."""
     count, parts = (int(word) for word in sys.argv[1:3]) if sys.argv[2:] else (30_000, 3)
@@ -65,14 +70,14 @@ def reads(user):
         with open(user.path('lines'), 'wb') as file:
             file.writelines(lines_of(count // parts, part))
         user.wants([*words, 'lines', '--quiet'], 0)
-    told = []
+    told, tables = [], tables_of(user)
     for query in ('w5000', 'w150000', 'nothing', 'w5000 OR w70000 OR w90000'):
         whole = json.loads(user.wants(['search', 'index', '--batch', '--count'], 0, given=query.encode()))['count']
         out, size, calls, seconds = read_by(user, library, 'search', 'index', query, '--count')
         if out != b'%d\n' % whole:
             raise users.Failed(f'{query}: {out!r}, the complete files have {whole}')
         terms = query.count(' OR ') + 1
-        if size > parts * terms * MOST:
+        if size > parts * terms * MOST + tables:
             raise users.Failed(f'{query}: {size} bytes read of {parts} segments')
         seconds = min([seconds] + [read_by(user, library, 'search', 'index', query, '--count')[3] for _ in range(3)])
         told.append(f'{query}: {whole} found, {size / 1e6:.2f} MB in {calls} reads, {1000 * seconds:.1f} ms')

@@ -10,8 +10,8 @@ KINDS = (('term', 'term'), ('idx', 'idx'), ('pos', 'pos'), ('norm', 'fieldnorm')
 
 
 # The kinds of digests in a list of version 3.
-SHA256, BLOCKS = 0, 1
-BLOCK = 65536
+SHA256, LONG_BLOCKS, BLOCKS = 0, 1, 2
+LONG_BLOCK, BLOCK = 65536, 4096
 # What the name of a file of a segment ends with, by the number of the component; a generation comes before `alive`.
 COMPONENTS = ('term', 'idx', 'pos', 'norm', 'count', 'alive', 'store', 'blocks')
 
@@ -42,16 +42,16 @@ def checksum(block):
     return a ^ b ^ c ^ d
 
 
-def table(text):
+def table(text, block=BLOCK):
     """Returns the checksums of the blocks of a file."""
-    return b''.join(struct.pack('<Q', checksum(text[place:place + BLOCK])) for place in range(0, len(text), BLOCK))
+    return b''.join(struct.pack('<Q', checksum(text[place:place + block])) for place in range(0, len(text), block))
 
 
 def digest(kind, text):
     """Returns the digest of a file."""
     if kind == SHA256:
         return hashlib.sha256(text).digest()
-    return hashlib.sha256(table(text)).digest()
+    return hashlib.sha256(table(text, LONG_BLOCK if kind == LONG_BLOCKS else BLOCK)).digest()
 
 
 def read_meta(folder):
@@ -123,6 +123,24 @@ def kinds(folder):
             tables += b'' if COMPONENTS[component] == 'alive' else table(text)
         found.append([kind for _, _, _, kind, _ in files])
     return version, found
+
+
+def to_long_blocks(folder):
+    """Gives the files of an index of version 3 digests of long blocks, and its segments the tables of these."""
+    version, front, _, segments = read_meta(folder)
+    older = []
+    for number, docs, living, files in segments:
+        tables, listed_files = b'', []
+        for component, generation, length, kind, known in files:
+            name = name_of(number, component, generation)
+            if COMPONENTS[component] == 'blocks':
+                put(folder, name, tables)
+                length = len(tables)
+            text = get(folder, name)
+            tables += b'' if COMPONENTS[component] == 'alive' else table(text, LONG_BLOCK)
+            listed_files.append((component, generation, length, LONG_BLOCKS, digest(LONG_BLOCKS, text)))
+        older.append((number, docs, living, listed_files))
+    write_meta(folder, version, front, older)
 
 
 def to_second(folder):

@@ -31,45 +31,45 @@ cut_out file start skipped len long within =
     ap (λ n. take len (drop skipped (take n rest))) parts ∙ ap (take len) (drop-take skipped more rest) ∙ shorter len more (drop skipped rest) (omega (arith, within)) ∙ ap (take len) (drop-drop skipped start file)
 
 -- a block of a file, cut out of blocks that begin with one before it
-pub block_of_range : (file : List ℕ) (first k blocks long : ℕ) → first ≤ k → k < first + blocks → long ≡ min (blocks * 65536) (length file - first * 65536) → k * 65536 < length file → file_block (k - first) (take long (drop (first * 65536) file)) ≡ file_block k file
+pub block_of_range : (file : List ℕ) (first k blocks long : ℕ) → first ≤ k → k < first + blocks → long ≡ min (blocks * 4096) (length file - first * 4096) → k * 4096 < length file → file_block (k - first) (take long (drop (first * 4096) file)) ≡ file_block k file
 block_of_range file first k blocks long from within least inside =
-    let at : first * 65536 + (k - first) * 65536 ≡ k * 65536 = omega (arith, from) in
-    let rest = drop (first * 65536) file in
-    let place = (k - first) * 65536 in
-    elim (cases_lt long (place + 65536)) [
+    let at : first * 4096 + (k - first) * 4096 ≡ k * 4096 = omega (arith, from) in
+    let rest = drop (first * 4096) file in
+    let place = (k - first) * 4096 in
+    elim (cases_lt long (place + 4096)) [
       | inl last ↦
           let parts : long ≡ place + (long - place) = omega (arith, last, least, from, within, inside) in
-          let ends : length (drop (k * 65536) file) ≤ long - place = omega (arith, length-drop (k * 65536) file, last, least, from, within, inside) in
-          let left : drop place rest ≡ drop (k * 65536) file = drop-drop place (first * 65536) file ∙ ap (λ n. drop n file) at in
-          ap (λ n. take 65536 (drop place (take n rest))) parts ∙ ap (take 65536) (drop-take place (long - place) rest ∙ ap (take (long - place)) left ∙ take_all (long - place) (drop (k * 65536) file) ends)
-      | inr full ↦ cut_out file (first * 65536) place 65536 long (omega (arith, full)) ∙ ap (λ n. take 65536 (drop n file)) at
+          let ends : length (drop (k * 4096) file) ≤ long - place = omega (arith, length-drop (k * 4096) file, last, least, from, within, inside) in
+          let left : drop place rest ≡ drop (k * 4096) file = drop-drop place (first * 4096) file ∙ ap (λ n. drop n file) at in
+          ap (λ n. take 4096 (drop place (take n rest))) parts ∙ ap (take 4096) (drop-take place (long - place) rest ∙ ap (take (long - place)) left ∙ take_all (long - place) (drop (k * 4096) file) ends)
+      | inr full ↦ cut_out file (first * 4096) place 4096 long (omega (arith, full)) ∙ ap (λ n. take 4096 (drop n file)) at
     ]
 
 -- the blocks of a range reach to its end
-pub enough : (from len total long : ℕ) → 0 < len → from + len ≤ total → long ≡ min (((from + (len - 1)) / 65536 + 1) * 65536) total - from / 65536 * 65536 → from % 65536 + len ≤ long
+pub enough : (from len total long : ℕ) → 0 < len → from + len ≤ total → long ≡ min (((from + (len - 1)) / 4096 + 1) * 4096) total - from / 4096 * 4096 → from % 4096 + len ≤ long
 enough from len total long some within least = omega (arith, some, within, least)
 
-module _ (t : BlockTableState) (from len : ℕ) (blocks bytes : List ℕ) (reach : from % 65536 + len ≤ length blocks) (cut : bytes ≡ take (from % 65536 + len - from % 65536) (drop (from % 65536) blocks)) where
-  fewer : from % 65536 + len - from % 65536 ≡ len
+module _ (t : BlockTableState) (from len : ℕ) (blocks bytes : List ℕ) (reach : from % 4096 + len ≤ length blocks) (cut : bytes ≡ take (from % 4096 + len - from % 4096) (drop (from % 4096) blocks)) where
+  fewer : from % 4096 + len - from % 4096 ≡ len
   fewer = omega arith
 
-  cut_is : bytes ≡ take len (drop (from % 65536) blocks)
-  cut_is = cut ∙ ap (λ n. take n (drop (from % 65536) blocks)) fewer
+  cut_is : bytes ≡ take len (drop (from % 4096) blocks)
+  cut_is = cut ∙ ap (λ n. take n (drop (from % 4096) blocks)) fewer
 
   -- what is cut out of listed blocks is a range
-  pub range_is : AreListed t (from / 65536) blocks → IsRange t from len bytes
+  pub range_is : AreListed t (from / 4096) blocks → IsRange t from len bytes
   range_is listed = record {
     blocks = blocks;
     listed = listed;
     cut = cut_is;
-    long = ap length cut_is ∙ length-take-le len (drop (from % 65536) blocks) (omega (arith, reach, length-drop (from % 65536) blocks));
+    long = ap length cut_is ∙ length-take-le len (drop (from % 4096) blocks) (omega (arith, reach, length-drop (from % 4096) blocks));
   }
 
   -- what is cut out of the blocks of a file is its range
-  pub range_of_file : (file : List ℕ) → blocks ≡ take (length blocks) (drop (from / 65536 * 65536) file) → bytes ≡ take len (drop from file)
+  pub range_of_file : (file : List ℕ) → blocks ≡ take (length blocks) (drop (from / 4096 * 4096) file) → bytes ≡ take len (drop from file)
   range_of_file file exact =
-      let at : from / 65536 * 65536 + from % 65536 ≡ from = omega arith in
-      cut_is ∙ ap (λ b. take len (drop (from % 65536) b)) exact ∙ cut_out file (from / 65536 * 65536) (from % 65536) len (length blocks) reach ∙ ap (λ n. take len (drop n file)) at
+      let at : from / 4096 * 4096 + from % 4096 ≡ from = omega arith in
+      cut_is ∙ ap (λ b. take len (drop (from % 4096) b)) exact ∙ cut_out file (from / 4096 * 4096) (from % 4096) len (length blocks) reach ∙ ap (λ n. take len (drop n file)) at
 
 -- a statement of what is known, if something is
 pub told : (source : Option (List ℕ)) (P : List ℕ → Type 0) → ((file : List ℕ) → source ≡ Some file → P file) → IfSome source P
@@ -93,9 +93,9 @@ module _ (file : List ℕ) (t : BlockTableState) (own : t ≡ block_table_of fil
   sound_file source e known fault = no_fault e (subst (λ s. IsReadFault t s 0 0 e) known fault)
 
 -- a block that isn't listed is damaged in the file, if the blocks were read from it
-pub is_damaged : (t : BlockTableState) (source : Option (List ℕ)) (first k blocks : ℕ) (read : List ℕ) → ((file : List ℕ) → source ≡ Some file → length file ≡ t.len → read ≡ take (length read) (drop (first * 65536) file))
-    → length read ≡ min (blocks * 65536) (t.len - first * 65536) → first ≤ k → k < first + num_file_blocks (length read) → lists_checksum t k (file_block (k - first) read) ≡ false
+pub is_damaged : (t : BlockTableState) (source : Option (List ℕ)) (first k blocks : ℕ) (read : List ℕ) → ((file : List ℕ) → source ≡ Some file → length file ≡ t.len → read ≡ take (length read) (drop (first * 4096) file))
+    → length read ≡ min (blocks * 4096) (t.len - first * 4096) → first ≤ k → k < first + num_file_blocks (length read) → lists_checksum t k (file_block (k - first) read) ≡ false
     → IfSome source (λ file. length file ≡ t.len → lists_checksum t k (file_block k file) ≡ false)
 is_damaged t source first k blocks read exact long from within other = told source _ (λ file known same.
-    let same_block = ap (file_block (k - first)) (exact file known same) ∙ block_of_range file first k blocks (length read) from (omega (arith, long, within)) (long ∙ ap (λ n. min (blocks * 65536) (n - first * 65536)) (sym same)) (omega (arith, long, within, from, same)) in
+    let same_block = ap (file_block (k - first)) (exact file known same) ∙ block_of_range file first k blocks (length read) from (omega (arith, long, within)) (long ∙ ap (λ n. min (blocks * 4096) (n - first * 4096)) (sym same)) (omega (arith, long, within, from, same)) in
     ap (lists_checksum t k) (sym same_block) ∙ other)

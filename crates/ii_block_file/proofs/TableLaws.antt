@@ -14,17 +14,17 @@ use Rattle.ii_store.specs.declared.file_digest.FileDigest.TheVariants as digests
 use Rattle.ii_block_file.specs.BlockTable.{file_block, lists_checksum, is_table, num_file_blocks, block_table_of}
 
 -- std's rounded quotient is the number of blocks
-pub blocks_divide : (n : ℕ) → div_ceil n 65536 ≡ num_file_blocks n
+pub blocks_divide : (n : ℕ) → div_ceil n 4096 ≡ num_file_blocks n
 blocks_divide n =
-    let (most, least) = div_ceil_times n 65536 (search rules) in
+    let (most, least) = div_ceil_times n 4096 (search rules) in
     omega (arith, most, least)
 
 -- a block, cut out as the program does
-pub block_is : (k n : ℕ) (file : List ℕ) → n ≡ min 65536 (length file - k * 65536) → take (k * 65536 + n - k * 65536) (drop (k * 65536) file) ≡ file_block k file
+pub block_is : (k n : ℕ) (file : List ℕ) → n ≡ min 4096 (length file - k * 4096) → take (k * 4096 + n - k * 4096) (drop (k * 4096) file) ≡ file_block k file
 block_is k n file least =
-    let rest = drop (k * 65536) file in
-    let all : k * 65536 + n - k * 65536 ≡ n = omega arith in
-    ap (λ m. take m rest) (all ∙ least ∙ ap (min 65536) (sym (length-drop (k * 65536) file))) ∙ take_min 65536 rest
+    let rest = drop (k * 4096) file in
+    let all : k * 4096 + n - k * 4096 ≡ n = omega arith in
+    ap (λ m. take m rest) (all ∙ least ∙ ap (min 4096) (sym (length-drop (k * 4096) file))) ∙ take_min 4096 rest
 
 -- the checksums of some blocks, and of the next one
 pub next_checksum : (f : ℕ → List ℕ) (n : ℕ) → checksum_bytes (map f (range_with_len 0 (n + 1))) ≡ checksum_bytes (map f (range_with_len 0 n)) ++ to_le_bytes w64 (block_checksum (f n))
@@ -56,15 +56,15 @@ pub own_block : (file : List ℕ) (k : ℕ) → k < num_file_blocks (length file
 own_block file k inside =
     let n = num_file_blocks (length file) in
     let at = λ (j : ℕ). file_block j file in
-    let here = checksum_here (blocks 65536 file) k [] (omega (arith, inside, length-map-range_with_len at 0 n)) in
-    let block : get_or (blocks 65536 file) k [] ≡ file_block k file = get_or-map-range_with_len at 0 n k k [] inside (omega arith) in
+    let here = checksum_here (blocks 4096 file) k [] (omega (arith, inside, length-map-range_with_len at 0 n)) in
+    let block : get_or (blocks 4096 file) k [] ≡ file_block k file = get_or-map-range_with_len at 0 n k k [] inside (omega arith) in
     same_bytes _ _ (here ∙ ap (λ b. to_le_bytes w64 (block_checksum b)) block)
 
 equal_is : (a b : ℕ) → a ≡ b → (a == b) ≡ true
 equal_is a b e = grind (arith, nat_tests)
 
 -- a file's table is the one that its digest is of
-pub own_table : (file : List ℕ) → is_table (length file) (digests.Blocks (blocks_digest file)) (block_table_of file).bytes ≡ true
+pub own_table : (file : List ℕ) → is_table (length file) (digests.Blocks (blocks_digest 4096 file)) (block_table_of file).bytes ≡ true
 unfolding blocks_digest
 own_table file =
     let bytes = (block_table_of file).bytes in

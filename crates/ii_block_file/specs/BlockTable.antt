@@ -15,15 +15,16 @@ pub record BlockTableState : Type 0 where
 
 -- the table of a file
 abbrev pub block_table_of : List ℕ → BlockTableState
-block_table_of file = record { len = length file; bytes = checksum_bytes (blocks 65536 file) }
+block_table_of file = record { len = length file; bytes = checksum_bytes (blocks 4096 file) }
 
 -- the number of blocks that hold so many bytes
 abbrev pub num_file_blocks : ℕ → ℕ
-num_file_blocks len = (len + 65536 - 1) / 65536
+num_file_blocks len = (len + 4096 - 1) / 4096
 
 -- whether a digest is that of the blocks of a file with this table
 abbrev pub is_digest_of : FileDigest → List ℕ → Bool
 is_digest_of (digests.Sha256 digest) table = false
+is_digest_of (digests.LongBlocks digest) table = false
 is_digest_of (digests.Blocks digest) table = bytes_eq digest (sha256 table)
 
 -- whether bytes are the table of a file with this length and this digest
@@ -32,7 +33,7 @@ is_table len digest bytes = (length bytes == 8 * num_file_blocks len) && is_dige
 
 -- a block of a file
 abbrev pub file_block : ℕ → List ℕ → List ℕ
-file_block k file = take 65536 (drop (k * 65536) file)
+file_block k file = take 4096 (drop (k * 4096) file)
 
 -- whether a block has the checksum that a table lists for the block of this number
 abbrev pub lists_checksum : BlockTableState → ℕ → List ℕ → Bool
@@ -45,8 +46,8 @@ AreListed t first bytes = (k : ℕ) → k < num_file_blocks (length bytes) → l
 -- Bytes are those of a range, cut out of blocks that have the checksums that a table lists.
 pub record IsRange (t : BlockTableState) (from len : ℕ) (bytes : List ℕ) : Type 0 where
   pub blocks : List ℕ
-  pub listed : AreListed t (from / 65536) blocks
-  pub cut : bytes ≡ take len (drop (from % 65536) blocks)
+  pub listed : AreListed t (from / 4096) blocks
+  pub cut : bytes ≡ take len (drop (from % 4096) blocks)
   pub long : length bytes ≡ len
 
 -- Why a range can't be read of a file with these bytes, if they are known: it passes the length that the table says; the file is shorter; if it has that length, a block has another checksum.

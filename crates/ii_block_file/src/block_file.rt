@@ -69,8 +69,8 @@ impl<R: ReadAt> BlockFile<R> {
         requires order { first ≤ last }
         requires within { last < num_file_blocks self.now.table.len }
         ensures listed { IfOk result (λ bytes. AreListed self.now.table first bytes) }
-        ensures long { IfOk result (λ bytes. length bytes ≡ min ((last + 1) * 65536) self.now.table.len - first * 65536) }
-        ensures exact { (file : List ℕ) → R.bytes self.now.source ≡ Some file → length file ≡ self.now.table.len → IfOk result (λ bytes. bytes ≡ take (length bytes) (drop (first * 65536) file)) }
+        ensures long { IfOk result (λ bytes. length bytes ≡ min ((last + 1) * 4096) self.now.table.len - first * 4096) }
+        ensures exact { (file : List ℕ) → R.bytes self.now.source ≡ Some file → length file ≡ self.now.table.len → IfOk result (λ bytes. bytes ≡ take (length bytes) (drop (first * 4096) file)) }
         ensures fault { IfErr result (IsReadFault self.now.table (R.bytes self.now.source) 0 0) }
     {
         let len = self.table.len();

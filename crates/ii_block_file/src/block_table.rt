@@ -43,8 +43,8 @@ impl BlockTable {
     }
 
     /// Takes the table of a file, given the file's length and its digest in `meta`. Returns `None` if these bytes aren't
-    /// the table of a file of this length with this digest, or the digest isn't one of blocks: a digest of blocks is the
-    /// SHA-256 of the table.
+    /// the table of a file of this length with this digest, or the digest isn't one of blocks of `BLOCK_LEN` bytes: such
+    /// a digest is the SHA-256 of the table.
     pub fn open(len: u64, digest: &FileDigest, bytes: Vec<u8>) -> Option<BlockTable>
         ensures table { IfSome result (λ t. t ≡ record { len = len; bytes = bytes.items }) }
         ensures some { IfSome result (λ t. is_table len digest.now bytes.items ≡ true) }
@@ -108,7 +108,7 @@ fn is_table(len: u64, digest: &FileDigest, bytes: &[u8]) -> bool
         return false;
     }
     match digest {
-        FileDigest::Sha256(_) => false,
+        FileDigest::Sha256(_) | FileDigest::LongBlocks(_) => false,
         FileDigest::Blocks(digest) => digest.as_slice() == Sha256::digest(bytes).as_slice(),
     }
 }

@@ -10,7 +10,7 @@ use std::alloc::{AllocError, Global};
 use std::marker::Model;
 
 /// A file of which the last read blocks are kept in memory, so that a search that reads a block many times reads it
-/// from the file once. A block has 64 KiB, and begins at a multiple of that in the file whose blocks are checked. Block
+/// from the file once. A block has `BLOCK_LEN` bytes, and begins at a multiple of that in the file whose blocks are checked. Block
 /// `n` is kept in the place `n % num_blocks`, in which it replaces another one.
 #[derive(Drop)]
 pub struct BlockCache<'a, H: FileHandle> {
@@ -151,7 +151,7 @@ fn block_around(file_start: u64, all: u64, from: u64) -> BlockRange
     ensures start { result.start ≤ from }
     ensures end { from ≤ result.start + result.len }
     ensures within { result.start + result.len ≤ all }
-    ensures short { result.len ≤ 65536 }
+    ensures short { result.len ≤ 4096 }
 {
     let block_len = BLOCK_LEN as u64;
     let place = from % block_len + file_start % block_len;

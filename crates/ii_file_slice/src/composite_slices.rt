@@ -7,10 +7,12 @@ ghost use Rattle.ii_io.specs.declared.composite_file.place.Place.{Place};
 ghost use Rattle.ii_io.specs.declared.faults.Fault.TheVariants as faults;
 ghost use Rattle.ii_io.specs.declared.faults.Part.{Part};
 ghost use Rattle.ii_io.specs.declared.faults.Part.TheVariants.{Composite};
+ghost use Rattle.ii_io.specs.Faults.{OnlyMemory};
 ghost use Rattle.ii_file_slice.specs.Faults.{OnlyMemoryOrTable};
 ghost use Rattle.ii_file_slice.specs.FileSlice.{slice_if};
 ghost use Rattle.ii_file_slice.specs.declared.faults.FileFault.TheVariants.{Index};
 
+use crate::block_cache::BlockCache;
 use crate::faults::FileFault;
 use crate::file_handle::FileHandle;
 use crate::file_slice::FileSlice;
@@ -88,12 +90,36 @@ fn place_of_field(places: &[Place], field: Field) -> Option<Place>
     None
 }
 
-// Reads the places from the table at the end of a file.
+// Reads the places from the table at the end of a file, and a block of the file that has all of it once.
 fn read_table<H: FileHandle>(alloc: Global, file: &H) -> Result<Vec<Place>, FileFault>
     ensures read { (bytes : List ℕ) → H.bytes file.now ≡ Some bytes → IfOk result (λ places. table_of bytes ≡ Some places.items) }
     ensures damaged { (bytes : List ℕ) → H.bytes file.now ≡ Some bytes → IsErrOf result (Index (faults.Damaged Composite)) → table_of bytes ≡ None }
     ensures part { IfErr result (λ e. (part : Part) → e ≡ Index (faults.Damaged part) → part ≡ Composite) }
     ensures sound { (bytes : List ℕ) → H.bytes file.now ≡ Some bytes → H.is_sound file.now → OnlyMemoryOrTable result }
+{
+    match last_block(alloc, file) {
+        Ok(mut block) => read_table_by(alloc, &mut block),
+        Err(fault) => Err(FileFault::Index(fault)),
+    }
+}
+
+// Returns a cache of one block of a file.
+fn last_block<H: FileHandle>(alloc: Global, file: &H) -> Result<BlockCache<'_, H>, Fault>
+    ensures same { IfOk result (λ cache. cache ≡ file.now) }
+    ensures only { OnlyMemory result }
+{
+    Ok(BlockCache::new(alloc, file, 0, 1)?)
+}
+
+// Reads the places from the table at the end of a file by a cache.
+fn read_table_by<H: FileHandle>(
+    alloc: Global,
+    file: &mut BlockCache<'_, H>,
+) -> Result<Vec<Place>, FileFault>
+    ensures read { (bytes : List ℕ) → H.bytes file.old ≡ Some bytes → IfOk result (λ places. table_of bytes ≡ Some places.items) }
+    ensures damaged { (bytes : List ℕ) → H.bytes file.old ≡ Some bytes → IsErrOf result (Index (faults.Damaged Composite)) → table_of bytes ≡ None }
+    ensures part { IfErr result (λ e. (part : Part) → e ≡ Index (faults.Damaged part) → part ≡ Composite) }
+    ensures sound { (bytes : List ℕ) → H.bytes file.old ≡ Some bytes → H.is_sound file.old → OnlyMemoryOrTable result }
 {
     let len = file.len();
     let footer_start = len.saturating_sub(COUNT_SIZE);

@@ -187,7 +187,7 @@ module _ (id : ℕ) (a c : Files) (same : SameBelow id a c) where
 
 pub read_back : (id : ℕ) (component : SegmentComponent) (bytes : List ℕ) (found : Option (List ℕ)) → found ≡ Some bytes → listed_bytes (record { id = id; file = file_meta component bytes }) found ≡ Ok bytes
 unfolding listed_bytes has_digest
-read_back id component bytes found is = rw is (rw (eq-eqb _ _ refl, nat_list_eq_equiv.refl (blocks_digest bytes)) refl)
+read_back id component bytes found is = rw is (rw (eq-eqb _ _ refl, nat_list_eq_equiv.refl (blocks_digest 4096 bytes)) refl)
 
 -- the files of a new segment, without flags
 abbrev listed_files : List ℕ → List ℕ → List ℕ → List ℕ → Option (List ℕ) → Option (List ℕ) → List ℕ → List FileMeta

@@ -27,7 +27,7 @@ between xs ys zs all start len parts before long =
 
 module _ (id : ℕ) (s : SegmentContents) (files : Files) (there : HasSegment id s files) where
   -- a file with a table among those of the segment
-  one : (component : SegmentComponent) (front bytes rest : List ℕ) → has_table component ≡ true → file_of component (listed_segment id s).files ≡ Some (file_meta component bytes)
+  one : (component : SegmentComponent) (front bytes rest : List ℕ) → has_table (file_meta component bytes) ≡ true → file_of component (listed_segment id s).files ≡ Some (file_meta component bytes)
       → file_of BlockTables (listed_segment id s).files ≡ Some (file_meta BlockTables (segment_tables s)) → length front ≡ table_start component (listed_segment id s).files
       → segment_tables s ≡ front ++ (file_table bytes ++ rest) → files (Segment id component) ≡ Some bytes
       → open_in (listed_segment id s) component files ≡ Ok (Some (record { bytes = Some bytes; table = block_table_of bytes }))

@@ -9,6 +9,7 @@ use Rattle.ii_directory.specs.Names.{component_number}
 use Rattle.ii_store.specs.declared.faults.IndexFault.{IndexFault}
 use Rattle.ii_store.specs.declared.faults.IndexFault.TheVariants.{MissingFile, WrongFileChecksum, WrongFileLength}
 use Rattle.ii_store.specs.declared.index_meta.FileMeta.{FileMeta}
+use Rattle.ii_store.specs.FileDigest.{digest_kind}
 use Rattle.ii_store.specs.Index.{◌>>=◌}
 use Rattle.ii_store.specs.IndexMeta.{SegmentState}
 use Rattle.ii_block_file.specs.BlockTable.{BlockTableState, is_table, num_file_blocks}
@@ -19,13 +20,13 @@ pub record OpenFileState : Type 0 where
   pub bytes : Option (List ℕ)
   pub table : BlockTableState
 
--- whether the file of tables has the table of a component: of each but flags and the tables
-abbrev pub has_table : SegmentComponent → Bool
-has_table component = not (component_number component == 5) && not (component_number component == 7)
+-- whether the file of tables has the table of a listed file: of each with a digest of its blocks, but flags and the tables
+abbrev pub has_table : FileMeta → Bool
+has_table f = not (component_number f.component == 5) && not (component_number f.component == 7) && (digest_kind f.digest == 2)
 
 -- the length of the table of a listed file, in bytes
 abbrev pub table_len : FileMeta → ℕ
-table_len f = if has_table f.component then 8 * num_file_blocks f.len else 0
+table_len f = if has_table f then 8 * num_file_blocks f.len else 0
 
 -- the length of the table of a listed file, if its component comes before another
 abbrev pub len_before : SegmentComponent → FileMeta → ℕ
@@ -60,7 +61,7 @@ open_with id component table (Some bytes) = Ok (Some (record { bytes = Some byte
 unfoldable pub open_listed : SegmentState → FileMeta → Option FileMeta → Files → Result (Option OpenFileState) IndexFault
 open_listed s f None files = Ok None
 open_listed s f (Some tables) files =
-    if not (has_table f.component) then Ok None
+    if not (has_table f) then Ok None
     else do
       table ← listed_table s f (files (Segment s.id BlockTables))
       open_with s.id f.component table (files (Segment s.id f.component))

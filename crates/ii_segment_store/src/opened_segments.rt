@@ -10,7 +10,7 @@ ghost use Rattle.ii_segment_store.specs.Contents.{SegmentContents, all_of};
 ghost use Rattle.ii_segment_store.specs.OpenSegments.{opened_at, opened_contents, opened_list, opened_of, opened_segment};
 
 use crate::loading::{MOST_RETRIES, load_flags};
-use crate::opening::open_file;
+use crate::opening::open_by_tables;
 use ii_alive::AliveBits;
 use ii_block_file::BlockFile;
 use ii_directory::ReadAt;
@@ -224,10 +224,16 @@ fn open_segment<D: Directory>(
     ensures answers { D.is_known directory.now → AnswersFromFiles (λ s. s) result (opened_segment (segment_view segment.now) (D.seen directory.now)) }
     ensures obeyed { is_obeyed IsRefused (D.may_refuse directory.now) result }
 {
-    let terms = open_file(alloc, directory, segment, SegmentComponent::Terms)?;
-    let postings = open_file(alloc, directory, segment, SegmentComponent::Postings)?;
-    let positions = open_file(alloc, directory, segment, SegmentComponent::Positions)?;
-    let fieldnorms = open_file(alloc, directory, segment, SegmentComponent::FieldNorms)?;
+    let tables = directory.read(
+        alloc,
+        Name::Segment(segment.id, SegmentComponent::BlockTables),
+    )?;
+    let terms = open_by_tables(alloc, directory, segment, SegmentComponent::Terms, &tables)?;
+    let postings = open_by_tables(alloc, directory, segment, SegmentComponent::Postings, &tables)?;
+    let positions =
+        open_by_tables(alloc, directory, segment, SegmentComponent::Positions, &tables)?;
+    let fieldnorms =
+        open_by_tables(alloc, directory, segment, SegmentComponent::FieldNorms, &tables)?;
     let alive = load_flags(alloc, directory, segment)?;
     Ok(OpenSegment {
         num_docs: segment.num_docs,

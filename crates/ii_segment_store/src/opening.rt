@@ -1,10 +1,10 @@
 //! Opens files of segments, of which ranges are read.
-ghost use Rattle.std.specs.Prelude.{◌≡◌, ◌<◌, ◌≤◌, ◌^◌, List, MatchOption, Ok, Some, length, ℕ};
+ghost use Rattle.std.specs.Prelude.{◌≡◌, ◌<◌, ◌≤◌, ◌^◌, ⊥, List, MatchOption, Ok, Some, length, ℕ};
 ghost use Rattle.std.specs.Option.{option_map};
 ghost use Rattle.ii_directory.specs.declared.name.Name.TheVariants.{Segment};
 ghost use Rattle.ii_directory.specs.declared.name.SegmentComponent.{SegmentComponent};
 ghost use Rattle.ii_directory.specs.declared.name.SegmentComponent.TheVariants.{BlockTables};
-ghost use Rattle.ii_directory.specs.Directory.{Files, is_obeyed};
+ghost use Rattle.ii_directory.specs.Directory.{Files, found_bytes, is_obeyed};
 ghost use Rattle.ii_store.specs.Faults.{IsRefused};
 ghost use Rattle.ii_store.specs.Index.{AnswersFromFiles};
 ghost use Rattle.ii_store.specs.IndexMeta.{segment_view};
@@ -25,8 +25,9 @@ use std::alloc::Global;
 /// is compared with its table, which is in the segment's file of tables, and each block with its checksum in the table
 /// when it is read.
 ///
-/// Returns `None` if the segment lists no file of tables, as those of earlier programs, or the component has no table
-/// there (`Alive` and `BlockTables`): load the file then.
+/// Returns `None` if the segment lists no file of tables, or its list has another digest of the file than that of blocks of
+/// `BLOCK_LEN` bytes, as those of earlier programs, or the component has no table (`Alive` and `BlockTables`): load the
+/// file then.
 ///
 /// # Errors
 ///
@@ -43,10 +44,29 @@ pub fn open_file<D: Directory>(
     ensures answers { D.is_known directory.now → AnswersFromFiles (option_map (λ b. record { bytes = D.File.bytes b.source; table = b.table })) result (open_in (segment_view segment.now) component (D.seen directory.now)) }
     ensures obeyed { is_obeyed IsRefused (D.may_refuse directory.now) result }
 {
+    let tables = directory.read(
+        alloc,
+        Name::Segment(segment.id, SegmentComponent::BlockTables),
+    )?;
+    open_by_tables(alloc, directory, segment, component, &tables)
+}
+
+// Opens a file of a segment, given the bytes of the segment's file of tables, if there is one.
+#[tactic(auto, unfolding(crate::specs::OpenFiles::open_found))]
+pub(crate) fn open_by_tables<D: Directory>(
+    alloc: Global,
+    directory: &D,
+    segment: &SegmentMeta,
+    component: SegmentComponent,
+    tables: &Option<Vec<u8>>,
+) -> Result<Option<BlockFile<D::File>>, StoreFault>
+    ensures answers { D.is_known directory.now → found_bytes tables.now ≡ D.seen directory.now (Segment segment.now.id BlockTables) → AnswersFromFiles (option_map (λ b. record { bytes = D.File.bytes b.source; table = b.table })) result (open_in (segment_view segment.now) component (D.seen directory.now)) }
+    ensures obeyed { is_obeyed IsRefused (D.may_refuse directory.now) result }
+{
     let Some(file) = file_of(segment.files.as_slice(), component) else {
         return Err(StoreFault::Index(IndexFault::MissingFile(segment.id, component)));
     };
-    open_listed(alloc, directory, segment, &file)
+    open_listed(alloc, directory, segment, &file, tables)
 }
 
 // Opens a listed file, if the segment has a table of it.
@@ -56,17 +76,18 @@ fn open_listed<D: Directory>(
     directory: &D,
     segment: &SegmentMeta,
     file: &FileMeta,
+    tables: &Option<Vec<u8>>,
 ) -> Result<Option<BlockFile<D::File>>, StoreFault>
-    ensures answers { D.is_known directory.now → AnswersFromFiles (option_map (λ b. record { bytes = D.File.bytes b.source; table = b.table })) result (open_listed (segment_view segment.now) file.now (file_of BlockTables segment.now.files.items) (D.seen directory.now)) }
+    ensures answers { D.is_known directory.now → found_bytes tables.now ≡ D.seen directory.now (Segment segment.now.id BlockTables) → AnswersFromFiles (option_map (λ b. record { bytes = D.File.bytes b.source; table = b.table })) result (open_listed (segment_view segment.now) file.now (file_of BlockTables segment.now.files.items) (D.seen directory.now)) }
     ensures obeyed { is_obeyed IsRefused (D.may_refuse directory.now) result }
 {
     let Some(_) = file_of(segment.files.as_slice(), SegmentComponent::BlockTables) else {
         return Ok(None);
     };
-    if !has_table(file.component) {
+    if !has_table(file) {
         return Ok(None);
     }
-    let table = load_table(alloc, directory, segment, file)?;
+    let table = load_table(alloc, segment, file, tables)?;
     open_with(alloc, directory, segment.id, file.component, table)
 }
 
@@ -88,28 +109,28 @@ fn open_with<D: Directory>(
     Ok(Some(BlockFile::new(source, table)))
 }
 
-// Loads the table of a listed file from the segment's file of tables.
+// Takes the table of a listed file out of the segment's file of tables.
 #[tactic(auto, unfolding(crate::specs::OpenFiles::listed_table))]
-fn load_table<D: Directory>(
+fn load_table(
     alloc: Global,
-    directory: &D,
     segment: &SegmentMeta,
     file: &FileMeta,
+    tables: &Option<Vec<u8>>,
 ) -> Result<BlockTable, StoreFault>
-    ensures answers { D.is_known directory.now → AnswersFromFiles (λ t. t) result (listed_table (segment_view segment.now) file.now (D.seen directory.now (Segment segment.now.id BlockTables))) }
-    ensures obeyed { is_obeyed IsRefused (D.may_refuse directory.now) result }
+    ensures answers { AnswersFromFiles (λ t. t) result (listed_table (segment_view segment.now) file.now (found_bytes tables.now)) }
+    ensures memory { is_obeyed IsRefused ⊥ result }
 {
     let id = segment.id;
-    let tables = SegmentComponent::BlockTables;
-    let Some(bytes) = directory.read(alloc, Name::Segment(id, tables))? else {
-        return Err(StoreFault::Index(IndexFault::MissingFile(id, tables)));
+    let component = SegmentComponent::BlockTables;
+    let Some(bytes) = tables else {
+        return Err(StoreFault::Index(IndexFault::MissingFile(id, component)));
     };
     let Some(table) = table_in(segment.files.as_slice(), file, bytes.as_slice()) else {
-        return Err(StoreFault::Index(IndexFault::WrongFileLength(id, tables)));
+        return Err(StoreFault::Index(IndexFault::WrongFileLength(id, component)));
     };
     match BlockTable::open(file.len, &file.digest, Vec::from_slice(alloc, table)?) {
         Some(table) => Ok(table),
-        None => Err(StoreFault::Index(IndexFault::WrongFileChecksum(id, tables))),
+        None => Err(StoreFault::Index(IndexFault::WrongFileChecksum(id, component))),
     }
 }
 
@@ -159,17 +180,17 @@ fn table_len(file: &FileMeta) -> u64
     ensures len { result ≡ table_len file.now }
     ensures bound { result < 2 ^ 52 }
 {
-    if !has_table(file.component) {
+    if !has_table(file) {
         return 0;
     }
     8 * file.len.div_ceil(BLOCK_LEN as u64)
 }
 
-// Returns whether the file of tables has the table of a component.
-fn has_table(component: SegmentComponent) -> bool
-    ensures { result ≡ has_table component }
+// Returns whether the file of tables has the table of a listed file.
+fn has_table(file: &FileMeta) -> bool
+    ensures { result ≡ has_table file.now }
 {
-    component.number() != 5 && component.number() != 7
+    file.component.number() != 5 && file.component.number() != 7 && file.digest.kind() == 2
 }
 
 /// Law: a file of a segment that is there as it was written opens with its bytes and their table. So ranges of it are read

@@ -12,7 +12,7 @@ use Rattle.sha2.proofs.Facts256.{length-sha256}
 use Rattle.ii_store.specs.declared.faults.IndexFault.{IndexFault}
 use Rattle.ii_store.specs.declared.faults.IndexFault.TheVariants.{DamagedMeta, OtherVersion}
 use Rattle.ii_store.specs.declared.file_digest.FileDigest.{FileDigest}
-use Rattle.ii_store.specs.declared.file_digest.FileDigest.TheVariants.{Sha256, Blocks}
+use Rattle.ii_store.specs.declared.file_digest.FileDigest.TheVariants.{Sha256, LongBlocks, Blocks}
 use Rattle.ii_store.specs.declared.index_meta.FileMeta.{FileMeta}
 use Rattle.ii_directory.specs.declared.name.SegmentComponent.{SegmentComponent}
 use Rattle.ii_directory.specs.declared.name.SegmentComponent.TheVariants.{Alive, BlockTables, Counts, FieldNorms, Positions, Postings, Store, Terms}
@@ -98,6 +98,7 @@ digest_if first d = if first then digest_items d else digest_kind d ∷ digest_i
 
 kind_in : (first : Bool) (d : FileDigest) (bytes : List ℕ) → (not first || digest_kind d == 0) ≡ true → (if first then Ok (0, digest_if first d ++ bytes) else byte_at (digest_if first d ++ bytes)) ≡ Ok (digest_kind d, digest_items d ++ bytes)
 kind_in true (Sha256 digest) bytes held = refl
+kind_in true (LongBlocks digest) bytes held = absurd cc
 kind_in true (Blocks digest) bytes held = absurd cc
 kind_in false d bytes held = refl
 
@@ -108,6 +109,7 @@ kind_again version d bytes held = kind_in (version == 2) d bytes held
 kind_of_digest : (d : FileDigest) → digest_of (digest_kind d) (digest_items d) ≡ Ok d
 unfolding digest_of
 kind_of_digest (Sha256 digest) = refl
+kind_of_digest (LongBlocks digest) = refl
 kind_of_digest (Blocks digest) = refl
 
 digest_again : (version : ℕ) (d : FileDigest) (rest : List ℕ) → length (digest_items d) ≡ 32 → can_hold version d ≡ true → digest_at version (digest_bytes version d ++ rest) ≡ Ok (d, rest)

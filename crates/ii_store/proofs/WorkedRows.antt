@@ -5,7 +5,7 @@ use Rattle.std.specs.Hash.DefaultHasher.{finish, initial, round, write, write_by
 use Rattle.ii_store.specs.declared.faults.IndexFault.{IndexFault}
 use Rattle.ii_store.specs.declared.faults.IndexFault.TheVariants.{DamagedMeta}
 use Rattle.ii_store.specs.declared.file_digest.FileDigest.{FileDigest}
-use Rattle.ii_store.specs.declared.file_digest.FileDigest.TheVariants.{Sha256, Blocks}
+use Rattle.ii_store.specs.declared.file_digest.FileDigest.TheVariants.{Sha256, LongBlocks, Blocks}
 use Rattle.ii_store.specs.declared.index_meta.FileMeta.{FileMeta}
 use Rattle.ii_directory.specs.declared.name.Name.TheVariants.{Meta, NewMeta, Segment}
 use Rattle.ii_directory.specs.declared.name.SegmentComponent.{SegmentComponent}
@@ -62,7 +62,7 @@ segment_1 : segment_at 3 (1 ∷ 0 ∷ 0 ∷ 0 ∷ 0 ∷ 0 ∷ 0 ∷ 0 ∷ 3 ∷ 
 unfolding segment_at number_at items_at
 segment_1 = refl
 
--- the file of field norms, of one byte, in a list of version 3: its digest is of kind 0, a SHA-256, or 1, of blocks
+-- the file of field norms, of one byte, in a list of version 3: its digest is of kind 0, a SHA-256, 1, of long blocks, or 2, of blocks
 
 abbrev digest_32 : List ℕ
 digest_32 = replicate 32 7
@@ -81,11 +81,15 @@ sha256_kind : file_with 3 (0 ∷ digest_32 ++ 9 ∷ []) ≡ norms (Sha256 digest
 unfolding file_at number_at digest_at digest_kind_at bytes_at digest_of component_of
 sha256_kind = refl
 
-blocks_kind : file_with 3 (1 ∷ digest_32 ++ 9 ∷ []) ≡ norms (Blocks digest_32)
+long_blocks_kind : file_with 3 (1 ∷ digest_32 ++ 9 ∷ []) ≡ norms (LongBlocks digest_32)
+unfolding file_at number_at digest_at digest_kind_at bytes_at digest_of component_of
+long_blocks_kind = refl
+
+blocks_kind : file_with 3 (2 ∷ digest_32 ++ 9 ∷ []) ≡ norms (Blocks digest_32)
 unfolding file_at number_at digest_at digest_kind_at bytes_at digest_of component_of
 blocks_kind = refl
 
-unknown_kind : file_with 3 (2 ∷ digest_32 ++ 9 ∷ []) ≡ no_file
+unknown_kind : file_with 3 (3 ∷ digest_32 ++ 9 ∷ []) ≡ no_file
 unfolding file_at number_at digest_at digest_kind_at bytes_at digest_of component_of
 unknown_kind = refl
 

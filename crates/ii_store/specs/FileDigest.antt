@@ -19,21 +19,24 @@ block_checksum block = finish (write initial block)
 abbrev pub checksum_bytes : List (List ℕ) → List ℕ
 checksum_bytes bs = flat_map (λ block. to_le_bytes w64 (block_checksum block)) bs
 
--- the digest of the blocks of a file
-unfoldable pub blocks_digest : List ℕ → List ℕ
-blocks_digest bytes = sha256 (checksum_bytes (blocks 65536 bytes))
+-- the digest of the blocks of a file, of a length each
+unfoldable pub blocks_digest : ℕ → List ℕ → List ℕ
+blocks_digest len bytes = sha256 (checksum_bytes (blocks len bytes))
 
 -- whether a file with these bytes has a digest
 unfoldable pub has_digest : FileDigest → List ℕ → Bool
 has_digest (digests.Sha256 digest) bytes = bytes_eq digest (sha256 bytes)
-has_digest (digests.Blocks digest) bytes = bytes_eq digest (blocks_digest bytes)
+has_digest (digests.LongBlocks digest) bytes = bytes_eq digest (blocks_digest 65536 bytes)
+has_digest (digests.Blocks digest) bytes = bytes_eq digest (blocks_digest 4096 bytes)
 
 -- the number of a kind of digest in `meta`
 abbrev pub digest_kind : FileDigest → ℕ
 digest_kind (digests.Sha256 digest) = 0
-digest_kind (digests.Blocks digest) = 1
+digest_kind (digests.LongBlocks digest) = 1
+digest_kind (digests.Blocks digest) = 2
 
 -- the bytes of a digest
 abbrev pub digest_items : FileDigest → List ℕ
 digest_items (digests.Sha256 digest) = digest
+digest_items (digests.LongBlocks digest) = digest
 digest_items (digests.Blocks digest) = digest

@@ -6,7 +6,7 @@ use Rattle.sha2.specs.Sha256.{sha256}
 use Rattle.ii_store.specs.declared.faults.IndexFault.{IndexFault}
 use Rattle.ii_store.specs.declared.faults.IndexFault.TheVariants.{OtherVersion, DamagedMeta}
 use Rattle.ii_store.specs.declared.file_digest.FileDigest.{FileDigest}
-use Rattle.ii_store.specs.declared.file_digest.FileDigest.TheVariants.{Sha256, Blocks}
+use Rattle.ii_store.specs.declared.file_digest.FileDigest.TheVariants.{Sha256, LongBlocks, Blocks}
 use Rattle.ii_store.specs.declared.index_meta.FileMeta.{FileMeta}
 use Rattle.ii_store.specs.declared.index_meta.IndexMeta.{IndexMeta}
 use Rattle.ii_store.specs.declared.index_meta.SegmentMeta.{SegmentMeta}
@@ -45,7 +45,7 @@ meta_view m = record {
 
 -- what a new list says of a file with these bytes
 abbrev pub file_meta : SegmentComponent → List ℕ → FileMeta
-file_meta component bytes = record { component = component; len = length bytes; digest = Blocks (blocks_digest bytes) }
+file_meta component bytes = record { component = component; len = length bytes; digest = Blocks (blocks_digest 4096 bytes) }
 
 -- a digest in a list of a version: its kind (1), which isn't there in version 2, and its bytes (32)
 unfoldable pub digest_bytes : ℕ → FileDigest → List ℕ
@@ -116,7 +116,11 @@ digest_kind_at version bytes = if version == 2 then Ok (0, bytes) else byte_at b
 
 -- the digest of a kind
 unfoldable pub digest_of : ℕ → List ℕ → Result FileDigest IndexFault
-digest_of kind digest = if kind == 0 then Ok (Sha256 digest) else if kind == 1 then Ok (Blocks digest) else Err DamagedMeta
+digest_of kind digest =
+    if kind == 0 then Ok (Sha256 digest)
+    else if kind == 1 then Ok (LongBlocks digest)
+    else if kind == 2 then Ok (Blocks digest)
+    else Err DamagedMeta
 
 -- a digest at the start of the bytes, and the bytes after it
 unfoldable pub digest_at : ℕ → List ℕ → Result (FileDigest × List ℕ) IndexFault

@@ -144,7 +144,8 @@ fn digest_of_kind(kind: u8, digest: [u8; 32]) -> Result<FileDigest, StoreFault>
 {
     match kind {
         0 => Ok(FileDigest::Sha256(digest)),
-        1 => Ok(FileDigest::Blocks(digest)),
+        1 => Ok(FileDigest::LongBlocks(digest)),
+        2 => Ok(FileDigest::Blocks(digest)),
         _ => Err(damaged()),
     }
 }

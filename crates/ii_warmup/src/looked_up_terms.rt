@@ -21,8 +21,8 @@ use ii_termdict_slice::TermDictionarySlice;
 use std::alloc::Global;
 use std::collections::BTreeSet;
 
-// The number of blocks of a dictionary that are kept, 64 KiB each.
-const CACHED_BLOCKS: usize = 64;
+// The number of blocks of a dictionary that are kept, 4 KiB each.
+const CACHED_BLOCKS: usize = 256;
 
 // Returns the terms of a field's dictionary that terms and ranges of a query have, each with what they request of it, in
 // ascending order of the bytes of their keys. Each term is looked up; if a range is of the field, the whole dictionary is

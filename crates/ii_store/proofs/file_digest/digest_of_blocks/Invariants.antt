@@ -9,5 +9,5 @@ abbrev pub invariant-loop-block : goal.invariant-loop-block
 invariant-loop-block l =
     goal.iterator-loop-block.can_next l.block-iterator
     × goal.iterator-loop-block.is_finite l.block-iterator
-    × (chunks_size l.block-iterator ≡ 65536)
-    × ((done : List ℕ) × Holds256 l.checksums done × (done ++ checksum_bytes (blocks 65536 (chunks_rest l.block-iterator)) ≡ checksum_bytes (blocks 65536 l.fn.file)))
+    × (chunks_size l.block-iterator ≡ l.fn.block_len)
+    × ((done : List ℕ) × Holds256 l.checksums done × (done ++ checksum_bytes (blocks l.fn.block_len (chunks_rest l.block-iterator)) ≡ checksum_bytes (blocks l.fn.block_len l.fn.file)))
