@@ -2,6 +2,7 @@ mod FitLaws
 pub mod FolderLaws
 pub mod MergingLaws
 mod IndexLaws
+mod RangeLaws
 pub mod RankingLaws
 mod ShareSumLaws
 mod TokenOrderLaws

@@ -11,6 +11,7 @@ pub mod index_ranking;
 pub mod index_texts;
 pub mod keys;
 pub mod merging;
+pub mod ranges;
 pub mod ranking;
 pub mod replacing;
 pub mod scorers;

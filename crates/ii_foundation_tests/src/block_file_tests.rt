@@ -7,10 +7,10 @@ use std::fs;
 use std::io::ErrorKind;
 use std::test::Fail;
 
-// Returns 200,000 bytes, which are four blocks.
+// Returns 16,000 bytes, which are four blocks.
 fn file_of(alloc: Global) -> Result<Vec<u8>, AllocError> {
     let mut file = Vec::new(alloc);
-    for k in 0..200_000u32 {
+    for k in 0..16_000u32 {
         file.push((k % 251) as u8)?;
     }
     Ok(file)
@@ -41,13 +41,13 @@ fn change(bytes: &mut Vec<u8>, place: usize) {
 
 // Where ranges begin, and their lengths.
 static RANGES: [(u64, usize); 7] = [
-    (0, 200_000),
+    (0, 16_000),
     (0, 1),
-    (65_535, 2),
-    (65_536, 65_536),
-    (131_071, 65_538),
-    (199_999, 1),
-    (200_000, 0),
+    (4_095, 2),
+    (4_096, 4_096),
+    (8_191, 4_098),
+    (15_999, 1),
+    (16_000, 0),
 ];
 
 #[test]
@@ -57,15 +57,15 @@ fn ranges_are_read(rt: HostRuntime) -> Result<(), Fail> {
     assert!(rt; table.as_bytes().len() == 32);
     let source = MemoryFile::new(Bytes::copy_from_slice(rt.alloc(), file.as_slice())?);
     let blocks = BlockFile::new(source, table);
-    assert!(rt; blocks.len() == 200_000);
+    assert!(rt; blocks.len() == 16_000);
     for (from, len) in RANGES {
         let read = blocks.read(rt.alloc(), from, len).ok().ok_or("refused")?;
         let expected = part(file.as_slice(), from as usize, len);
         assert!(rt; read.as_slice() == expected, "{from} {len}");
     }
     for (from, len) in [
-        (200_000u64, 1usize),
-        (199_999, 2),
+        (16_000u64, 1usize),
+        (15_999, 2),
         (u64::MAX, 1),
         (u64::MAX, 0),
     ] {
@@ -80,17 +80,19 @@ fn other_tables_are_not_taken(rt: HostRuntime) -> Result<(), Fail> {
     let made = BlockTable::of(rt.alloc(), file.as_slice())?;
     let digest = FileDigest::new(file.as_slice());
     let short = Vec::from_slice(rt.alloc(), part(made.as_bytes(), 0, 24))?;
-    assert!(rt; BlockTable::open(200_000, &digest, short).is_none());
+    assert!(rt; BlockTable::open(16_000, &digest, short).is_none());
     let mut changed = Vec::from_slice(rt.alloc(), made.as_bytes())?;
     change(&mut changed, 31);
-    assert!(rt; BlockTable::open(200_000, &digest, changed).is_none());
+    assert!(rt; BlockTable::open(16_000, &digest, changed).is_none());
     let same = Vec::from_slice(rt.alloc(), made.as_bytes())?;
-    assert!(rt; BlockTable::open(196_608, &digest, same).is_none());
+    assert!(rt; BlockTable::open(12_288, &digest, same).is_none());
     let same = Vec::from_slice(rt.alloc(), made.as_bytes())?;
     let FileDigest::Blocks(digest) = digest else {
         return Err("no digest of blocks".into());
     };
-    assert!(rt; BlockTable::open(200_000, &FileDigest::Sha256(digest), same).is_none());
+    assert!(rt; BlockTable::open(16_000, &FileDigest::Sha256(digest), same).is_none());
+    let same = Vec::from_slice(rt.alloc(), made.as_bytes())?;
+    assert!(rt; BlockTable::open(16_000, &FileDigest::LongBlocks(digest), same).is_none());
     Ok(())
 }
 
@@ -99,17 +101,17 @@ fn a_changed_block_is_told(rt: HostRuntime) -> Result<(), Fail> {
     let path = "/tmp/ii_block_file_changed";
     let mut file = file_of(rt.alloc())?;
     let table = table_of(rt.alloc(), file.as_slice())?;
-    change(&mut file, 70_000);
+    change(&mut file, 5_000);
     fs::write(&rt, path, file.as_slice())?;
     let blocks = BlockFile::new(SystemFile::new(fs::open(&rt, path)?), table);
-    let sound = blocks.read(rt.alloc(), 65_000, 536).ok().ok_or("refused")?;
-    assert!(rt; sound.as_slice() == part(file.as_slice(), 65_000, 536));
-    let damaged = blocks.read(rt.alloc(), 65_000, 537).err();
+    let sound = blocks.read(rt.alloc(), 4_000, 96).ok().ok_or("refused")?;
+    assert!(rt; sound.as_slice() == part(file.as_slice(), 4_000, 96));
+    let damaged = blocks.read(rt.alloc(), 4_000, 97).err();
     assert!(rt; damaged == Some(ReadFault::Damaged(1)));
-    let later = blocks.read(rt.alloc(), 131_072, 68_928).is_ok();
+    let later = blocks.read(rt.alloc(), 8_192, 7_808).is_ok();
     assert!(rt; later);
-    fs::write(&rt, path, part(file.as_slice(), 0, 140_000))?;
-    let cut = blocks.read(rt.alloc(), 131_072, 10).err();
+    fs::write(&rt, path, part(file.as_slice(), 0, 9_000))?;
+    let cut = blocks.read(rt.alloc(), 8_192, 1_000).err();
     assert!(rt; cut == Some(ReadFault::Refused(ErrorKind::UnexpectedEof)));
     let whole = blocks.read(rt.alloc(), 10, 10).is_ok();
     fs::remove_file(&rt, path)?;

@@ -134,6 +134,18 @@ static MIXED_LIST: [u8; 187] = [
     0, 1, 0, 0, 0, 115, 1, 0, 1, 0, 0, 0, 0, 0, 0, 0, 1, 0, 0, 0, 1, 0, 0, 0, 2, 0, 0, 0, 0, 0, 0,
     0, 0, 0, 0, 0, 1, 0, 0, 0, 0, 0, 0, 0, 0, 75, 245, 18, 47, 52, 69, 84, 197, 59, 222, 46, 187,
     140, 210, 183, 227, 209, 96, 10, 214, 49, 195, 133, 165, 215, 204, 226, 60, 119, 133, 69, 154,
+    5, 0, 1, 0, 0, 0, 0, 0, 0, 0, 1, 0, 0, 0, 0, 0, 0, 0, 2, 167, 203, 191, 100, 93, 46, 201, 245,
+    80, 55, 50, 101, 41, 255, 28, 198, 165, 0, 15, 144, 28, 93, 156, 240, 46, 178, 94, 188, 253, 1,
+    249, 208, 231, 158, 12, 121, 134, 91, 233, 156, 12, 209, 81, 247, 213, 10, 95, 183, 114, 212,
+    1, 200, 245, 94, 247, 11, 177, 39, 115, 40, 149, 67, 111, 212,
+];
+
+// The same with the kind of earlier programs, whose blocks were longer.
+static LONG_LIST: [u8; 187] = [
+    110, 101, 113, 117, 108, 108, 112, 97, 3, 0, 0, 0, 1, 0, 0, 0, 0, 0, 0, 0, 3, 0, 0, 0, 0, 0, 0,
+    0, 1, 0, 0, 0, 115, 1, 0, 1, 0, 0, 0, 0, 0, 0, 0, 1, 0, 0, 0, 1, 0, 0, 0, 2, 0, 0, 0, 0, 0, 0,
+    0, 0, 0, 0, 0, 1, 0, 0, 0, 0, 0, 0, 0, 0, 75, 245, 18, 47, 52, 69, 84, 197, 59, 222, 46, 187,
+    140, 210, 183, 227, 209, 96, 10, 214, 49, 195, 133, 165, 215, 204, 226, 60, 119, 133, 69, 154,
     5, 0, 1, 0, 0, 0, 0, 0, 0, 0, 1, 0, 0, 0, 0, 0, 0, 0, 1, 167, 203, 191, 100, 93, 46, 201, 245,
     80, 55, 50, 101, 41, 255, 28, 198, 165, 0, 15, 144, 28, 93, 156, 240, 46, 178, 94, 188, 253, 1,
     249, 208, 85, 119, 51, 118, 199, 218, 118, 179, 205, 174, 142, 67, 12, 19, 91, 185, 42, 219,
@@ -224,10 +236,10 @@ static REFUSED: [&'static [u8]; 11] = [
     &[
         110, 101, 113, 117, 108, 108, 112, 97, 3, 0, 0, 0, 1, 0, 0, 0, 0, 0, 0, 0, 3, 0, 0, 0, 0,
         0, 0, 0, 1, 0, 0, 0, 115, 1, 0, 1, 0, 0, 0, 0, 0, 0, 0, 1, 0, 0, 0, 1, 0, 0, 0, 1, 0, 0, 0,
-        0, 0, 0, 0, 0, 0, 0, 0, 1, 0, 0, 0, 0, 0, 0, 0, 2, 118, 172, 101, 56, 72, 28, 104, 203, 64,
+        0, 0, 0, 0, 0, 0, 0, 0, 1, 0, 0, 0, 0, 0, 0, 0, 3, 118, 172, 101, 56, 72, 28, 104, 203, 64,
         60, 84, 127, 137, 150, 106, 190, 1, 117, 43, 152, 6, 73, 147, 58, 12, 237, 13, 7, 163, 0,
-        212, 191, 221, 224, 13, 152, 92, 177, 117, 248, 206, 193, 111, 238, 42, 20, 91, 98, 41,
-        222, 43, 142, 36, 187, 72, 184, 190, 76, 63, 186, 209, 180, 107, 144,
+        212, 191, 0, 42, 139, 217, 130, 204, 82, 204, 25, 230, 169, 148, 58, 174, 131, 106, 98, 67,
+        195, 117, 230, 80, 4, 159, 99, 75, 139, 177, 29, 185, 159, 123,
     ],
 ];
 
@@ -243,7 +255,7 @@ fn is_damaged(alloc: Global, bytes: &[u8]) -> bool {
 fn is_of_sha256(file: &FileMeta, component: SegmentComponent, bytes: &[u8]) -> bool {
     match file.digest {
         FileDigest::Sha256(_) => file.component == component && file.digest.is_of(bytes),
-        FileDigest::Blocks(_) => false,
+        FileDigest::LongBlocks(_) | FileDigest::Blocks(_) => false,
     }
 }
 
@@ -289,9 +301,11 @@ fn a_list_with_stored_documents_is_read_and_written(rt: HostRuntime) -> Result<(
 }
 
 #[test]
-fn a_list_with_both_kinds_of_digest_is_read_and_written(rt: HostRuntime) -> Result<(), Fail> {
-    let written = encoded(rt.alloc(), &MIXED_LIST).ok().ok_or("refused")?;
-    assert!(rt; written.as_slice() == MIXED_LIST.as_slice());
+fn a_list_with_other_kinds_of_digest_is_read_and_written(rt: HostRuntime) -> Result<(), Fail> {
+    for list in [MIXED_LIST, LONG_LIST] {
+        let written = encoded(rt.alloc(), &list).ok().ok_or("refused")?;
+        assert!(rt; written.as_slice() == list.as_slice());
+    }
     let list = decode(rt.alloc(), &MIXED_LIST).ok().ok_or("refused")?;
     assert!(rt; list.segments.len() == 1);
     let files = list.segments[0].files.as_slice();
@@ -317,6 +331,24 @@ static DIGESTS: [(usize, [u8; 32]); 4] = [
             19, 185, 138, 31, 41, 195, 60, 52, 246, 228, 225, 30, 221, 157,
         ],
     ),
+    (
+        4096,
+        [
+            223, 248, 247, 100, 227, 35, 80, 121, 153, 226, 66, 163, 213, 151, 110, 56, 15, 174,
+            84, 231, 184, 55, 119, 136, 30, 206, 201, 224, 181, 172, 189, 224,
+        ],
+    ),
+    (
+        12289,
+        [
+            231, 135, 180, 156, 41, 246, 37, 178, 22, 164, 180, 154, 161, 45, 197, 125, 202, 244,
+            37, 17, 237, 160, 219, 231, 141, 247, 138, 94, 45, 141, 211, 80,
+        ],
+    ),
+];
+
+// The same with the long blocks of earlier programs.
+static LONG_DIGESTS: [(usize, [u8; 32]); 2] = [
     (
         65536,
         [
@@ -350,6 +382,12 @@ fn a_file_has_the_digest_of_its_blocks(rt: HostRuntime) -> Result<(), Fail> {
         let bytes = counted(rt.alloc(), len)?;
         let file = FileMeta::new(SegmentComponent::Terms, bytes.as_slice());
         assert!(rt; file.digest == FileDigest::Blocks(digest), "{len} bytes");
+    }
+    for (len, digest) in LONG_DIGESTS {
+        let bytes = counted(rt.alloc(), len)?;
+        let digest = FileDigest::LongBlocks(digest);
+        assert!(rt; digest.is_of(bytes.as_slice()), "{len} bytes");
+        assert!(rt; !digest.is_of(&bytes.as_slice()[1..]), "{len} bytes");
     }
     Ok(())
 }

@@ -1,5 +1,5 @@
 -- Segments of which what a query reads is open.
-use Rattle.std.specs.Prelude.{◌≡◌, ℕ, Bool, true, ◌||◌, List, ◌∷◌, ◌++◌, Option, None, Some, is_none, length}
+use Rattle.std.specs.Prelude.{◌≡◌, ℕ, Bool, false, true, ◌||◌, List, ◌∷◌, ◌++◌, Option, None, Some, is_none, length}
 use Rattle.ii_base.specs.Schema.{SchemaEntry}
 use Rattle.ii_file_slice.specs.FileSlice.{IsTableOf, bytes_if}
 use Rattle.ii_query_parser.specs.declared.query.Query.{Query}
@@ -40,8 +40,9 @@ pub record HasItsTables (s : OpenSegmentState) : Type 0 where
   pub positions : HasItsTable s.positions
   pub fieldnorms : HasItsTable s.fieldnorms
 
--- Of a segment what a query reads is open: where its files hold an index, what the query reads of this one, and the norms if the search ranks.
+-- Of a segment, whose files are open, what a query reads is open: where these hold an index, what the query reads of this one, and the norms if the search ranks.
 pub record WarmsAs (entries : List SchemaEntry) (query : Query) (scoring : EnableScoring) (s : OpenSegmentState) (o : Opened) : Type 0 where
+  pub complete : lacks_file s ≡ false
   pub schema : o.schema ≡ entries
   pub docs : o.num_docs ≡ s.num_docs
   pub alive : o.alive ≡ s.alive

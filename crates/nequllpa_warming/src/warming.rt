@@ -1,5 +1,5 @@
 //! Opens of segments what a query reads.
-ghost use Rattle.std.specs.Prelude.{◌≡◌, ℕ, IfErr, IfOk, List, None, Ok, length};
+ghost use Rattle.std.specs.Prelude.{◌≡◌, ℕ, IfErr, IfOk, List, None, Ok, false, length};
 ghost use Rattle.std.specs.List.{AllZip};
 ghost use Rattle.ii_base.specs.Schema.{SchemaEntry};
 ghost use Rattle.ii_reader.specs.OpenIndex.{OpenIndexState};
@@ -7,7 +7,7 @@ ghost use Rattle.ii_schema_text.specs.SchemaText.{text_schema};
 ghost use Rattle.ii_warmup.specs.IndexParts.{HaveNormsFor};
 ghost use Rattle.ii_warmup.specs.Parts.{IsPartFor};
 ghost use Rattle.ii_warmup.specs.QueryTerms.{query_ranges, query_terms};
-ghost use Rattle.nequllpa_warming.specs.WarmedSegments.{HoldsOfOne, IsWarmupRefusal, SegmentHolds, WarmsAs};
+ghost use Rattle.nequllpa_warming.specs.WarmedSegments.{HoldsOfOne, IsWarmupRefusal, SegmentHolds, WarmsAs, lacks_file};
 
 use crate::faults::WarmupFault;
 use ii_base::Schema;
@@ -108,6 +108,7 @@ fn warmed_index<F: ReadAt + Drop>(
     query: &Query,
     scoring: EnableScoring,
 ) -> Result<OpenIndex, WarmupFault>
+    ensures complete { IfOk result (λ _. lacks_file segment.now ≡ false) }
     ensures many { IfOk result (λ index. length index.readers ≡ length schema.now) }
     ensures part { (whole : OpenIndexState) → SegmentHolds segment.now schema.now whole → IfOk result (λ index. IsPartFor query.now index whole) }
     ensures norms { (whole : OpenIndexState) → SegmentHolds segment.now schema.now whole → IfOk result (λ index. HaveNormsFor scoring (query_terms query.now) (query_ranges query.now) (length schema.now) index.fieldnorms whole.fieldnorms) }
