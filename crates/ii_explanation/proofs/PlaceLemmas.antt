@@ -22,6 +22,7 @@ use Rattle.ii_ranking.specs.Shares.{ShareState, share_of, total, tree_shares}
 use Rattle.ii_scorer.specs.TopDocs.{scored_by_number, with_score}
 use Rattle.ii_ranking.proofs.SegmentLemmas.{segment_at}
 use Rattle.ii_ranking.proofs.ShareLemmas.{shares_add_up}
+use Rattle.ii_ranking.proofs.TokenLaws.{memory_of_none}
 use Rattle.ii_scorer.proofs.TopLemmas.{scored_more}
 use Rattle.ii_segments.specs.Segments.{is_living}
 use Rattle.ii_segment_search.specs.Searcher.{HaveFields, OpenSegmentState, total_living}
@@ -155,16 +156,11 @@ sound_at query segments (x ∷ before) after s whole sound = sound_at query (bef
     other_sound None e none = none
     other_sound (Some part) e none = absurd (let no = none in cc)
 
--- a fault where nothing is damaged
-only_memory : (damage : Option Part) (fault : Fault) → damage ≡ None → IsScoreFault damage fault → fault ≡ OutOfMemory
-only_memory damage fault none (inl memory) = memory
-only_memory damage fault none (inr (part, told, is)) = absurd (let no = sym is ∙ none in cc)
-
--- the same of what a segment among sound ones returned
+-- only memory is wanting for what a segment among sound ones returned
 pub only_memory_at : (query : Query) (segments before after : List OpenSegmentState) (s : OpenSegmentState) (r : Result (Vec Share Global) Fault) → segments ≡ before ++ s ∷ after → segments_damage query segments ≡ None
     → IfErr r (IsScoreFault (query_damage s.index query)) → OnlyMemory r
 only_memory_at query segments before after s (Ok shares) whole sound fault = tt
-only_memory_at query segments before after s (Err e) whole sound fault = only_memory (query_damage s.index query) e (sound_at query segments before after s whole sound) fault
+only_memory_at query segments before after s (Err e) whole sound fault = memory_of_none (query_damage s.index query) e (sound_at query segments before after s whole sound) fault
 
 -- the living documents of one segment more
 pub living_next : (segments : List RankedSegment) (i : ℕ) (s : RankedSegment) → i < length segments → s ≡ get_or segments i s → total_living (take (i + 1) (map segment_of segments)) ≡ total_living (take i (map segment_of segments)) + num_living s.alive.now

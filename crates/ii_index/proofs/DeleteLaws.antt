@@ -3,7 +3,7 @@ use Rattle.std.proofs.Common.{◌≡◌, ◌∙◌, ℕ, zero, suc, ◌+◌, ◌
 use Rattle.std.specs.Prelude.{filter, slice_set}
 use Rattle.std.specs.List.{range_with_len}
 use Rattle.std.proofs.lemmas.Bool.{eqb-false, eqb-true}
-use Rattle.std.proofs.lemmas.List.{ext_get_or, get_or-set_other, length-set, map-append}
+use Rattle.std.proofs.lemmas.List.{ext_get_or, get_or-set_other, map-append}
 use Rattle.std.proofs.lemmas.List.Elements.{filter-append}
 use Rattle.std.proofs.lemmas.List.FromFn.{get_or-map-range_with_len, sum_by-map-range_with_len_more, take-map-range_with_len}
 use Rattle.ii_alive.specs.Alive.{num_living, rank}
@@ -11,6 +11,7 @@ use Rattle.ii_alive.proofs.RankLemmas.{living_cons, one, rank_below}
 use Rattle.ii_definitions.specs.Tokens.{IndexToken}
 use Rattle.ii_index.specs.Deletes.{is_among}
 use Rattle.ii_segment_store.specs.Changes.{without}
+use Rattle.ii_segment_store.proofs.ChangeLaws.{length_without}
 use Rattle.ii_segments.specs.Segments.{Segment, at_rank, is_living, living_tokens, num_docs_of, tokens_from}
 use Rattle.ii_segments.proofs.MergeLaws.{of_living}
 
@@ -152,10 +153,6 @@ module _ (keeps : ℕ → Bool) where
         ∙ sym (ap (map (at_rank 0 flags)) (filter-append (of_living flags) own later) ∙ map-append (at_rank 0 flags) (filter (of_living flags) own) (filter (of_living flags) later))
 
 -- ---- deletes of a list of documents
-pub length_without : (docs : List ℕ) (alive : List Bool) → length (without docs alive) ≡ length alive
-length_without [] alive = refl
-length_without (doc ∷ docs) alive = length_without docs (slice_set alive doc false) ∙ length-set alive doc false
-
 pub living_without : (docs : List ℕ) (alive : List Bool) (d : ℕ) → is_living (without docs alive) d ≡ (is_living alive d && not (is_among docs d))
 living_without [] alive d = and_true (is_living alive d)
   where

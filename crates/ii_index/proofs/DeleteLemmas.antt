@@ -16,7 +16,6 @@ use Rattle.ii_io.specs.declared.faults.Part.{Part}
 use Rattle.ii_index.specs.Deletes.{DeleteState, HaveFieldsBelow, docs_in_files, docs_reached, has_term, in_scope, is_among, is_reached, left_of, reached_of}
 use Rattle.ii_index.specs.declared.deletes.Scope.{Scope}
 use Rattle.ii_index.specs.declared.deletes.Scope.TheVariants.{Committed, Pending}
-use Rattle.ii_index.proofs.DeleteLaws.{length_without}
 use Rattle.ii_query_parser.specs.declared.query.Query.TheVariants.{Term}
 use Rattle.ii_query_parser.specs.Queries.{QueryTree, has_fields, holds_for_all, is_within, keeps_positions, phrase_has_positions, phrase_is_within, tree_matches}
 use Rattle.ii_query_parser.proofs.QueryLemmas.{term_tree}
@@ -25,6 +24,7 @@ use Rattle.ii_search.specs.Found.{docs_of_term, tree_found}
 use Rattle.ii_search.proofs.FoundLemmas.{gives_matches}
 use Rattle.ii_segment_store.specs.Changes.{segment_without, without}
 use Rattle.ii_segment_store.specs.Contents.{SegmentContents}
+use Rattle.ii_segment_store.proofs.ChangeLaws.{length_without}
 use Rattle.ii_segments.specs.HoldCounts.{HoldCounts}
 use Rattle.ii_segments.specs.Segments.{Segment}
 use Rattle.nequllpa_merging.specs.HeldSegments.{HasCountsOf, HoldsSegment}

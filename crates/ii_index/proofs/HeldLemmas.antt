@@ -29,7 +29,7 @@ use Rattle.ii_scorer.specs.TopDocs.{scored_docs}
 use Rattle.ii_scorer.specs.declared.top_docs.TopDocs.{TopDocs}
 use Rattle.ii_ranking.proofs.OneIndexLaws.{segments_score_as_one}
 use Rattle.ii_ranking.proofs.SegmentTokenLaws.{same_segments}
-use Rattle.ii_ranking.proofs.TokenLaws.{memory_alone}
+use Rattle.ii_ranking.proofs.TokenLaws.{memory_alone, memory_of_none}
 use Rattle.ii_ranking.specs.Scores.{IsScoreFault, damage_of, first_of, query_damage}
 use Rattle.ii_ranking.specs.Segments.{segments_scored}
 use Rattle.ii_search.specs.Found.{found_in}
@@ -51,7 +51,7 @@ use Rattle.ii_index.specs.Searching.{SearcherState, segment_totals}
 use Rattle.ii_index.specs.Statistics.{counts_damage, index_statistics, num_docs_with, num_tokens_of, token_statistics}
 use Rattle.ii_statistics.specs.Listed.{IsListedInEach, IsListed}
 use Rattle.ii_statistics.specs.Statistics.{AreSameFor, doc_freq_in, num_found, query_terms, terms_damage}
-use Rattle.ii_statistics.proofs.DamageLemmas.{only_memory, sound_both}
+use Rattle.ii_statistics.proofs.DamageLemmas.{sound_both}
 use Rattle.ii_statistics.proofs.StatisticsLaws.{same_tokens}
 use Rattle.ii_statistics.proofs.TermLemmas.{terms_below}
 use Rattle.ii_index.proofs.ScoredLemmas.{scored_there}
@@ -200,7 +200,7 @@ terms_held_sound entries opened ss hold (t ∷ terms) known =
 -- nor is the segment of a document
 number_memory : (entries : List SchemaEntry) (query : Query) → has_fields (length entries) query ≡ true → (fault : Fault) (number : ℕ) (opened : List OpenSegmentState) (ss : List Segment) → SegmentsHold entries opened ss
     → AllByRecursion (λ (s : Segment). length s.alive ≤ TERMINATED) ss → IsScoreFault (number_damage query number opened) fault → fault ≡ OutOfMemory
-number_memory entries query fields fault number [] ss hold few is = only_memory None fault refl is
+number_memory entries query fields fault number [] ss hold few is = memory_of_none None fault refl is
 number_memory entries query fields fault number (o ∷ os) [] hold few is = elim hold [ ]
 number_memory entries query fields fault number (o ∷ os) (s ∷ ss) hold few is =
     by (λ later. number_memory entries query fields fault (number - num_living o.alive) os ss hold.1 few.1 later) (nat_lt number (num_living o.alive)) is

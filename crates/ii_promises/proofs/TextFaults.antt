@@ -2,7 +2,7 @@
 use Rattle.std.proofs.Common.{◌≡◌, ℕ, zero, suc, ◌+◌, ◌-◌, ◌≤◌, ◌<◌, ◌==◌, Bool, true, false, ◌&&◌, List, [], ◌∷◌, ◌++◌, length, map, max, nat_eq, Option, Some, None, refl, sym, ap, ◌∙◌, subst, arith, length-append, true≢false, inl, inr}
 use Rattle.std.specs.Prelude.{◌⊎◌, bytes_eq, filter, fold, if◌then◌else◌, nat_le, nat_lt, slice_index, unwrap_or}
 use Rattle.std.specs.List.{AllByRecursion, find, sum_by}
-use Rattle.std.proofs.lemmas.Bool.{eq-eqb, eqb-true, le-ltb, leb-true, lt-leb, ne_eqb}
+use Rattle.std.proofs.lemmas.Bool.{and_parts, eq-eqb, eqb-true, le-ltb, leb-true, lt-leb, ne_eqb}
 use Rattle.std.proofs.lemmas.List.{length-map}
 use Rattle.std.proofs.lemmas.List.Sums.{count_by-le-length, length-filter, sum_by-append, sum_by-cons}
 use Rattle.ii_io.specs.declared.faults.Fault.{Fault}
@@ -123,10 +123,6 @@ position_taken option position most n e bounded later low few =
 abbrev pub IsBeforeIn : ℕ → ℕ → ℕ → IndexToken → Type 0
 IsBeforeIn doc field most u = u.doc ≡ doc → u.field ≡ field → u.position ≤ most
 
-first_of_both : (a b : Bool) → (a && b) ≡ true → a ≡ true
-first_of_both true b is = refl
-first_of_both false b is = is
-
 module _ (option : IndexRecordOption) (p : Piece) (begin : ℕ) where
   word_taken : (in_group least : ℕ) (ts : List IndexToken) (w : Word) → begin + (w.position + w.position_length) < u32_max → least ≤ w.position → AllByRecursion (IsBeforeIn p.doc p.field (begin + least)) ts
       → in_group < u32_max → length ts + 1 < u32_max → word_fault option p begin in_group ts w ≡ None
@@ -138,7 +134,7 @@ module _ (option : IndexRecordOption) (p : Piece) (begin : ℕ) where
       let in_field_few : nat_le u64_max (field_count p.field ts) ≡ false = lt-leb u64_max (field_count p.field ts) (omega (arith, few, counted_few)) in
       let below : AllByRecursion (λ (u : IndexToken). is_at t.field t.key u ≡ true → IsBelow t.doc (begin + w.position) u) ts =
       all_weaker (IsBeforeIn p.doc p.field (begin + least)) (λ (u : IndexToken). is_at t.field t.key u ≡ true → IsBelow t.doc (begin + w.position) u) ts
-      (λ u early at here. omega (arith, later, early here (eqb-true u.field p.field (first_of_both (nat_eq u.field p.field) (bytes_eq u.key t.key) at)))) before in
+      (λ u early at here. omega (arith, later, early here (eqb-true u.field p.field (and_parts (nat_eq u.field p.field) (bytes_eq u.key t.key) at).0))) before in
       rw (at_end, in_group_few, in_field_few)
       (position_taken option (begin + w.position) (begin + w.position) (length ts + 1) (open_entry option t ts) (opened_bounded option t ts (begin + w.position) (length ts + 1) below (omega arith) (omega arith)) (omega arith) (omega (arith, ends)) few)
 

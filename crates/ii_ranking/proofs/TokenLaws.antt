@@ -200,7 +200,7 @@ scores_are_of_tokens schema num_docs index ts statistics query doc holds fields 
     same_tree (length schema) num_docs (scored_in index statistics) (scored_by_tokens schema ts statistics) (held_alike schema num_docs index ts holds statistics) doc below (tree_of query) fields
 
 -- an allocation failure is the only fault
-memory_of_none : (damage : Option Part) (fault : Fault) → damage ≡ None → IsScoreFault damage fault → fault ≡ OutOfMemory
+pub memory_of_none : (damage : Option Part) (fault : Fault) → damage ≡ None → IsScoreFault damage fault → fault ≡ OutOfMemory
 memory_of_none damage fault none (inl memory) = memory
 memory_of_none damage fault none (inr (part, told, is)) = absurd (let both : None ≡ Some part = sym none ∙ is in cc)
 

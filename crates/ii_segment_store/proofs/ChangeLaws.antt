@@ -75,7 +75,7 @@ unfolding flags_with
 flags_length s None files alive e = ap length (sym (fitting_are s (replicate s.num_docs true) alive e)) ∙ length-replicate s.num_docs true
 flags_length s (Some f) files alive e = read_length s (listed_bytes (record { id = s.id; file = f }) (files (Segment s.id f.component))) alive e
 
-length_without : (docs : List ℕ) (alive : List Bool) → length (without docs alive) ≡ length alive
+pub length_without : (docs : List ℕ) (alive : List Bool) → length (without docs alive) ≡ length alive
 length_without [] alive = refl
 length_without (doc ∷ docs) alive = length_without docs (slice_set alive doc false) ∙ length-set alive doc false
 

@@ -3,7 +3,6 @@ use Rattle.std.proofs.Common.{◌≡◌, ◌∙◌, inl, inr, ℕ, List, Option,
 use Rattle.std.specs.Prelude.{IfErr, IfOk}
 use Rattle.ii_base.specs.Entries.{Entry}
 use Rattle.ii_io.specs.declared.faults.Fault.{Fault}
-use Rattle.ii_io.specs.declared.faults.Fault.TheVariants.{OutOfMemory}
 use Rattle.ii_io.specs.declared.faults.Part.{Part}
 use Rattle.ii_ranking.specs.Scores.{IsScoreFault, damage_of, first_of}
 use Rattle.ii_reader.specs.InvertedIndexReader.{IsRefusal}
@@ -42,8 +41,3 @@ refused_found found (Err fault) refused = refusal_damage found fault refused
 -- a part isn't damaged where nothing is
 pub some_damage : {P : Type 0} (part : Part) → ◌≡◌ {A = Option Part} (Some part) None → P
 some_damage part is = absurd (cc)
-
--- nor is anything else refused there
-pub only_memory : (d : Option Part) (fault : Fault) → d ≡ None → IsScoreFault d fault → fault ≡ OutOfMemory
-only_memory d fault none (inl memory) = memory
-only_memory d fault none (inr (part, is, damage)) = some_damage part (sym damage ∙ none)

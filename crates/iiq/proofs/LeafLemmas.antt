@@ -3,7 +3,7 @@ use Rattle.std.proofs.Common.{◌≡◌, ◌∙◌, ◌<◌, ℕ, Bool, true, fa
 use Rattle.std.specs.Prelude.{is_none, string_bytes, unwrap_or}
 use Rattle.std.specs.Option.{option_map}
 use Rattle.std.specs.List.{list_any, onto_first, slice_split}
-use Rattle.std.proofs.lemmas.Bool.{eqb-true}
+use Rattle.std.proofs.lemmas.Bool.{and_parts, eqb-true}
 use Rattle.std.proofs.lemmas.List.Folds.{list_any-append}
 use Rattle.ii_base.specs.declared.json_value.JsonValue.{JsonValue}
 use Rattle.ii_base.specs.declared.json_value.JsonValue.TheOpen.{JsonValue-F}
@@ -16,7 +16,6 @@ use Rattle.ii_base.specs.Terms.{TermState}
 use Rattle.ii_base.specs.Values.{json_key}
 use Rattle.ii_base.specs.declared.doc_id.TheConstants.{TERMINATED}
 use Rattle.ii_definitions.specs.declared.index_call.IndexCall.TheVariants as calls
-use Rattle.iiq.proofs.WordLemmas.{and_right}
 use Rattle.iiq.specs.Commands.{leaf_key, leaf_term, leaf_under}
 use Rattle.iiq.specs.Known.{IsCall, json_alone}
 use Rattle.std.proofs.Math.Bool.{or-false}
@@ -34,7 +33,7 @@ abbrev any_zero : List (List (ℕ × Bool)) → Bool
 any_zero parts = list_any has_zero (map kept_bytes parts)
 
 kept_by : (c : ℕ) (kept acts : Bool) (bs : List (ℕ × Bool)) → acts_as 92 (c, kept) ≡ acts → has_zero (kept_bytes ((c, kept) ∷ bs)) ≡ ((c == 0) || has_zero (kept_bytes bs))
-kept_by c kept true bs e = rw (e, no_zero 92 c (and_right (not kept) (c == 92) e) refl) refl
+kept_by c kept true bs e = rw (e, no_zero 92 c (and_parts (not kept) (c == 92) e).1 refl) refl
 kept_by c kept false bs e = rw e refl
 
 onto_zero : (c : ℕ) (kept : Bool) (parts : List (List (ℕ × Bool))) → any_zero (onto_first (c, kept) parts) ≡ ((c == 0) || any_zero parts)
@@ -42,7 +41,7 @@ onto_zero c kept [] = ap (λ b. b || false) (kept_by c kept (acts_as 92 (c, kept
 onto_zero c kept (p ∷ ps) = ap (λ b. b || any_zero ps) (kept_by c kept (acts_as 92 (c, kept)) p refl) ∙ or_assoc (c == 0) (has_zero (kept_bytes p)) (any_zero ps)
 
 split_by : (c : ℕ) (kept dot : Bool) (parts : List (List (ℕ × Bool))) (zero : Bool) → acts_as 46 (c, kept) ≡ dot → any_zero parts ≡ zero → any_zero (cond dot ([] ∷ parts) (onto_first (c, kept) parts)) ≡ ((c == 0) || zero)
-split_by c kept true parts zero e is = rw (no_zero 46 c (and_right (not kept) (c == 46) e) refl) is
+split_by c kept true parts zero e is = rw (no_zero 46 c (and_parts (not kept) (c == 46) e).1 refl) is
 split_by c kept false parts zero e is = onto_zero c kept parts ∙ ap (λ b. (c == 0) || b) is
 
 -- a path's text holds byte 0 exactly if a segment does

@@ -1,7 +1,7 @@
 -- Laws of parts and numbers.
 use Rattle.std.proofs.Common.{◌≡◌, ◌∙◌, ◌≢◌, ℕ, zero, suc, ◌+◌, ◌*◌, ◌-◌, ◌^◌, ◌<◌, Bool, true, false, ◌&&◌, ℤ, pos, neg_ℤ, List, [], ◌∷◌, length, take, drop, get_or, Some, None, Result, Ok, Err, nat_lt, nat_le, refl, sym, ap, arith, cond, eqb, eq-eqb, not, subst, w64}
 use Rattle.std.proofs.lemmas.List.Sums.{passes_at_first, prefix_len_passes}
-use Rattle.std.proofs.lemmas.Bool.{eqb-true, lt-ltb, ltb-true, ltb-false, leb-true, not-true}
+use Rattle.std.proofs.lemmas.Bool.{and_parts, eqb-true, lt-ltb, ltb-true, ltb-false, leb-true, not-true}
 use Rattle.std.proofs.lemmas.List.Splits.{slice_split_first, slice_split_none}
 use Rattle.std.proofs.lemmas.Str.{IsUtf8-from_ascii, IsUtf8-drop, IsCharBoundary-after_ascii}
 use Rattle.std.proofs.lemmas.Str.Parse.{IsNumeralModel, numerals_by_fold, tells_all_ascii_digits, parse_plain, parse_signed_minus, parse_signed_plain}
@@ -67,23 +67,15 @@ number_read {E = E} word text r e h plain =
     let parsed = rw e at h in
     number_cases 0 word (nat_lt 0 (length word)) (all_ascii_digits word) (nat_lt (number_on 0 word) 18446744073709551616) refl refl refl E r (parse_plain own 64 word r parsed plain)
 
-and_left : (a b : Bool) → (a && b) ≡ true → a ≡ true
-and_left true b p = refl
-and_left false b p = absurd (cc)
-
-pub and_right : (a b : Bool) → (a && b) ≡ true → b ≡ true
-and_right true b p = p
-and_right false b p = absurd (cc)
-
 digit_small : (c : ℕ) → is_ascii_digit c ≡ true → c < 128
 digit_small c h =
-    let high = leb-true c 57 (and_right (nat_le 48 c) (nat_le c 57) h) in
+    let high = leb-true c 57 (and_parts (nat_le 48 c) (nat_le c 57) h).1 in
     omega arith
 
 ascii_at : (word : List ℕ) → all_ascii_digits word ≡ true → (i : ℕ) → get_or word i 0 < 128
 ascii_at [] h i = omega arith
-ascii_at (c ∷ cs) h zero = digit_small c (and_left (is_ascii_digit c) (all_ascii_digits cs) h)
-ascii_at (c ∷ cs) h (suc i) = ascii_at cs (and_right (is_ascii_digit c) (all_ascii_digits cs) h) i
+ascii_at (c ∷ cs) h zero = digit_small c (and_parts (is_ascii_digit c) (all_ascii_digits cs) h).0
+ascii_at (c ∷ cs) h (suc i) = ascii_at cs (and_parts (is_ascii_digit c) (all_ascii_digits cs) h).1 i
 
 no_digits_cases : (word : List ℕ) (some fits : Bool) → None ≡ (needs (some && false && fits) >>= λ _. Some (number_on 0 word))
 no_digits_cases word true fits = refl
@@ -131,7 +123,10 @@ below_read f limit word r h =
     let fits = nat_lt (number_on 0 word) limit in
     ok_where r (IsBelow limit word) (some && digits && fits) (f (number_on 0 word))
     (λ p. rw (lt-ltb 0 (length word) p.1, p.0, lt-ltb (number_on 0 word) limit p.2) refl)
-    (λ t. (and_right some digits (and_left (some && digits) fits t), ltb-true 0 (length word) (and_left some digits (and_left (some && digits) fits t)), ltb-true (number_on 0 word) limit (and_right (some && digits) fits t))) h
+    (λ t.
+      let all = and_parts (some && digits) fits t in
+      let both = and_parts some digits all.0 in
+      (both.1, ltb-true 0 (length word) both.0, ltb-true (number_on 0 word) limit all.1)) h
     ∙ sym (needed_by f (number_on 0 word) (some && digits && fits))
 
 signed_by : {E : Type 0} (c : ℕ) (cs : List ℕ) (r : Result ℤ E) (minus : Bool) → eqb c 45 ≡ minus → ParsesSigned w64 10 (c ∷ cs) r → c ≢ 43

@@ -5,7 +5,8 @@ use Rattle.ii_scorer.specs.TopDocs.{AreBest}
 use Rattle.ii_index.specs.Statistics.{searcher_tokens}
 use Rattle.ii_index.proofs.HeldLemmas.{terms_held_sound}
 use Rattle.ii_statistics.specs.Statistics.{query_statistics, query_terms, segments_statistics, terms_damage}
-use Rattle.ii_statistics.proofs.DamageLemmas.{damaged_before, damaged_later, only_memory, sound_both}
+use Rattle.ii_ranking.proofs.TokenLaws.{memory_of_none}
+use Rattle.ii_statistics.proofs.DamageLemmas.{damaged_before, damaged_later, sound_both}
 use Rattle.ii_statistics.proofs.StatisticsLaws.{same_segments, same_tokens}
 use Rattle.ii_statistics.proofs.TermLemmas.{terms_below}
 use Rattle.ii_index.proofs.ranking.best_of_ranked.Goals as goal
@@ -25,7 +26,7 @@ pub returns-in-Err-clause-holds : goal.returns-in-Err-clause-holds
 returns-in-Err-clause-holds c = λ entries ss hold fields.
     let segments = map segment_of c.args.segments.now in
     let terms = query_terms c.args.query.now in
-    only_memory (terms_damage segments terms) c.in-Err.fault (terms_held_sound entries segments ss hold terms (terms_below (length entries) c.args.query.now fields)) c.in-Err.ensures.fault
+    memory_of_none (terms_damage segments terms) c.in-Err.fault (terms_held_sound entries segments ss hold terms (terms_below (length entries) c.args.query.now fields)) c.in-Err.ensures.fault
 
 pub returns-in-Ok-search_segments-clause-best : goal.returns-in-Ok-search_segments-clause-best
 returns-in-Ok-search_segments-clause-best c =
