@@ -10,7 +10,7 @@ ghost use Rattle.ii_segment_store.specs.Contents.{SegmentContents, all_of};
 ghost use Rattle.ii_segment_store.specs.OpenSegments.{opened_at, opened_contents, opened_list, opened_of, opened_segment};
 
 use crate::loading::{MOST_RETRIES, load_flags};
-use crate::opening::open_by_tables;
+use crate::opening::open_one;
 use ii_alive::AliveBits;
 use ii_block_file::BlockFile;
 use ii_directory::ReadAt;
@@ -228,12 +228,14 @@ fn open_segment<D: Directory>(
         alloc,
         Name::Segment(segment.id, SegmentComponent::BlockTables),
     )?;
-    let terms = open_by_tables(alloc, directory, segment, SegmentComponent::Terms, &tables)?;
-    let postings = open_by_tables(alloc, directory, segment, SegmentComponent::Postings, &tables)?;
-    let positions =
-        open_by_tables(alloc, directory, segment, SegmentComponent::Positions, &tables)?;
-    let fieldnorms =
-        open_by_tables(alloc, directory, segment, SegmentComponent::FieldNorms, &tables)?;
+    let component = SegmentComponent::Terms;
+    let terms = open_one(alloc, directory, segment, component, &tables)?;
+    let component = SegmentComponent::Postings;
+    let postings = open_one(alloc, directory, segment, component, &tables)?;
+    let component = SegmentComponent::Positions;
+    let positions = open_one(alloc, directory, segment, component, &tables)?;
+    let component = SegmentComponent::FieldNorms;
+    let fieldnorms = open_one(alloc, directory, segment, component, &tables)?;
     let alive = load_flags(alloc, directory, segment)?;
     Ok(OpenSegment {
         num_docs: segment.num_docs,

@@ -48,12 +48,12 @@ pub fn open_file<D: Directory>(
         alloc,
         Name::Segment(segment.id, SegmentComponent::BlockTables),
     )?;
-    open_by_tables(alloc, directory, segment, component, &tables)
+    open_one(alloc, directory, segment, component, &tables)
 }
 
 // Opens a file of a segment, given the bytes of the segment's file of tables, if there is one.
 #[tactic(auto, unfolding(crate::specs::OpenFiles::open_found))]
-pub(crate) fn open_by_tables<D: Directory>(
+pub(crate) fn open_one<D: Directory>(
     alloc: Global,
     directory: &D,
     segment: &SegmentMeta,
