@@ -21,7 +21,7 @@ use Rattle.ii_reader.specs.InvertedIndexReader.{InvertedIndexReaderState}
 use Rattle.ii_reader.specs.OpenIndex.{OpenIndexState}
 use Rattle.ii_search.specs.Found.{docs_under}
 use Rattle.ii_warmup.specs.Parts.{IsPartOfField}
-use Rattle.ii_warmup.specs.QueryTerms.{QueryRangeState, QueryTermState, later_terms, names_field, names_key, query_ranges, query_terms, requested_of, serves, tree_terms, trees_terms, with_positions}
+use Rattle.ii_warmup.specs.QueryTerms.{QueryRangeState, QueryTermState, names_field, names_key, phrase_requests, query_ranges, requested_of, requested_terms, serves, tree_terms, trees_terms, with_positions}
 use Rattle.ii_warmup.specs.SameFor.{SameTerm}
 use Rattle.ii_warmup.proofs.SameLemmas.{parts_are_same}
 use Rattle.ii_part_ranking.specs.PartScores.{IsScoredPartFor, PartsAreDamagedTheSame, PartsScoreTheSame}
@@ -31,18 +31,18 @@ use Rattle.ii_part_ranking.proofs.ScoreLemmas.{IsSameTerm, same_damage, same_sco
 abbrev IsBelow : ℕ → QueryTermState → Type 0
 IsBelow n t = t.term.field < n
 
-later_below : (n : ℕ) (others : List PhraseTerm) → list_all (λ (o : PhraseTerm). nat_lt o.term.field n) others ≡ true → AllByRecursion (IsBelow n) (later_terms others)
+later_below : (n : ℕ) (others : List PhraseTerm) → list_all (λ (o : PhraseTerm). nat_lt o.term.field n) others ≡ true → AllByRecursion (IsBelow n) (phrase_requests others)
 later_below n [] within = tt
 later_below n (o ∷ os) within =
     let both = and_parts (nat_lt o.term.field n) (list_all (λ (p : PhraseTerm). nat_lt p.term.field n) os) within in
     (ltb-true o.term.field n both.0, later_below n os both.1)
 
-phrase_below : (n : ℕ) (first : TermState) (others : List PhraseTerm) → phrase_is_within n first others ≡ true → AllByRecursion (IsBelow n) (with_positions first ∷ later_terms others)
+phrase_below : (n : ℕ) (first : TermState) (others : List PhraseTerm) → phrase_is_within n first others ≡ true → AllByRecursion (IsBelow n) (with_positions first ∷ phrase_requests others)
 phrase_below n first others within =
     let both = and_parts (nat_lt first.field n) (list_all (λ (o : PhraseTerm). nat_lt o.term.field n) others) within in
     (ltb-true first.field n both.0, later_below n others both.1)
 
-prefix_below : (n : ℕ) (phrase : PhrasePrefix) (key : List ℕ) → phrase_is_within n phrase.first (others_with phrase key) ≡ true → AllByRecursion (IsBelow n) (with_positions phrase.first ∷ later_terms phrase.others.items)
+prefix_below : (n : ℕ) (phrase : PhrasePrefix) (key : List ℕ) → phrase_is_within n phrase.first (others_with phrase key) ≡ true → AllByRecursion (IsBelow n) (with_positions phrase.first ∷ phrase_requests phrase.others.items)
 prefix_below n phrase key within =
     let test = λ (o : PhraseTerm). nat_lt o.term.field n in
     let last : PhraseTerm = record { distance = phrase.distance; term = record { field = phrase.last.prefix.field; value = key } } in
@@ -95,7 +95,7 @@ same_docs option served terms ranges field key (Some part) (Some whole) parts na
 
 module _ (query : Query) (part whole : OpenIndexState) (has : IsScoredPartFor query part whole) where
   abbrev terms : List QueryTermState
-  terms = query_terms query
+  terms = requested_terms query
 
   abbrev ranges : List QueryRangeState
   ranges = query_ranges query

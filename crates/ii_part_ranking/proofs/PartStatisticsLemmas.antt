@@ -18,7 +18,7 @@ use Rattle.ii_segment_search.specs.Searcher.{OpenSegmentState, found_from, total
 use Rattle.ii_statistics.proofs.ListedLemmas.{term_found}
 use Rattle.ii_statistics.specs.Statistics as statistics
 use Rattle.ii_statistics.specs.Statistics.{doc_freq_in, num_found}
-use Rattle.ii_warmup.specs.QueryTerms.{QueryTermState, later_terms, names_key, query_ranges, query_terms, serves, tree_terms, trees_terms, with_positions}
+use Rattle.ii_warmup.specs.QueryTerms.{QueryTermState, names_key, phrase_requests, query_ranges, requested_terms, serves, tree_terms, trees_terms, with_positions}
 use Rattle.ii_part_ranking.specs.PartStatistics.{ArePartSegments, PartsCountTheSame}
 use Rattle.ii_part_ranking.proofs.PartLemmas.{same_docs}
 
@@ -53,9 +53,9 @@ among_after : (xs ys : List QueryTermState) (ts : List TermState) → AllByRecur
 among_after xs ys [] h = tt
 among_after xs ys (t ∷ ts) h = (any_after (is_term t) xs ys h.0, among_after xs ys ts h.1)
 
-later_among : (others : List PhraseTerm) → AllByRecursion (IsAmongTerms (later_terms others)) (map (λ (o : PhraseTerm). o.term) others)
+later_among : (others : List PhraseTerm) → AllByRecursion (IsAmongTerms (phrase_requests others)) (map (λ (o : PhraseTerm). o.term) others)
 later_among [] = tt
-later_among (o ∷ os) = (rw (itself o.term) refl, among_after (later_terms (o ∷ [])) (later_terms os) (map (λ (p : PhraseTerm). p.term) os) (later_among os))
+later_among (o ∷ os) = (rw (itself o.term) refl, among_after (phrase_requests (o ∷ [])) (phrase_requests os) (map (λ (p : PhraseTerm). p.term) os) (later_among os))
 
 -- the terms of a query that count for its scores are among those that it reads
 mutual
@@ -64,7 +64,7 @@ mutual
   terms_among (queries.all_below n) = tt
   terms_among (queries.one_term term) = (rw (itself term) refl, tt)
   terms_among (queries.one_phrase first others slop) =
-      (rw (itself first) refl, among_after (with_positions first ∷ []) (later_terms others) (map (λ (o : PhraseTerm). o.term) others) (later_among others))
+      (rw (itself first) refl, among_after (with_positions first ∷ []) (phrase_requests others) (map (λ (o : PhraseTerm). o.term) others) (later_among others))
   terms_among (queries.one_phrase_prefix phrase) = tt
   terms_among (queries.one_range range) = tt
   terms_among (queries.each_of qs) = all_among qs
@@ -81,13 +81,13 @@ mutual
       (among_before (tree_terms q) (trees_terms qs) (statistics.tree_terms q) (terms_among q))
       (among_after (tree_terms q) (trees_terms qs) (statistics.trees_terms qs) (all_among qs))
 
-same_in_each : (query : Query) (t : TermState) (base : ℕ) (parts whole : List OpenSegmentState) → IsAmongTerms (query_terms query) t → ArePartSegments query parts whole → found_from (Term t) base parts ≡ found_from (Term t) base whole
+same_in_each : (query : Query) (t : TermState) (base : ℕ) (parts whole : List OpenSegmentState) → IsAmongTerms (requested_terms query) t → ArePartSegments query parts whole → found_from (Term t) base parts ≡ found_from (Term t) base whole
 same_in_each query t base [] [] among h = refl
 same_in_each query t base [] (w ∷ ws) among h = absurd h
 same_in_each query t base (p ∷ ps) [] among h = absurd h
 same_in_each query t base (p ∷ ps) (w ∷ ws) among h =
-    let named : names_key Basic (query_terms query) (query_ranges query) t.field t.value ≡ true = rw among refl in
-    let docs = same_docs Basic refl (query_terms query) (query_ranges query) t.field t.value (slice_get p.index.readers t.field) (slice_get w.index.readers t.field) (h.0.0 t.field) named in
+    let named : names_key Basic (requested_terms query) (query_ranges query) t.field t.value ≡ true = rw among refl in
+    let docs = same_docs Basic refl (requested_terms query) (query_ranges query) t.field t.value (slice_get p.index.readers t.field) (slice_get w.index.readers t.field) (h.0.0 t.field) named in
     let found : found_in p.index (Term t) ≡ found_in w.index (Term t) = term_found p.index t ∙ docs ∙ sym (term_found w.index t) in
     let rest = same_in_each query t (base + num_living p.alive) ps ws among h.1 in
     rw (found, rest, h.0.1) refl
@@ -98,7 +98,7 @@ same_living query [] (w ∷ ws) h = absurd h
 same_living query (p ∷ ps) [] h = absurd h
 same_living query (p ∷ ps) (w ∷ ws) h = rw (h.0.1, same_living query ps ws h.1) refl
 
-same_freqs : (query : Query) (parts whole : List OpenSegmentState) → ArePartSegments query parts whole → (ts : List TermState) → AllByRecursion (IsAmongTerms (query_terms query)) ts → AllByRecursion (λ (t : TermState). doc_freq_in parts t ≡ doc_freq_in whole t) ts
+same_freqs : (query : Query) (parts whole : List OpenSegmentState) → ArePartSegments query parts whole → (ts : List TermState) → AllByRecursion (IsAmongTerms (requested_terms query)) ts → AllByRecursion (λ (t : TermState). doc_freq_in parts t ≡ doc_freq_in whole t) ts
 same_freqs query parts whole h [] among = tt
 same_freqs query parts whole h (t ∷ ts) among = (ap num_found (same_in_each query t 0 parts whole among.0 h), same_freqs query parts whole h ts among.1)
 

@@ -24,7 +24,7 @@ use Rattle.ii_ranking.specs.Scores.{damage_of, entry_at, first_of, if_occurs, no
 use Rattle.ii_reader.specs.OpenIndex.{OpenIndexState}
 use Rattle.ii_scorer.specs.Combinations.{any_of, each_of, unless}
 use Rattle.ii_search.specs.Found.{docs_of_term, tree_found}
-use Rattle.ii_warmup.specs.QueryTerms.{QueryTermState, later_terms, tree_ranges, tree_terms, trees_ranges, trees_terms, with_positions}
+use Rattle.ii_warmup.specs.QueryTerms.{QueryTermState, phrase_requests, tree_ranges, tree_terms, trees_ranges, trees_terms, with_positions}
 use Rattle.ii_warmup.specs.SameFor.{SameRange, SameTerm}
 use Rattle.ii_warmup.proofs.FoundLemmas.{found_as_there}
 
@@ -55,14 +55,14 @@ module _ (index other : OpenIndexState) where
   range_found range ranges = part_found (Range range) (queries.one_range range) (range_tree range) tt ranges
 
   -- the first damage of the other terms of a phrase
-  same_parts_damage : (others : List PhraseTerm) → AllByRecursion IsSameTerm (later_terms others) → parts_damage index others ≡ parts_damage other others
+  same_parts_damage : (others : List PhraseTerm) → AllByRecursion IsSameTerm (phrase_requests others) → parts_damage index others ≡ parts_damage other others
   same_parts_damage [] same = refl
   same_parts_damage (o ∷ os) same =
       let documents = same.0.documents in
       let later = same_parts_damage os same.1 in
       λ j. first_of (damage_of (documents j)) (later j)
 
-  same_phrase_damage : (first : TermState) (others : List PhraseTerm) → AllByRecursion IsSameTerm (with_positions first ∷ later_terms others) → phrase_damage index first others ≡ phrase_damage other first others
+  same_phrase_damage : (first : TermState) (others : List PhraseTerm) → AllByRecursion IsSameTerm (with_positions first ∷ phrase_requests others) → phrase_damage index first others ≡ phrase_damage other first others
   same_phrase_damage first others same =
       let documents = same.0.documents in
       let later = same_parts_damage others same.1 in
@@ -101,7 +101,7 @@ module _ (index other : OpenIndexState) where
     score_with terms field norms count = bm25_score (bm25_weight (idfs_of s terms) s.num_docs (s.num_tokens field)) (norm_id_in norms doc) count
 
     -- the other terms of a phrase
-    same_parts : (others : List PhraseTerm) → AllByRecursion IsSameTerm (later_terms others) → parts_of (scored_in index s) others ≡ parts_of (scored_in other s) others
+    same_parts : (others : List PhraseTerm) → AllByRecursion IsSameTerm (phrase_requests others) → parts_of (scored_in index s) others ≡ parts_of (scored_in other s) others
     same_parts [] same = refl
     same_parts (o ∷ os) same =
         let documents = same.0.documents in
@@ -114,7 +114,7 @@ module _ (index other : OpenIndexState) where
         let norms = same.norms in
         λ j. option_map (λ (e : Entry). score_with (term ∷ []) term.field (norms j) e.term_freq) (entry_at (opened_or_none (counts j)) doc)
 
-    same_phrase : (first : TermState) (others : List PhraseTerm) (slop : ℕ) → AllByRecursion IsSameTerm (with_positions first ∷ later_terms others) → phrase_score (scored_in index s) first others slop doc ≡ phrase_score (scored_in other s) first others slop doc
+    same_phrase : (first : TermState) (others : List PhraseTerm) (slop : ℕ) → AllByRecursion IsSameTerm (with_positions first ∷ phrase_requests others) → phrase_score (scored_in index s) first others slop doc ≡ phrase_score (scored_in other s) first others slop doc
     same_phrase first others slop same =
         let documents = same.0.documents in
         let norms = same.0.norms in

@@ -7,13 +7,13 @@ use Rattle.ii_ranking.specs.Scores.{query_damage, query_score, scored_in}
 use Rattle.ii_reader.specs.OpenIndex.{OpenIndexState}
 use Rattle.ii_warmup.specs.IndexParts.{HaveNormsFor}
 use Rattle.ii_warmup.specs.Parts.{IsPartFor}
-use Rattle.ii_warmup.specs.QueryTerms.{query_ranges, query_terms}
+use Rattle.ii_warmup.specs.QueryTerms.{query_ranges, requested_terms}
 use Rattle.ii_warmup.specs.declared.scoring.EnableScoring.TheVariants.{Enabled}
 
 -- An index has of each field of another one what a query reads of it, and the norms of the fields that the query names, which the other one has.
 pub record IsScoredPartFor (query : Query) (part whole : OpenIndexState) : Type 0 where
   pub parts : IsPartFor query part whole
-  pub norms : HaveNormsFor Enabled (query_terms query) (query_ranges query) (length whole.readers) part.fieldnorms whole.fieldnorms
+  pub norms : HaveNormsFor Enabled (requested_terms query) (query_ranges query) (length whole.readers) part.fieldnorms whole.fieldnorms
   pub fields : has_fields (length whole.readers) query ≡ true
 
 -- Each document scores in such an index what it scores in the other one.

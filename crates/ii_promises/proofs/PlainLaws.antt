@@ -14,11 +14,11 @@ use Rattle.ii_definitions.specs.Tokens.{Call, Piece, begin_after, call_pieces, e
 use Rattle.ii_definitions.proofs.PieceLaws.{tokens_after-append}
 use Rattle.ii_definitions.specs.declared.index_call.IndexCall.{IndexCall}
 use Rattle.ii_definitions.specs.declared.index_call.IndexCall.TheVariants.{Text, Tokens, U64, I64, Bool as Truth, Date, Bytes, Ip, Json}
-use Rattle.ii_promises.specs.OrderlyCalls.{AreOrdered, IsOrderly, num_positions_of}
+use Rattle.ii_promises.specs.OrderlyCalls.{AreInOrder, IsOrderly, num_positions_of}
 use Rattle.ii_promises.specs.PlainCalls.{IsTextOrNumber, call_size}
 
 -- words in order from a greater position on are so from a lesser one on
-ordered_from : (least later : ℕ) (ws : List Word) → least ≤ later → AreOrdered later ws → AreOrdered least ws
+ordered_from : (least later : ℕ) (ws : List Word) → least ≤ later → AreInOrder later ws → AreInOrder least ws
 ordered_from least later [] low ordered = tt
 ordered_from least later (w ∷ ws) low ordered = (omega (arith, low, ordered.0), ordered.1)
 
@@ -26,11 +26,11 @@ ordered_from least later (w ∷ ws) low ordered = (omega (arith, low, ordered.0)
 abbrev runs_from : List ℕ → ℕ → List ℕ → List Word
 runs_from text position runs = map (λ (run : ℕ × ℕ). run_word text run.0 run.1) (enumerate_from position runs)
 
-runs_ordered : (text : List ℕ) (position : ℕ) (runs : List ℕ) → AreOrdered position (kept_words (runs_from text position runs))
+runs_ordered : (text : List ℕ) (position : ℕ) (runs : List ℕ) → AreInOrder position (kept_words (runs_from text position runs))
 runs_ordered text position [] = tt
 runs_ordered text position (run ∷ runs) = by_case (nat_le (length (run_word text position run).text) max_token_len) refl (runs_ordered text (position + 1) runs)
   where
-    by_case : (b : Bool) → nat_le (length (run_word text position run).text) max_token_len ≡ b → AreOrdered (position + 1) (kept_words (runs_from text (position + 1) runs)) → AreOrdered position (kept_words (runs_from text position (run ∷ runs)))
+    by_case : (b : Bool) → nat_le (length (run_word text position run).text) max_token_len ≡ b → AreInOrder (position + 1) (kept_words (runs_from text (position + 1) runs)) → AreInOrder position (kept_words (runs_from text position (run ∷ runs)))
     by_case true is rest = rw is (omega arith, ordered_from position (position + 1) (kept_words (runs_from text (position + 1) runs)) (omega arith) rest)
     by_case false is rest = rw is (ordered_from position (position + 1) (kept_words (runs_from text (position + 1) runs)) (omega arith) rest)
 

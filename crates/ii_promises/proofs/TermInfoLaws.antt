@@ -19,7 +19,7 @@ use Rattle.ii_termdict.specs.ReadBack.{AreAscending}
 use Rattle.ii_termdict.proofs.LeastKey.{none_above}
 use Rattle.ii_definitions.specs.Files.{LiesIn}
 use Rattle.ii_reader.specs.InvertedIndexReader.{lies_in}
-use Rattle.ii_warmup.specs.Warmup.{WantedTermState, all_sound, do_ranges_lie, reads_positions_of, wanted_of}
+use Rattle.ii_warmup.specs.Warmup.{WantedTermState, all_sound, do_ranges_lie, reads_positions_of, wanted_entries}
 
 -- ---- what is stored is sound
 -- a term of a store
@@ -104,11 +104,11 @@ each_entry P (e ∷ es) ascending each = (each e.0 e.1 here, each_entry P es asc
 
 -- what holds of each entry, whatever is requested, holds of each wanted term
 pub each_wanted : (f : WantedTermState → Bool) (requested : List ℕ → Option IndexRecordOption) (es : List TermEntry) → AllByRecursion (λ (e : TermEntry). (o : IndexRecordOption) → f (record { key = e.0; info = e.1; option = o }) ≡ true) es
-    → list_all f (wanted_of requested es) ≡ true
+    → list_all f (wanted_entries requested es) ≡ true
 each_wanted f requested [] all = refl
 each_wanted f requested (e ∷ es) all = by (requested e.0) refl (each_wanted f requested es all.1)
   where
-    by : (o : Option IndexRecordOption) → requested e.0 ≡ o → list_all f (wanted_of requested es) ≡ true → list_all f (wanted_of requested (e ∷ es)) ≡ true
+    by : (o : Option IndexRecordOption) → requested e.0 ≡ o → list_all f (wanted_entries requested es) ≡ true → list_all f (wanted_entries requested (e ∷ es)) ≡ true
     by None is others = rw is others
     by (Some o) is others = rw (is, all.0 o) others
 

@@ -20,7 +20,7 @@ use Rattle.ii_definitions.specs.Tokens.{IndexToken, Piece, begin_after, end_afte
 use Rattle.ii_recorder.specs.Recorded.{begun, last_position, position_fault, u32_max}
 use Rattle.ii_postings_writer.specs.WordRefusals.{open_entry, u64_max, word_fault, words_fault}
 use Rattle.ii_indexing.specs.Refusals.{group_count, known_paths, own_path_fault, piece_fault, piece_fault_from}
-use Rattle.ii_promises.specs.OrderlyCalls.{AreOrdered}
+use Rattle.ii_promises.specs.OrderlyCalls.{AreInOrder}
 use Rattle.ii_indexing.proofs.PieceLaws.{begin_more, group_more}
 use Rattle.ii_recorder.proofs.SizeLemmas.{counted}
 
@@ -138,7 +138,7 @@ module _ (option : IndexRecordOption) (p : Piece) (begin : ℕ) where
       rw (at_end, in_group_few, in_field_few)
       (position_taken option (begin + w.position) (begin + w.position) (length ts + 1) (open_entry option t ts) (opened_bounded option t ts (begin + w.position) (length ts + 1) below (omega arith) (omega arith)) (omega arith) (omega (arith, ends)) few)
 
-  words_taken : (in_group least : ℕ) (ts : List IndexToken) (ws : List Word) → AllByRecursion (λ (w : Word). begin + (w.position + w.position_length) < u32_max) ws → AreOrdered least ws
+  words_taken : (in_group least : ℕ) (ts : List IndexToken) (ws : List Word) → AllByRecursion (λ (w : Word). begin + (w.position + w.position_length) < u32_max) ws → AreInOrder least ws
       → AllByRecursion (IsBeforeIn p.doc p.field (begin + least)) ts → in_group + length ws ≤ u32_max → length ts + length ws < u32_max → words_fault option p begin in_group ts ws ≡ None
   words_taken in_group least ts [] ends ordered before grouped_few few = refl
   words_taken in_group least ts (w ∷ ws) ends ordered before grouped_few few =
@@ -152,7 +152,7 @@ module _ (option : IndexRecordOption) (p : Piece) (begin : ℕ) where
 pub record IsOrderlyText (p : Piece) : Type 0 where
   pub is_text : p.is_text ≡ true
   pub prefix : p.prefix ≡ []
-  pub ordered : AreOrdered 0 (kept_words p.words)
+  pub ordered : AreInOrder 0 (kept_words p.words)
 
 pub record IsShortValue (p : Piece) : Type 0 where
   pub is_value : p.is_text ≡ false

@@ -5,14 +5,14 @@ use Rattle.ii_base.specs.Words.{Word}
 use Rattle.ii_definitions.specs.Tokens.{Call, Content, Piece, end_after, kept_words, leaves, pieces_of, text, value, words}
 
 -- The positions of words don't decrease, from a least one on.
-abbrev pub AreOrdered : ℕ → List Word → Type 0
-AreOrdered least [] = ⊤
-AreOrdered least (w ∷ ws) = (least ≤ w.position) × AreOrdered w.position ws
+abbrev pub AreInOrder : ℕ → List Word → Type 0
+AreInOrder least [] = ⊤
+AreInOrder least (w ∷ ws) = (least ≤ w.position) × AreInOrder w.position ws
 
 -- A text whose kept tokens are in order, or a value whose key has at most a million bytes.
 abbrev pub IsOrderly : (List ℕ → List Word) → Content → Type 0
-IsOrderly analyze (text t) = AreOrdered 0 (kept_words (analyze t))
-IsOrderly analyze (words ws) = AreOrdered 0 (kept_words ws)
+IsOrderly analyze (text t) = AreInOrder 0 (kept_words (analyze t))
+IsOrderly analyze (words ws) = AreInOrder 0 (kept_words ws)
 IsOrderly analyze (value key) = length key ≤ 1000000
 IsOrderly analyze (leaves ls) = ⊥
 

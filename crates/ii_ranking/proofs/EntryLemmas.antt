@@ -8,7 +8,7 @@ use Rattle.ii_base.specs.Entries.{Entry}
 use Rattle.ii_bm25.specs.declared.bm25.TheConstants.{SCORE_ONE}
 use Rattle.ii_docset.specs.Cursor.{IsAscending, doc_at, term_freq_at}
 use Rattle.ii_docset.specs.Intersection.{has_doc}
-use Rattle.ii_ranking.specs.Combinations.{Adds, added_at}
+use Rattle.ii_ranking.specs.Combinations.{AddsToEach, added_at}
 use Rattle.ii_scorer.specs.Combinations.{either}
 use Rattle.ii_ranking.specs.Scores.{entry_at}
 use Rattle.ii_scorer.proofs.SumLemmas.{either_none}
@@ -84,7 +84,7 @@ adds_one score_of none doc all (e ∷ es) later old new here low up on a = recor
     at d inside (inr other) = ap (λ (s : Option ℕ). either s (score_of d (entry_at later d))) (added_other (score_of doc (entry_at (e ∷ es) doc)) doc d new other) ∙ ap (either (get_or new d None)) (other_is d other) ∙ a.each d inside
 
 -- no entry is left
-pub adds_all : (score_of : ℕ → Option Entry → Option ℕ) → ((doc : ℕ) → score_of doc None ≡ None) → (all : List Entry) (old new : List (Option ℕ)) → IsAdding score_of all [] old new → Adds (λ (doc : ℕ). score_of doc (entry_at all doc)) old new
+pub adds_all : (score_of : ℕ → Option Entry → Option ℕ) → ((doc : ℕ) → score_of doc None ≡ None) → (all : List Entry) (old new : List (Option ℕ)) → IsAdding score_of all [] old new → AddsToEach (λ (doc : ℕ). score_of doc (entry_at all doc)) old new
 adds_all score_of none all old new a = record {
   many = a.many;
   each = λ doc inside. sym (either_none (get_or new doc None)) ∙ ap (either (get_or new doc None)) (sym (none doc)) ∙ a.each doc inside;

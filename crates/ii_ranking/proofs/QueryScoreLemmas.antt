@@ -16,7 +16,7 @@ use Rattle.ii_query_parser.specs.Queries.{QueryTree, has_fields, tree_of, trees_
 use Rattle.ii_reader.specs.OpenIndex.{OpenIndexState}
 use Rattle.ii_ranking.specs.declared.combination.Combination.{Combination}
 use Rattle.ii_ranking.specs.declared.combination.Combination.TheVariants.{Either, Both}
-use Rattle.ii_ranking.specs.Combinations.{Adds, AreCombined, combined}
+use Rattle.ii_ranking.specs.Combinations.{AddsToEach, AreCombined, combined}
 use Rattle.ii_scorer.specs.Combinations.{any_of, both, each_of, either, unless}
 use Rattle.ii_scorer.proofs.SumLemmas.{either_first}
 use Rattle.ii_ranking.specs.Scores.{IsScoreFault, Scored, first_of, phrase_score, query_damage, query_score, tree_score, tree_scores, trees_damage}
@@ -35,7 +35,7 @@ any_none s index all old fields = record { many = refl; each = λ doc inside. re
 pub next_fields : (n : ℕ) (left others : List Query) (q : Query) → left ≡ q ∷ others → list_all (has_fields n) left ≡ true → has_fields n q ≡ true
 next_fields n left others q is fields = (and_parts (has_fields n q) (list_all (has_fields n) others) (rw is at fields)).0
 
-pub any_all : (s : Scored) (index : OpenIndexState) (all left : List Query) (old new : List (Option ℕ)) → IsAddingAny s index all left old new → left ≡ [] → Adds (λ (doc : ℕ). any_of (tree_scores s (trees_of all) doc)) old new
+pub any_all : (s : Scored) (index : OpenIndexState) (all left : List Query) (old new : List (Option ℕ)) → IsAddingAny s index all left old new → left ≡ [] → AddsToEach (λ (doc : ℕ). any_of (tree_scores s (trees_of all) doc)) old new
 any_all s index all left old new a none = record {
   many = a.many;
   each = λ doc inside. ap (λ (qs : List Query). fold either (get_or new doc None) (tree_scores s (trees_of qs) doc)) (sym none) ∙ a.each doc inside ∙ either_first (get_or old doc None) (tree_scores s (trees_of all) doc);
@@ -78,7 +78,7 @@ pub combined_alike : (by : Combination) (f g : ℕ → Option ℕ) (old new : Li
 combined_alike by f g old new same a = record { many = a.many; each = λ doc inside. a.each doc inside ∙ ap (combined by (get_or old doc None)) (same doc inside) }
 
 -- what was added to none
-pub added_to_none : (size : ℕ) (f : ℕ → Option ℕ) (old new : List (Option ℕ)) → old ≡ replicate size None → Adds f old new → new ≡ map f (range_with_len 0 size)
+pub added_to_none : (size : ℕ) (f : ℕ → Option ℕ) (old new : List (Option ℕ)) → old ≡ replicate size None → AddsToEach f old new → new ≡ map f (range_with_len 0 size)
 added_to_none size f old new is a =
     let many : length old ≡ size = ap length is ∙ length-replicate size None in
     let long : length new ≡ size = a.many ∙ many in

@@ -18,7 +18,7 @@ use Rattle.ii_query_parser.specs.declared.query.PhraseTerm.{PhraseTerm}
 use Rattle.ii_reader.specs.InvertedIndexReader.{IsRefusal}
 use Rattle.ii_reader.specs.OpenIndex.{OpenIndexState}
 use Rattle.ii_search.specs.Found.{docs_of_term}
-use Rattle.ii_ranking.specs.Combinations.{Adds}
+use Rattle.ii_ranking.specs.Combinations.{AddsToEach}
 use Rattle.ii_scorer.specs.Combinations.{either}
 use Rattle.ii_ranking.specs.Scores.{IsScoreFault, damage_of, entry_at, first_of, if_occurs, norm_id_in, opened_or_none, parts_damage, phrase_count, phrase_score, scored_in, term_score}
 
@@ -27,12 +27,12 @@ pub get_or_after : {A : Type 0} (x : A) (xs : List A) (i : ℕ) (d : A) → get_
 get_or_after x xs i d = ap (λ (n : ℕ). get_or (x ∷ xs) n d) (add-one i)
 
 -- the same scores were added
-pub adds_alike : (f g : ℕ → Option ℕ) (old new : List (Option ℕ)) → ((doc : ℕ) → f doc ≡ g doc) → Adds f old new → Adds g old new
+pub adds_alike : (f g : ℕ → Option ℕ) (old new : List (Option ℕ)) → ((doc : ℕ) → f doc ≡ g doc) → AddsToEach f old new → AddsToEach g old new
 adds_alike f g old new same a = record { many = a.many; each = λ doc inside. a.each doc inside ∙ ap (either (get_or old doc None)) (same doc) }
 
 -- those of a term, given its list and its weight
 pub term_adds : (index : OpenIndexState) (st : Statistics) (term : TermState) (es : List Entry) (w : Bm25State) (old new : List (Option ℕ)) → docs_of_term WithFreqs index term ≡ Ok es → w ≡ bm25_weight (idfs_of st (term ∷ [])) st.num_docs (st.num_tokens term.field)
-    → Adds (λ (doc : ℕ). option_map (λ (e : Entry). bm25_score w (norm_id_in (body_of term.field index.fieldnorms) doc) e.term_freq) (entry_at es doc)) old new → Adds (term_score (scored_in index st) term) old new
+    → AddsToEach (λ (doc : ℕ). option_map (λ (e : Entry). bm25_score w (norm_id_in (body_of term.field index.fieldnorms) doc) e.term_freq) (entry_at es doc)) old new → AddsToEach (term_score (scored_in index st) term) old new
 term_adds index st term es w old new listed made a = adds_alike _ (term_score (scored_in index st) term) old new same a
   where
     same : (doc : ℕ) → option_map (λ (e : Entry). bm25_score w (norm_id_in (body_of term.field index.fieldnorms) doc) e.term_freq) (entry_at es doc) ≡ term_score (scored_in index st) term doc

@@ -14,7 +14,7 @@ use Rattle.ii_segment_search.specs.Searcher.{OpenSegmentState, SegmentHolds, Seg
 use Rattle.ii_scorer.specs.declared.top_docs.TopDocs.{TopDocs}
 use Rattle.ii_ranking.specs.Scores.{query_score, scored_in}
 use Rattle.ii_ranking.specs.Segments.{living_score, segment_scored, segments_scored}
-use Rattle.ii_ranking.specs.TokenScores.{FailsForMemory, GivesBest, token_score, tokens_scored}
+use Rattle.ii_ranking.specs.TokenScores.{GivesBest, ScoringFailsForMemory, token_score, tokens_scored}
 use Rattle.ii_scorer.specs.TopDocs.{AreBest}
 use Rattle.ii_ranking.proofs.TokenLaws.{scores_are_of_tokens}
 use Rattle.ii_scorer.proofs.TopLemmas.{scored_alike}
@@ -45,7 +45,7 @@ module _ (schema : List SchemaEntry) (statistics : Statistics) (query : Query) (
   gives_best_of_segments docs opened ss (Err fault) hold are memory = memory
 
 -- where segments hold tokens, an allocation failure is the only fault of the one at a place
-module _ (schema : List SchemaEntry) (query : Query) (fields : has_fields (length schema) query ≡ true) (o : OpenSegmentState) (fault : Fault) (memory : FailsForMemory query (length o.alive) o.index fault) where
+module _ (schema : List SchemaEntry) (query : Query) (fields : has_fields (length schema) query ≡ true) (o : OpenSegmentState) (fault : Fault) (memory : ScoringFailsForMemory query (length o.alive) o.index fault) where
   memory_of_one : (s : Segment) → SegmentHolds schema o s → fault ≡ OutOfMemory
   memory_of_one s h = memory schema s.tokens (subst (λ (alive : List Bool). IndexHolds schema (length alive) o.index s.tokens) (sym h.alive) h.index) fields
 

@@ -16,8 +16,8 @@ pub record AreCombined (by : Combination) (others : ℕ → Option ℕ) (old new
   pub each : (doc : ℕ) → doc < length old → get_or new doc None ≡ combined by (get_or old doc None) (others doc)
 
 -- What documents score by a part was added to their scores.
-abbrev pub Adds : (ℕ → Option ℕ) → List (Option ℕ) → List (Option ℕ) → Type 0
-Adds = AreCombined Either
+abbrev pub AddsToEach : (ℕ → Option ℕ) → List (Option ℕ) → List (Option ℕ) → Type 0
+AddsToEach = AreCombined Either
 
 -- scores, after what a document scores was added to its score, if there is a place for it
 abbrev pub added_at : Option ℕ → ℕ → List (Option ℕ) → List (Option ℕ)

@@ -38,8 +38,8 @@ GivesBest docs scored (Ok best) = AreBest docs scored best.items
 GivesBest docs scored (Err fault) = fault ≡ OutOfMemory
 
 -- Where an index holds tokens of so many documents, a fault is `OutOfMemory`.
-abbrev pub FailsForMemory : Query → ℕ → OpenIndexState → Fault → Type 0
-FailsForMemory query num_docs index fault = (schema : List SchemaEntry) (tokens : List IndexToken) → IndexHolds schema num_docs index tokens → has_fields (length schema) query ≡ true → fault ≡ OutOfMemory
+abbrev pub ScoringFailsForMemory : Query → ℕ → OpenIndexState → Fault → Type 0
+ScoringFailsForMemory query num_docs index fault = (schema : List SchemaEntry) (tokens : List IndexToken) → IndexHolds schema num_docs index tokens → has_fields (length schema) query ≡ true → fault ≡ OutOfMemory
 
 -- the living documents of segments that have a score by the tokens of their segment, given the number of the first one
 abbrev pub tokens_scored : List SchemaEntry → Statistics → Query → ℕ → List Segment → List (ℕ × ℕ)

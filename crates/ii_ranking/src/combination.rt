@@ -3,7 +3,7 @@ ghost use Rattle.std.specs.Prelude.{◌≡◌, ◌<◌, ℕ, IfOk, None, get_or,
 ghost use Rattle.ii_io.specs.Faults.{OnlyMemory};
 ghost use Rattle.ii_base.specs.declared.doc_id.TheConstants.{TERMINATED};
 ghost use Rattle.ii_bm25.specs.declared.bm25.TheConstants.{SCORE_ONE};
-ghost use Rattle.ii_ranking.specs.Combinations.{Adds, AreCombined, added_at, combined};
+ghost use Rattle.ii_ranking.specs.Combinations.{AddsToEach, AreCombined, added_at, combined};
 
 use ii_base::{DocId, Fault, TERMINATED};
 use ii_bm25::{SCORE_ONE, Score};
@@ -47,7 +47,7 @@ pub(crate) fn combine(by: Combination, scores: &mut Vec<Option<Score>>, others: 
 
 // Adds the score of each document below a number.
 pub(crate) fn add_all(limit: DocId, scores: &mut Vec<Option<Score>>)
-    ensures { Adds (λ doc. if nat_lt doc (min limit TERMINATED) then Some SCORE_ONE else None) scores.old.items scores.new.items }
+    ensures { AddsToEach (λ doc. if nat_lt doc (min limit TERMINATED) then Some SCORE_ONE else None) scores.old.items scores.new.items }
 {
     let limit = limit.min(TERMINATED) as usize;
     for doc in 0..scores.len() {

@@ -8,7 +8,7 @@ ghost use Rattle.ii_bm25.specs.Bm25.{bm25_score, bm25_weight};
 ghost use Rattle.ii_bm25.specs.Statistics.{Statistics, idfs_of};
 ghost use Rattle.ii_fieldnorm.specs.Readers.{norms_of_ids};
 ghost use Rattle.ii_query.specs.Phrase.{IsUnread, parts_in};
-ghost use Rattle.ii_ranking.specs.Combinations.{Adds};
+ghost use Rattle.ii_ranking.specs.Combinations.{AddsToEach};
 ghost use Rattle.ii_ranking.specs.NormIds.{id_among};
 ghost use Rattle.ii_ranking.specs.Scores.{IsScoreFault, if_occurs, norm_id_in, norms_damage, parts_damage, parts_of, phrase_count, phrase_damage, phrase_score, scored_in};
 
@@ -36,7 +36,7 @@ pub(crate) fn add_phrase<S: Bm25StatisticsProvider>(
 ) -> Result<(), Fault>
     requires first { first.now.field < length index.now.readers }
     requires others { list_all (λ o. nat_lt o.term.field (length index.now.readers)) others.now ≡ true }
-    ensures added { OnOk result (Adds (phrase_score (scored_in index.now (S.statistics statistics.now)) first.now others.now slop) scores.old.items scores.new.items) }
+    ensures added { OnOk result (AddsToEach (phrase_score (scored_in index.now (S.statistics statistics.now)) first.now others.now slop) scores.old.items scores.new.items) }
     ensures sound { OnOk result (phrase_damage index.now first.now others.now ≡ None) }
     ensures fault { IfErr result (IsScoreFault (phrase_damage index.now first.now others.now)) }
 {
@@ -149,7 +149,7 @@ fn add_starts(
     requires first { IsUnread first.old }
     requires others { AllByRecursion IsUnread others.old.items }
     ensures { (ids : Option (List ℕ)) → norms.now ≡ option_map norms_of_ids ids
-        → Adds (λ doc. if_occurs (bm25_score weight.now (norm_id_in ids doc)) (phrase_count slop first.old.part.rest (parts_in others.old.items) doc)) scores.old.items scores.new.items }
+        → AddsToEach (λ doc. if_occurs (bm25_score weight.now (norm_id_in ids doc)) (phrase_count slop first.old.part.rest (parts_in others.old.items) doc)) scores.old.items scores.new.items }
 {
     let mut doc = first.doc();
     while doc < TERMINATED {

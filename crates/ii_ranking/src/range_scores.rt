@@ -4,7 +4,7 @@ ghost use Rattle.ii_bm25.specs.declared.bm25.TheConstants.{SCORE_ONE};
 ghost use Rattle.ii_docset.specs.Intersection.{has_doc};
 ghost use Rattle.ii_query_parser.specs.Queries.{has_fields};
 ghost use Rattle.ii_search.specs.Found.{found_in};
-ghost use Rattle.ii_ranking.specs.Combinations.{Adds};
+ghost use Rattle.ii_ranking.specs.Combinations.{AddsToEach};
 ghost use Rattle.ii_ranking.specs.Scores.{IsScoreFault, damage_of, opened_or_none};
 
 use crate::combination::add_at;
@@ -25,7 +25,7 @@ pub(crate) fn add_found(
     scores: &mut Vec<Option<Score>>,
 ) -> Result<(), Fault>
     requires fields { has_fields (length index.now.readers) query.now ≡ true }
-    ensures added { OnOk result (Adds (λ doc. if has_doc (opened_or_none (found_in index.now query.now)) doc then Some SCORE_ONE else None) scores.old.items scores.new.items) }
+    ensures added { OnOk result (AddsToEach (λ doc. if has_doc (opened_or_none (found_in index.now query.now)) doc then Some SCORE_ONE else None) scores.old.items scores.new.items) }
     ensures sound { OnOk result (damage_of (found_in index.now query.now) ≡ None) }
     ensures fault { IfErr result (IsScoreFault (damage_of (found_in index.now query.now))) }
 {
@@ -36,7 +36,7 @@ pub(crate) fn add_found(
 
 // Adds 1.0 to the score of each document of a cursor, which is at its end afterwards.
 fn add_docs<D: DocSet>(cursor: &mut D, scores: &mut Vec<Option<Score>>)
-    ensures { Adds (λ doc. if has_doc (D.rest cursor.old) doc then Some SCORE_ONE else None) scores.old.items scores.new.items }
+    ensures { AddsToEach (λ doc. if has_doc (D.rest cursor.old) doc then Some SCORE_ONE else None) scores.old.items scores.new.items }
 {
     let mut doc = cursor.doc();
     while doc < TERMINATED {

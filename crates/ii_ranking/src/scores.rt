@@ -5,7 +5,7 @@ ghost use Rattle.ii_base.specs.Schema.{SchemaEntry};
 ghost use Rattle.ii_definitions.specs.Tokens.{IndexToken};
 ghost use Rattle.ii_query_parser.specs.Queries.{has_fields, trees_of};
 ghost use Rattle.ii_reader.specs.OpenIndex.{IndexHolds};
-ghost use Rattle.ii_ranking.specs.Combinations.{Adds, AreCombined};
+ghost use Rattle.ii_ranking.specs.Combinations.{AddsToEach, AreCombined};
 ghost use Rattle.ii_scorer.specs.Combinations.{any_of, each_of, unless};
 ghost use Rattle.ii_ranking.specs.Scores.{IsScoreFault, query_damage, query_score, scored_in, tree_scores, trees_damage};
 ghost use Rattle.ii_ranking.specs.TokenScores.{GivesScores, token_score};
@@ -83,7 +83,7 @@ fn add_scores<S: Bm25StatisticsProvider>(
     scores: &mut Vec<Option<Score>>,
 ) -> Result<(), Fault>
     requires fields { has_fields (length index.now.readers) query.now ≡ true }
-    ensures added { OnOk result (Adds (query_score (scored_in index.now (S.statistics statistics.now)) query.now) scores.old.items scores.new.items) }
+    ensures added { OnOk result (AddsToEach (query_score (scored_in index.now (S.statistics statistics.now)) query.now) scores.old.items scores.new.items) }
     ensures sound { OnOk result (query_damage index.now query.now ≡ None) }
     ensures fault { IfErr result (IsScoreFault (query_damage index.now query.now)) }
 {
@@ -118,7 +118,7 @@ fn add_any<S: Bm25StatisticsProvider>(
     scores: &mut Vec<Option<Score>>,
 ) -> Result<(), Fault>
     requires fields { list_all (has_fields (length index.now.readers)) queries.now.items ≡ true }
-    ensures added { OnOk result (Adds (λ doc. any_of (tree_scores (scored_in index.now (S.statistics statistics.now)) (trees_of queries.now.items) doc)) scores.old.items scores.new.items) }
+    ensures added { OnOk result (AddsToEach (λ doc. any_of (tree_scores (scored_in index.now (S.statistics statistics.now)) (trees_of queries.now.items) doc)) scores.old.items scores.new.items) }
     ensures sound { OnOk result (trees_damage index.now (trees_of queries.now.items) ≡ None) }
     ensures fault { IfErr result (IsScoreFault (trees_damage index.now (trees_of queries.now.items))) }
 {
@@ -139,7 +139,7 @@ fn add_each<S: Bm25StatisticsProvider>(
     scores: &mut Vec<Option<Score>>,
 ) -> Result<(), Fault>
     requires fields { list_all (has_fields (length index.now.readers)) queries.now.items ≡ true }
-    ensures added { OnOk result (Adds (λ doc. each_of (tree_scores (scored_in index.now (S.statistics statistics.now)) (trees_of queries.now.items) doc)) scores.old.items scores.new.items) }
+    ensures added { OnOk result (AddsToEach (λ doc. each_of (tree_scores (scored_in index.now (S.statistics statistics.now)) (trees_of queries.now.items) doc)) scores.old.items scores.new.items) }
     ensures sound { OnOk result (trees_damage index.now (trees_of queries.now.items) ≡ None) }
     ensures fault { IfErr result (IsScoreFault (trees_damage index.now (trees_of queries.now.items))) }
 {
@@ -201,7 +201,7 @@ fn add_unless<S: Bm25StatisticsProvider>(
 ) -> Result<(), Fault>
     requires fields { has_fields (length index.now.readers) other.now ≡ true }
     requires many { length part.items ≡ length scores.old.items }
-    ensures added { OnOk result (Adds (λ doc. unless (get_or part.items doc None) (query_score (scored_in index.now (S.statistics statistics.now)) other.now doc)) scores.old.items scores.new.items) }
+    ensures added { OnOk result (AddsToEach (λ doc. unless (get_or part.items doc None) (query_score (scored_in index.now (S.statistics statistics.now)) other.now doc)) scores.old.items scores.new.items) }
     ensures sound { OnOk result (query_damage index.now other.now ≡ None) }
     ensures fault { IfErr result (IsScoreFault (query_damage index.now other.now)) }
 {

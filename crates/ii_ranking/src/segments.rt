@@ -8,7 +8,7 @@ ghost use Rattle.ii_segment_search.specs.Searcher.{HaveFields, SegmentsHold, tot
 ghost use Rattle.ii_query_parser.specs.Queries.{has_fields};
 ghost use Rattle.ii_ranking.specs.Scores.{IsScoreFault, query_damage, query_score, scored_in};
 ghost use Rattle.ii_ranking.specs.Segments.{living_row, segment_of, segment_scored, segments_damage, segments_scored};
-ghost use Rattle.ii_ranking.specs.TokenScores.{FailsForMemory, GivesBest, tokens_scored};
+ghost use Rattle.ii_ranking.specs.TokenScores.{GivesBest, ScoringFailsForMemory, tokens_scored};
 ghost use Rattle.ii_scorer.specs.TopDocs.{AreBest};
 ghost use Rattle.ii_scorer.specs.TopNComputer.{KeepsBest};
 
@@ -88,7 +88,7 @@ fn add_segment<S: Bm25StatisticsProvider>(
     ensures wanted { computer.new.top_n ≡ computer.old.top_n }
     ensures sound { OnOk result (query_damage index.now query.now ≡ None) }
     ensures fault { IfErr result (IsScoreFault (query_damage index.now query.now)) }
-    ensures memory { IfErr result (FailsForMemory query.now (length alive.now) index.now) }
+    ensures memory { IfErr result (ScoringFailsForMemory query.now (length alive.now) index.now) }
 {
     let num_docs = alive.num_docs();
     if goes_by_document(statistics, query) {

@@ -10,7 +10,7 @@ ghost use Rattle.ii_docset.specs.Intersection.{has_doc};
 ghost use Rattle.ii_fieldnorm.specs.Readers.{norms_of_ids};
 ghost use Rattle.ii_reader.specs.InvertedIndexReader.{IsRefusal};
 ghost use Rattle.ii_search.specs.Found.{docs_of_term};
-ghost use Rattle.ii_ranking.specs.Combinations.{Adds};
+ghost use Rattle.ii_ranking.specs.Combinations.{AddsToEach};
 ghost use Rattle.ii_ranking.specs.NormIds.{id_among};
 ghost use Rattle.ii_ranking.specs.Scores.{IsAt, IsScoreFault, entry_at, norm_id_in, norms_damage, scored_in, term_damage, term_score};
 
@@ -32,7 +32,7 @@ pub(crate) fn add_term<S: Bm25StatisticsProvider>(
     scores: &mut Vec<Option<Score>>,
 ) -> Result<(), Fault>
     requires field { term.now.field < length index.now.readers }
-    ensures added { OnOk result (Adds (term_score (scored_in index.now (S.statistics statistics.now)) term.now) scores.old.items scores.new.items) }
+    ensures added { OnOk result (AddsToEach (term_score (scored_in index.now (S.statistics statistics.now)) term.now) scores.old.items scores.new.items) }
     ensures sound { OnOk result (term_damage index.now term.now ≡ None) }
     ensures fault { IfErr result (IsScoreFault (term_damage index.now term.now)) }
 {
@@ -107,7 +107,7 @@ fn add_entries(
     scores: &mut Vec<Option<Score>>,
 )
     ensures { (ids : Option (List ℕ)) → norms.now ≡ option_map norms_of_ids ids
-        → Adds (λ doc. option_map (λ e. bm25_score weight.now (norm_id_in ids doc) e.term_freq) (entry_at cursor.old.rest doc)) scores.old.items scores.new.items }
+        → AddsToEach (λ doc. option_map (λ e. bm25_score weight.now (norm_id_in ids doc) e.term_freq) (entry_at cursor.old.rest doc)) scores.old.items scores.new.items }
 {
     let mut doc = cursor.doc();
     while doc < TERMINATED {

@@ -11,7 +11,7 @@ use Rattle.ii_termdict.specs.ReadBack.{AreAscending}
 use Rattle.ii_termstore.specs.declared.term_info.TermInfo.{TermInfo}
 use Rattle.ii_termstore.specs.TermInfos.{term_info_from}
 use Rattle.ii_warmup.specs.CopiedTerms.{CopiedTermsState}
-use Rattle.ii_warmup.specs.Warmup.{CopiesTerm, WantedTermState, wanted_keys, wanted_of, wanted_view}
+use Rattle.ii_warmup.specs.Warmup.{CopiesTerm, WantedTermState, wanted_entries, wanted_keys, wanted_view}
 use Rattle.ii_warmup.specs.declared.wanted_terms.WantedTerm.{WantedTerm}
 use Rattle.ii_warmup.specs.Parts.{IsPartOf}
 use Rattle.ii_warmup.proofs.CopyLemmas.{AreCopies, HasCopied, copied_more}
@@ -75,14 +75,14 @@ module _ (option : IndexRecordOption) (p q : Option (List ℕ)) (wanted : List W
   -- The reader over all terms that were copied.
   pub part_of_copies : (i : ℕ) (s : CopiedTermsState) (reader whole : InvertedIndexReaderState) (requested : List ℕ → Option IndexRecordOption) → IsCopying option p q wanted count i s → length wanted ≤ i
       → reader ≡ record { terms = zip s.keys s.infos; postings = s.postings; positions = s.positions; option = option; num_tokens = little_endian s.count; validation = Complete }
-      → p ≡ Some whole.postings → q ≡ Some whole.positions → whole.option ≡ option → whole.num_tokens ≡ little_endian count → map wanted_view wanted ≡ wanted_of requested whole.terms → IsPartOf requested reader whole
+      → p ≡ Some whole.postings → q ≡ Some whole.positions → whole.option ≡ option → whole.num_tokens ≡ little_endian count → map wanted_view wanted ≡ wanted_entries requested whole.terms → IsPartOf requested reader whole
   part_of_copies i s reader whole requested c end reader_is p_is q_is option_is counted wanted_is =
       let made : InvertedIndexReaderState = record { terms = zip s.keys s.infos; postings = s.postings; positions = s.positions; option = option; num_tokens = little_endian s.count; validation = Complete } in
-      let all_taken : take i (map wanted_view wanted) ≡ wanted_of requested whole.terms = past_end i (map wanted_view wanted) (omega (arith, end, length-map wanted wanted_view)) ∙ wanted_is in
-      let all : AreCopies whole.option (Some whole.postings) (Some whole.positions) s.postings s.positions (wanted_of requested whole.terms) s.keys s.infos =
-      subst (λ (o : IndexRecordOption). AreCopies o (Some whole.postings) (Some whole.positions) s.postings s.positions (wanted_of requested whole.terms) s.keys s.infos) (sym option_is)
-      (subst (λ (x : Option (List ℕ)). AreCopies option x (Some whole.positions) s.postings s.positions (wanted_of requested whole.terms) s.keys s.infos) p_is
-      (subst (λ (x : Option (List ℕ)). AreCopies option p x s.postings s.positions (wanted_of requested whole.terms) s.keys s.infos) q_is
+      let all_taken : take i (map wanted_view wanted) ≡ wanted_entries requested whole.terms = past_end i (map wanted_view wanted) (omega (arith, end, length-map wanted wanted_view)) ∙ wanted_is in
+      let all : AreCopies whole.option (Some whole.postings) (Some whole.positions) s.postings s.positions (wanted_entries requested whole.terms) s.keys s.infos =
+      subst (λ (o : IndexRecordOption). AreCopies o (Some whole.postings) (Some whole.positions) s.postings s.positions (wanted_entries requested whole.terms) s.keys s.infos) (sym option_is)
+      (subst (λ (x : Option (List ℕ)). AreCopies option x (Some whole.positions) s.postings s.positions (wanted_entries requested whole.terms) s.keys s.infos) p_is
+      (subst (λ (x : Option (List ℕ)). AreCopies option p x s.postings s.positions (wanted_entries requested whole.terms) s.keys s.infos) q_is
       (subst (λ (ts : List WantedTermState). AreCopies option p q s.postings s.positions ts s.keys s.infos) all_taken c.copied))) in
       subst (λ (r : InvertedIndexReaderState). IsPartOf requested r whole) (sym reader_is)
       (is_part whole made (sym option_is) requested s.keys s.infos all refl (ap little_endian c.counted ∙ sym counted))

@@ -4,10 +4,10 @@ use Rattle.std.specs.List.{list_all}
 use Rattle.std.proofs.Math.Bool.{and-false}
 use Rattle.std.proofs.lemmas.List.Folds.{list_all_at}
 use Rattle.ii_file_slice.specs.declared.faults.FileFault.{FileFault}
-use Rattle.ii_warmup.specs.Faults.{IsTermFault}
+use Rattle.ii_warmup.specs.Faults.{IsCopyFault}
 
 -- a fault by tests, where others fail with them
-pub fault_of_more : (lie short all_lie all_short : Bool) (e : FileFault) → (lie ≡ false → all_lie ≡ false) → (short ≡ false → all_short ≡ false) → IsTermFault lie short e → IsTermFault all_lie all_short e
+pub fault_of_more : (lie short all_lie all_short : Bool) (e : FileFault) → (lie ≡ false → all_lie ≡ false) → (short ≡ false → all_short ≡ false) → IsCopyFault lie short e → IsCopyFault all_lie all_short e
 fault_of_more lie short all_lie all_short e lies shorts (inl memory) = inl memory
 fault_of_more lie short all_lie all_short e lies shorts (inr (inl limit)) = inr (inl limit)
 fault_of_more lie short all_lie all_short e lies shorts (inr (inr (inl range))) = inr (inr (inl (range.0, lies range.1)))

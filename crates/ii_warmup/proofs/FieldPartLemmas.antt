@@ -21,7 +21,7 @@ use Rattle.ii_termdict.specs.Dictionary.{TermEntry, dictionary}
 use Rattle.ii_warmup.specs.IndexParts.{KnownBodies, KnownTables}
 use Rattle.ii_warmup.specs.Parts.{IsPartOf}
 use Rattle.ii_warmup.specs.QueryTerms.{QueryRangeState, QueryTermState, names_field, names_key, requested_of, serves}
-use Rattle.ii_warmup.specs.Warmup.{known_reader, wanted_of}
+use Rattle.ii_warmup.specs.Warmup.{known_reader, wanted_entries}
 
 -- ---- a field that isn't named
 or_parts : (a b : Bool) → (a || b) ≡ false → (a ≡ false) × (b ≡ false)
@@ -49,7 +49,7 @@ none_requested terms ranges field unnamed key =
     rw (no_key WithFreqsAndPositions, no_key Basic) refl
 
 module _ (requested : List ℕ → Option IndexRecordOption) (none : (key : List ℕ) → requested key ≡ None) where
-  pub no_terms : (entries : List TermEntry) → wanted_of requested entries ≡ []
+  pub no_terms : (entries : List TermEntry) → wanted_entries requested entries ≡ []
   no_terms [] = refl
   no_terms (e ∷ es) = rw (none e.0) (no_terms es)
 

@@ -12,7 +12,7 @@ use Rattle.ii_query_parser.specs.Queries as queries
 use Rattle.ii_query_parser.specs.Queries.{QueryTree, QueryTrees, others_with, tree_of}
 use Rattle.ii_reader.specs.OpenIndex.{OpenIndexState, all_or_first}
 use Rattle.ii_search.specs.Found.{combined_lists, docs_of_term, docs_under, keys_in, lists_found, phrase_parts_of, phrase_with, tree_found}
-use Rattle.ii_warmup.specs.QueryTerms.{later_terms, tree_ranges, tree_terms, trees_ranges, trees_terms}
+use Rattle.ii_warmup.specs.QueryTerms.{phrase_requests, tree_ranges, tree_terms, trees_ranges, trees_terms}
 use Rattle.ii_warmup.specs.SameFor.{FoundAsThere, SameRange, SameTerm}
 
 -- what holds for each of two lists
@@ -40,11 +40,11 @@ same_values {B} f g F G decides (k ∷ ks) (l ∷ ls) same =
 
 module _ (index other : OpenIndexState) where
   -- the terms of a phrase after the first one
-  parts_same : (others : List PhraseTerm) → AllByRecursion (SameTerm index other) (later_terms others) → phrase_parts_of index others ≡ phrase_parts_of other others
+  parts_same : (others : List PhraseTerm) → AllByRecursion (SameTerm index other) (phrase_requests others) → phrase_parts_of index others ≡ phrase_parts_of other others
   parts_same [] h = refl
   parts_same (o ∷ os) h = rw (h.0, parts_same os h.1) refl
 
-  parts_with : (p : PhrasePrefix) (others : List PhraseTerm) (o : PhraseTerm) → AllByRecursion (SameTerm index other) (later_terms others) → docs_of_term WithFreqsAndPositions index o.term ≡ docs_of_term WithFreqsAndPositions other o.term
+  parts_with : (p : PhrasePrefix) (others : List PhraseTerm) (o : PhraseTerm) → AllByRecursion (SameTerm index other) (phrase_requests others) → docs_of_term WithFreqsAndPositions index o.term ≡ docs_of_term WithFreqsAndPositions other o.term
       → phrase_parts_of index (others ++ o ∷ []) ≡ phrase_parts_of other (others ++ o ∷ [])
   parts_with p [] o h last = rw last refl
   parts_with p (x ∷ xs) o h last = rw (h.0, parts_with p xs o h.1 last) refl

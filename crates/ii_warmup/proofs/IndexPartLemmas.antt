@@ -12,7 +12,7 @@ use Rattle.ii_base.specs.declared.schema.index_record_option.IndexRecordOption.{
 use Rattle.ii_reader.specs.InvertedIndexReader.{InvertedIndexReaderState}
 use Rattle.ii_reader.specs.OpenIndex.{IndexBodies, OpenIndexState, all_or_first, field_readers, index_of_files, reader_of_field}
 use Rattle.ii_warmup.specs.IndexParts.{ArePartsOf, HoldIndex, IsWarmupFault, KnownBodies, KnownTables, requests}
-use Rattle.ii_warmup.specs.Faults.{IsTermFault}
+use Rattle.ii_warmup.specs.Faults.{IsCopyFault}
 use Rattle.ii_file_slice.specs.declared.faults.FileFault.{FileFault}
 use Rattle.ii_file_slice.specs.declared.faults.FileFault.TheVariants.{Index}
 use Rattle.ii_io.specs.declared.faults.Fault.TheVariants.{Limit, OutOfMemory}
@@ -21,7 +21,7 @@ use Rattle.ii_query_parser.specs.declared.query.Query.{Query}
 use Rattle.ii_warmup.specs.declared.terms.QueryRange.{QueryRange}
 use Rattle.ii_warmup.specs.declared.terms.QueryTerm.{QueryTerm}
 use Rattle.ii_warmup.specs.Parts.{IsPartOf, IsPartOfField}
-use Rattle.ii_warmup.specs.QueryTerms.{QueryRangeState, QueryTermState, query_ranges, query_terms, range_view, requested_of, requests_of, term_view}
+use Rattle.ii_warmup.specs.QueryTerms.{QueryRangeState, QueryTermState, query_ranges, range_view, requested_of, requested_terms, requests_of, term_view}
 use Rattle.ii_warmup.specs.Warmup.{all_lie, all_sound}
 
 -- what is well
@@ -142,7 +142,7 @@ module _ (requested : ℕ → List ℕ → Option IndexRecordOption) (whole : Li
 
 -- the fault of a field is one of the index
 pub fault_of_field : (requested : ℕ → List ℕ → Option IndexRecordOption) (whole : List InvertedIndexReaderState) (field : ℕ) (reader : InvertedIndexReaderState) (e : FileFault) → slice_get whole field ≡ Some reader
-    → IsTermFault (all_lie (requested field) reader) (all_sound (requested field) reader.terms) e → IsWarmupFault requested whole e
+    → IsCopyFault (all_lie (requested field) reader) (all_sound (requested field) reader.terms) e → IsWarmupFault requested whole e
 fault_of_field requested whole field reader e there (inl memory) = inl memory
 fault_of_field requested whole field reader e there (inr (inl limit)) = inr (inl limit)
 fault_of_field requested whole field reader e there (inr (inr (inl range))) = inr (inr (inl (range.0, record { field = field; reader = reader; there = there; fails = range.1 })))
@@ -153,10 +153,10 @@ memory_or_limit requested whole e (inl memory) = inl memory
 memory_or_limit requested whole e (inr limit) = inr (inl limit)
 
 -- ---- the terms and files of a call
-pub same_requests : (terms : List QueryTerm) (ranges : List QueryRange) (query : Query) → map term_view terms ≡ query_terms query → map range_view ranges ≡ query_ranges query → requests_of terms ranges ≡ requests query
+pub same_requests : (terms : List QueryTerm) (ranges : List QueryRange) (query : Query) → map term_view terms ≡ requested_terms query → map range_view ranges ≡ query_ranges query → requests_of terms ranges ≡ requests query
 same_requests terms ranges query terms_are ranges_are =
     let F : List QueryTermState → List QueryRangeState → ℕ → List ℕ → Option IndexRecordOption = λ ts rs field key. requested_of ts rs field key in
-    ap (λ (ts : List QueryTermState). F ts (map range_view ranges)) terms_are ∙ ap (λ (rs : List QueryRangeState). F (query_terms query) rs) ranges_are
+    ap (λ (ts : List QueryTermState). F ts (map range_view ranges)) terms_are ∙ ap (λ (rs : List QueryRangeState). F (requested_terms query) rs) ranges_are
 
 pub same_tables : {H : Type 0} (bytes : H → Option (List ℕ)) (t p q terms postings positions : H) (bodies : IndexBodies) → t ≡ terms → p ≡ postings → q ≡ positions → KnownTables (bytes terms) (bytes postings) (bytes positions) bodies → KnownTables (bytes t) (bytes p) (bytes q) bodies
 same_tables {H} bytes t p q terms postings positions bodies t_is p_is q_is k =

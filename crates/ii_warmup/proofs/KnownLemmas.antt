@@ -9,7 +9,7 @@ use Rattle.ii_reader.specs.InvertedIndexReader.{InvertedIndexReaderState, reader
 use Rattle.ii_termstore.specs.TermInfos.{is_sound}
 use Rattle.ii_termdict.specs.Dictionary.{TermEntry}
 use Rattle.ii_file_slice.specs.FileSlice.{slice_if}
-use Rattle.ii_warmup.specs.Warmup.{WantedTermState, all_lie, all_sound, do_ranges_lie, known_reader, wanted_of, wanted_view}
+use Rattle.ii_warmup.specs.Warmup.{WantedTermState, all_lie, all_sound, do_ranges_lie, known_reader, wanted_entries, wanted_view}
 use Rattle.ii_warmup.specs.declared.wanted_terms.WantedTerm.{WantedTerm}
 use Rattle.ii_warmup.proofs.FinishLemmas.{reader_is}
 
@@ -58,12 +58,12 @@ all_viewed view f [] = refl
 all_viewed view f (x ∷ xs) = rw (all_viewed view f xs) refl
 
 -- what holds of wanted terms and of those of a dictionary
-pub lie_moved : (requested : List ℕ → Option IndexRecordOption) (whole : InvertedIndexReaderState) (option : IndexRecordOption) (wanted : List WantedTerm) → whole.option ≡ option → map wanted_view wanted ≡ wanted_of requested whole.terms
+pub lie_moved : (requested : List ℕ → Option IndexRecordOption) (whole : InvertedIndexReaderState) (option : IndexRecordOption) (wanted : List WantedTerm) → whole.option ≡ option → map wanted_view wanted ≡ wanted_entries requested whole.terms
     → list_all (λ (t : WantedTerm). do_ranges_lie option whole.postings whole.positions (wanted_view t)) wanted ≡ all_lie requested whole
 lie_moved requested whole option wanted option_is wanted_is =
     subst (λ (o : IndexRecordOption). list_all (λ (t : WantedTerm). do_ranges_lie o whole.postings whole.positions (wanted_view t)) wanted ≡ all_lie requested whole) option_is
     (sym (all_viewed wanted_view (do_ranges_lie whole.option whole.postings whole.positions) wanted) ∙ ap (list_all (do_ranges_lie whole.option whole.postings whole.positions)) wanted_is)
 
-pub sound_moved : (requested : List ℕ → Option IndexRecordOption) (terms : List TermEntry) (wanted : List WantedTerm) → map wanted_view wanted ≡ wanted_of requested terms → list_all (λ (t : WantedTerm). is_sound t.info) wanted ≡ all_sound requested terms
+pub sound_moved : (requested : List ℕ → Option IndexRecordOption) (terms : List TermEntry) (wanted : List WantedTerm) → map wanted_view wanted ≡ wanted_entries requested terms → list_all (λ (t : WantedTerm). is_sound t.info) wanted ≡ all_sound requested terms
 sound_moved requested terms wanted wanted_is =
     sym (all_viewed wanted_view (λ (t : WantedTermState). is_sound t.info) wanted) ∙ ap (list_all (λ (t : WantedTermState). is_sound t.info)) wanted_is

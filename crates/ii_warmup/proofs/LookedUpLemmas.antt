@@ -16,7 +16,7 @@ use Rattle.ii_termdict.specs.ReadBack.{AreAscending}
 use Rattle.ii_termdict.proofs.OrderLemmas.{keys_are_ascending}
 use Rattle.ii_termdict.proofs.SearchLemmas.{found_equal}
 use Rattle.ii_warmup.specs.LookedUp.{found_terms, wanted_under}
-use Rattle.ii_warmup.specs.Warmup.{WantedTermState, wanted_keys, wanted_of, wanted_view}
+use Rattle.ii_warmup.specs.Warmup.{WantedTermState, wanted_entries, wanted_keys, wanted_view}
 use Rattle.ii_warmup.specs.declared.wanted_terms.WantedTerm.{WantedTerm}
 
 -- two keys of which one is less are different
@@ -77,22 +77,22 @@ module _ (requested : List ℕ → Option IndexRecordOption) where
   cover_rest k ks (e ∷ es) h c = (λ some. rw (apart_after e.0 k h.0) at (c.0 some), cover_rest k ks es h.1 c.1)
 
   -- an entry of which nothing is requested
-  unwanted : (e : TermEntry) (es : List TermEntry) (ks : List (List ℕ)) → list_any (bytes_eq e.0) ks ≡ false → (is_some (requested e.0) ≡ true → list_any (bytes_eq e.0) ks ≡ true) → wanted_of requested (e ∷ es) ≡ wanted_of requested es
+  unwanted : (e : TermEntry) (es : List TermEntry) (ks : List (List ℕ)) → list_any (bytes_eq e.0) ks ≡ false → (is_some (requested e.0) ≡ true → list_any (bytes_eq e.0) ks ≡ true) → wanted_entries requested (e ∷ es) ≡ wanted_entries requested es
   unwanted e es ks none cover = by (requested e.0) refl
     where
-      by : (o : Option IndexRecordOption) → requested e.0 ≡ o → wanted_of requested (e ∷ es) ≡ wanted_of requested es
+      by : (o : Option IndexRecordOption) → requested e.0 ≡ o → wanted_entries requested (e ∷ es) ≡ wanted_entries requested es
       by None is = rw is refl
       by (Some o) is = let there = cover (ap is_some is) in absurd (cc)
 
   -- the first entry, looked up by its key
-  wanted_first : (e : TermEntry) (es : List TermEntry) (rest : List WantedTermState) → rest ≡ wanted_of requested es → (k : List ℕ) → k ≡ e.0 → (ks : List (List ℕ)) → filter_map (wanted_under requested (e ∷ es)) ks ≡ rest
-      → filter_map (wanted_under requested (e ∷ es)) (k ∷ ks) ≡ wanted_of requested (e ∷ es)
+  wanted_first : (e : TermEntry) (es : List TermEntry) (rest : List WantedTermState) → rest ≡ wanted_entries requested es → (k : List ℕ) → k ≡ e.0 → (ks : List (List ℕ)) → filter_map (wanted_under requested (e ∷ es)) ks ≡ rest
+      → filter_map (wanted_under requested (e ∷ es)) (k ∷ ks) ≡ wanted_entries requested (e ∷ es)
   wanted_first e es rest is k same ks others = by (requested e.0) refl
     where
       itself : bytes_eq e.0 e.0 ≡ true
       itself = (bytes_decides e.0 e.0).1 refl
 
-      by : (o : Option IndexRecordOption) → requested e.0 ≡ o → filter_map (wanted_under requested (e ∷ es)) (k ∷ ks) ≡ wanted_of requested (e ∷ es)
+      by : (o : Option IndexRecordOption) → requested e.0 ≡ o → filter_map (wanted_under requested (e ∷ es)) (k ∷ ks) ≡ wanted_entries requested (e ∷ es)
       by None at = rw (same, itself, at) (others ∙ is)
       by (Some o) at = rw (same, itself, at) (ap (λ (ts : List WantedTermState). record { key = e.0; info = e.1; option = o } ∷ ts) (others ∙ is))
 
@@ -105,13 +105,13 @@ module _ (requested : List ℕ → Option IndexRecordOption) where
   entries_after k (e ∷ es) h = (h.0, entries_after k es h.1)
 
   -- one more entry
-  one_more : (e : TermEntry) (es : List TermEntry) → AreAscending (entry_keys (e ∷ es)) → ((ks : List (List ℕ)) → AreAscending ks → Cover ks es → filter_map (wanted_under requested es) ks ≡ wanted_of requested es)
-      → (ks : List (List ℕ)) → AreAscending ks → Cover ks (e ∷ es) → filter_map (wanted_under requested (e ∷ es)) ks ≡ wanted_of requested (e ∷ es)
+  one_more : (e : TermEntry) (es : List TermEntry) → AreAscending (entry_keys (e ∷ es)) → ((ks : List (List ℕ)) → AreAscending ks → Cover ks es → filter_map (wanted_under requested es) ks ≡ wanted_entries requested es)
+      → (ks : List (List ℕ)) → AreAscending ks → Cover ks (e ∷ es) → filter_map (wanted_under requested (e ∷ es)) ks ≡ wanted_entries requested (e ∷ es)
   unfolding IsStrictlySortedBy
   one_more e es sorted ih [] ks_sorted cover = sym (unwanted e es [] refl cover.0 ∙ sym (ih [] tt cover.1))
   one_more e es sorted ih (k ∷ ks) ks_sorted cover = by (slice_cmp nat_cmp k e.0) refl (λ c. one_more e es sorted ih ks ks_sorted.1 c)
     where
-      by : (o : Ordering) → slice_cmp nat_cmp k e.0 ≡ o → (Cover ks (e ∷ es) → filter_map (wanted_under requested (e ∷ es)) ks ≡ wanted_of requested (e ∷ es)) → filter_map (wanted_under requested (e ∷ es)) (k ∷ ks) ≡ wanted_of requested (e ∷ es)
+      by : (o : Ordering) → slice_cmp nat_cmp k e.0 ≡ o → (Cover ks (e ∷ es) → filter_map (wanted_under requested (e ∷ es)) ks ≡ wanted_entries requested (e ∷ es)) → filter_map (wanted_under requested (e ∷ es)) (k ∷ ks) ≡ wanted_entries requested (e ∷ es)
       by Less is rest =
           let after = all_after k e es is sorted.0 in
           rw (none_under k (e ∷ es) (is, after)) (rest (cover_rest k ks (e ∷ es) (is, after) cover))
@@ -120,7 +120,7 @@ module _ (requested : List ℕ → Option IndexRecordOption) where
           let later = subst (λ (x : List ℕ). AllByRecursion (λ (y : List ℕ). slice_cmp nat_cmp x y ≡ Less) ks) same ks_sorted.0 in
           let others = skips e es ks later in
           let here = ih ks ks_sorted.1 (cover_rest k ks es (subst (λ (x : List ℕ). AllByRecursion (λ (f : TermEntry). slice_cmp nat_cmp x f.0 ≡ Less) es) (sym same) (entries_after e.0 es sorted.0)) cover.1) in
-          wanted_first e es (wanted_of requested es) refl k same ks (others ∙ here)
+          wanted_first e es (wanted_entries requested es) refl k same ks (others ∙ here)
       by Greater is rest =
           let total = nat_list_cmp_total in
           let less : slice_cmp nat_cmp e.0 k ≡ Less = total.antisymm e.0 k ∙ ap ordering_reverse is in
@@ -128,7 +128,7 @@ module _ (requested : List ℕ → Option IndexRecordOption) where
           skips e es (k ∷ ks) later ∙ ih (k ∷ ks) ks_sorted cover.1 ∙ sym (unwanted e es (k ∷ ks) (has_not e.0 (k ∷ ks) later) cover.0)
 
   -- keys that are looked up one after the other give what a walk of all entries gives
-  pub looked_up : (es : List TermEntry) (ks : List (List ℕ)) → AreAscending (entry_keys es) → AreAscending ks → Cover ks es → filter_map (wanted_under requested es) ks ≡ wanted_of requested es
+  pub looked_up : (es : List TermEntry) (ks : List (List ℕ)) → AreAscending (entry_keys es) → AreAscending ks → Cover ks es → filter_map (wanted_under requested es) ks ≡ wanted_entries requested es
   unfolding IsStrictlySortedBy
   looked_up [] ks sorted ks_sorted cover = none_found ks
   looked_up (e ∷ es) ks sorted ks_sorted cover = one_more e es sorted (λ xs xs_sorted c. looked_up es xs sorted.1 xs_sorted c) ks ks_sorted cover

@@ -13,7 +13,7 @@ use Rattle.ii_termdict.specs.Dictionary.{TermEntry, entry_keys, info_under}
 use Rattle.ii_termstore.specs.declared.term_info.TermInfo.{TermInfo}
 use Rattle.ii_warmup.specs.QueryTerms.{serves}
 use Rattle.ii_warmup.specs.Parts.{IsPartOf}
-use Rattle.ii_warmup.specs.Warmup.{WantedTermState, wanted_of}
+use Rattle.ii_warmup.specs.Warmup.{WantedTermState, wanted_entries}
 use Rattle.ii_warmup.proofs.CopyLemmas.{AreCopies, IsCopy}
 
 -- positions that are read of a list were requested of it
@@ -73,7 +73,7 @@ module _ (whole part : InvertedIndexReaderState) (same_option : part.option ≡ 
 
   module _ (requested : List ℕ → Option IndexRecordOption) where
     abbrev Copied : List TermEntry → List (List ℕ) → List TermInfo → Type 0
-    Copied es ks is = AreCopies whole.option (Some whole.postings) (Some whole.positions) part.postings part.positions (wanted_of requested es) ks is
+    Copied es ks is = AreCopies whole.option (Some whole.postings) (Some whole.positions) part.postings part.positions (wanted_entries requested es) ks is
 
     -- The keys of copies are those that are requested.
     keys_copied : (es : List TermEntry) (ks : List (List ℕ)) (is : List TermInfo) → Copied es ks is → entry_keys (zip ks is) ≡ filter (λ (key : List ℕ). is_some (requested key)) (entry_keys es)

@@ -14,7 +14,7 @@ use Rattle.ii_reader.specs.InvertedIndexReader.{InvertedIndexReaderState}
 use Rattle.ii_reader.specs.OpenIndex.{OpenIndexState}
 use Rattle.ii_search.specs.Found.{docs_under}
 use Rattle.ii_termdict.specs.Dictionary.{entry_keys}
-use Rattle.ii_warmup.specs.QueryTerms.{QueryRangeState, QueryTermState, names_key, query_ranges, query_terms, requested_of, serves}
+use Rattle.ii_warmup.specs.QueryTerms.{QueryRangeState, QueryTermState, names_key, query_ranges, requested_of, requested_terms, serves}
 use Rattle.ii_warmup.specs.Parts.{IsPartFor, IsPartOfField, PartsAreSame, PartsFindTheSame}
 use Rattle.ii_warmup.specs.SameFor.{SameRange, SameTerm, range_docs}
 use Rattle.ii_warmup.proofs.FoundLemmas.{found_as_there}
@@ -64,10 +64,10 @@ module _ (terms : List QueryTermState) (ranges : List QueryRangeState) (field : 
 
 module _ (query : Query) (part whole : OpenIndexState) (parts : IsPartFor query part whole) where
   abbrev request : ℕ → List ℕ → Option IndexRecordOption
-  request field = requested_of (query_terms query) (query_ranges query) field
+  request field = requested_of (requested_terms query) (query_ranges query) field
 
   -- the documents of a key that is named
-  same_docs : (field : ℕ) (key : List ℕ) (option : IndexRecordOption) → names_key option (query_terms query) (query_ranges query) field key ≡ true
+  same_docs : (field : ℕ) (key : List ℕ) (option : IndexRecordOption) → names_key option (requested_terms query) (query_ranges query) field key ≡ true
       → docs_under option key (slice_get part.readers field) ≡ docs_under option key (slice_get whole.readers field)
   same_docs field key option named = by (slice_get part.readers field) (slice_get whole.readers field) (parts field)
     where
@@ -75,23 +75,23 @@ module _ (query : Query) (part whole : OpenIndexState) (parts : IsPartFor query 
       by None None h = refl
       by None (Some w) h = absurd h
       by (Some p) None h = absurd h
-      by (Some p) (Some w) h = let r = requested (query_terms query) (query_ranges query) field key option named in h.docs key r.wanted option r.is r.served
+      by (Some p) (Some w) h = let r = requested (requested_terms query) (query_ranges query) field key option named in h.docs key r.wanted option r.is r.served
 
-  term_named : (front rest : List QueryTermState) (t : QueryTermState) → query_terms query ≡ front ++ t ∷ rest → names_key t.option (query_terms query) (query_ranges query) t.term.field t.term.value ≡ true
+  term_named : (front rest : List QueryTermState) (t : QueryTermState) → requested_terms query ≡ front ++ t ∷ rest → names_key t.option (requested_terms query) (query_ranges query) t.term.field t.term.value ≡ true
   term_named front rest t is =
       let test = λ (u : QueryTermState). serves t.option u.option && (u.term.field == t.term.field) && bytes_eq u.term.value t.term.value in
       let passes : test t ≡ true = rw (serves_itself t.option, eq-eqb t.term.field t.term.field refl, (bytes_eq-Decides t.term.value t.term.value).1 refl) refl in
-      let found : list_any test (query_terms query) ≡ true = ap (list_any test) is ∙ any_here test front t rest passes in
+      let found : list_any test (requested_terms query) ≡ true = ap (list_any test) is ∙ any_here test front t rest passes in
       rw found refl
 
-  range_named : (front rest : List QueryRangeState) (r : QueryRangeState) (key : List ℕ) → query_ranges query ≡ front ++ r ∷ rest → in_range r.range key ≡ true → names_key r.option (query_terms query) (query_ranges query) r.range.prefix.field key ≡ true
+  range_named : (front rest : List QueryRangeState) (r : QueryRangeState) (key : List ℕ) → query_ranges query ≡ front ++ r ∷ rest → in_range r.range key ≡ true → names_key r.option (requested_terms query) (query_ranges query) r.range.prefix.field key ≡ true
   range_named front rest r key is inside =
       let test = λ (s : QueryRangeState). serves r.option s.option && (s.range.prefix.field == r.range.prefix.field) && in_range s.range key in
       let passes : test r ≡ true = rw (serves_itself r.option, eq-eqb r.range.prefix.field r.range.prefix.field refl, inside) refl in
       let found : list_any test (query_ranges query) ≡ true = ap (list_any test) is ∙ any_here test front r rest passes in
       rw found (or-true _)
 
-  same_range : (r : QueryRangeState) → ((key : List ℕ) → in_range r.range key ≡ true → names_key r.option (query_terms query) (query_ranges query) r.range.prefix.field key ≡ true) → SameRange part whole r
+  same_range : (r : QueryRangeState) → ((key : List ℕ) → in_range r.range key ≡ true → names_key r.option (requested_terms query) (query_ranges query) r.range.prefix.field key ≡ true) → SameRange part whole r
   same_range r named = by (slice_get part.readers r.range.prefix.field) (slice_get whole.readers r.range.prefix.field) (parts r.range.prefix.field)
     where
       by : (p w : Option InvertedIndexReaderState) → IsPartOfField (request r.range.prefix.field) p w → range_docs r.option r.range p ≡ range_docs r.option r.range w
@@ -102,14 +102,14 @@ module _ (query : Query) (part whole : OpenIndexState) (parts : IsPartFor query 
           let field = r.range.prefix.field in
           let asked = λ (key : List ℕ). is_some (request field key) in
           let keeps : (key : List ℕ) → in_range r.range key ≡ true → (asked key ≡ true) × ((key, docs_under r.option key (Some p)) ≡ (key, docs_under r.option key (Some w))) =
-          λ key inside. let q = requested (query_terms query) (query_ranges query) field key r.option (named key inside) in
+          λ key inside. let q = requested (requested_terms query) (query_ranges query) field key r.option (named key inside) in
           (ap is_some q.is, ap (λ (found : Result (List Entry) Part). (key, found)) (h.docs key q.wanted r.option q.is q.served)) in
           ap (λ (keys : List (List ℕ)). map (λ (key : List ℕ). (key, docs_under r.option key (Some p))) (filter (in_range r.range) keys)) h.keys
           ∙ filtered_twice (in_range r.range) asked (λ key. (key, docs_under r.option key (Some p))) (λ key. (key, docs_under r.option key (Some w))) keeps (entry_keys w.terms)
 
 pub parts_are_same : PartsAreSame
 parts_are_same query part whole parts = record {
-  terms = each_place (SameTerm part whole) (query_terms query) (λ front rest t is. same_docs query part whole parts t.term.field t.term.value t.option (term_named query part whole parts front rest t is));
+  terms = each_place (SameTerm part whole) (requested_terms query) (λ front rest t is. same_docs query part whole parts t.term.field t.term.value t.option (term_named query part whole parts front rest t is));
   ranges = each_place (SameRange part whole) (query_ranges query) (λ front rest r is. same_range query part whole parts r (λ key inside. range_named query part whole parts front rest r key is inside));
 }
 

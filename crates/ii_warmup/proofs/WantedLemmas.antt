@@ -12,7 +12,7 @@ use Rattle.ii_termdict.specs.Dictionary.{TermEntry, entry_infos, entry_keys}
 use Rattle.ii_termdict.specs.ReadBack.{AreAscending}
 use Rattle.ii_termdict.specs.TermStreamer.{TermStreamerState}
 use Rattle.ii_termstore.specs.declared.term_info.TermInfo.{TermInfo}
-use Rattle.ii_warmup.specs.Warmup.{WantedTermState, wanted_keys, wanted_of, wanted_view}
+use Rattle.ii_warmup.specs.Warmup.{WantedTermState, wanted_entries, wanted_keys, wanted_view}
 use Rattle.ii_warmup.specs.declared.wanted_terms.WantedTerm.{WantedTerm}
 
 -- an entry at a place
@@ -41,11 +41,11 @@ module _ (requested : List ℕ → Option IndexRecordOption) (es : List TermEntr
   pub record IsGathering (i : ℕ) (stream : TermStreamerState) (wanted : List WantedTerm) : Type 0 where
     pub entries : stream.entries ≡ es
     pub passed : stream.passed ≡ i
-    pub gathered : map wanted_view wanted ≡ wanted_of requested (take i es)
+    pub gathered : map wanted_view wanted ≡ wanted_entries requested (take i es)
 
   pub gathering_next : (i : ℕ) (old new : TermStreamerState) (result : Bool) (key : List ℕ) (info : TermInfo) (before after : List WantedTerm) → i < length es → IsGathering i old before → result ≡ nat_lt old.passed (length old.entries)
       → new ≡ record old { passed = if result then old.passed + 1 else old.passed } → slice_get (entry_keys new.entries) (new.passed - 1) ≡ Some key → slice_get (entry_infos new.entries) (new.passed - 1) ≡ Some info
-      → map wanted_view after ≡ map wanted_view before ++ wanted_of requested ((key, info) ∷ []) → IsGathering (i + 1) new after
+      → map wanted_view after ≡ map wanted_view before ++ wanted_entries requested ((key, info) ∷ []) → IsGathering (i + 1) new after
   gathering_next i old new result key info before after inside g found is key_is info_is pushed =
       let more : new ≡ record old { passed = old.passed + 1 } = advanced old new result (rw (g.entries, g.passed) inside) found is in
       let entries : new.entries ≡ es = ap (λ (s : TermStreamerState). s.entries) more ∙ g.entries in
@@ -57,28 +57,28 @@ module _ (requested : List ℕ → Option IndexRecordOption) (es : List TermEntr
         entries = entries;
         passed = passed;
         gathered =
-            pushed ∙ ap (λ (ts : List WantedTermState). ts ++ wanted_of requested ((key, info) ∷ [])) g.gathered
+            pushed ∙ ap (λ (ts : List WantedTermState). ts ++ wanted_entries requested ((key, info) ∷ [])) g.gathered
             ∙ sym (filter_map-append (λ (e : TermEntry). option_map (λ (o : IndexRecordOption). record { key = e.0; info = e.1; option = o }) (requested e.0)) (take i es) ((key, info) ∷ []))
-            ∙ ap (wanted_of requested) (sym (entry_taken es i key info key_at info_at) ∙ ap (λ (n : ℕ). take n es) (sym (add-one i)));
+            ∙ ap (wanted_entries requested) (sym (entry_taken es i key info key_at info_at) ∙ ap (λ (n : ℕ). take n es) (sym (add-one i)));
       }
 
-  pub gathered_all : (i : ℕ) (stream : TermStreamerState) (wanted : List WantedTerm) → length es ≤ i → IsGathering i stream wanted → map wanted_view wanted ≡ wanted_of requested es
-  gathered_all i stream wanted end g = g.gathered ∙ ap (wanted_of requested) (past_end i es end)
+  pub gathered_all : (i : ℕ) (stream : TermStreamerState) (wanted : List WantedTerm) → length es ≤ i → IsGathering i stream wanted → map wanted_view wanted ≡ wanted_entries requested es
+  gathered_all i stream wanted end g = g.gathered ∙ ap (wanted_entries requested) (past_end i es end)
 
 -- the keys of wanted terms
 keys_viewed : (wanted : List WantedTerm) → wanted_keys wanted ≡ map (λ (t : WantedTermState). t.key) (map wanted_view wanted)
 keys_viewed [] = refl
 keys_viewed (t ∷ ts) = ap (λ (rest : List (List ℕ)). t.key.items ∷ rest) (keys_viewed ts)
 
-keys_requested : (requested : List ℕ → Option IndexRecordOption) (es : List TermEntry) → map (λ (t : WantedTermState). t.key) (wanted_of requested es) ≡ filter (λ (key : List ℕ). is_some (requested key)) (entry_keys es)
+keys_requested : (requested : List ℕ → Option IndexRecordOption) (es : List TermEntry) → map (λ (t : WantedTermState). t.key) (wanted_entries requested es) ≡ filter (λ (key : List ℕ). is_some (requested key)) (entry_keys es)
 keys_requested requested [] = refl
 keys_requested requested (e ∷ es) = by (requested e.0) refl (keys_requested requested es)
   where
-    by : (r : Option IndexRecordOption) → requested e.0 ≡ r → map (λ (t : WantedTermState). t.key) (wanted_of requested es) ≡ filter (λ (key : List ℕ). is_some (requested key)) (entry_keys es)
-        → map (λ (t : WantedTermState). t.key) (wanted_of requested (e ∷ es)) ≡ filter (λ (key : List ℕ). is_some (requested key)) (entry_keys (e ∷ es))
+    by : (r : Option IndexRecordOption) → requested e.0 ≡ r → map (λ (t : WantedTermState). t.key) (wanted_entries requested es) ≡ filter (λ (key : List ℕ). is_some (requested key)) (entry_keys es)
+        → map (λ (t : WantedTermState). t.key) (wanted_entries requested (e ∷ es)) ≡ filter (λ (key : List ℕ). is_some (requested key)) (entry_keys (e ∷ es))
     by None at rest = rw at rest
     by (Some o) at rest = rw at (ap (λ (keys : List (List ℕ)). e.0 ∷ keys) rest)
 
-pub wanted_ascend : (requested : List ℕ → Option IndexRecordOption) (es : List TermEntry) (wanted : List WantedTerm) → AreAscending (entry_keys es) → map wanted_view wanted ≡ wanted_of requested es → AreAscending (wanted_keys wanted)
+pub wanted_ascend : (requested : List ℕ → Option IndexRecordOption) (es : List TermEntry) (wanted : List WantedTerm) → AreAscending (entry_keys es) → map wanted_view wanted ≡ wanted_entries requested es → AreAscending (wanted_keys wanted)
 wanted_ascend requested es wanted ascend is =
     subst AreAscending (sym (keys_viewed wanted ∙ ap (map (λ (t : WantedTermState). t.key)) is ∙ keys_requested requested es)) (IsStrictlySortedBy-filter (slice_cmp nat_cmp) (λ (key : List ℕ). is_some (requested key)) (entry_keys es) ascend)

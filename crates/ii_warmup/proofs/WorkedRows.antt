@@ -6,7 +6,7 @@ use Rattle.ii_query_parser.specs.Queries.{one_phrase, one_term, without}
 use Rattle.ii_file_slice.specs.declared.faults.FileFault.TheVariants.{Index}
 use Rattle.ii_io.specs.declared.faults.Fault.TheVariants.{Damaged}
 use Rattle.ii_io.specs.declared.faults.Part.TheVariants.{Range, TermStore}
-use Rattle.ii_warmup.specs.Faults.{IsTermFault}
+use Rattle.ii_warmup.specs.Faults.{IsCopyFault}
 use Rattle.ii_warmup.specs.IndexParts.{reads_norms}
 use Rattle.ii_warmup.specs.QueryTerms.{docs_only, names_field, requested_of, tree_terms, with_positions}
 use Rattle.ii_warmup.specs.declared.scoring.EnableScoring.TheVariants.{Disabled, Enabled}
@@ -44,8 +44,8 @@ ranking_row : (reads_norms Enabled ≡ true) × (reads_norms Disabled ≡ false)
 ranking_row = (refl, refl)
 
 -- a term whose range passes the end of its body, or has 2^32 bytes, can't be read
-fault_row : IsTermFault false true (Index (Damaged Range))
+fault_row : IsCopyFault false true (Index (Damaged Range))
 fault_row = inr (inr (inl (refl, refl)))
 
-long_row : IsTermFault true false (Index (Damaged TermStore))
+long_row : IsCopyFault true false (Index (Damaged TermStore))
 long_row = inr (inr (inr (refl, refl)))

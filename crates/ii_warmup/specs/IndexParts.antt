@@ -12,7 +12,7 @@ use Rattle.ii_query_parser.specs.declared.query.Query.{Query}
 use Rattle.ii_reader.specs.InvertedIndexReader.{InvertedIndexReaderState}
 use Rattle.ii_reader.specs.OpenIndex.{IndexBodies, OpenIndexState, index_of_files}
 use Rattle.ii_warmup.specs.Parts.{IsPartOfField}
-use Rattle.ii_warmup.specs.QueryTerms.{QueryRangeState, QueryTermState, names_field, query_ranges, query_terms, requested_of}
+use Rattle.ii_warmup.specs.QueryTerms.{QueryRangeState, QueryTermState, names_field, query_ranges, requested_of, requested_terms}
 use Rattle.ii_warmup.specs.Warmup.{all_lie, all_sound}
 use Rattle.ii_warmup.specs.declared.scoring.EnableScoring.{EnableScoring}
 use Rattle.ii_warmup.specs.declared.scoring.EnableScoring.TheVariants.{Disabled, Enabled}
@@ -68,7 +68,7 @@ IsWarmupFault requested readers e =
 
 -- what a query requests of the keys of a field
 abbrev pub requests : Query → ℕ → List ℕ → Option IndexRecordOption
-requests query field key = requested_of (query_terms query) (query_ranges query) field key
+requests query field key = requested_of (requested_terms query) (query_ranges query) field key
 
 -- whether the norms of the fields of a query are read
 abbrev pub reads_norms : EnableScoring → Bool

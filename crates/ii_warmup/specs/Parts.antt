@@ -6,7 +6,7 @@ use Rattle.ii_reader.specs.InvertedIndexReader.{InvertedIndexReaderState}
 use Rattle.ii_reader.specs.OpenIndex.{OpenIndexState}
 use Rattle.ii_search.specs.Found.{docs_under, found_in}
 use Rattle.ii_termdict.specs.Dictionary.{entry_keys}
-use Rattle.ii_warmup.specs.QueryTerms.{query_ranges, query_terms, requested_of, serves}
+use Rattle.ii_warmup.specs.QueryTerms.{query_ranges, requested_of, requested_terms, serves}
 use Rattle.ii_warmup.specs.SameFor.{SameFor}
 
 -- A reader has exactly the keys of another one of which something is requested, and gives what is requested of each as the other one does, or the same first corrupt part.
@@ -24,7 +24,7 @@ IsPartOfField requested part whole = ⊥
 
 -- An index has of each field of another one what a query reads of it.
 abbrev pub IsPartFor : Query → OpenIndexState → OpenIndexState → Type 0
-IsPartFor query part whole = (field : ℕ) → IsPartOfField (requested_of (query_terms query) (query_ranges query) field) (slice_get part.readers field) (slice_get whole.readers field)
+IsPartFor query part whole = (field : ℕ) → IsPartOfField (requested_of (requested_terms query) (query_ranges query) field) (slice_get part.readers field) (slice_get whole.readers field)
 
 -- An index that has what a query reads of another one is the same for the query.
 abbrev pub PartsAreSame : Type 0

@@ -32,8 +32,8 @@ abbrev pub with_positions : TermState → QueryTermState
 with_positions term = record { term = term; option = WithFreqsAndPositions }
 
 -- the terms of a phrase after the first one
-abbrev pub later_terms : List PhraseTerm → List QueryTermState
-later_terms others = map (λ (o : PhraseTerm). with_positions o.term) others
+abbrev pub phrase_requests : List PhraseTerm → List QueryTermState
+phrase_requests others = map (λ (o : PhraseTerm). with_positions o.term) others
 
 -- The terms of a query, in its order, without those of its ranges.
 abbrev mutual
@@ -41,8 +41,8 @@ abbrev mutual
   tree_terms nothing = []
   tree_terms (all_below n) = []
   tree_terms (one_term term) = docs_only term ∷ []
-  tree_terms (one_phrase first others slop) = with_positions first ∷ later_terms others
-  tree_terms (one_phrase_prefix phrase) = with_positions phrase.first ∷ later_terms phrase.others.items
+  tree_terms (one_phrase first others slop) = with_positions first ∷ phrase_requests others
+  tree_terms (one_phrase_prefix phrase) = with_positions phrase.first ∷ phrase_requests phrase.others.items
   tree_terms (one_range range) = []
   tree_terms (each_of qs) = trees_terms qs
   tree_terms (any_of qs) = trees_terms qs
@@ -70,8 +70,8 @@ abbrev mutual
   trees_ranges (tree q qs) = tree_ranges q ++ trees_ranges qs
 
 -- the terms of a program's query
-abbrev pub query_terms : Query → List QueryTermState
-query_terms query = tree_terms (tree_of query)
+abbrev pub requested_terms : Query → List QueryTermState
+requested_terms query = tree_terms (tree_of query)
 
 -- the ranges of a program's query
 abbrev pub query_ranges : Query → List QueryRangeState

@@ -9,7 +9,7 @@ use Rattle.ii_query_parser.specs.declared.term_range.TermRange.{TermRange}
 use Rattle.ii_reader.specs.InvertedIndexReader.{InvertedIndexReaderState}
 use Rattle.ii_reader.specs.OpenIndex.{OpenIndexState}
 use Rattle.ii_search.specs.Found.{docs_of_term, docs_under, found_in, keys_in}
-use Rattle.ii_warmup.specs.QueryTerms.{QueryRangeState, QueryTermState, query_ranges, query_terms}
+use Rattle.ii_warmup.specs.QueryTerms.{QueryRangeState, QueryTermState, query_ranges, requested_terms}
 
 -- the keys of a field in a range, each with its documents or its first corrupt part
 abbrev pub range_docs : IndexRecordOption → TermRange → Option InvertedIndexReaderState → List (List ℕ × Result (List Entry) Part)
@@ -25,7 +25,7 @@ SameRange index other r = range_docs r.option r.range (slice_get index.readers r
 
 -- Two indexes have the same documents of each term and each range of a query.
 pub record SameFor (query : Query) (index other : OpenIndexState) : Type 0 where
-  pub terms : AllByRecursion (SameTerm index other) (query_terms query)
+  pub terms : AllByRecursion (SameTerm index other) (requested_terms query)
   pub ranges : AllByRecursion (SameRange index other) (query_ranges query)
 
 -- Indexes that are the same for a query find the same documents, or the same first corrupt part.

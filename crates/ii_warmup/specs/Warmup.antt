@@ -34,8 +34,8 @@ abbrev pub wanted_keys : List WantedTerm → List (List ℕ)
 wanted_keys ts = map (λ (t : WantedTerm). t.key.items) ts
 
 -- the wanted terms of a dictionary, given what is requested of each key
-abbrev pub wanted_of : (List ℕ → Option IndexRecordOption) → List TermEntry → List WantedTermState
-wanted_of requested entries = filter_map (λ (e : TermEntry). option_map (λ (o : IndexRecordOption). record { key = e.0; info = e.1; option = o }) (requested e.0)) entries
+abbrev pub wanted_entries : (List ℕ → Option IndexRecordOption) → List TermEntry → List WantedTermState
+wanted_entries requested entries = filter_map (λ (e : TermEntry). option_map (λ (o : IndexRecordOption). record { key = e.0; info = e.1; option = o }) (requested e.0)) entries
 
 -- Bytes are those of a range, which lies within known bytes.
 pub record IsRangeOf (known : Option (List ℕ)) (range : Range ℕ) (read : List ℕ) : Type 0 where
@@ -66,11 +66,11 @@ known_reader terms (Some postings) (Some positions) option = reader_over terms p
 
 -- whether the ranges of each wanted term lie within the bodies of a reader
 abbrev pub all_lie : (List ℕ → Option IndexRecordOption) → InvertedIndexReaderState → Bool
-all_lie requested whole = list_all (do_ranges_lie whole.option whole.postings whole.positions) (wanted_of requested whole.terms)
+all_lie requested whole = list_all (do_ranges_lie whole.option whole.postings whole.positions) (wanted_entries requested whole.terms)
 
 -- whether each range of each wanted term begins at or before its end and has fewer than 2^32 bytes
 abbrev pub all_sound : (List ℕ → Option IndexRecordOption) → List TermEntry → Bool
-all_sound requested terms = list_all (λ (t : WantedTermState). is_sound t.info) (wanted_of requested terms)
+all_sound requested terms = list_all (λ (t : WantedTermState). is_sound t.info) (wanted_entries requested terms)
 
 -- A part of a reader was made, or the ranges of a wanted term don't lie within the bodies, or another fault came.
 pub record WarmsUp (requested : List ℕ → Option IndexRecordOption) (whole : InvertedIndexReaderState) (result : Result InvertedIndexReaderState FileFault) : Type 0 where

@@ -10,9 +10,9 @@ ghost use Rattle.ii_definitions.specs.Files.{bytes_in};
 ghost use Rattle.ii_reader.specs.InvertedIndexReader.{InvertedIndexReaderState, lies_in};
 ghost use Rattle.ii_termdict.specs.ReadBack.{AreAscending};
 ghost use Rattle.ii_termstore.specs.TermInfos.{is_short, is_sound};
-ghost use Rattle.ii_warmup.specs.Faults.{IsTermFault};
+ghost use Rattle.ii_warmup.specs.Faults.{IsCopyFault};
 ghost use Rattle.ii_warmup.specs.Parts.{IsPartOf};
-ghost use Rattle.ii_warmup.specs.Warmup.{CopiesTerm, IsRangeOf, do_ranges_lie, reads_positions_of, wanted_keys, wanted_of, wanted_view};
+ghost use Rattle.ii_warmup.specs.Warmup.{CopiesTerm, IsRangeOf, do_ranges_lie, reads_positions_of, wanted_entries, wanted_keys, wanted_view};
 ghost use Rattle.ii_file_slice.specs.declared.faults.FileFault.TheVariants.{Index};
 
 use crate::copied_terms::CopiedTerms;
@@ -51,7 +51,7 @@ fn read_range<H: FileHandle>(
     ensures read { IfOk result (IsRangeOf (H.bytes body.old) range.now) }
     ensures range { (bs : List ℕ) → H.bytes body.old ≡ Some bs → IsErrOf result (Index (faults.Damaged parts.Range)) → lies_in bs range.now ≡ false }
     ensures long { IsErrOf result (Index (faults.Damaged parts.TermStore)) → is_short range.now ≡ false }
-    ensures sound { (bs : List ℕ) → H.bytes body.old ≡ Some bs → H.is_sound body.old → IfErr result (IsTermFault (lies_in bs range.now) (is_short range.now)) }
+    ensures sound { (bs : List ℕ) → H.bytes body.old ≡ Some bs → H.is_sound body.old → IfErr result (IsCopyFault (lies_in bs range.now) (is_short range.now)) }
 {
     if range.start > range.end || range.end as u64 > body.len() {
         return Err(FileFault::Index(Fault::Damaged(Part::Range)));
@@ -78,7 +78,7 @@ fn read_positions<H: FileHandle>(
     ensures read { reads_positions_of option (wanted_view term.now) ≡ true → IfOk result (IsRangeOf (H.bytes body.old) term.now.info.positions_range) }
     ensures range { (bs : List ℕ) → H.bytes body.old ≡ Some bs → IsErrOf result (Index (faults.Damaged parts.Range)) → (reads_positions_of option (wanted_view term.now) ≡ true) × (lies_in bs term.now.info.positions_range ≡ false) }
     ensures long { IsErrOf result (Index (faults.Damaged parts.TermStore)) → is_short term.now.info.positions_range ≡ false }
-    ensures sound { (bs : List ℕ) → H.bytes body.old ≡ Some bs → H.is_sound body.old → IfErr result (IsTermFault (not (reads_positions_of option (wanted_view term.now)) || lies_in bs term.now.info.positions_range) (is_short term.now.info.positions_range)) }
+    ensures sound { (bs : List ℕ) → H.bytes body.old ≡ Some bs → H.is_sound body.old → IfErr result (IsCopyFault (not (reads_positions_of option (wanted_view term.now)) || lies_in bs term.now.info.positions_range) (is_short term.now.info.positions_range)) }
 {
     if !option.downgrade(term.option).has_positions() {
         return Ok(Bytes::new());
@@ -103,7 +103,7 @@ fn copy_term<P: FileHandle, Q: FileHandle>(
     ensures range { (p q : List ℕ) → P.bytes postings.old ≡ Some p → Q.bytes positions.old ≡ Some q → IsErrOf result (Index (faults.Damaged parts.Range)) → do_ranges_lie option p q (wanted_view term.now) ≡ false }
     ensures long { IsErrOf result (Index (faults.Damaged parts.TermStore)) → is_sound term.now.info ≡ false }
     ensures sound { (p q : List ℕ) → P.bytes postings.old ≡ Some p → Q.bytes positions.old ≡ Some q → P.is_sound postings.old → Q.is_sound positions.old
-        → IfErr result (IsTermFault (do_ranges_lie option p q (wanted_view term.now)) (is_sound term.now.info)) }
+        → IfErr result (IsCopyFault (do_ranges_lie option p q (wanted_view term.now)) (is_sound term.now.info)) }
 {
     let of_docs = match read_range(alloc, postings, &term.info.postings_range) {
         Ok(bytes) => bytes,
@@ -137,11 +137,11 @@ pub(crate) fn copy_terms<P: FileHandle, Q: FileHandle>(
     requires count { length count.now ≡ 8 }
     requires ascending { AreAscending (wanted_keys wanted.now) }
     ensures part { (requested : List ℕ → Option IndexRecordOption) (whole : InvertedIndexReaderState) → P.bytes postings.old ≡ Some whole.postings → Q.bytes positions.old ≡ Some whole.positions → whole.option ≡ option
-        → whole.num_tokens ≡ little_endian count.now → map wanted_view wanted.now ≡ wanted_of requested whole.terms → IfOk result (λ part. IsPartOf requested part whole) }
+        → whole.num_tokens ≡ little_endian count.now → map wanted_view wanted.now ≡ wanted_entries requested whole.terms → IfOk result (λ part. IsPartOf requested part whole) }
     ensures range { (p q : List ℕ) → P.bytes postings.old ≡ Some p → Q.bytes positions.old ≡ Some q → IsErrOf result (Index (faults.Damaged parts.Range)) → list_all (λ t. do_ranges_lie option p q (wanted_view t)) wanted.now ≡ false }
     ensures long { IsErrOf result (Index (faults.Damaged parts.TermStore)) → list_all (λ t. is_sound t.info) wanted.now ≡ false }
     ensures sound { (p q : List ℕ) → P.bytes postings.old ≡ Some p → Q.bytes positions.old ≡ Some q → P.is_sound postings.old → Q.is_sound positions.old
-        → IfErr result (IsTermFault (list_all (λ t. do_ranges_lie option p q (wanted_view t)) wanted.now) (list_all (λ t. is_sound t.info) wanted.now)) }
+        → IfErr result (IsCopyFault (list_all (λ t. do_ranges_lie option p q (wanted_view t)) wanted.now) (list_all (λ t. is_sound t.info) wanted.now)) }
 {
     let mut copied = match CopiedTerms::new(alloc, count) {
         Ok(copied) => copied,

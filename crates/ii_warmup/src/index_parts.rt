@@ -6,10 +6,10 @@ ghost use Rattle.ii_io.specs.declared.faults.Part.TheVariants as parts;
 ghost use Rattle.ii_file_slice.specs.declared.faults.FileFault.TheVariants.{Index};
 ghost use Rattle.ii_reader.specs.InvertedIndexReader.{InvertedIndexReaderState};
 ghost use Rattle.ii_reader.specs.OpenIndex.{IndexBodies, OpenIndexState, field_readers, reader_of_field};
-ghost use Rattle.ii_warmup.specs.Faults.{IsTermFault};
+ghost use Rattle.ii_warmup.specs.Faults.{IsCopyFault};
 ghost use Rattle.ii_warmup.specs.IndexParts.{AreTooLong, ArePartsOf, HaveNormsFor, HoldIndex, IsWarmupFault, KnownBodies, KnownTables, LieOutside, requests};
 ghost use Rattle.ii_warmup.specs.Parts.{IsPartFor};
-ghost use Rattle.ii_warmup.specs.QueryTerms.{query_ranges, query_terms, requests_of};
+ghost use Rattle.ii_warmup.specs.QueryTerms.{query_ranges, requested_terms, requests_of};
 ghost use Rattle.ii_warmup.specs.Warmup.{WarmsUp, all_lie, all_sound};
 
 use crate::looked_up_terms::read_wanted_terms;
@@ -67,7 +67,7 @@ pub fn warm_up<H: FileHandle>(
     ensures part { (whole : OpenIndexState) → HoldIndex (H.bytes files.now.terms.now) (H.bytes files.now.postings.now) (H.bytes files.now.positions.now) (H.bytes files.now.fieldnorms.now) schema.now whole
         → IfOk result (λ part. IsPartFor query.now part whole) }
     ensures norms { (whole : OpenIndexState) → HoldIndex (H.bytes files.now.terms.now) (H.bytes files.now.postings.now) (H.bytes files.now.positions.now) (H.bytes files.now.fieldnorms.now) schema.now whole
-        → IfOk result (λ part. HaveNormsFor scoring (query_terms query.now) (query_ranges query.now) (length schema.now) part.fieldnorms whole.fieldnorms) }
+        → IfOk result (λ part. HaveNormsFor scoring (requested_terms query.now) (query_ranges query.now) (length schema.now) part.fieldnorms whole.fieldnorms) }
 
     ensures range { (whole : OpenIndexState) → HoldIndex (H.bytes files.now.terms.now) (H.bytes files.now.postings.now) (H.bytes files.now.positions.now) (H.bytes files.now.fieldnorms.now) schema.now whole
         → IsErrOf result (Index (faults.Damaged parts.Range)) → LieOutside (requests query.now) whole.readers }
@@ -187,7 +187,7 @@ impl<'a, H: FileHandle> IndexTables<'a, H> {
             → IsErrOf result (Index (faults.Damaged parts.TermStore)) → all_sound (requests_of terms.now ranges.now field) whole.terms ≡ false }
         ensures sound { (bodies : IndexBodies) (whole : InvertedIndexReaderState) → KnownTables (H.bytes self.now.terms.file) (H.bytes self.now.postings.file) (H.bytes self.now.positions.file) bodies → reader_of_field bodies field option ≡ Ok whole
             → H.is_sound self.now.terms.file → H.is_sound self.now.postings.file → H.is_sound self.now.positions.file
-            → IfErr result (IsTermFault (all_lie (requests_of terms.now ranges.now field) whole) (all_sound (requests_of terms.now ranges.now field) whole.terms)) }
+            → IfErr result (IsCopyFault (all_lie (requests_of terms.now ranges.now field) whole) (all_sound (requests_of terms.now ranges.now field) whole.terms)) }
     {
         let Some(dictionary) = self.terms.open_read(field) else {
             return Ok(InvertedIndexReader::empty(option));

@@ -9,7 +9,7 @@ ghost use Rattle.ii_termdict.specs.ReadBack.{AreAscending};
 ghost use Rattle.ii_termdict_slice.specs.Reading.{Reads};
 ghost use Rattle.ii_warmup.specs.LookedUp.{found_terms, key_items, wanted_under};
 ghost use Rattle.ii_warmup.specs.QueryTerms.{range_view, requests_of, term_view};
-ghost use Rattle.ii_warmup.specs.Warmup.{wanted_keys, wanted_of, wanted_view};
+ghost use Rattle.ii_warmup.specs.Warmup.{wanted_entries, wanted_keys, wanted_view};
 
 use crate::copying::new_cache;
 use crate::terms::{QueryRange, QueryTerm};
@@ -36,7 +36,7 @@ pub(crate) fn read_wanted_terms<H: FileHandle>(
 ) -> Result<Vec<WantedTerm>, FileFault>
     ensures ascending { IfOk result (λ wanted. AreAscending (wanted_keys wanted.items)) }
     ensures reads { Reads (slice_if body.now.start body.now.len (H.bytes body.now.file.now)) (H.is_sound body.now.file.now) (λ bs. IsOk (dictionary bs))
-        (λ bs wanted. IfOk (dictionary bs) (λ entries. map wanted_view wanted.items ≡ wanted_of (requests_of terms.now ranges.now field) entries)) result }
+        (λ bs wanted. IfOk (dictionary bs) (λ entries. map wanted_view wanted.items ≡ wanted_entries (requests_of terms.now ranges.now field) entries)) result }
 {
     if !names_field(field, terms, ranges) {
         return Ok(Vec::new(alloc));
@@ -82,7 +82,7 @@ fn look_up_terms<H: FileHandle>(
     requires { list_any (λ r. r.range.prefix.field == field) (map range_view ranges.now) ≡ false }
     ensures ascending { IfOk result (λ wanted. AreAscending (wanted_keys wanted.items)) }
     ensures reads { Reads (slice_if body.now.start body.now.len (H.bytes body.now.file.now)) (H.is_sound body.now.file.now) (λ bs. IsOk (dictionary bs))
-        (λ bs wanted. IfOk (dictionary bs) (λ entries. map wanted_view wanted.items ≡ wanted_of (requests_of terms.now ranges.now field) entries)) result }
+        (λ bs wanted. IfOk (dictionary bs) (λ entries. map wanted_view wanted.items ≡ wanted_entries (requests_of terms.now ranges.now field) entries)) result }
 {
     let mut keys = match keys_of_field(alloc, field, terms) {
         Ok(keys) => keys,

@@ -2,7 +2,7 @@
 ghost use Rattle.std.specs.Prelude.{◌≡◌, ◌++◌, ◌∷◌, [], IfOk, OnOk, map};
 ghost use Rattle.std.specs.List.{flat_map};
 ghost use Rattle.ii_io.specs.Faults.{OnlyMemory};
-ghost use Rattle.ii_warmup.specs.QueryTerms.{later_terms, query_ranges, query_terms, range_view, term_view};
+ghost use Rattle.ii_warmup.specs.QueryTerms.{phrase_requests, query_ranges, range_view, requested_terms, term_view};
 
 use ii_base::{Fault, IndexRecordOption, Term};
 use ii_query_parser::{PhraseTerm, Query, TermRange};
@@ -28,7 +28,7 @@ pub struct QueryRange<'q> {
 
 /// Returns the terms of a query, in its order, without those of its ranges. Fails only with `OutOfMemory`.
 pub fn query_terms<'q>(alloc: Global, query: &'q Query) -> Result<Vec<QueryTerm<'q>>, Fault>
-    ensures terms { IfOk result (λ terms. map term_view terms.items ≡ query_terms query.now) }
+    ensures terms { IfOk result (λ terms. map term_view terms.items ≡ requested_terms query.now) }
     ensures only { OnlyMemory result }
 {
     let mut terms = Vec::new(alloc);
@@ -50,7 +50,7 @@ pub fn query_ranges<'q>(alloc: Global, query: &'q Query) -> Result<Vec<QueryRang
 #[cycle(push_terms)]
 #[tactic(auto, using(crate::proofs::TermLemmas::terms_of_nothing, crate::proofs::TermLemmas::terms_of_all, crate::proofs::TermLemmas::terms_of_term, crate::proofs::TermLemmas::terms_of_phrase, crate::proofs::TermLemmas::terms_of_phrase_prefix, crate::proofs::TermLemmas::terms_of_range, crate::proofs::TermLemmas::terms_of_and, crate::proofs::TermLemmas::terms_of_or, crate::proofs::TermLemmas::terms_of_and_not))]
 fn push_terms<'q>(query: &'q Query, terms: &mut Vec<QueryTerm<'q>>) -> Result<(), Fault>
-    ensures pushed { OnOk result (map term_view terms.new.items ≡ map term_view terms.old.items ++ query_terms query.now) }
+    ensures pushed { OnOk result (map term_view terms.new.items ≡ map term_view terms.old.items ++ requested_terms query.now) }
     ensures only { OnlyMemory result }
 {
     match query {
@@ -82,7 +82,7 @@ fn push_terms<'q>(query: &'q Query, terms: &mut Vec<QueryTerm<'q>>) -> Result<()
 // Appends the terms of some queries.
 #[cycle(push_terms)]
 fn push_all_terms<'q>(queries: &'q Vec<Query>, terms: &mut Vec<QueryTerm<'q>>) -> Result<(), Fault>
-    ensures pushed { OnOk result (map term_view terms.new.items ≡ map term_view terms.old.items ++ flat_map query_terms queries.now.items) }
+    ensures pushed { OnOk result (map term_view terms.new.items ≡ map term_view terms.old.items ++ flat_map requested_terms queries.now.items) }
     ensures only { OnlyMemory result }
 {
     for query in queries {
@@ -105,7 +105,7 @@ fn push_term<'q>(
 
 // Appends the terms of a phrase after the first one.
 fn push_others<'q>(others: &'q [PhraseTerm], terms: &mut Vec<QueryTerm<'q>>) -> Result<(), Fault>
-    ensures pushed { OnOk result (map term_view terms.new.items ≡ map term_view terms.old.items ++ later_terms others.now) }
+    ensures pushed { OnOk result (map term_view terms.new.items ≡ map term_view terms.old.items ++ phrase_requests others.now) }
     ensures only { OnlyMemory result }
 {
     for other in others {

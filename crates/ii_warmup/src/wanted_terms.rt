@@ -5,7 +5,7 @@ ghost use Rattle.ii_io.specs.Faults.{OnlyMemory};
 ghost use Rattle.ii_query_parser.specs.Ranges.{in_range};
 ghost use Rattle.ii_termdict.specs.ReadBack.{AreAscending};
 ghost use Rattle.ii_warmup.specs.QueryTerms.{names_field, names_key, range_view, requested_of, serves, term_view};
-ghost use Rattle.ii_warmup.specs.Warmup.{wanted_keys, wanted_of, wanted_view};
+ghost use Rattle.ii_warmup.specs.Warmup.{wanted_entries, wanted_keys, wanted_view};
 
 use crate::terms::{QueryRange, QueryTerm};
 use ii_base::{Fault, Field, IndexRecordOption};
@@ -32,7 +32,7 @@ pub fn wanted_terms(
     terms: &[QueryTerm<'_>],
     ranges: &[QueryRange<'_>],
 ) -> Result<Vec<WantedTerm>, Fault>
-    ensures wanted { IfOk result (λ wanted. map wanted_view wanted.items ≡ wanted_of (requested_of (map term_view terms.now) (map range_view ranges.now) field) dictionary.now) }
+    ensures wanted { IfOk result (λ wanted. map wanted_view wanted.items ≡ wanted_entries (requested_of (map term_view terms.now) (map range_view ranges.now) field) dictionary.now) }
     ensures ascending { IfOk result (λ wanted. AreAscending (wanted_keys wanted.items)) }
     ensures only { OnlyMemory result }
 {
@@ -63,7 +63,7 @@ fn push_if_wanted(
     ranges: &[QueryRange<'_>],
     wanted: &mut Vec<WantedTerm>,
 ) -> Result<(), Fault>
-    ensures pushed { OnOk result (map wanted_view wanted.new.items ≡ map wanted_view wanted.old.items ++ wanted_of (requested_of (map term_view terms.now) (map range_view ranges.now) field) ((key.now, info) ∷ [])) }
+    ensures pushed { OnOk result (map wanted_view wanted.new.items ≡ map wanted_view wanted.old.items ++ wanted_entries (requested_of (map term_view terms.now) (map range_view ranges.now) field) ((key.now, info) ∷ [])) }
     ensures only { OnlyMemory result }
 {
     let Some(option) = requested_of(field, key, terms, ranges) else {

@@ -7,8 +7,8 @@ ghost use Rattle.ii_base.specs.declared.schema.index_record_option.IndexRecordOp
 ghost use Rattle.ii_reader.specs.InvertedIndexReader.{InvertedIndexReaderState};
 ghost use Rattle.ii_termdict.specs.ReadBack.{AreAscending};
 ghost use Rattle.ii_termstore.specs.TermInfos.{is_sound};
-ghost use Rattle.ii_warmup.specs.Faults.{IsTermFault};
-ghost use Rattle.ii_warmup.specs.Warmup.{WarmsUp, all_lie, all_sound, known_reader, wanted_keys, wanted_of, wanted_view};
+ghost use Rattle.ii_warmup.specs.Faults.{IsCopyFault};
+ghost use Rattle.ii_warmup.specs.Warmup.{WarmsUp, all_lie, all_sound, known_reader, wanted_entries, wanted_keys, wanted_view};
 ghost use Rattle.ii_file_slice.specs.declared.faults.FileFault.TheVariants.{Index};
 
 use crate::copying::{copy_terms, new_cache};
@@ -55,11 +55,11 @@ pub fn warm_up_field<P: FileHandle, Q: FileHandle>(
 ) -> Result<InvertedIndexReader, FileFault>
     requires ascending { AreAscending (wanted_keys files.now.wanted.now) }
     ensures warms { (requested : List ℕ → Option IndexRecordOption) (whole : InvertedIndexReaderState) → known_reader whole.terms (P.bytes files.now.postings.now) (Q.bytes files.now.positions.now) files.now.option ≡ Some whole
-        → map wanted_view files.now.wanted.now ≡ wanted_of requested whole.terms → WarmsUp requested whole result }
+        → map wanted_view files.now.wanted.now ≡ wanted_entries requested whole.terms → WarmsUp requested whole result }
     ensures long { IsErrOf result (Index (faults.Damaged parts.TermStore)) → list_all (λ t. is_sound t.info) files.now.wanted.now ≡ false }
     // where the bytes can be read
     ensures sound { (requested : List ℕ → Option IndexRecordOption) (whole : InvertedIndexReaderState) → known_reader whole.terms (P.bytes files.now.postings.now) (Q.bytes files.now.positions.now) files.now.option ≡ Some whole
-        → map wanted_view files.now.wanted.now ≡ wanted_of requested whole.terms → P.is_sound files.now.postings.now → Q.is_sound files.now.positions.now → IfErr result (IsTermFault (all_lie requested whole) (all_sound requested whole.terms)) }
+        → map wanted_view files.now.wanted.now ≡ wanted_entries requested whole.terms → P.is_sound files.now.postings.now → Q.is_sound files.now.positions.now → IfErr result (IsCopyFault (all_lie requested whole) (all_sound requested whole.terms)) }
 {
     let len = files.postings.len();
     if len < COUNT_SIZE {

@@ -70,15 +70,15 @@ IsOpenStoresFault fs TooManyFields = ⊥
 IsOpenStoresFault fs (Merge fault) = fault ≡ OutOfMemory
 
 -- All files open, and this is so of their stores.
-abbrev pub AllOpen : List StoredFile → (List StoreSourceState → Type 0) → Type 0
-AllOpen fs P = (ss : List StoreSourceState) × AllZip OpensStore fs ss × P ss
+abbrev pub AllStoresOpen : List StoredFile → (List StoreSourceState → Type 0) → Type 0
+AllStoresOpen fs P = (ss : List StoreSourceState) × AllZip OpensStore fs ss × P ss
 
 -- Why stored documents aren't merged: indexes are read before blocks.
 abbrev pub IsStoresFault : List StoredFile → MergeFault → Type 0
 IsStoresFault fs (Segment place part) = ⊥
-IsStoresFault fs (Store place damage) = IsFirstDamagedIndex fs place damage ⊎ AllOpen fs (λ ss. IsFirstDamagedStore ss place damage)
-IsStoresFault fs (LongDocument place) = AllOpen fs (λ ss. IsSomeAnd (slice_get ss place) HasLongDocument)
-IsStoresFault fs TooManyDocuments = AllOpen fs (λ ss. 2 ^ 31 ≤ num_living_of ss)
+IsStoresFault fs (Store place damage) = IsFirstDamagedIndex fs place damage ⊎ AllStoresOpen fs (λ ss. IsFirstDamagedStore ss place damage)
+IsStoresFault fs (LongDocument place) = AllStoresOpen fs (λ ss. IsSomeAnd (slice_get ss place) HasLongDocument)
+IsStoresFault fs TooManyDocuments = AllStoresOpen fs (λ ss. 2 ^ 31 ≤ num_living_of ss)
 IsStoresFault fs TooManyFields = ⊥
 IsStoresFault fs (Merge fault) = IsOutputFault fault
 

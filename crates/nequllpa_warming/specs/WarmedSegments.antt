@@ -8,7 +8,7 @@ use Rattle.ii_segment_store.specs.OpenFiles.{OpenFileState}
 use Rattle.ii_segment_store.specs.OpenSegments.{OpenSegmentState}
 use Rattle.ii_warmup.specs.IndexParts.{HaveNormsFor, HoldIndex, IsWarmupFault, requests}
 use Rattle.ii_warmup.specs.Parts.{IsPartFor}
-use Rattle.ii_warmup.specs.QueryTerms.{query_ranges, query_terms}
+use Rattle.ii_warmup.specs.QueryTerms.{query_ranges, requested_terms}
 use Rattle.ii_warmup.specs.declared.scoring.EnableScoring.{EnableScoring}
 use Rattle.nequllpa_opening.specs.Stored.{IsSchemaRefusal}
 use Rattle.nequllpa_warming.specs.declared.faults.WarmupFault.{WarmupFault}
@@ -49,7 +49,7 @@ pub record WarmsAs (entries : List SchemaEntry) (query : Query) (scoring : Enabl
   pub counts : o.counts ≡ None
   pub store : o.store ≡ None
   pub part : (whole : OpenIndexState) → SegmentHolds s entries whole → IsPartFor query o.index whole
-  pub norms : (whole : OpenIndexState) → SegmentHolds s entries whole → HaveNormsFor scoring (query_terms query) (query_ranges query) (length entries) o.index.fieldnorms whole.fieldnorms
+  pub norms : (whole : OpenIndexState) → SegmentHolds s entries whole → HaveNormsFor scoring (requested_terms query) (query_ranges query) (length entries) o.index.fieldnorms whole.fieldnorms
 
 -- Why what a query reads of a segment can't be opened.
 abbrev pub IsWarmupRefusal : List ℕ → List SchemaEntry → Query → OpenSegmentState → WarmupFault → Type 0

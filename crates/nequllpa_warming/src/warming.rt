@@ -6,7 +6,7 @@ ghost use Rattle.ii_reader.specs.OpenIndex.{OpenIndexState};
 ghost use Rattle.ii_schema_text.specs.SchemaText.{text_schema};
 ghost use Rattle.ii_warmup.specs.IndexParts.{HaveNormsFor};
 ghost use Rattle.ii_warmup.specs.Parts.{IsPartFor};
-ghost use Rattle.ii_warmup.specs.QueryTerms.{query_ranges, query_terms};
+ghost use Rattle.ii_warmup.specs.QueryTerms.{query_ranges, requested_terms};
 ghost use Rattle.nequllpa_warming.specs.WarmedSegments.{HoldsOfOne, IsWarmupRefusal, SegmentHolds, WarmsAs, lacks_file};
 
 use crate::faults::WarmupFault;
@@ -111,7 +111,7 @@ fn warmed_index<F: ReadAt + Drop>(
     ensures complete { IfOk result (λ _. lacks_file segment.now ≡ false) }
     ensures many { IfOk result (λ index. length index.readers ≡ length schema.now) }
     ensures part { (whole : OpenIndexState) → SegmentHolds segment.now schema.now whole → IfOk result (λ index. IsPartFor query.now index whole) }
-    ensures norms { (whole : OpenIndexState) → SegmentHolds segment.now schema.now whole → IfOk result (λ index. HaveNormsFor scoring (query_terms query.now) (query_ranges query.now) (length schema.now) index.fieldnorms whole.fieldnorms) }
+    ensures norms { (whole : OpenIndexState) → SegmentHolds segment.now schema.now whole → IfOk result (λ index. HaveNormsFor scoring (requested_terms query.now) (query_ranges query.now) (length schema.now) index.fieldnorms whole.fieldnorms) }
     ensures refused { (bytes : List ℕ) → IfErr result (IsWarmupRefusal bytes schema.now query.now segment.now) }
 {
     let Some(terms) = segment.terms() else {

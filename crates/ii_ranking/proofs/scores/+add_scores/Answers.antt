@@ -2,7 +2,7 @@ use Rattle.std.proofs.Common.{◌≡◌, ◌∙◌, ◌<◌, ◌+◌, ℕ, List,
 use Rattle.std.proofs.lemmas.List.{drop_all}
 use Rattle.std.proofs.lemmas.List.FromFn.{get_or-map-range_with_len, length-map-range_with_len}
 use Rattle.ii_search.proofs.QueryLemmas.{and_deep, and_has_fields, or_deep, or_has_fields, query_at}
-use Rattle.ii_ranking.specs.Combinations.{Adds}
+use Rattle.ii_ranking.specs.Combinations.{AddsToEach}
 use Rattle.ii_scorer.specs.Combinations.{unless}
 use Rattle.ii_ranking.specs.declared.combination.Combination.TheVariants.{Either}
 use Rattle.ii_ranking.specs.Scores.{query_score, scored_in}
@@ -62,7 +62,7 @@ add_scores-add_unless-requires g t c κs within =
 pub add_scores-returns-in-Phrase-clause-added : goal.add_scores-returns-in-Phrase-clause-added
 add_scores-returns-in-Phrase-clause-added g t c =
     let s = scored_in c.args.index.now (g.S.Bm25StatisticsProvider.statistics c.args.statistics.now) in
-    subst (λ (f : ℕ → Option ℕ). OnOk c.add_phrase.result (Adds f c.args.scores.now.items c.add_phrase.new.scores.items))
+    subst (λ (f : ℕ → Option ℕ). OnOk c.add_phrase.result (AddsToEach f c.args.scores.now.items c.add_phrase.new.scores.items))
     (phrase_query s c.args.query.now c.in-Phrase.first c.in-Phrase.others c.deref.result.now c.in-Phrase.slop c.in-Phrase.is c.deref.ensures.value) c.add_phrase.ensures.added
 
 pub add_scores-returns-in_ok-part-in-AndNot-clause-added : goal.add_scores-returns-in_ok-part-in-AndNot-clause-added

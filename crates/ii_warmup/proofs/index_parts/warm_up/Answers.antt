@@ -6,7 +6,7 @@ use Rattle.ii_file_slice.specs.declared.faults.FileFault.TheVariants.{Index}
 use Rattle.ii_reader.specs.OpenIndex.{OpenIndexState}
 use Rattle.ii_warmup.specs.IndexParts.{AreTooLong, ArePartsOf, HaveNormsFor, IsWarmupFault, LieOutside, requests}
 use Rattle.ii_warmup.specs.Parts.{IsPartFor}
-use Rattle.ii_warmup.specs.QueryTerms.{QueryRangeState, QueryTermState, query_ranges, query_terms, range_view, term_view}
+use Rattle.ii_warmup.specs.QueryTerms.{QueryRangeState, QueryTermState, query_ranges, range_view, requested_terms, term_view}
 use Rattle.ii_warmup.proofs.IndexPartLemmas.{index_of_bodies, memory_or_limit, same_requests, same_tables}
 use Rattle.ii_warmup.proofs.index_parts.warm_up.Goals as goal
 
@@ -78,7 +78,7 @@ returns-in-Ok-open_norms-clause-norms g c = λ whole h.
     let ranges_are = ap (map range_view) c.deref-4.ensures.value ∙ c.in-Ok-query_ranges.ensures.ranges in
     let norms = c.in-Ok-open_norms.fieldnorms in
     let own = c.in-Ok-open_norms.ensures.norms whole.fieldnorms i.norms in
-    subst (λ (o : OpenIndexState). HaveNormsFor c.args.scoring (query_terms c.args.query.now) (query_ranges c.args.query.now) (length c.args.schema.now) o.fieldnorms whole.fieldnorms) (sym c.new.ensures)
+    subst (λ (o : OpenIndexState). HaveNormsFor c.args.scoring (requested_terms c.args.query.now) (query_ranges c.args.query.now) (length c.args.schema.now) o.fieldnorms whole.fieldnorms) (sym c.new.ensures)
     (subst (λ (ts : List QueryTermState). HaveNormsFor c.args.scoring ts (query_ranges c.args.query.now) (length c.args.schema.now) norms whole.fieldnorms) terms_are
     (subst (λ (rs : List QueryRangeState). HaveNormsFor c.args.scoring (map term_view c.deref-3.result.now) rs (length c.args.schema.now) norms whole.fieldnorms) ranges_are own))
 

@@ -4,7 +4,7 @@ use Rattle.ii_termdict.specs.Dictionary.{dictionary}
 use Rattle.ii_termdict_slice.proofs.ReadingLemmas.{reads_ok}
 use Rattle.ii_warmup.specs.LookedUp.{key_items}
 use Rattle.ii_warmup.specs.QueryTerms.{range_view, requests_of, term_view}
-use Rattle.ii_warmup.specs.Warmup.{wanted_of, wanted_view}
+use Rattle.ii_warmup.specs.Warmup.{wanted_entries, wanted_view}
 use Rattle.ii_warmup.proofs.FieldPartLemmas.{requested_of_term}
 use Rattle.ii_warmup.proofs.LookedUpLemmas.{covers, entries_ascend, if_ok, looked_up, no_keys, still_looked_up, still_sorted}
 use Rattle.ii_warmup.proofs.looked_up_terms.look_up_terms.Goals as goal
@@ -34,7 +34,7 @@ loop-key-preserved g c =
       sorted = rw c.in-Ok-push_found.ensures.pushed (still_sorted l.wanted.items found key rest c.in-Ok-look_up.ensures.key (rw c.in-Some.ensures.removal at l.invariant.sorted));
       looked_up = λ bs entries known is.
           let read = c.in-Ok-look_up.ensures.reads.exact bs (rw l.invariant.same known) (rw is refl) in
-          rw c.in-Ok-push_found.ensures.pushed (still_looked_up requested entries l.wanted.items found key rest (wanted_of requested entries) (rw is at read) (rw c.in-Some.ensures.removal at (l.invariant.looked_up bs entries known is)));
+          rw c.in-Ok-push_found.ensures.pushed (still_looked_up requested entries l.wanted.items found key rest (wanted_entries requested entries) (rw is at read) (rw c.in-Some.ensures.removal at (l.invariant.looked_up bs entries known is)));
     }
 
 pub returns-clause-reads : goal.returns-clause-reads

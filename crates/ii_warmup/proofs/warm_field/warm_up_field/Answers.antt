@@ -4,7 +4,7 @@ use Rattle.std.specs.List.{list_all}
 use Rattle.ii_io.specs.Numbers.{little_endian}
 use Rattle.ii_file_slice.specs.FileSlice.{slice_if}
 use Rattle.ii_file_slice.specs.Faults.{file_fault}
-use Rattle.ii_warmup.specs.Faults.{IsTermFault}
+use Rattle.ii_warmup.specs.Faults.{IsCopyFault}
 use Rattle.ii_warmup.specs.Warmup.{all_sound, do_ranges_lie, wanted_view}
 use Rattle.ii_warmup.specs.declared.wanted_terms.WantedTerm.{WantedTerm}
 use Rattle.ii_warmup.proofs.KnownLemmas.{known_parts, lie_moved, slice_body, sound_moved}
@@ -44,6 +44,6 @@ returns-clause-sound g c = λ requested whole is wanted p_sound q_sound.
     let k = known_parts whole.terms (g.P.FileHandle.bytes files.postings.now) (g.Q.FileHandle.bytes files.positions.now) files.option whole is in
     let body : slice_if s.start s.len (g.P.FileHandle.bytes s.file.now) ≡ Some whole.postings =
     slice_body s.start s.len c.len-len.result (g.P.FileHandle.bytes s.file.now) k.p whole.postings c.new-body.ensures.start c.new-body.ensures.len (c.len-len.ensures k.p k.postings_are) k.long (rw c.new-body.ensures.file k.postings_are) k.body in
-    subst (λ (lie : Bool). IfErr c.copy_terms.result (IsTermFault lie (all_sound requested whole.terms))) (lie_moved requested whole files.option files.wanted.now k.option_is wanted)
-    (subst (λ (short : Bool). IfErr c.copy_terms.result (IsTermFault (list_all (λ (t : WantedTerm). do_ranges_lie files.option whole.postings whole.positions (wanted_view t)) files.wanted.now) short)) (sound_moved requested whole.terms files.wanted.now wanted)
+    subst (λ (lie : Bool). IfErr c.copy_terms.result (IsCopyFault lie (all_sound requested whole.terms))) (lie_moved requested whole files.option files.wanted.now k.option_is wanted)
+    (subst (λ (short : Bool). IfErr c.copy_terms.result (IsCopyFault (list_all (λ (t : WantedTerm). do_ranges_lie files.option whole.postings whole.positions (wanted_view t)) files.wanted.now) short)) (sound_moved requested whole.terms files.wanted.now wanted)
     ((rw (c.in-Ok-new_cache.ensures.same, c.in-Ok-new_cache-2.ensures.same) at c.copy_terms.ensures.sound) whole.postings whole.positions body k.positions_are (rw c.new-body.ensures.file p_sound) q_sound))

@@ -5,7 +5,7 @@ use Rattle.ii_io.specs.declared.faults.Part.TheVariants as parts
 use Rattle.ii_file_slice.specs.FileSlice.{slice_if}
 use Rattle.ii_file_slice.specs.declared.faults.FileFault.TheVariants.{Index}
 use Rattle.ii_warmup.specs.QueryTerms.{requests_of}
-use Rattle.ii_warmup.specs.Warmup.{known_reader, wanted_of, wanted_view}
+use Rattle.ii_warmup.specs.Warmup.{known_reader, wanted_entries, wanted_view}
 use Rattle.ii_warmup.proofs.KnownLemmas.{sound_moved}
 use Rattle.ii_warmup.proofs.FieldPartLemmas.{body_of_slice, field_slices, lacks_positions, lacks_postings, no_body_of_slice, none_there, part_of_none}
 use Rattle.ii_warmup.proofs.index_parts.IndexTables.open_field.Goals as goal
@@ -83,7 +83,7 @@ returns-clause-warms g c = λ bodies whole k is.
     let q_here : slice_if q.start q.len (g.H.FileHandle.bytes q.file.now) ≡ Some r.q = rw c.in-Some-open_read-2.ensures.file r.q_is in
     let requested = requests_of c.args.terms.now c.args.ranges.now c.args.field in
     let known : known_reader whole.terms (slice_if p.start p.len (g.H.FileHandle.bytes p.file.now)) (slice_if q.start q.len (g.H.FileHandle.bytes q.file.now)) c.args.option ≡ Some whole = rw (p_here, q_here) r.reads.known in
-    let read : map wanted_view c.deref.result.now ≡ wanted_of requested whole.terms = rw c.deref.ensures.value (rw r.reads.entries at (c.in-Ok.ensures.reads.exact r.t t_here (rw r.reads.entries refl))) in
+    let read : map wanted_view c.deref.result.now ≡ wanted_entries requested whole.terms = rw c.deref.ensures.value (rw r.reads.entries at (c.in-Ok.ensures.reads.exact r.t t_here (rw r.reads.entries refl))) in
     c.warm_up_field.ensures.warms requested whole known read
 
 pub returns-clause-long : goal.returns-clause-long
@@ -96,7 +96,7 @@ returns-clause-long g c = λ bodies whole k is damaged.
     (c.in-Some.ensures.body k.terms_are.bytes bodies.terms k.terms_are.known_is k.terms_are.bodies_are) (c.in-Some-open_read.ensures.body k.postings_are.bytes bodies.postings k.postings_are.known_is k.postings_are.bodies_are) (c.in-Some-open_read-2.ensures.body k.positions_are.bytes bodies.positions k.positions_are.known_is k.positions_are.bodies_are) in
     let t_here : slice_if t.start t.len (g.H.FileHandle.bytes t.file.now) ≡ Some r.t = rw c.in-Some.ensures.file r.t_is in
     let requested = requests_of c.args.terms.now c.args.ranges.now c.args.field in
-    let read : map wanted_view c.deref.result.now ≡ wanted_of requested whole.terms = rw c.deref.ensures.value (rw r.reads.entries at (c.in-Ok.ensures.reads.exact r.t t_here (rw r.reads.entries refl))) in
+    let read : map wanted_view c.deref.result.now ≡ wanted_entries requested whole.terms = rw c.deref.ensures.value (rw r.reads.entries at (c.in-Ok.ensures.reads.exact r.t t_here (rw r.reads.entries refl))) in
     sym (sound_moved requested whole.terms c.deref.result.now read) ∙ c.warm_up_field.ensures.long damaged
 
 pub returns-clause-sound : goal.returns-clause-sound
@@ -112,5 +112,5 @@ returns-clause-sound g c = λ bodies whole k is t_sound p_sound q_sound.
     let q_here : slice_if q.start q.len (g.H.FileHandle.bytes q.file.now) ≡ Some r.q = rw c.in-Some-open_read-2.ensures.file r.q_is in
     let requested = requests_of c.args.terms.now c.args.ranges.now c.args.field in
     let known : known_reader whole.terms (slice_if p.start p.len (g.H.FileHandle.bytes p.file.now)) (slice_if q.start q.len (g.H.FileHandle.bytes q.file.now)) c.args.option ≡ Some whole = rw (p_here, q_here) r.reads.known in
-    let read : map wanted_view c.deref.result.now ≡ wanted_of requested whole.terms = rw c.deref.ensures.value (rw r.reads.entries at (c.in-Ok.ensures.reads.exact r.t t_here (rw r.reads.entries refl))) in
+    let read : map wanted_view c.deref.result.now ≡ wanted_entries requested whole.terms = rw c.deref.ensures.value (rw r.reads.entries at (c.in-Ok.ensures.reads.exact r.t t_here (rw r.reads.entries refl))) in
     c.warm_up_field.ensures.sound requested whole known read (rw c.in-Some-open_read.ensures.file p_sound) (rw c.in-Some-open_read-2.ensures.file q_sound)

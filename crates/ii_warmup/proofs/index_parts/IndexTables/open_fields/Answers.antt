@@ -6,7 +6,7 @@ use Rattle.ii_base.specs.declared.schema.index_record_option.IndexRecordOption.{
 use Rattle.ii_file_slice.specs.declared.faults.FileFault.TheVariants.{Index}
 use Rattle.ii_reader.specs.OpenIndex.{reader_of_field}
 use Rattle.ii_reader.proofs.IndexLemmas.{many_fields}
-use Rattle.ii_warmup.specs.Faults.{IsTermFault}
+use Rattle.ii_warmup.specs.Faults.{IsCopyFault}
 use Rattle.ii_warmup.specs.Parts.{IsPartOf}
 use Rattle.ii_warmup.specs.QueryTerms.{requests_of}
 use Rattle.ii_warmup.specs.Warmup.{all_lie, all_sound}
@@ -57,7 +57,7 @@ returns-in-Err-clause-sound g c = λ bodies whole k is t_sound p_sound q_sound.
     let given : reader_of_field bodies c.from_field_id-field.result c.index_record_option-option.result ≡ Ok own.item =
     subst (λ (f : ℕ). reader_of_field bodies f c.index_record_option-option.result ≡ Ok own.item) (sym field) (subst (λ (o : IndexRecordOption). reader_of_field bodies place o ≡ Ok own.item) (sym c.index_record_option-option.ensures) own.given) in
     fault_of_field (requests_of c.args.terms.now c.args.ranges.now) whole place own.item c.in-Err.fault own.there
-    (subst (λ (f : ℕ). IsTermFault (all_lie (requests_of c.args.terms.now c.args.ranges.now f) own.item) (all_sound (requests_of c.args.terms.now c.args.ranges.now f) own.item.terms) c.in-Err.fault) field (c.in-Err.ensures.sound bodies own.item k given t_sound p_sound q_sound))
+    (subst (λ (f : ℕ). IsCopyFault (all_lie (requests_of c.args.terms.now c.args.ranges.now f) own.item) (all_sound (requests_of c.args.terms.now c.args.ranges.now f) own.item.terms) c.in-Err.fault) field (c.in-Err.ensures.sound bodies own.item k given t_sound p_sound q_sound))
 
 pub loop-place-preserved : goal.loop-place-preserved
 loop-place-preserved g c = rw c.in_default.ensures.items (record {
