@@ -5,3 +5,4 @@ pub mod ScorerLemmas
 pub mod SumLemmas
 pub mod TopLemmas
 mod TopNLemmas
+pub mod RunLemmas

@@ -3,6 +3,7 @@ use Rattle.std.specs.Prelude.{◌≡◌, ◌⊎◌, ⊤, ℕ, suc, ◌^◌, ◌<
 use Rattle.std.specs.List.{AllByRecursion, range_with_len}
 use Rattle.ii_base.specs.declared.doc_id.TheConstants.{TERMINATED}
 use Rattle.ii_scorer.specs.Combinations.{add}
+use Rattle.ii_scorer.specs.declared.scorer.ScoreBound.{ScoreBound}
 
 -- what each document below `TERMINATED` scores that wasn't passed, at most how much, and how deep the scorer is nested
 pub record ScorerState : Type 0 where
@@ -48,6 +49,13 @@ pub record IsBounded (s : ScorerState) : Type 0 where
   pub fits : s.most < 2 ^ 64
   pub ends : (doc : ℕ) → TERMINATED ≤ doc → score_of s doc ≡ None
   pub each : (doc : ℕ) → IsUpTo s.most (score_of s doc)
+
+-- No document from a target on, up to the end of a bound, scores more than the bound.
+pub record IsBoundUntil (target : ℕ) (f : ℕ → Option ℕ) (bound : ScoreBound) : Type 0 where
+  pub ahead : target < bound.end
+  pub up_to : bound.end ≤ TERMINATED
+  pub fits : bound.most < 2 ^ 64
+  pub each : (doc : ℕ) → target ≤ doc → doc < bound.end → IsUpTo bound.most (f doc)
 
 -- A scorer passed no document from this one on.
 pub record KeepsFrom (doc : ℕ) (old new : ScorerState) : Type 0 where

@@ -11,6 +11,6 @@ pub mod top_n_computer;
 pub use best_docs::{DocNumbers, push_best};
 pub use combination::{both, either, if_at_least};
 pub use query_scorer::QueryScorer;
-pub use scorer::Scorer;
+pub use scorer::{ScoreBound, Scorer};
 pub use top_docs::TopDocs;
 pub use top_n_computer::TopNComputer;

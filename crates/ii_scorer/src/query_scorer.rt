@@ -6,10 +6,10 @@ ghost use Rattle.ii_base.specs.declared.doc_id.TheConstants.{TERMINATED};
 ghost use Rattle.ii_bm25.specs.declared.bm25.TheConstants.{SCORE_ONE};
 ghost use Rattle.ii_scorer.specs.Combinations.{any_of, each_of, either, unless};
 ghost use Rattle.ii_scorer.specs.QueryScorers.{PartsAreBounded, depth_of, score_by_parts};
-ghost use Rattle.ii_scorer.specs.Scorers.{AreBounded, IsBounded, IsNext, IsUpTo, KeepsFrom, if_at_least, score_of, scores_at, sums_after};
+ghost use Rattle.ii_scorer.specs.Scorers.{AreBounded, IsBoundUntil, IsBounded, IsNext, IsUpTo, KeepsFrom, if_at_least, score_of, scores_at, sums_after};
 
 use crate::combination::{both, either, if_at_least};
-use crate::scorer::Scorer;
+use crate::scorer::{ScoreBound, Scorer};
 use ii_base::{DocId, Fault, TERMINATED};
 use ii_bm25::{SCORE_ONE, Score};
 use std::alloc::Global;
@@ -157,6 +157,16 @@ impl<T: Scorer> QueryScorer<T> {
         next_of(&mut self.parts, self.most, target, least)
     }
 
+    // Returns a score that no document from `target` on exceeds, up to an end.
+    #[cycle(bound_until)]
+    fn bound_until(&mut self, target: DocId) -> ScoreBound
+        requires { target < TERMINATED }
+        ensures bound { IsBoundUntil target (score_of self.old) result }
+        ensures kept { KeepsFrom target self.old self.new }
+    {
+        bound_by(&mut self.parts, self.most, target)
+    }
+
     // Returns what a document scores, if that is at least `least`.
     #[cycle(score)]
     fn score(&mut self, doc: DocId, least: Score) -> Option<Score>
@@ -181,6 +191,10 @@ impl<T: Scorer> Scorer for QueryScorer<T> {
 
     fn skip_to_score(&mut self, target: DocId, least: Score) -> DocId {
         skip_to(&mut self.parts, self.most, target, least)
+    }
+
+    fn max_score_until(&mut self, target: DocId) -> ScoreBound {
+        self.bound_until(target)
     }
 
     fn score_at(&mut self, doc: DocId, least: Score) -> Option<Score> {
@@ -249,12 +263,81 @@ fn skip_to<T: Scorer>(parts: &mut ScorerParts<T>, most: Score, target: DocId, le
     ensures bounded { PartsAreBounded T.state most parts.new }
 {
     let ScorerParts::One(scorer) = parts else {
-        return next_of(parts, most, target, least);
+        return skip_runs(parts, most, target, least);
     };
     if least > most {
         return TERMINATED;
     }
     scorer.skip_to_score(target, least)
+}
+
+// Returns such a document as `next_of` does, and passes runs of documents that don't reach `least` by their bounds.
+fn skip_runs<T: Scorer>(
+    parts: &mut ScorerParts<T>,
+    most: Score,
+    target: DocId,
+    least: Score,
+) -> DocId
+    requires up_to { target ≤ TERMINATED }
+    requires bounded { PartsAreBounded T.state most parts.old }
+    ensures next { IsNext target least (score_by_parts T.state parts.old) result }
+    ensures alike { (doc : ℕ) → result ≤ doc → score_by_parts T.state parts.new doc ≡ score_by_parts T.state parts.old doc }
+    ensures depth { depth_of parts.new ≡ depth_of parts.old }
+    ensures bounded { PartsAreBounded T.state most parts.new }
+{
+    let mut doc = target;
+    while doc < TERMINATED {
+        let bound = bound_by(parts, most, doc);
+        let mut next = bound.end;
+        if bound.most >= least {
+            next = next_of(parts, most, doc, least);
+            if next < bound.end {
+                return next;
+            }
+        }
+        doc = next;
+    }
+    doc
+}
+
+// Returns a score that no document from `target` on exceeds by parts of a scorer, up to an end.
+#[cycle(bound_until)]
+fn bound_by<T: Scorer>(parts: &mut ScorerParts<T>, most: Score, target: DocId) -> ScoreBound
+    requires low { target < TERMINATED }
+    requires bounded { PartsAreBounded T.state most parts.old }
+    ensures bound { IsBoundUntil target (score_by_parts T.state parts.old) result }
+    ensures alike { (doc : ℕ) → target ≤ doc → score_by_parts T.state parts.new doc ≡ score_by_parts T.state parts.old doc }
+    ensures depth { depth_of parts.new ≡ depth_of parts.old }
+    ensures bounded { PartsAreBounded T.state most parts.new }
+{
+    match parts {
+        ScorerParts::One(scorer) => scorer.max_score_until(target),
+        ScorerParts::Each(parts) => bound_of_all(parts, target),
+        ScorerParts::Any(parts, _) => bound_of_all(parts, target),
+        ScorerParts::Without(first, _) => first.bound_until(target),
+        ScorerParts::Nothing | ScorerParts::All(_) => ScoreBound {
+            most,
+            end: TERMINATED,
+        },
+    }
+}
+
+// Returns the sum of the bounds of some scorers from `target` on, up to the least of their ends.
+#[cycle(bound_until)]
+fn bound_of_all<T: Scorer>(parts: &mut Vec<QueryScorer<T>>, target: DocId) -> ScoreBound
+    requires { target < TERMINATED }
+    ensures any { IsBoundUntil target (λ doc. any_of (scores_at parts.old.items doc)) result }
+    ensures each { IsBoundUntil target (λ doc. each_of (scores_at parts.old.items doc)) result }
+    ensures kept { AllZip (KeepsFrom target) parts.old.items parts.new.items }
+{
+    let mut most: Score = 0;
+    let mut end = TERMINATED;
+    for place in 0..parts.len() {
+        let bound = parts[place].bound_until(target);
+        most = most.saturating_add(bound.most);
+        end = end.min(bound.end);
+    }
+    ScoreBound { most, end }
 }
 
 // Returns the first document from `target` on that is below `limit`.

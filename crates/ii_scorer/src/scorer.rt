@@ -1,9 +1,16 @@
 ghost use Rattle.std.specs.Prelude.{◌≡◌, ◌<◌, ◌≤◌, ℕ};
 ghost use Rattle.ii_base.specs.declared.doc_id.TheConstants.{TERMINATED};
-ghost use Rattle.ii_scorer.specs.Scorers.{IsBounded, IsNext, KeepsFrom, ScorerState, if_at_least, score_of};
+ghost use Rattle.ii_scorer.specs.Scorers.{IsBoundUntil, IsBounded, IsNext, KeepsFrom, ScorerState, if_at_least, score_of};
 
-use ii_base::DocId;
+use ii_base::{DocId, TERMINATED};
 use ii_bm25::Score;
+
+/// A score that no document of a run exceeds, and the document that ends the run and isn't one of it.
+#[derive(Clone, Copy)]
+pub struct ScoreBound {
+    pub most: Score,
+    pub end: DocId,
+}
 
 /// Gives the scores of documents, which are asked for in ascending order.
 ///
@@ -30,6 +37,19 @@ pub trait Scorer: Drop {
         requires { target ≤ TERMINATED }
         ensures next { IsNext target least (score_of (state self.old)) result }
         ensures kept { KeepsFrom result (state self.old) (state self.new) };
+
+    /// Returns a score that no document from `target` on exceeds, up to the end that comes with it. Passes at most the
+    /// documents below `target`, which must be below `TERMINATED`.
+    fn max_score_until(&mut self, target: DocId) -> ScoreBound
+        requires { target < TERMINATED }
+        ensures bound { IsBoundUntil target (score_of (state self.old)) result }
+        ensures kept { KeepsFrom target (state self.old) (state self.new) }
+    {
+        ScoreBound {
+            most: self.max_score(),
+            end: TERMINATED,
+        }
+    }
 
     /// Returns what a document scores, if that is at least `least`. Passes at most the documents below it.
     fn score_at(&mut self, doc: DocId, least: Score) -> Option<Score>
