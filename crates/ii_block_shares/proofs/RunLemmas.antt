@@ -1,8 +1,8 @@
 -- Laws of the bounds of runs.
-use Rattle.std.proofs.Common.{◌≡◌, ◌∙◌, ℕ, ◌+◌, ◌-◌, ◌*◌, ◌/◌, ◌^◌, ◌<◌, ◌≤◌, Bool, true, false, inl, inr, List, [], ◌∷◌, ◌++◌, Option, Some, drop, get_or, length, max, nat_eq, refl, sym, ap, subst, arith}
+use Rattle.std.proofs.Common.{◌≡◌, ◌∙◌, ℕ, ◌+◌, ◌-◌, ◌*◌, ◌/◌, ◌^◌, ◌<◌, ◌≤◌, Bool, true, false, inl, inr, List, [], ◌∷◌, ◌++◌, Option, Some, drop, get_or, length, max, min, nat_eq, refl, sym, ap, subst, arith}
 use Rattle.std.proofs.Common.{append-nil}
 use Rattle.std.proofs.lemmas.Bool.{cases_lt, eq-eqb, le-ltb, lt-ltb}
-use Rattle.std.proofs.lemmas.List.{append_assoc, at_drop_more}
+use Rattle.std.proofs.lemmas.List.{append_assoc, at_drop_more, drop_all}
 use Rattle.ii_base.specs.Entries.{Entry}
 use Rattle.ii_base.specs.declared.doc_id.TheConstants.{TERMINATED}
 use Rattle.ii_bm25.specs.Bm25.{Bm25State}
@@ -10,7 +10,7 @@ use Rattle.ii_docset.specs.Cursor.{IsAscending, doc_at}
 use Rattle.ii_docset.specs.Intersection.{has_doc}
 use Rattle.ii_docset.proofs.CursorLemmas.{nothing_left}
 use Rattle.ii_fieldnorm.specs.Readers.{Norms}
-use Rattle.ii_block_shares.specs.BlockShares.{AreBounds, EndWithDocs, IsPlace, IsWithin, TakesRun, bound_at, share_bound, share_of}
+use Rattle.ii_block_shares.specs.BlockShares.{AreBounds, EndWithDocs, IsPlace, IsRunBound, IsWithin, TakesRun, bound_at, share_bound, share_of}
 use Rattle.ii_block_shares.specs.declared.block_shares.BlockShare.{BlockShare}
 
 -- the bound of a document of the first run, and that of a later one
@@ -102,3 +102,22 @@ ends_with blocks pushed b all is ends last = subst (λ (bs : List BlockShare). E
     more : (bs : List BlockShare) → EndWithDocs bs all → EndWithDocs (bs ++ b ∷ []) all
     more [] each = (last, tt)
     more (c ∷ cs) each = (each.0, more cs each.1)
+
+-- a bound of the documents of a run from a target on
+pub run_bounds : (blocks : List BlockShare) (run : BlockShare) (place target weight most end : ℕ) → place < length blocks → run ≡ get_or blocks place run → IsPlace blocks place target → target < run.end → target < TERMINATED → most < 2 ^ 64 → end ≡ min run.end TERMINATED
+    → ((share : ℕ) → share ≤ share_bound run.share → weight * share / 2 ^ 12 ≤ most) → IsRunBound blocks weight target (record { most = most; end = end })
+run_bounds blocks run place target weight most end inside is from ahead low few end_is up = record {
+  ahead = omega (arith, ahead, low, end_is);
+  up_to = omega (arith, end_is);
+  fits = few;
+  each = λ d share above before within. up share (subst (λ (o : Option ℕ). IsWithin o share) (in_run blocks run place target inside is from d above (omega (arith, before, end_is))) within);
+}
+
+-- no run is left
+pub no_run : (blocks : List BlockShare) (place target weight : ℕ) → length blocks ≤ place → IsPlace blocks place target → target < TERMINATED → IsRunBound blocks weight target (record { most = 0; end = TERMINATED })
+no_run blocks place target weight past from low = record {
+  ahead = low;
+  up_to = omega arith;
+  fits = omega arith;
+  each = λ d share above before within. absurd (subst (λ (o : Option ℕ). IsWithin o share) (from d above ∙ ap (λ (bs : List BlockShare). bound_at bs d) (drop_all place blocks past)) within);
+}

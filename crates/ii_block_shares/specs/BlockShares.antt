@@ -8,6 +8,8 @@ use Rattle.ii_docset.specs.Intersection.{has_doc}
 use Rattle.ii_fieldnorm.specs.Readers.{Norms}
 use Rattle.ii_block_shares.specs.NormIds.{id_among}
 use Rattle.ii_block_shares.specs.declared.block_shares.BlockShare.{BlockShare}
+use Rattle.ii_block_shares.specs.declared.share_reader.RunBound.{RunBound}
+use Rattle.ii_base.specs.declared.doc_id.TheConstants.{TERMINATED}
 
 -- the share that a byte stands for: one more than it in 2^-8, here in 2^-28
 abbrev pub share_bound : ℕ → ℕ
@@ -48,6 +50,13 @@ MayReach weight least (Some bound) = least ≤ weight * bound / 2 ^ 12
 pub record IsFirstReaching (blocks : List BlockShare) (weight least target doc : ℕ) : Type 0 where
   pub low : target ≤ doc
   pub passed : (d share : ℕ) → target ≤ d → d < doc → IsWithin (bound_at blocks d) share → weight * share / 2 ^ 12 < least
+
+-- No document from a target on, up to the end of a bound, scores more than the bound, whatever its share within the bound of its run.
+pub record IsRunBound (blocks : List BlockShare) (weight target : ℕ) (bound : RunBound) : Type 0 where
+  pub ahead : target < bound.end
+  pub up_to : bound.end ≤ TERMINATED
+  pub fits : bound.most < 2 ^ 64
+  pub each : (d share : ℕ) → target ≤ d → d < bound.end → IsWithin (bound_at blocks d) share → weight * share / 2 ^ 12 ≤ bound.most
 
 -- A cursor went over a run of documents, none of which has a greater share than the run's.
 pub record TakesRun (w : Bm25State) (norms : Option Norms) (old new : List Entry) (b : BlockShare) : Type 0 where

@@ -9,4 +9,4 @@ pub mod share_reader;
 
 pub use block_shares::{BlockShare, BlockShares};
 pub use norm_ids::norm_id;
-pub use share_reader::ShareReader;
+pub use share_reader::{RunBound, ShareReader};

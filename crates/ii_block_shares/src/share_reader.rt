@@ -1,12 +1,20 @@
 //! Goes over the runs of a list in their order.
-ghost use Rattle.std.specs.Prelude.{◌≡◌, ◌<◌, ◌≤◌, ◌*◌, ◌/◌, ◌^◌, ℕ, false, true};
+ghost use Rattle.std.specs.Prelude.{◌≡◌, ◌<◌, ◌≤◌, ◌*◌, ◌/◌, ◌^◌, ℕ, false, get_or, length, true};
 ghost use Rattle.ii_base.specs.declared.doc_id.TheConstants.{TERMINATED};
-ghost use Rattle.ii_block_shares.specs.BlockShares.{IsFirstReaching, IsPlace, MayReach, bound_at, share_bound};
+ghost use Rattle.ii_block_shares.specs.BlockShares.{IsFirstReaching, IsPlace, IsRunBound, MayReach, bound_at, share_bound};
+ghost use Rattle.ii_block_shares.specs.declared.block_shares.BlockShare.{BlockShare};
 
 use crate::block_shares::{BlockShare, BlockShares};
 use ii_base::{DocId, TERMINATED};
 use ii_bm25::{Bm25Weight, Score};
 use std::marker::Model;
+
+/// A score that no document of a run exceeds, and the document that ends the run and isn't one of it.
+#[derive(Clone, Copy)]
+pub struct RunBound {
+    pub most: Score,
+    pub end: DocId,
+}
 
 // A run, and a document from which on documents are looked at.
 #[derive(Clone, Copy)]
@@ -70,6 +78,65 @@ impl<'a> ShareReader<'a> {
         self.place = place;
         place.doc.min(TERMINATED)
     }
+
+    /// Returns what no document from `target` on scores more than, up to the end of the first run that ends after `target`;
+    /// 0 and `TERMINATED` if no run does. The target must be below `TERMINATED`. Ascending targets are found fastest.
+    pub fn bound_from(&mut self, weight: &Bm25Weight, target: DocId) -> RunBound
+        requires { target < TERMINATED }
+        ensures same { self.new ≡ self.old }
+        ensures bound { IsRunBound self.old weight.now.weight target result }
+    {
+        let mut from = 0;
+        if self.place.doc <= target {
+            from = self.place.block;
+        }
+        let block = run_after(self.shares.blocks(), from, target);
+        self.place = Place { block, doc: target };
+        bound_of_run(self.shares.blocks(), block, weight, target)
+    }
+}
+
+// Returns the first run from one on that ends after `target`.
+fn run_after(blocks: &[BlockShare], from: usize, target: DocId) -> usize
+    requires { IsPlace blocks.now from target }
+    ensures place { IsPlace blocks.now result target }
+    ensures ahead { (run : BlockShare) → result < length blocks.now → run ≡ get_or blocks.now result run → target < run.end }
+{
+    let mut block = from;
+    while block < blocks.len() {
+        if blocks[block].end > target {
+            return block;
+        }
+        block += 1;
+    }
+    block
+}
+
+// Returns the bound of a run that ends after `target`.
+fn bound_of_run(blocks: &[BlockShare], block: usize, weight: &Bm25Weight, target: DocId) -> RunBound
+    requires low { target < TERMINATED }
+    requires place { IsPlace blocks.now block target }
+    requires ahead { (run : BlockShare) → block < length blocks.now → run ≡ get_or blocks.now block run → target < run.end }
+    ensures { IsRunBound blocks.now weight.now.weight target result }
+{
+    if block >= blocks.len() {
+        return RunBound {
+            most: 0,
+            end: TERMINATED,
+        };
+    }
+    let run = blocks[block];
+    RunBound {
+        most: most_of_run(run, weight),
+        end: run.end.min(TERMINATED),
+    }
+}
+
+// Returns a score that no document of a run exceeds.
+fn most_of_run(run: BlockShare, weight: &Bm25Weight) -> Score
+    ensures { (share : ℕ) → share ≤ share_bound run.share → weight.now.weight * share / 2 ^ 12 ≤ result }
+{
+    weight.score_of_share((u64::from(run.share) + 1) << 20)
 }
 
 // Returns the first document that may score at least `least`, and its run, from a place on.
