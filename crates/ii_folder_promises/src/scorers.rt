@@ -1,7 +1,8 @@
 //! Scorers of two parts, and the best documents of any scorer.
-ghost use Rattle.std.specs.Prelude.{◌≡◌, ◌+◌, ◌-◌, ◌^◌, ◌<◌, ◌≤◌, ◌⊎◌, ℕ, IfOk, Some, filter, is_some, length, min};
+ghost use Rattle.std.specs.Prelude.{◌≡◌, ◌+◌, ◌-◌, ◌^◌, ◌<◌, ◌≤◌, ◌⊎◌, ℕ, IfOk, IfSome, Some, filter, is_some, length, min};
 ghost use Rattle.std.specs.List.{All, Contains, range_with_len};
 ghost use Rattle.ii_io.specs.Faults.{OnlyMemory};
+ghost use Rattle.ii_base.specs.declared.doc_id.TheConstants.{TERMINATED};
 ghost use Rattle.ii_scorer.specs.Scorers.{score_of};
 
 use ii_base::{DocId, Fault};
@@ -28,6 +29,22 @@ pub fn unions_pass_what_scores_less<T: Scorer>(
         Err(fault) => return Err(fault),
     };
     Ok(union.seek_with_score(0, least))
+}
+
+/// No document of a run scores more than the bound that any scorer gives for it, which passes none of them.
+pub fn documents_of_a_run_keep_its_bound<T: Scorer>(
+    scorer: &mut T,
+    target: DocId,
+    doc: DocId,
+) -> Option<Score>
+    requires { (target ≤ doc) × (doc < TERMINATED) }
+    ensures { (score : ℕ) → score_of (T.state scorer.old) doc ≡ Some score → IfSome result (λ most. score ≤ most) }
+{
+    let bound = scorer.max_score_until(target);
+    if doc < bound.end {
+        return Some(bound.most);
+    }
+    scorer.score_at(doc, 0)
 }
 
 // The first documents, all of which count, each by its own number.
