@@ -16,7 +16,7 @@ sys.path.insert(0, os.path.dirname(os.path.abspath(__file__)))
 import users
 
 BLOCK = 4_096
-MOST = 32 * BLOCK
+MOST = 40 * BLOCK
 WORDS = 200_000
 PER_LINE = 90
 SCHEMA = '[[field]]\nname = "body"\ntype = "text"\n'
