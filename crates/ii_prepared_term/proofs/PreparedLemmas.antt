@@ -4,9 +4,10 @@ use Rattle.std.proofs.lemmas.Bool.{cases_eq, cases_lt, le-leb, ne_eqb}
 use Rattle.std.proofs.lemmas.Bool.Decides.{leb_tells}
 use Rattle.ii_base.specs.Entries.{Entry}
 use Rattle.ii_base.specs.declared.doc_id.TheConstants.{TERMINATED}
-use Rattle.ii_block_shares.specs.BlockShares.{AreBounds, EndWithDocs, IsFirstReaching, IsWithin, MayReach, bound_at, share_of}
+use Rattle.ii_block_shares.specs.BlockShares.{AreBounds, EndWithDocs, IsFirstReaching, IsRunBound, IsWithin, MayReach, bound_at, share_of}
 use Rattle.ii_block_shares.specs.NormIds as shares
 use Rattle.ii_block_shares.specs.declared.block_shares.BlockShare.{BlockShare}
+use Rattle.ii_block_shares.specs.declared.share_reader.RunBound.{RunBound}
 use Rattle.ii_block_shares.proofs.RunLemmas.{bound_here, bound_later}
 use Rattle.ii_bm25.specs.Bm25.{Bm25State, bm25_score}
 use Rattle.ii_check.proofs.DecodedBlocksLaws.{allowed_last, allowed_none, allowed_on, allowed_weaker}
@@ -16,8 +17,9 @@ use Rattle.ii_docset.proofs.CursorLemmas.{doc_below, from_doc_here}
 use Rattle.ii_docset.proofs.IntersectionLemmas.{doc_at-from_doc, has_doc-from_doc, has_doc_below}
 use Rattle.ii_fieldnorm.specs.Readers.{Norms}
 use Rattle.ii_reader.specs.SegmentPostings.{DecodesOnce, SegmentPostingsState, StandsInBlock, WentLazily}
-use Rattle.ii_scorer.specs.Scorers.{IsBelow, IsNext, IsPassed, score_of}
-use Rattle.ii_scorer.proofs.PartsLemmas.{row_next}
+use Rattle.ii_scorer.specs.Scorers.{IsBelow, IsBoundUntil, IsNext, IsPassed, IsUpTo, score_of}
+use Rattle.ii_scorer.specs.declared.scorer.ScoreBound.{ScoreBound}
+use Rattle.ii_scorer.proofs.PartsLemmas.{row_holds, row_next}
 use Rattle.ii_scorer.proofs.ScorerLemmas.{below_none}
 use Rattle.ii_ranking.specs.NormIds.{id_among}
 use Rattle.ii_ranking.specs.Scores.{entry_at}
@@ -93,6 +95,17 @@ from_first es up = sym (from_doc_here 0 es up (omega arith))
 pub ids_same : (norms : Option Norms) (doc : ℕ) → shares.id_among norms doc ≡ id_among norms doc
 ids_same None doc = refl
 ids_same (Some norms) doc = refl
+
+-- a document scores no more than the bound of its run
+up_score : (w : TermWeightState) (blocks : List BlockShare) (most d : ℕ) (es : List Entry) → AreBounds w.weight w.norms blocks es → ((share : ℕ) → IsWithin (bound_at blocks d) share → w.weight.weight * share / 2 ^ 12 ≤ most) → IsUpTo most (score_by_entry w d (entry_at es d))
+up_score w blocks most d [] all up = tt
+up_score w blocks most d (e ∷ es) all up = elim (cases_eq e.doc d) [
+  | inl same ↦ subst (λ (doc : ℕ). IsUpTo most (score_by_entry w doc (entry_at (e ∷ es) doc))) same (subst (λ (found : Option Entry). IsUpTo most (score_by_entry w e.doc found)) (sym (entry_here e es)) (here same))
+  | inr other ↦ rw (ne_eqb e.doc d other) (up_score w blocks most d es all.1 up)
+]
+  where
+    here : e.doc ≡ d → bm25_score w.weight (id_among w.norms e.doc) e.term_freq ≤ most
+    here same = subst (λ (id : ℕ). bm25_score w.weight id e.term_freq ≤ most) (ids_same w.norms e.doc) (up (share_of w.weight w.norms e) (subst (λ (doc : ℕ). IsWithin (bound_at blocks doc) (share_of w.weight w.norms e)) same all.0))
 
 module _ (w : TermWeightState) (blocks : List BlockShare) (least : ℕ) where
   -- a document whose bound is too small scores less
@@ -297,6 +310,17 @@ passes_next s target least next is low up_to passed = row_next target least next
       | inl before ↦ passed doc from before
       | inr above ↦ below_none least (prepared_score s doc) (prepared_ends s is doc (omega (arith, end, above)))
     ]
+
+-- no document from a target on, up to the end of a run's bound, scores more
+pub run_bound : (s : PreparedTermState) (target : ℕ) (run : RunBound) (bound : ScoreBound) → IsPrepared s → IsRunBound s.shares s.by.weight.weight target run → bound.most ≡ run.most → bound.end ≡ run.end → IsBoundUntil target (score_of (prepared_state s)) bound
+run_bound s target run bound is b most_is end_is = record {
+  ahead = let ahead = b.ahead in omega (arith, ahead, end_is);
+  up_to = let up = b.up_to in omega (arith, up, end_is);
+  fits = let few = b.fits in omega (arith, few, most_is);
+  each = λ d from below.
+      row_holds (IsUpTo bound.most) (prepared_score s) d tt
+      (subst (λ (n : ℕ). IsUpTo n (prepared_score s d)) (sym most_is) (up_score s.by s.shares run.most d s.cursor.rest is.bounds (λ share within. b.each d share from (omega (arith, below, end_is)) within)));
+}
 
 -- a cursor over fewer documents
 pub still_prepared : (s : PreparedTermState) (dropped : ℕ) (cursor : SegmentPostingsState) → IsPrepared s → dropped ≤ TERMINATED → cursor.rest ≡ from_doc dropped s.cursor.rest → IsSound cursor.rest → IsPrepared (record s { cursor = cursor })

@@ -12,7 +12,7 @@ use ii_docset::{DocSet, Postings};
 use ii_fieldnorm::FieldNormReader;
 use ii_ranking::term_scorer::go_on;
 use ii_reader::SegmentPostings;
-use ii_scorer::{Scorer, if_at_least};
+use ii_scorer::{ScoreBound, Scorer, if_at_least};
 use std::marker::Model;
 
 // Gives what documents score by a prepared term.
@@ -62,7 +62,11 @@ impl<'a> Scorer for PreparedScorer<'a> {
     }
 
     fn seek_with_score(&mut self, target: DocId, least: Score) -> DocId {
-        self.shares.first_reaching(self.weight, target, least)
+        let first = self.shares.first_reaching(self.weight, target, least);
+        if first > target {
+            return first;
+        }
+        go_on(&mut self.cursor, target)
     }
 
     fn skip_to_score(&mut self, target: DocId, least: Score) -> DocId
@@ -80,6 +84,14 @@ impl<'a> Scorer for PreparedScorer<'a> {
             target,
             least,
         )
+    }
+
+    fn max_score_until(&mut self, target: DocId) -> ScoreBound {
+        let bound = self.shares.bound_from(self.weight, target);
+        ScoreBound {
+            most: bound.most,
+            end: bound.end,
+        }
     }
 
     fn score_at(&mut self, doc: DocId, least: Score) -> Option<Score> {

@@ -23,6 +23,8 @@ pub struct QueryScorer<T: Scorer> {
     parts: ScorerParts<T>,
     // no document scores more
     most: Score,
+    // whether it pays to ask for bounds of runs
+    has_runs: bool,
 }
 
 #[cycle(query_scorer)]
@@ -65,6 +67,7 @@ impl<T: Scorer> QueryScorer<T> {
         QueryScorer {
             parts: ScorerParts::Nothing,
             most: 0,
+            has_runs: false,
         }
     }
 
@@ -73,9 +76,11 @@ impl<T: Scorer> QueryScorer<T> {
         ensures { (doc : ℕ) → score_of result doc ≡ score_of (T.state scorer) doc }
     {
         let most = scorer.max_score();
+        let has_runs = scorer.has_runs();
         QueryScorer {
             parts: ScorerParts::One(scorer),
             most,
+            has_runs,
         }
     }
 
@@ -86,6 +91,7 @@ impl<T: Scorer> QueryScorer<T> {
         QueryScorer {
             parts: ScorerParts::All(limit),
             most: SCORE_ONE,
+            has_runs: false,
         }
     }
 
@@ -95,9 +101,11 @@ impl<T: Scorer> QueryScorer<T> {
         ensures { (doc : ℕ) → score_of result doc ≡ each_of (scores_at scorers.items doc) }
     {
         let most = sum_of_most(&scorers);
+        let has_runs = have_runs(&scorers);
         QueryScorer {
             parts: ScorerParts::Each(scorers),
             most,
+            has_runs,
         }
     }
 
@@ -114,9 +122,11 @@ impl<T: Scorer> QueryScorer<T> {
             Err(fault) => return Err(fault),
         };
         let most = sum_of_most(&parts);
+        let has_runs = have_runs(&parts);
         Ok(QueryScorer {
             parts: ScorerParts::Any(parts, sums),
             most,
+            has_runs,
         })
     }
 
@@ -131,11 +141,13 @@ impl<T: Scorer> QueryScorer<T> {
         ensures only { OnlyMemory result }
     {
         let most = first.bound();
+        let has_runs = first.has_runs;
         let first = Box::new(alloc, first)?;
         let other = Box::new(alloc, other)?;
         Ok(QueryScorer {
             parts: ScorerParts::Without(first, other),
             most,
+            has_runs,
         })
     }
 
@@ -190,11 +202,15 @@ impl<T: Scorer> Scorer for QueryScorer<T> {
     }
 
     fn skip_to_score(&mut self, target: DocId, least: Score) -> DocId {
-        skip_to(&mut self.parts, self.most, target, least)
+        skip_to(&mut self.parts, self.most, self.has_runs, target, least)
     }
 
     fn max_score_until(&mut self, target: DocId) -> ScoreBound {
         self.bound_until(target)
+    }
+
+    fn has_runs(&self) -> bool {
+        self.has_runs
     }
 
     fn score_at(&mut self, doc: DocId, least: Score) -> Option<Score> {
@@ -213,6 +229,16 @@ fn sum_of_most<T: Scorer>(parts: &Vec<QueryScorer<T>>) -> Score
         sum = parts[place].bound().saturating_add(sum);
     }
     sum
+}
+
+// Returns whether it pays to ask one of some scorers for bounds of runs.
+fn have_runs<T: Scorer>(parts: &Vec<QueryScorer<T>>) -> bool {
+    for place in 0..parts.len() {
+        if parts[place].has_runs {
+            return true;
+        }
+    }
+    false
 }
 
 // Returns the sums of the greatest scores of the first of some scorers, of the first two, and so on.
@@ -254,27 +280,10 @@ fn next_of<T: Scorer>(parts: &mut ScorerParts<T>, most: Score, target: DocId, le
 }
 
 // Returns such a document as `next_of` does. A scorer that isn't made of others may pass those before it.
-fn skip_to<T: Scorer>(parts: &mut ScorerParts<T>, most: Score, target: DocId, least: Score) -> DocId
-    requires up_to { target ≤ TERMINATED }
-    requires bounded { PartsAreBounded T.state most parts.old }
-    ensures next { IsNext target least (score_by_parts T.state parts.old) result }
-    ensures alike { (doc : ℕ) → result ≤ doc → score_by_parts T.state parts.new doc ≡ score_by_parts T.state parts.old doc }
-    ensures depth { depth_of parts.new ≡ depth_of parts.old }
-    ensures bounded { PartsAreBounded T.state most parts.new }
-{
-    let ScorerParts::One(scorer) = parts else {
-        return skip_runs(parts, most, target, least);
-    };
-    if least > most {
-        return TERMINATED;
-    }
-    scorer.skip_to_score(target, least)
-}
-
-// Returns such a document as `next_of` does, and passes runs of documents that don't reach `least` by their bounds.
-fn skip_runs<T: Scorer>(
+fn skip_to<T: Scorer>(
     parts: &mut ScorerParts<T>,
     most: Score,
+    has_runs: bool,
     target: DocId,
     least: Score,
 ) -> DocId
@@ -285,6 +294,33 @@ fn skip_runs<T: Scorer>(
     ensures depth { depth_of parts.new ≡ depth_of parts.old }
     ensures bounded { PartsAreBounded T.state most parts.new }
 {
+    let ScorerParts::One(scorer) = parts else {
+        return skip_runs(parts, most, has_runs, target, least);
+    };
+    if least > most {
+        return TERMINATED;
+    }
+    scorer.skip_to_score(target, least)
+}
+
+// Returns such a document as `next_of` does. If it pays, passes runs of documents that don't reach `least` by their bounds.
+fn skip_runs<T: Scorer>(
+    parts: &mut ScorerParts<T>,
+    most: Score,
+    has_runs: bool,
+    target: DocId,
+    least: Score,
+) -> DocId
+    requires up_to { target ≤ TERMINATED }
+    requires bounded { PartsAreBounded T.state most parts.old }
+    ensures next { IsNext target least (score_by_parts T.state parts.old) result }
+    ensures alike { (doc : ℕ) → result ≤ doc → score_by_parts T.state parts.new doc ≡ score_by_parts T.state parts.old doc }
+    ensures depth { depth_of parts.new ≡ depth_of parts.old }
+    ensures bounded { PartsAreBounded T.state most parts.new }
+{
+    if !has_runs {
+        return next_of(parts, most, target, least);
+    }
     let mut doc = target;
     while doc < TERMINATED {
         let bound = bound_by(parts, most, doc);

@@ -51,6 +51,11 @@ pub trait Scorer: Drop {
         }
     }
 
+    /// Returns whether `max_score_until` may give runs that end before `TERMINATED`, so that it pays to ask for them.
+    fn has_runs(&self) -> bool {
+        false
+    }
+
     /// Returns what a document scores, if that is at least `least`. Passes at most the documents below it.
     fn score_at(&mut self, doc: DocId, least: Score) -> Option<Score>
         requires { doc < TERMINATED }
