@@ -1,5 +1,5 @@
 //! Opens files of segments, of which ranges are read.
-ghost use Rattle.std.specs.Prelude.{◌≡◌, ◌<◌, ◌≤◌, ◌^◌, ⊥, List, MatchOption, Ok, Some, length, ℕ};
+ghost use Rattle.std.specs.Prelude.{◌≡◌, ◌<◌, ◌≤◌, ◌^◌, List, MatchOption, Ok, Some, length, ℕ};
 ghost use Rattle.std.specs.Option.{option_map};
 ghost use Rattle.ii_directory.specs.declared.name.Name.TheVariants.{Segment};
 ghost use Rattle.ii_directory.specs.declared.name.SegmentComponent.{SegmentComponent};
