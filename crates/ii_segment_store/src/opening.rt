@@ -166,7 +166,7 @@ fn table_start(files: &[FileMeta], component: SegmentComponent, end: usize) -> O
 // Returns the length of the table of a listed file, if its component comes before another.
 fn len_before(component: SegmentComponent, file: &FileMeta) -> u64
     ensures len { result ≡ len_before component file.now }
-    ensures bound { result < 2 ^ 52 }
+    ensures bound { result < 2 ^ 56 }
 {
     if file.component.number() < component.number() {
         return table_len(file);
@@ -178,7 +178,7 @@ fn len_before(component: SegmentComponent, file: &FileMeta) -> u64
 #[tactic(auto, using(ii_block_file::proofs::TableLaws::blocks_divide))]
 fn table_len(file: &FileMeta) -> u64
     ensures len { result ≡ table_len file.now }
-    ensures bound { result < 2 ^ 52 }
+    ensures bound { result < 2 ^ 56 }
 {
     if !has_table(file) {
         return 0;
