@@ -12,8 +12,8 @@ returns-then-first-target-clause-next c =
     let f = c.first_reaching-first.ensures in
     passes_next s c.args.target c.args.least c.first_reaching-first.result is f.first.low f.up_to (passed_by s.by s.shares c.args.least c.args.target c.first_reaching-first.result s.cursor.rest is.sound is.bounds f.first))
 
-pub invariant_of-self : goal.invariant_of-self
-invariant_of-self c =
+pub invariant_of-self-2 : goal.invariant_of-self-2
+invariant_of-self-2 c =
     let s = state_of c.self.inside.weight.now c.self.inside.norms.now c.self.inside.shares c.self.inside.cursor in
     subst (λ (runs : List BlockShare). IsPrepared (state_of s.by.weight s.by.norms runs c.go_on.new.cursor)) (sym c.first_reaching-first.ensures.same) (still_prepared s c.args.target c.go_on.new.cursor c.self.invariant c.requires c.go_on.ensures.rest c.go_on.ensures.sound)
 
