@@ -1,2 +1,3 @@
 pub mod PreparedLemmas
+pub mod PreparedSegmentLemmas
 mod WorkedRows

@@ -1,1 +1,2 @@
+pub mod PreparedSegments
 pub mod PreparedTerms

@@ -3,6 +3,8 @@
 #![tactic(auto)]
 
 mod prepared_scorer;
+pub mod prepared_segments;
 pub mod prepared_term;
 
+pub use prepared_segments::PreparedSegments;
 pub use prepared_term::PreparedTerm;
