@@ -31,7 +31,7 @@ use Rattle.ii_ranking.proofs.OneIndexLaws.{segments_score_as_one}
 use Rattle.ii_ranking.proofs.SegmentTokenLaws.{same_segments}
 use Rattle.ii_ranking.proofs.TokenLaws.{memory_alone, memory_of_none}
 use Rattle.ii_ranking.specs.Scores.{IsScoreFault, damage_of, first_of, query_damage}
-use Rattle.ii_ranking.specs.Segments.{segments_scored}
+use Rattle.ii_ranking.specs.Segments.{segments_damage, segments_scored}
 use Rattle.ii_search.specs.Found.{found_in}
 use Rattle.ii_search.proofs.FoundLemmas.{gives_matches}
 use Rattle.ii_segment_search.specs.SegmentSearch.{found_in_segments}
@@ -50,7 +50,7 @@ use Rattle.ii_index.specs.Ranking.{CountsDocs, SearcherHolds, segment_counts}
 use Rattle.ii_index.specs.Searching.{SearcherState, segment_totals}
 use Rattle.ii_index.specs.Statistics.{counts_damage, index_statistics, num_docs_with, num_tokens_of, token_statistics}
 use Rattle.ii_statistics.specs.Listed.{IsListedInEach, IsListed}
-use Rattle.ii_statistics.specs.Statistics.{AreSameFor, doc_freq_in, num_found, query_terms, terms_damage}
+use Rattle.ii_statistics.specs.Statistics.{AreSameFor, doc_freq_in, num_found, query_terms, ranking_damage, terms_damage}
 use Rattle.ii_statistics.proofs.DamageLemmas.{sound_both}
 use Rattle.ii_statistics.proofs.StatisticsLaws.{same_tokens}
 use Rattle.ii_statistics.proofs.TermLemmas.{terms_below}
@@ -209,6 +209,18 @@ number_memory entries query fields fault number (o ∷ os) (s ∷ ss) hold few i
     by others true damage = memory_alone entries (length s.alive) o.index s.tokens query fault hold.0.index (let own = few.0 in omega (arith, own)) fields damage
     by others false damage = others damage
 
+-- nor is what the scores of a query need in each segment
+segments_memory : (entries : List SchemaEntry) (query : Query) → has_fields (length entries) query ≡ true → (fault : Fault) (opened : List OpenSegmentState) (ss : List Segment) → SegmentsHold entries opened ss
+    → AllByRecursion (λ (s : Segment). length s.alive ≤ TERMINATED) ss → IsScoreFault (segments_damage query opened) fault → fault ≡ OutOfMemory
+segments_memory entries query fields fault [] ss hold few is = memory_of_none None fault refl is
+segments_memory entries query fields fault (o ∷ os) [] hold few is = elim hold [ ]
+segments_memory entries query fields fault (o ∷ os) (s ∷ ss) hold few is =
+    by (λ later. segments_memory entries query fields fault os ss hold.1 few.1 later) (query_damage o.index query) refl is
+  where
+    by : (IsScoreFault (segments_damage query os) fault → fault ≡ OutOfMemory) → (here : Option Part) → query_damage o.index query ≡ here → IsScoreFault (first_of here (segments_damage query os)) fault → fault ≡ OutOfMemory
+    by others None at damage = others damage
+    by others (Some part) at damage = memory_alone entries (length s.alive) o.index s.tokens query fault hold.0.index (let own = few.0 in omega (arith, own)) fields (subst (λ (d : Option Part). IsScoreFault d fault) (sym at) damage)
+
 module _ (entries : List SchemaEntry) (s : SearcherState) (n : ℕ) (ts : List IndexToken) (h : SearcherHolds entries s n ts) where
   -- the number of documents
   pub docs_held : total_living s.segments ≡ n
@@ -292,3 +304,23 @@ module _ (entries : List SchemaEntry) (s : SearcherState) (n : ℕ) (ts : List I
   shares_memory few query ask doc fault is =
       let sound = terms_held_sound entries s.segments h.segments h.hold (query_terms query) (terms_below (length entries) query ask.fields) in
       number_memory entries query ask.fields fault doc s.segments h.segments h.hold (short entries s.segments h.segments h.hold few.each) (subst (λ (d : Option Part). IsScoreFault (first_of d (number_damage query doc s.segments)) fault) sound is)
+
+  -- the documents that have a term score what they score by the tokens of the index
+  pub term_scored : (few : AreFew s.segments) (term : TermState) → term.field < length entries → AllByRecursion (IsListedInEach s.segments) (query_terms (Term term))
+      → segments_scored (index_statistics s) (Term term) 0 s.segments ≡ scored_docs n (token_score entries ts (token_statistics n ts) (Term term))
+  term_scored few term known listed =
+      let query = Term term in
+      let terms = query_terms query in
+      let ask = term_asked entries term known in
+      let below = terms_below (length entries) query ask.fields in
+      let same = held_same terms below (docs_listed few terms below listed) in
+      let covers : covers_docs TERMINATED query ≡ true = ap (tree_covers TERMINATED) (term_tree term) in
+      same_segments entries (index_statistics s) query ask.fields 0 s.segments h.segments h.hold ∙ row_held (index_statistics s) query docs_held same ask (reaches entries query s.segments h.segments few h.hold covers)
+
+  -- and what these scores need is not damaged
+  pub term_memory : (few : AreFew s.segments) (term : TermState) → term.field < length entries → (fault : Fault) → IsScoreFault (ranking_damage s.segments (Term term)) fault → fault ≡ OutOfMemory
+  term_memory few term known fault is =
+      let query = Term term in
+      let ask = term_asked entries term known in
+      let sound = terms_held_sound entries s.segments h.segments h.hold (query_terms query) (terms_below (length entries) query ask.fields) in
+      segments_memory entries query ask.fields fault s.segments h.segments h.hold (short entries s.segments h.segments h.hold few.each) (subst (λ (d : Option Part). IsScoreFault (first_of d (segments_damage query s.segments)) fault) sound is)

@@ -40,6 +40,11 @@ CountsDocs n ts term (Err fault) = fault ≡ OutOfMemory
 abbrev pub best_damage : SearcherState → Query → Option Part
 best_damage s query = first_of (statistics_damage s query) (segments_damage query s.segments)
 
+-- A search of these documents with their scores is prepared; this fails only with OutOfMemory.
+abbrev pub Prepares : List (ℕ × ℕ) → Result (List (ℕ × ℕ)) Fault → Type 0
+Prepares scored (Ok prepared) = prepared ≡ scored
+Prepares scored (Err fault) = fault ≡ OutOfMemory
+
 -- the first damaged part of what the shares of the document with a number need: of the numbers for the query, then of the document's segment
 abbrev pub shares_damage : SearcherState → Query → ℕ → Option Part
 shares_damage s query number = first_of (statistics_damage s query) (number_damage query number s.segments)

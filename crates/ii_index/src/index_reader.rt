@@ -6,7 +6,7 @@ ghost use Rattle.ii_base.specs.Schema.{SchemaEntry};
 ghost use Rattle.ii_base.specs.declared.doc_id.TheConstants.{TERMINATED};
 ghost use Rattle.ii_definitions.specs.Tokens.{IndexToken};
 ghost use Rattle.ii_explanation.specs.Explanations.{AreSharesAt};
-ghost use Rattle.ii_index.specs.Ranking.{AddUpTo, CountsDocs, SearcherHolds, best_damage, shares_damage};
+ghost use Rattle.ii_index.specs.Ranking.{AddUpTo, CountsDocs, Prepares, SearcherHolds, best_damage, shares_damage};
 ghost use Rattle.ii_index.specs.Searching.{HaveReaders, totals_view};
 ghost use Rattle.ii_index.specs.Statistics.{counts_damage, index_statistics, token_statistics};
 ghost use Rattle.ii_living_docs.specs.Chain.{chained};
@@ -22,6 +22,7 @@ ghost use Rattle.ii_segment_search.specs.Searcher.{GivesFound, GivesNumber, MayA
 ghost use Rattle.ii_segments.specs.Segments.{Segment};
 ghost use Rattle.ii_statistics.specs.Statistics.{doc_freq_in};
 
+use crate::prepared_search::{PreparedSearch, prepare_by};
 use crate::ranking::{best_by, shares_by};
 use crate::totals::{SegmentTotals, damaged_counts, sum_of_tokens};
 use ii_base::{DocId, Fault, Field, Part, Term};
@@ -217,6 +218,38 @@ impl Searcher {
         }
         match best_by(alloc, self.segments.segments(), self, query, docs) {
             Ok(best) => Ok(best),
+            Err(fault) => Err(fault),
+        }
+    }
+
+    /// Prepares a term for searches: opens its list in each segment, with bounds of what its documents score. Each search
+    /// then returns exactly what `top_docs` returns for the query of the term, and fails only with `OutOfMemory`. The
+    /// term's field must be one of the index. Preparing decodes the term's lists, so it pays for a term that is searched
+    /// more than once.
+    ///
+    /// ```
+    /// let prepared = searcher.prepare(alloc, &term)?;
+    /// let first = prepared.top_docs(alloc, &TopDocs::with_limit(10))?;
+    /// let next = prepared.top_docs(alloc, &TopDocs::with_limit(10).and_offset(10))?;
+    /// ```
+    ///
+    /// # Errors
+    ///
+    /// Those of `top_docs` for the query of the term.
+    pub fn prepare<'s>(&'s self, alloc: Global, term: &Term) -> Result<PreparedSearch<'s>, Fault>
+        requires { term.now.field < self.now.num_fields }
+        ensures scores { IfOk result (λ prepared. prepared ≡ segments_scored (index_statistics self.now) (queries.Term term.now) 0 self.now.segments) }
+        ensures sound { OnOk result (best_damage self.now (queries.Term term.now) ≡ None) }
+        ensures fault { IfErr result (IsScoreFault (best_damage self.now (queries.Term term.now))) }
+        // where the segments hold an index
+        ensures holds { (entries : List SchemaEntry) (n : ℕ) (ts : List IndexToken) → SearcherHolds entries self.now n ts → term.now.field < length entries
+            → Prepares (scored_docs n (token_score entries ts (token_statistics n ts) (queries.Term term.now))) result }
+    {
+        if let Some(part) = self.damaged_counts() {
+            return Err(Fault::Damaged(part));
+        }
+        match prepare_by(alloc, self.segments.segments(), self, term) {
+            Ok(prepared) => Ok(prepared),
             Err(fault) => Err(fault),
         }
     }

@@ -136,7 +136,7 @@ fn shares_of_ranked<'q>(
 }
 
 // Returns segments to rank.
-fn ranked_segments<'a>(
+pub(crate) fn ranked_segments<'a>(
     alloc: Global,
     segments: &'a [OpenSegment],
 ) -> Result<Vec<RankedSegment<'a>>, Fault>

@@ -6,8 +6,8 @@
 // an index of JSON documents, in a folder or in memory
 pub use ii_index::{
     Directory, DirectoryFault, Folder, Index, IndexError, IndexReader, IndexWriter, Locked,
-    LockedFolder, MemoryDirectory, SCORE_ONE, Score, Searcher, Share, TopDocs, WritableDirectory,
-    push_part, push_score, push_weight,
+    LockedFolder, MemoryDirectory, PreparedSearch, SCORE_ONE, Score, Searcher, Share, TopDocs,
+    WritableDirectory, push_part, push_score, push_weight,
 };
 
 // fields, and the values that are indexed
