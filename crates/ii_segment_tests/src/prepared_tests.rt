@@ -69,6 +69,27 @@ fn gives_the_same(
     Ok(first.as_slice() == expected.as_slice() && again.as_slice() == expected.as_slice())
 }
 
+// Returns the first of the limits of which a prepared term doesn't give what a search gives for its query.
+fn first_wrong_limit(
+    alloc: Global,
+    index: &OpenIndex,
+    statistics: &GatheredStatistics,
+    prepared: &PreparedTerm,
+    query: &Query,
+    num_docs: DocId,
+) -> Result<Option<(usize, usize)>, Fault>
+    requires many { length index.now.readers ≡ 1 }
+    requires fields { has_fields 1 query.now ≡ true }
+{
+    for (limit, offset) in LIMITS {
+        let docs = TopDocs::with_limit(limit).and_offset(offset);
+        if !gives_the_same(alloc, index, statistics, prepared, query, num_docs, &docs)? {
+            return Ok(Some((limit, offset)));
+        }
+    }
+    Ok(None)
+}
+
 // Returns the first of the limits of which a word isn't found as by a search.
 fn first_wrong(
     alloc: Global,
@@ -81,13 +102,8 @@ fn first_wrong(
 {
     let query = query_of(alloc, word, NUM_DOCS)?;
     let prepared = prepared(alloc, index, statistics, word)?;
-    for (limit, offset) in LIMITS {
-        let docs = TopDocs::with_limit(limit).and_offset(offset);
-        if !gives_the_same(alloc, index, statistics, &prepared, &query, num_docs, &docs)? {
-            return Ok(Some((limit, offset)));
-        }
-    }
-    Ok(None)
+    let wrong = first_wrong_limit(alloc, index, statistics, &prepared, &query, num_docs)?;
+    Ok(wrong)
 }
 
 #[test]
@@ -216,16 +232,17 @@ fn first_wrong_living(
     segments: &Segments<'_>,
     statistics: &GatheredStatistics,
     word: &str,
-) -> Result<Option<(usize, usize)>, Fail>
+    query: &Query,
+) -> Result<Option<(usize, usize)>, Fault>
     requires first { length segments.now.first.now.readers ≡ 1 }
     requires second { length segments.now.second.now.readers ≡ 1 }
     requires few { num_living segments.now.first_alive.now ≤ 1_000 }
     requires also_few { num_living segments.now.second_alive.now ≤ 1_000 }
+    requires fields { has_fields 1 query.now ≡ true }
 {
-    let query = query_of(alloc, word, NUM_DOCS)?;
     for (limit, offset) in LIMITS {
         let docs = TopDocs::with_limit(limit).and_offset(offset);
-        let expected = best_of_search(alloc, segments, statistics, &query, &docs)?;
+        let expected = best_of_search(alloc, segments, statistics, query, &docs)?;
         let best = best_of_prepared(alloc, segments, statistics, word, &docs)?;
         if best.as_slice() != expected.as_slice() {
             return Ok(Some((limit, offset)));
@@ -250,7 +267,8 @@ fn living_documents_are_found_as_by_a_search(rt: HostRuntime) -> Result<(), Fail
             second_alive: &second_alive,
         };
         for (word, _) in WORDS {
-            let wrong = first_wrong_living(rt.alloc(), &segments, &statistics, word)?;
+            let query = query_of(rt.alloc(), word, NUM_DOCS)?;
+            let wrong = first_wrong_living(rt.alloc(), &segments, &statistics, word, &query)?;
             assert_eq!(rt; wrong, None, "{word}");
         }
     }

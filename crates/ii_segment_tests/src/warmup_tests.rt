@@ -115,6 +115,21 @@ fn warmed<H: FileHandle>(
     Ok(warm_up(alloc, files, &schema, query, scoring)?)
 }
 
+// Returns whether what a query reads of an index has these documents that match.
+fn finds<H: FileHandle>(
+    alloc: Global,
+    files: &IndexHandles<'_, H>,
+    query: &Query,
+    scoring: EnableScoring,
+    expected: &[DocId],
+) -> Result<bool, Fail>
+    requires { has_fields 1 query.now ≡ true }
+{
+    let part = warmed(alloc, files, query, scoring)?;
+    let found = found(alloc, &part, query)?;
+    Ok(found.as_slice() == expected)
+}
+
 // Returns whether what a query reads of an index has the documents that the query matches.
 fn finds_the_same<H: FileHandle>(
     alloc: Global,
@@ -123,14 +138,29 @@ fn finds_the_same<H: FileHandle>(
 ) -> Result<bool, Fail> {
     let query = query_of(alloc, text, NUM_DOCS)?;
     let expected = expected(alloc, text)?;
-    for scoring in [EnableScoring::Disabled, EnableScoring::Enabled] {
-        let part = warmed(alloc, files, &query, scoring)?;
-        let found = found(alloc, &part, &query)?;
-        if found.as_slice() != expected.as_slice() {
-            return Ok(false);
-        }
+    let docs = expected.as_slice();
+    if !finds(alloc, files, &query, EnableScoring::Disabled, docs)? {
+        return Ok(false);
     }
-    Ok(true)
+    finds(alloc, files, &query, EnableScoring::Enabled, docs)
+}
+
+// Returns whether a part of an index has the best documents of the complete index, with their scores.
+fn is_ranked_the_same(
+    alloc: Global,
+    part: &OpenIndex,
+    whole: &OpenIndex,
+    query: &Query,
+    limit: usize,
+) -> Result<bool, Fault>
+    requires part { length part.now.readers ≡ 1 }
+    requires whole { length whole.now.readers ≡ 1 }
+    requires fields { has_fields 1 query.now ≡ true }
+{
+    let statistics = statistics(alloc, whole, NUM_DOCS)?;
+    let best = ranked(alloc, whole, &statistics, query, limit)?;
+    let of_part = ranked(alloc, part, &statistics, query, limit)?;
+    Ok(of_part.as_slice() == best.as_slice())
 }
 
 // Returns whether what a query reads of an index has the best documents of the complete index, with their scores.
@@ -142,17 +172,13 @@ fn ranks_the_same<H: FileHandle>(
 ) -> Result<bool, Fail>
     requires { length whole.now.readers ≡ 1 }
 {
-    let statistics = statistics(alloc, whole, NUM_DOCS)?;
     let query = query_of(alloc, text, NUM_DOCS)?;
     let part = warmed(alloc, files, &query, EnableScoring::Enabled)?;
-    for limit in [5usize, 1_000] {
-        let best = ranked(alloc, whole, &statistics, &query, limit)?;
-        let of_part = ranked(alloc, &part, &statistics, &query, limit)?;
-        if of_part.as_slice() != best.as_slice() {
-            return Ok(false);
-        }
+    if !is_ranked_the_same(alloc, &part, whole, &query, 5)? {
+        return Ok(false);
     }
-    Ok(true)
+    let is_same = is_ranked_the_same(alloc, &part, whole, &query, 1_000)?;
+    Ok(is_same)
 }
 
 // Returns the first query of which what is read isn't the same.
