@@ -258,7 +258,7 @@ fn a_cut_dictionary_gives_nothing_else(rt: HostRuntime) -> Result<(), Fail> {
     );
     let len = bytes.len();
     for step in 0..len.div_ceil(97) {
-        let cut = (step * 97).min(len);
+        let cut = step.saturating_mul(97).min(len);
         let found = outcomes_of(rt.alloc(), &terms, &bytes.slice(0..cut)?)?;
         assert_eq!(rt; found.wrong, 0, "{cut} bytes");
         // the ends of 1,500 keys have 12,008 bytes, with their number; without the keys none is found

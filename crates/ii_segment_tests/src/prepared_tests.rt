@@ -121,14 +121,29 @@ fn all_documents_of_a_term_are_found(rt: HostRuntime) -> Result<(), Fail> {
     Ok(())
 }
 
+// Returns whether a number is a multiple of a step, which isn't 0.
+fn is_multiple(number: u32, step: u32) -> bool {
+    if step == 0 {
+        return false;
+    }
+    number % step == 0
+}
+
+// Deletes a document, if it is there.
+fn kill(alive: &mut AliveBits, doc: DocId) {
+    if doc < alive.num_docs() {
+        alive.kill(doc);
+    }
+}
+
 // Returns which documents are alive: all but each third, fourth or other one.
 fn alive(alloc: Global, num_docs: DocId, step: DocId) -> Result<AliveBits, Fault>
     ensures { IfOk result (λ alive. num_living alive ≤ 1_000) }
 {
     let mut alive = AliveBits::full(alloc, num_docs)?;
     for doc in 0..num_docs {
-        if doc % step.max(1) == 0 && doc < alive.num_docs() {
-            alive.kill(doc);
+        if is_multiple(doc, step) {
+            kill(&mut alive, doc);
         }
     }
     if alive.num_living() > 1_000 {

@@ -124,9 +124,9 @@ below_read f limit word r h =
     ok_where r (IsBelow limit word) (some && digits && fits) (f (number_on 0 word))
     (λ p. rw (lt-ltb 0 (length word) p.1, p.0, lt-ltb (number_on 0 word) limit p.2) refl)
     (λ t.
-      let all = and_parts (some && digits) fits t in
-      let both = and_parts some digits all.0 in
-      (both.1, ltb-true 0 (length word) both.0, ltb-true (number_on 0 word) limit all.1)) h
+    let all = and_parts (some && digits) fits t in
+    let both = and_parts some digits all.0 in
+    (both.1, ltb-true 0 (length word) both.0, ltb-true (number_on 0 word) limit all.1)) h
     ∙ sym (needed_by f (number_on 0 word) (some && digits && fits))
 
 signed_by : {E : Type 0} (c : ℕ) (cs : List ℕ) (r : Result ℤ E) (minus : Bool) → eqb c 45 ≡ minus → ParsesSigned w64 10 (c ∷ cs) r → c ≢ 43
