@@ -1,4 +1,4 @@
-use Rattle.std.proofs.Common.{◌≡◌, ◌∙◌, List, None, arith, map, subst, sym}
+use Rattle.std.proofs.Common.{◌≡◌, ◌∙◌, None, arith, map, subst, sym}
 use Rattle.std.specs.List.{AllByRecursion}
 use Rattle.ii_query_parser.specs.declared.query.Query.{Query}
 use Rattle.ii_query_parser.specs.declared.query.Query.TheVariants.{Term}
