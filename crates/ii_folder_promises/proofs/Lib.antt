@@ -4,6 +4,7 @@ pub mod MergingLaws
 mod IndexLaws
 mod RangeLaws
 pub mod RankingLaws
+mod SameBestLaws
 mod ShareSumLaws
 mod TokenOrderLaws
 mod WordScoreLaws

@@ -7,6 +7,7 @@ pub mod damage;
 pub mod explanations;
 pub mod folder;
 pub mod index;
+pub mod index_prepared;
 pub mod index_ranking;
 pub mod index_texts;
 pub mod keys;

@@ -40,7 +40,7 @@ pub fn ranges_find_the_same<D: Directory>(
     ensures earlier { result ≡ Ok None → opened_contents (D.seen directory.now) ≡ Ok None }
     ensures found { (index : OpenSegmentsState) → (entries : List SchemaEntry) → (whole : List search.OpenSegmentState) → opened_contents (D.seen directory.now) ≡ Ok (Some index) → text_schema index.schema ≡ Ok entries
         → AllZip (λ s w. SegmentHolds s entries w.index × (w.alive ≡ s.alive)) index.segments whole
-        → IfOk result (IfSome (λ opened. found_from query.now 0 (map open_segment opened.segments.items) ≡ found_from query.now 0 whole)) }
+        → IfOk result (λ found. IfSome found (λ opened. found_from query.now 0 (map open_segment opened.segments.items) ≡ found_from query.now 0 whole)) }
     ensures fault { IfErr result (IsReadingFault (opened_contents (D.seen directory.now)) query.now) }
 {
     let segments = match open_latest(alloc, directory) {
