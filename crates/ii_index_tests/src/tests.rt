@@ -1,7 +1,7 @@
 // Documents in two batches: what is found of them after commits, a rollback and a merge.
 use ii_index::{
     Directory, DocSet, Field, Folder, Index, IndexError, IndexWriter, LockedFolder,
-    MemoryDirectory, TERMINATED, Term, TopDocs,
+    MemoryDirectory, PreparedSearch, TERMINATED, Term, TopDocs,
 };
 use std::alloc::Global;
 use std::fs;
@@ -506,6 +506,74 @@ fn the_best_documents_come_first(rt: HostRuntime) -> Result<(), Fail> {
             let found = ranked(rt.alloc(), writer.index(), row)?;
             assert!(rt; found.as_str() == row.3);
         }
+    }
+    Ok(())
+}
+
+// Words, once the document with a bird is deleted.
+static PREPARED: [Ranked; 7] = [
+    ("sea", 9, 0, "1:161159035761,0:102507709453,"),
+    ("sea", 1, 0, "1:161159035761,"),
+    ("sea", 9, 1, "0:102507709453,"),
+    ("sea", 0, 0, ""),
+    ("the", 1, 1, "0:150673979470,"),
+    ("bird", 9, 0, ""),
+    ("storm", 9, 0, ""),
+];
+
+// Returns a writer of an index of three segments, of which a document with a bird is deleted.
+fn three_segments(alloc: Global) -> Result<IndexWriter<MemoryDirectory>, Fail> {
+    let index = Index::create(alloc, MemoryDirectory::create(alloc), SCHEMA)?;
+    let mut writer = index.writer(alloc, AMPLE)?;
+    let (first, others) = DOCUMENTS.split_at(2);
+    add(alloc, &mut writer, first)?;
+    writer.commit(alloc)?;
+    for document in others {
+        add(alloc, &mut writer, &[*document])?;
+        writer.commit(alloc)?;
+    }
+    make(alloc, &mut writer, &Step::Delete("bird"))?;
+    make(alloc, &mut writer, &Step::Commit)?;
+    Ok(writer)
+}
+
+// Lists the best documents of a prepared word, each with its score.
+fn best_of(alloc: Global, prepared: &PreparedSearch<'_>, row: &Ranked) -> Result<String, Fail> {
+    let docs = TopDocs::with_limit(row.1).and_offset(row.2);
+    let best = prepared.top_docs(alloc, &docs)?;
+    let mut text = String::new(alloc);
+    for (score, doc) in &best {
+        write!(text, "{doc}:{score},")?;
+    }
+    Ok(text)
+}
+
+// Prepares a word, and lists its best documents twice.
+fn best_twice(
+    alloc: Global,
+    index: &Index<MemoryDirectory>,
+    row: &Ranked,
+) -> Result<(String, String), Fail> {
+    let reader = index.reader(alloc)?;
+    let Some(field) = index.field_named("body") else {
+        return Ok((String::new(alloc), String::new(alloc)));
+    };
+    let term = Term::from_field_text(alloc, field, row.0)?;
+    let prepared = reader.searcher().prepare(alloc, &term)?;
+    let first = best_of(alloc, &prepared, row)?;
+    let second = best_of(alloc, &prepared, row)?;
+    Ok((first, second))
+}
+
+#[test]
+fn a_prepared_word_is_searched_twice(rt: HostRuntime) -> Result<(), Fail> {
+    let writer = three_segments(rt.alloc())?;
+    for row in &PREPARED {
+        let (first, second) = best_twice(rt.alloc(), writer.index(), row)?;
+        assert!(rt; first.as_str() == row.3);
+        assert!(rt; second.as_str() == row.3);
+        let found = ranked(rt.alloc(), writer.index(), row)?;
+        assert!(rt; found.as_str() == row.3);
     }
     Ok(())
 }
