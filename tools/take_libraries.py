@@ -27,6 +27,18 @@ def command():
     return made
 
 
+def remember_sums(rt):
+    """Computes the hash of each crate's sources once. The kit computes those of its dependencies anew each time."""
+    stamp = rt.rtlib.Crate.stamp
+
+    def remembered(crate):
+        if 'sum_of_sources' not in vars(crate):
+            crate.sum_of_sources = stamp(crate)
+        return crate.sum_of_sources
+
+    rt.rtlib.Crate.stamp = remembered
+
+
 def crates_of(rt, top):
     """Returns the crates of a tree by name, each after its dependencies."""
     os.chdir(top)
@@ -76,6 +88,7 @@ def main():
         rt.read_files(self)
 
     rt.rtlib.Crate.__init__ = make
+    remember_sums(rt)
     found, missing = take_all(crates_of(rt, TOP), crates_of(rt, copy))
     print('here:', *found)
     print('missing:', *missing)
