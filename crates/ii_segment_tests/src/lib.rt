@@ -7,6 +7,8 @@ mod dictionary_slice_tests;
 #[cfg(test)]
 mod index_files;
 #[cfg(test)]
+mod prepared_query_tests;
+#[cfg(test)]
 mod prepared_tests;
 #[cfg(test)]
 mod ranking_tests;

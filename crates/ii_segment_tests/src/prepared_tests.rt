@@ -153,7 +153,7 @@ fn kill(alive: &mut AliveBits, doc: DocId) {
 }
 
 // Returns which documents are alive: all but each third, fourth or other one.
-fn alive(alloc: Global, num_docs: DocId, step: DocId) -> Result<AliveBits, Fault>
+pub(crate) fn alive(alloc: Global, num_docs: DocId, step: DocId) -> Result<AliveBits, Fault>
     ensures { IfOk result (λ alive. num_living alive ≤ 1_000) }
 {
     let mut alive = AliveBits::full(alloc, num_docs)?;
