@@ -305,22 +305,17 @@ module _ (entries : List SchemaEntry) (s : SearcherState) (n : ℕ) (ts : List I
       let sound = terms_held_sound entries s.segments h.segments h.hold (query_terms query) (terms_below (length entries) query ask.fields) in
       number_memory entries query ask.fields fault doc s.segments h.segments h.hold (short entries s.segments h.segments h.hold few.each) (subst (λ (d : Option Part). IsScoreFault (first_of d (number_damage query doc s.segments)) fault) sound is)
 
-  -- the documents that have a term score what they score by the tokens of the index
-  pub term_scored : (few : AreFew s.segments) (term : TermState) → term.field < length entries → AllByRecursion (IsListedInEach s.segments) (query_terms (Term term))
-      → segments_scored (index_statistics s) (Term term) 0 s.segments ≡ scored_docs n (token_score entries ts (token_statistics n ts) (Term term))
-  term_scored few term known listed =
-      let query = Term term in
+  -- documents score by a query what they score by the tokens of the index
+  pub query_scored : (few : AreFew s.segments) (query : Query) → MayAsk entries query → covers_docs TERMINATED query ≡ true → AllByRecursion (IsListedInEach s.segments) (query_terms query)
+      → segments_scored (index_statistics s) query 0 s.segments ≡ scored_docs n (token_score entries ts (token_statistics n ts) query)
+  query_scored few query ask covers listed =
       let terms = query_terms query in
-      let ask = term_asked entries term known in
       let below = terms_below (length entries) query ask.fields in
       let same = held_same terms below (docs_listed few terms below listed) in
-      let covers : covers_docs TERMINATED query ≡ true = ap (tree_covers TERMINATED) (term_tree term) in
       same_segments entries (index_statistics s) query ask.fields 0 s.segments h.segments h.hold ∙ row_held (index_statistics s) query docs_held same ask (reaches entries query s.segments h.segments few h.hold covers)
 
   -- and what these scores need is not damaged
-  pub term_memory : (few : AreFew s.segments) (term : TermState) → term.field < length entries → (fault : Fault) → IsScoreFault (ranking_damage s.segments (Term term)) fault → fault ≡ OutOfMemory
-  term_memory few term known fault is =
-      let query = Term term in
-      let ask = term_asked entries term known in
+  pub query_memory : (few : AreFew s.segments) (query : Query) → MayAsk entries query → (fault : Fault) → IsScoreFault (ranking_damage s.segments query) fault → fault ≡ OutOfMemory
+  query_memory few query ask fault is =
       let sound = terms_held_sound entries s.segments h.segments h.hold (query_terms query) (terms_below (length entries) query ask.fields) in
       segments_memory entries query ask.fields fault s.segments h.segments h.hold (short entries s.segments h.segments h.hold few.each) (subst (λ (d : Option Part). IsScoreFault (first_of d (segments_damage query s.segments)) fault) sound is)

@@ -222,33 +222,33 @@ impl Searcher {
         }
     }
 
-    /// Prepares a term for searches: opens its list in each segment, with bounds of what its documents score. Each search
-    /// then returns exactly what `top_docs` returns for the query of the term, and fails only with `OutOfMemory`. The
-    /// term's field must be one of the index. Preparing decodes the term's lists, so it pays for a term that is searched
-    /// more than once.
+    /// Prepares a query for searches: opens the list of each of its terms in each segment, with bounds of what its
+    /// documents score, and lists the documents of its phrases and ranges with their scores. Each search then returns
+    /// exactly what `top_docs` returns for the query, and fails only with `OutOfMemory`. All fields of the query must be
+    /// fields of the index. Preparing decodes the lists, so it pays for a query that is searched more than once.
     ///
     /// ```
-    /// let prepared = searcher.prepare(alloc, &term)?;
+    /// let prepared = searcher.prepare(alloc, &query)?;
     /// let first = prepared.top_docs(alloc, &TopDocs::with_limit(10))?;
     /// let next = prepared.top_docs(alloc, &TopDocs::with_limit(10).and_offset(10))?;
     /// ```
     ///
     /// # Errors
     ///
-    /// Those of `top_docs` for the query of the term.
-    pub fn prepare<'s>(&'s self, alloc: Global, term: &Term) -> Result<PreparedSearch<'s>, Fault>
-        requires { term.now.field < self.now.num_fields }
-        ensures scores { IfOk result (λ prepared. prepared ≡ segments_scored (index_statistics self.now) (queries.Term term.now) 0 self.now.segments) }
-        ensures sound { OnOk result (best_damage self.now (queries.Term term.now) ≡ None) }
-        ensures fault { IfErr result (IsScoreFault (best_damage self.now (queries.Term term.now))) }
+    /// Those of `top_docs` for the query.
+    pub fn prepare<'s>(&'s self, alloc: Global, query: &Query) -> Result<PreparedSearch<'s>, Fault>
+        requires { has_fields self.now.num_fields query.now ≡ true }
+        ensures scores { IfOk result (λ prepared. prepared ≡ segments_scored (index_statistics self.now) query.now 0 self.now.segments) }
+        ensures sound { OnOk result (best_damage self.now query.now ≡ None) }
+        ensures fault { IfErr result (IsScoreFault (best_damage self.now query.now)) }
         // where the segments hold an index
-        ensures holds { (entries : List SchemaEntry) (n : ℕ) (ts : List IndexToken) → SearcherHolds entries self.now n ts → term.now.field < length entries
-            → Prepares (scored_docs n (token_score entries ts (token_statistics n ts) (queries.Term term.now))) result }
+        ensures holds { (entries : List SchemaEntry) (n : ℕ) (ts : List IndexToken) → SearcherHolds entries self.now n ts → MayAsk entries query.now → covers_docs TERMINATED query.now ≡ true
+            → Prepares (scored_docs n (token_score entries ts (token_statistics n ts) query.now)) result }
     {
         if let Some(part) = self.damaged_counts() {
             return Err(Fault::Damaged(part));
         }
-        match prepare_by(alloc, self.segments.segments(), self, term) {
+        match prepare_by(alloc, self.segments.segments(), self, query) {
             Ok(prepared) => Ok(prepared),
             Err(fault) => Err(fault),
         }

@@ -1,9 +1,8 @@
-//! A term of an index that is prepared once, and searched many times.
+//! A query of an index that is prepared once, and searched many times.
 ghost use Rattle.std.specs.Prelude.{◌≡◌, IfErr, IfOk, None, OnOk, map};
 ghost use Rattle.std.specs.List.{AllByRecursion};
 ghost use Rattle.ii_index.specs.Statistics.{searcher_tokens};
 ghost use Rattle.ii_io.specs.Faults.{OnlyMemory};
-ghost use Rattle.ii_query_parser.specs.declared.query.Query.TheVariants as queries;
 ghost use Rattle.ii_ranking.specs.Scores.{IsScoreFault};
 ghost use Rattle.ii_ranking.specs.Segments.{segment_of, segments_scored};
 ghost use Rattle.ii_scorer.specs.TopDocs.{AreBest};
@@ -13,7 +12,7 @@ ghost use Rattle.ii_statistics.specs.Statistics.{query_terms, ranking_damage, se
 
 use crate::index_reader::Searcher;
 use crate::ranking::ranked_segments;
-use ii_base::{DocId, Fault, Term};
+use ii_base::{DocId, Fault};
 use ii_prepared_term::PreparedSegments;
 use ii_query_parser::Query;
 use ii_ranking::{RankedSegment, Score, TopDocs};
@@ -22,8 +21,8 @@ use ii_statistics::statistics_of;
 use std::alloc::Global;
 use std::marker::Model;
 
-/// A term that is prepared in the open segments of an index (`Searcher::prepare`), and searched as often as wanted. Its
-/// model is the list of the documents that have the term, each with its score.
+/// A query that is prepared in the open segments of an index (`Searcher::prepare`), and searched as often as wanted. Its
+/// model is the list of the documents that match the query, each with its score.
 pub struct PreparedSearch<'s> {
     segments: PreparedSegments<'s>,
 }
@@ -45,9 +44,8 @@ impl<'s> Model for PreparedSearch<'s> {
 }
 
 impl<'s> PreparedSearch<'s> {
-    /// Returns the best documents that have the term, each with its score: exactly those that `Searcher::top_docs`
-    /// returns for the query of the term. `docs` says how many are wanted, and how many better ones are passed. Fails
-    /// only with `OutOfMemory`.
+    /// Returns the best documents that match the query, each with its score: exactly those that `Searcher::top_docs`
+    /// returns. `docs` says how many are wanted, and how many better ones are passed. Fails only with `OutOfMemory`.
     pub fn top_docs(&self, alloc: Global, docs: &TopDocs) -> Result<Vec<(Score, DocId)>, Fault>
         ensures best { IfOk result (λ best. AreBest docs.now self.now best.items) }
         ensures only { OnlyMemory result }
@@ -56,64 +54,47 @@ impl<'s> PreparedSearch<'s> {
     }
 }
 
-// Prepares a term in segments, by their exact numbers, given those of their tokens.
+// Prepares a query in segments, by their exact numbers, given those of their tokens.
 pub(crate) fn prepare_by<'s>(
     alloc: Global,
     segments: &'s [OpenSegment],
     tokens: &Searcher,
-    term: &Term,
+    query: &Query,
 ) -> Result<PreparedSearch<'s>, Fault>
-    requires fields { HaveFields (queries.Term term.now) segments.now }
+    requires fields { HaveFields query.now segments.now }
     requires few { AreFew segments.now }
-    ensures scores { IfOk result (λ prepared. prepared ≡ segments_scored (segments_statistics (searcher_tokens tokens.now) segments.now) (queries.Term term.now) 0 segments.now) }
-    ensures listed { OnOk result (AllByRecursion (IsListedInEach segments.now) (query_terms (queries.Term term.now))) }
-    ensures sound { OnOk result (ranking_damage segments.now (queries.Term term.now) ≡ None) }
-    ensures fault { IfErr result (IsScoreFault (ranking_damage segments.now (queries.Term term.now))) }
+    ensures scores { IfOk result (λ prepared. prepared ≡ segments_scored (segments_statistics (searcher_tokens tokens.now) segments.now) query.now 0 segments.now) }
+    ensures listed { OnOk result (AllByRecursion (IsListedInEach segments.now) (query_terms query.now)) }
+    ensures sound { OnOk result (ranking_damage segments.now query.now ≡ None) }
+    ensures fault { IfErr result (IsScoreFault (ranking_damage segments.now query.now)) }
 {
     let ranked = match ranked_segments(alloc, segments) {
         Ok(ranked) => ranked,
         Err(fault) => return Err(fault),
     };
-    let query = match query_of(alloc, term) {
-        Ok(query) => query,
-        Err(fault) => return Err(fault),
-    };
-    let prepared = prepare_ranked(alloc, ranked.as_slice(), tokens, &query, term);
-    drop(query);
-    prepared
+    prepare_ranked(alloc, ranked.as_slice(), tokens, query)
 }
 
-// Prepares a term in segments that are ranked. See `prepare_by`.
+// Prepares a query in segments that are ranked. See `prepare_by`.
 fn prepare_ranked<'s>(
     alloc: Global,
     segments: &[RankedSegment<'s>],
     tokens: &Searcher,
     query: &Query,
-    term: &Term,
 ) -> Result<PreparedSearch<'s>, Fault>
-    requires same { query.now ≡ queries.Term term.now }
-    requires fields { HaveFields (queries.Term term.now) (map segment_of segments.now) }
+    requires fields { HaveFields query.now (map segment_of segments.now) }
     requires few { AreFew (map segment_of segments.now) }
-    ensures scores { IfOk result (λ prepared. prepared ≡ segments_scored (segments_statistics (searcher_tokens tokens.now) (map segment_of segments.now)) (queries.Term term.now) 0 (map segment_of segments.now)) }
-    ensures listed { OnOk result (AllByRecursion (IsListedInEach (map segment_of segments.now)) (query_terms (queries.Term term.now))) }
-    ensures sound { OnOk result (ranking_damage (map segment_of segments.now) (queries.Term term.now) ≡ None) }
-    ensures fault { IfErr result (IsScoreFault (ranking_damage (map segment_of segments.now) (queries.Term term.now))) }
+    ensures scores { IfOk result (λ prepared. prepared ≡ segments_scored (segments_statistics (searcher_tokens tokens.now) (map segment_of segments.now)) query.now 0 (map segment_of segments.now)) }
+    ensures listed { OnOk result (AllByRecursion (IsListedInEach (map segment_of segments.now)) (query_terms query.now)) }
+    ensures sound { OnOk result (ranking_damage (map segment_of segments.now) query.now ≡ None) }
+    ensures fault { IfErr result (IsScoreFault (ranking_damage (map segment_of segments.now) query.now)) }
 {
     let statistics = match statistics_of(alloc, segments, tokens, query) {
         Ok(statistics) => statistics,
         Err(fault) => return Err(fault),
     };
-    match PreparedSegments::open(alloc, segments, &statistics, term) {
+    match PreparedSegments::open(alloc, segments, &statistics, query) {
         Ok(segments) => Ok(PreparedSearch { segments }),
         Err(fault) => Err(fault),
     }
-}
-
-// Returns the query of a term.
-fn query_of(alloc: Global, term: &Term) -> Result<Query, Fault>
-    ensures same { IfOk result (λ query. query ≡ queries.Term term.now) }
-    ensures only { OnlyMemory result }
-{
-    let copy = Term::from_field_bytes(alloc, term.field(), term.serialized_value_bytes())?;
-    Ok(Query::Term(copy))
 }

@@ -510,8 +510,8 @@ fn the_best_documents_come_first(rt: HostRuntime) -> Result<(), Fail> {
     Ok(())
 }
 
-// Words, once the document with a bird is deleted.
-static PREPARED: [Ranked; 7] = [
+// Queries, once the document with a bird is deleted.
+static PREPARED: [Ranked; 9] = [
     ("sea", 9, 0, "1:161159035761,0:102507709453,"),
     ("sea", 1, 0, "1:161159035761,"),
     ("sea", 9, 1, "0:102507709453,"),
@@ -519,6 +519,8 @@ static PREPARED: [Ranked; 7] = [
     ("the", 1, 1, "0:150673979470,"),
     ("bird", 9, 0, ""),
     ("storm", 9, 0, ""),
+    ("man OR hand", 9, 0, "0:213918721656,"),
+    ("\"old sea\" OR bird", 9, 0, "1:224927038387,"),
 ];
 
 // Returns a writer of an index of three segments, of which a document with a bird is deleted.
@@ -537,7 +539,7 @@ fn three_segments(alloc: Global) -> Result<IndexWriter<MemoryDirectory>, Fail> {
     Ok(writer)
 }
 
-// Lists the best documents of a prepared word, each with its score.
+// Lists the best documents of a prepared query, each with its score.
 fn best_of(alloc: Global, prepared: &PreparedSearch<'_>, row: &Ranked) -> Result<String, Fail> {
     let docs = TopDocs::with_limit(row.1).and_offset(row.2);
     let best = prepared.top_docs(alloc, &docs)?;
@@ -548,25 +550,22 @@ fn best_of(alloc: Global, prepared: &PreparedSearch<'_>, row: &Ranked) -> Result
     Ok(text)
 }
 
-// Prepares a word, and lists its best documents twice.
+// Prepares a query, and lists its best documents twice.
 fn best_twice(
     alloc: Global,
     index: &Index<MemoryDirectory>,
     row: &Ranked,
 ) -> Result<(String, String), Fail> {
     let reader = index.reader(alloc)?;
-    let Some(field) = index.field_named("body") else {
-        return Ok((String::new(alloc), String::new(alloc)));
-    };
-    let term = Term::from_field_text(alloc, field, row.0)?;
-    let prepared = reader.searcher().prepare(alloc, &term)?;
+    let query = index.parse_query(alloc, &[Field::from_field_id(0)], row.0)?;
+    let prepared = reader.searcher().prepare(alloc, &query)?;
     let first = best_of(alloc, &prepared, row)?;
     let second = best_of(alloc, &prepared, row)?;
     Ok((first, second))
 }
 
 #[test]
-fn a_prepared_word_is_searched_twice(rt: HostRuntime) -> Result<(), Fail> {
+fn a_prepared_query_is_searched_twice(rt: HostRuntime) -> Result<(), Fail> {
     let writer = three_segments(rt.alloc())?;
     for row in &PREPARED {
         let (first, second) = best_twice(rt.alloc(), writer.index(), row)?;

@@ -1,29 +1,24 @@
--- Laws of a term that is prepared in segments.
+-- Laws of a query that is prepared in segments.
 use Rattle.std.proofs.Common.{◌≡◌, ◌∙◌, ℕ, suc, ◌+◌, ◌<◌, ◌≤◌, Bool, true, List, [], ◌∷◌, ◌++◌, Option, None, append-nil, append_assoc, ap, arith, drop, if◌then◌else◌, length, refl, subst, sym}
 use Rattle.std.specs.Prelude.{slice_index_or}
 use Rattle.std.proofs.Math.Numerals.{add-one}
 use Rattle.std.proofs.Math.Seq.{drop-cons}
-use Rattle.std.proofs.lemmas.Bool.{ltb-true}
 use Rattle.ii_alive.specs.Alive.{num_living, rank}
-use Rattle.ii_base.specs.Terms.{TermState}
 use Rattle.ii_bm25.specs.Statistics.{Statistics}
-use Rattle.ii_query_parser.specs.Queries.{QueryTree, has_fields}
-use Rattle.ii_query_parser.specs.declared.query.Query.TheVariants.{Term}
-use Rattle.ii_query_parser.proofs.QueryLemmas.{term_fields, term_tree}
-use Rattle.ii_reader.specs.OpenIndex.{OpenIndexState}
+use Rattle.ii_query_parser.specs.declared.query.Query.{Query}
 use Rattle.ii_scorer.specs.TopNComputer.{KeepsBest, TopNState}
 use Rattle.ii_scorer.proofs.TopLemmas.{scored_alike}
 use Rattle.ii_segment_search.specs.Searcher.{OpenSegmentState}
 use Rattle.ii_segments.specs.Segments.{is_living}
-use Rattle.ii_ranking.specs.Scores.{query_damage, query_score, scored_in, term_damage, term_score, tree_damage, tree_score}
+use Rattle.ii_ranking.specs.Scores.{query_damage, query_score, scored_in}
 use Rattle.ii_ranking.specs.Segments.{living_score, segment_scored}
 use Rattle.ii_ranking.proofs.SegmentLemmas.{IsRanking, ranks_one}
 use Rattle.ii_prepared_term.specs.PreparedSegments.{PreparedSegmentState, prepared_living, prepared_scored}
-use Rattle.ii_prepared_term.specs.PreparedTerms.{prepared_score}
+use Rattle.ii_prepared_term.specs.PreparedQueries.{prepared_query_score}
 
 -- the documents of one segment
 abbrev pub one_scored : ℕ → PreparedSegmentState → List (ℕ × ℕ)
-one_scored base s = segment_scored base s.alive (prepared_score s.term)
+one_scored base s = segment_scored base s.alive (prepared_query_score s.query)
 
 -- ---- one segment more
 pub scored_pushed : (base : ℕ) (ss : List PreparedSegmentState) (s : PreparedSegmentState) → prepared_scored base (ss ++ s ∷ []) ≡ prepared_scored base ss ++ one_scored (base + prepared_living ss) s
@@ -37,34 +32,26 @@ pub living_pushed : (ss : List PreparedSegmentState) (s : PreparedSegmentState) 
 living_pushed [] s = omega arith
 living_pushed (t ∷ ts) s = let later = living_pushed ts s in omega (arith, later)
 
--- the documents of a segment that is prepared are those that have a score by the term
-same_scored : (statistics : Statistics) (term : TermState) (base : ℕ) (o : OpenSegmentState) (s : PreparedSegmentState) → s.alive ≡ o.alive → ((doc : ℕ) → prepared_score s.term doc ≡ term_score (scored_in o.index statistics) term doc)
-    → one_scored base s ≡ segment_scored base o.alive (query_score (scored_in o.index statistics) (Term term))
-same_scored statistics term base o s alive scores =
-    scored_alike (λ (doc : ℕ). base + rank s.alive doc) (length s.alive) (living_score s.alive (prepared_score s.term)) (living_score s.alive f) (λ doc below. ap (λ (score : Option ℕ). if is_living s.alive doc then score else None) (scores doc ∙ sym (ap (λ (tree : QueryTree). tree_score (scored_in o.index statistics) tree doc) (term_tree term))))
+-- the documents of a segment that is prepared are those that have a score by the query
+same_scored : (statistics : Statistics) (query : Query) (base : ℕ) (o : OpenSegmentState) (s : PreparedSegmentState) → s.alive ≡ o.alive → ((doc : ℕ) → prepared_query_score s.query doc ≡ query_score (scored_in o.index statistics) query doc)
+    → one_scored base s ≡ segment_scored base o.alive (query_score (scored_in o.index statistics) query)
+same_scored statistics query base o s alive scores =
+    scored_alike (λ (doc : ℕ). base + rank s.alive doc) (length s.alive) (living_score s.alive (prepared_query_score s.query)) (living_score s.alive f) (λ doc below. ap (λ (score : Option ℕ). if is_living s.alive doc then score else None) (scores doc))
     ∙ ap (λ (flags : List Bool). segment_scored base flags f) alive
   where
     f : ℕ → Option ℕ
-    f = query_score (scored_in o.index statistics) (Term term)
-
--- what the scores of a query of one term need is what the term's need
-pub damage_of_term : (index : OpenIndexState) (term : TermState) → query_damage index (Term term) ≡ term_damage index term
-damage_of_term index term = ap (tree_damage index) (term_tree term)
+    f = query_score (scored_in o.index statistics) query
 
 -- what was prepared so far, in front of what is left, is all
-module _ (statistics : Statistics) (term : TermState) (all left others : List OpenSegmentState) (o : OpenSegmentState) (ss : List PreparedSegmentState) (s : PreparedSegmentState) where
-  pub prepares_one : IsRanking statistics (Term term) all left (prepared_living ss) (prepared_scored 0 ss) → left ≡ o ∷ others → s.alive ≡ o.alive → ((doc : ℕ) → prepared_score s.term doc ≡ term_score (scored_in o.index statistics) term doc)
-      → term_damage o.index term ≡ None → IsRanking statistics (Term term) all others (prepared_living (ss ++ s ∷ [])) (prepared_scored 0 (ss ++ s ∷ []))
+module _ (statistics : Statistics) (query : Query) (all left others : List OpenSegmentState) (o : OpenSegmentState) (ss : List PreparedSegmentState) (s : PreparedSegmentState) where
+  pub prepares_one : IsRanking statistics query all left (prepared_living ss) (prepared_scored 0 ss) → left ≡ o ∷ others → s.alive ≡ o.alive → ((doc : ℕ) → prepared_query_score s.query doc ≡ query_score (scored_in o.index statistics) query doc)
+      → query_damage o.index query ≡ None → IsRanking statistics query all others (prepared_living (ss ++ s ∷ [])) (prepared_scored 0 (ss ++ s ∷ []))
   prepares_one r at alive scores sound =
       let number : 0 + prepared_living ss ≡ prepared_living ss = omega arith in
-      subst (λ (n : ℕ). IsRanking statistics (Term term) all others n (prepared_scored 0 (ss ++ s ∷ []))) (ap (λ (flags : List Bool). prepared_living ss + num_living flags) (sym alive) ∙ sym (living_pushed ss s))
-      (ranks_one statistics (Term term) all left others o (prepared_living ss) (prepared_scored 0 ss) (prepared_scored 0 (ss ++ s ∷ [])) r at
-      (scored_pushed 0 ss s ∙ ap (λ (n : ℕ). prepared_scored 0 ss ++ one_scored n s) number ∙ ap (λ (row : List (ℕ × ℕ)). prepared_scored 0 ss ++ row) (same_scored statistics term (prepared_living ss) o s alive scores))
-      (damage_of_term o.index term ∙ sound))
-
--- the field of a term, if it is one of a segment
-pub has_field : (n : ℕ) (term : TermState) → has_fields n (Term term) ≡ true → term.field < n
-has_field n term has = ltb-true term.field n (sym (term_fields n term) ∙ has)
+      subst (λ (n : ℕ). IsRanking statistics query all others n (prepared_scored 0 (ss ++ s ∷ []))) (ap (λ (flags : List Bool). prepared_living ss + num_living flags) (sym alive) ∙ sym (living_pushed ss s))
+      (ranks_one statistics query all left others o (prepared_living ss) (prepared_scored 0 ss) (prepared_scored 0 (ss ++ s ∷ [])) r at
+      (scored_pushed 0 ss s ∙ ap (λ (n : ℕ). prepared_scored 0 ss ++ one_scored n s) number ∙ ap (λ (row : List (ℕ × ℕ)). prepared_scored 0 ss ++ row) (same_scored statistics query (prepared_living ss) o s alive scores))
+      sound)
 
 -- ---- what was added so far
 -- The best are kept of the documents of the segments before the ones that are left.

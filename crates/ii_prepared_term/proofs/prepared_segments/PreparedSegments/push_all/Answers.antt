@@ -13,7 +13,7 @@ pub push_living-requires : goal.push_living-requires
 push_living-requires c =
     let all = c.self.inside.segments.items in
     let l = c.loop-place in
-    let s : PreparedSegmentState = record { term = c.segment.inside.term; alive = c.segment.inside.alive.now } in
+    let s : PreparedSegmentState = record { query = c.segment.inside.query; alive = c.segment.inside.alive.now } in
     let is = subst (λ (t : PreparedSegmentState). t ≡ slice_index_or all l.place t) (sym c.segment.view_is) c.index-segment.ensures in
     let inside : l.place < length all = let many = c.len-place-end.ensures in let low = c.loop-place-test.true in omega (arith, many, low) in
     let here = next_few all l.place l.base s c.args.computer.now l.computer inside is l.invariant.adds in
@@ -24,7 +24,7 @@ pub overflow_add-base : goal.overflow_add-base
 overflow_add-base c =
     let all = c.self.inside.segments.items in
     let l = c.loop-place in
-    let s : PreparedSegmentState = record { term = c.segment.inside.term; alive = c.segment.inside.alive.now } in
+    let s : PreparedSegmentState = record { query = c.segment.inside.query; alive = c.segment.inside.alive.now } in
     let is = subst (λ (t : PreparedSegmentState). t ≡ slice_index_or all l.place t) (sym c.segment.view_is) c.index-segment.ensures in
     let inside : l.place < length all = let many = c.len-place-end.ensures in let low = c.loop-place-test.true in omega (arith, many, low) in
     let here = next_few all l.place l.base s c.args.computer.now l.computer inside is l.invariant.adds in
@@ -36,7 +36,7 @@ pub loop-place-preserved : goal.loop-place-preserved
 loop-place-preserved c =
     let all = c.self.inside.segments.items in
     let l = c.loop-place in
-    let s : PreparedSegmentState = record { term = c.segment.inside.term; alive = c.segment.inside.alive.now } in
+    let s : PreparedSegmentState = record { query = c.segment.inside.query; alive = c.segment.inside.alive.now } in
     let is = subst (λ (t : PreparedSegmentState). t ≡ slice_index_or all l.place t) (sym c.segment.view_is) c.index-segment.ensures in
     let inside : l.place < length all = let many = c.len-place-end.ensures in let low = c.loop-place-test.true in omega (arith, many, low) in
     record {
