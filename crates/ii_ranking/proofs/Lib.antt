@@ -4,6 +4,7 @@ pub mod EntryLemmas
 pub mod EntryTokens
 pub mod GatherLemmas
 pub mod LeafLemmas
+pub mod ListingLemmas
 pub mod LocalScores
 pub mod OneIndexLaws
 pub mod OpeningLemmas

@@ -1,5 +1,6 @@
 pub mod Combinations
 pub mod LeafScorers
+pub mod Listing
 pub mod NormIds
 pub mod OneIndex
 pub mod Scores
