@@ -27,6 +27,19 @@ def command():
     return made
 
 
+def once(method):
+    """Makes a method of a crate keep its first result. The kit's `below` and `stamp` ask each dependency
+    again, so that a crate is asked once for each path to it."""
+    known = {}
+
+    def ask(crate):
+        if crate not in known:
+            known[crate] = method(crate)
+        return known[crate]
+
+    return ask
+
+
 def crates_of(rt, top):
     """Returns the crates of a tree by name, each after its dependencies."""
     os.chdir(top)
@@ -76,6 +89,8 @@ def main():
         rt.read_files(self)
 
     rt.rtlib.Crate.__init__ = make
+    rt.rtlib.Crate.below = once(rt.rtlib.Crate.below)
+    rt.rtlib.Crate.stamp = once(rt.rtlib.Crate.stamp)
     found, missing = take_all(crates_of(rt, TOP), crates_of(rt, copy))
     print('here:', *found)
     print('missing:', *missing)
