@@ -27,17 +27,16 @@ def command():
     return made
 
 
-def once(method):
-    """Makes a method of a crate keep its first result. The kit's `below` and `stamp` ask each dependency
-    again, so that a crate is asked once for each path to it."""
-    known = {}
+def remember_sums(rt):
+    """Computes the hash of each crate's sources once. The kit computes those of its dependencies anew each time."""
+    stamp = rt.rtlib.Crate.stamp
 
-    def ask(crate):
-        if crate not in known:
-            known[crate] = method(crate)
-        return known[crate]
+    def remembered(crate):
+        if 'sum_of_sources' not in vars(crate):
+            crate.sum_of_sources = stamp(crate)
+        return crate.sum_of_sources
 
-    return ask
+    rt.rtlib.Crate.stamp = remembered
 
 
 def crates_of(rt, top):
@@ -89,8 +88,7 @@ def main():
         rt.read_files(self)
 
     rt.rtlib.Crate.__init__ = make
-    rt.rtlib.Crate.below = once(rt.rtlib.Crate.below)
-    rt.rtlib.Crate.stamp = once(rt.rtlib.Crate.stamp)
+    remember_sums(rt)
     found, missing = take_all(crates_of(rt, TOP), crates_of(rt, copy))
     print('here:', *found)
     print('missing:', *missing)
