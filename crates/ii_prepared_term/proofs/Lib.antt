@@ -1,3 +1,5 @@
 pub mod PreparedLemmas
+pub mod PreparedQueryLemmas
 pub mod PreparedSegmentLemmas
+pub mod ScoredListLemmas
 mod WorkedRows

@@ -94,6 +94,10 @@ impl<'a> Scorer for PreparedScorer<'a> {
         }
     }
 
+    fn has_runs(&self) -> bool {
+        true
+    }
+
     fn score_at(&mut self, doc: DocId, least: Score) -> Option<Score> {
         if go_on(&mut self.cursor, doc) != doc {
             return None;

@@ -7,6 +7,7 @@ ghost use Rattle.ii_scorer.specs.TopDocs.{AreBest, scored_docs};
 ghost use Rattle.ii_scorer.specs.TopNComputer.{KeepsBest};
 ghost use Rattle.ii_ranking.specs.Scores.{IsScoreFault, scored_in, term_damage, term_score};
 ghost use Rattle.ii_ranking.specs.Segments.{segment_scored};
+ghost use Rattle.ii_prepared_term.specs.PreparedQueries.{ScoresEnd};
 ghost use Rattle.ii_prepared_term.specs.PreparedTerms.{prepared_score, prepared_state};
 
 use crate::prepared_scorer::PreparedScorer;
@@ -62,6 +63,7 @@ impl PreparedTerm {
     ) -> Result<PreparedTerm, Fault>
         requires field { term.now.field < length index.now.readers }
         ensures scores { IfOk result (λ prepared. (doc : ℕ) → prepared_score prepared doc ≡ term_score (scored_in index.now (S.statistics statistics.now)) term.now doc) }
+        ensures ends { IfOk result (λ prepared. ScoresEnd (prepared_score prepared)) }
         ensures sound { OnOk result (term_damage index.now term.now ≡ None) }
         ensures fault { IfErr result (IsScoreFault (term_damage index.now term.now)) }
     {
@@ -128,7 +130,7 @@ impl PreparedTerm {
     }
 
     // Returns a scorer at the start of the list.
-    fn scorer(&self) -> Result<PreparedScorer<'_>, Fault>
+    pub(crate) fn scorer(&self) -> Result<PreparedScorer<'_>, Fault>
         ensures scores { IfOk result (λ scorer. (doc : ℕ) → score_of (prepared_state scorer) doc ≡ prepared_score self.now doc) }
         ensures only { OnlyMemory result }
     {

@@ -3,7 +3,7 @@ use Rattle.std.specs.Option.{option_map}
 use Rattle.ii_io.specs.Composite.{body_of}
 use Rattle.ii_fieldnorm.specs.Readers.{norms_of_ids}
 use Rattle.ii_ranking.proofs.LeafLemmas.{term_opened}
-use Rattle.ii_prepared_term.proofs.PreparedLemmas.{first_prepared, state_of}
+use Rattle.ii_prepared_term.proofs.PreparedLemmas.{first_prepared, prepared_ends, state_of}
 use Rattle.ii_prepared_term.proofs.prepared_term.PreparedTerm.open.Goals as goal
 
 pub invariant_of-result : goal.invariant_of-result
@@ -16,3 +16,8 @@ returns-clause-scores g c =
 
 pub returns-clause-sound : goal.returns-clause-sound
 returns-clause-sound g c = rw (c.in_ok-cursor.ensures.listed, ← c.field.ensures) c.in_ok-norms.ensures.sound
+
+pub returns-clause-ends : goal.returns-clause-ends
+returns-clause-ends g c =
+    let s = state_of c.in_ok-weight.weight c.in_ok-norms.norms c.in_ok-shares.shares c.in_ok-cursor.cursor in
+    prepared_ends s (first_prepared s c.in_ok-walked.walked c.in_ok-walked.ensures.same c.doc-first.ensures.sound c.in_ok-shares.ensures.bounds c.in_ok-shares.ensures.ends)

@@ -1,0 +1,76 @@
+-- Laws of queries that are prepared part by part.
+use Rattle.std.proofs.Common.{◌≡◌, ◌∙◌, ℕ, zero, suc, ◌+◌, ◌<◌, ◌≤◌, true, List, [], ◌∷◌, ◌++◌, Option, None, add-one, ap, append_assoc, arith, drop, get_or, length, refl, subst, sym}
+use Rattle.std.specs.List.{AllByRecursion, fold, list_all}
+use Rattle.std.proofs.Math.Seq.{drop-cons}
+use Rattle.std.proofs.lemmas.Bool.{and_parts}
+use Rattle.std.proofs.lemmas.List.{map-append}
+use Rattle.ii_io.specs.declared.faults.Part.{Part}
+use Rattle.ii_base.specs.declared.doc_id.TheConstants.{TERMINATED}
+use Rattle.ii_query_parser.specs.declared.query.Query.{Query}
+use Rattle.ii_query_parser.specs.Queries.{has_fields, trees_of}
+use Rattle.ii_reader.specs.OpenIndex.{OpenIndexState}
+use Rattle.ii_scorer.specs.Combinations.{any_of, both, each_of, either}
+use Rattle.ii_scorer.specs.Scorers.{ScorerState, score_of, scores_at}
+use Rattle.ii_scorer.proofs.SumLemmas.{any_cons, both_never}
+use Rattle.ii_ranking.specs.Scores.{Scored, first_of, query_damage, query_score, tree_scores, trees_damage}
+use Rattle.ii_prepared_term.specs.PreparedQueries.{PreparedQueryState, ScoresEnd, depth_under, prepared_query_score, scores_by}
+
+-- No document from `TERMINATED` on has a score by a query.
+abbrev pub QueryEnds : PreparedQueryState → Type 0
+QueryEnds s = ScoresEnd (prepared_query_score s)
+
+pub any_end : (ss : List PreparedQueryState) → AllByRecursion QueryEnds ss → ScoresEnd (λ (doc : ℕ). any_of (scores_by ss doc))
+any_end [] all doc end = refl
+any_end (s ∷ ss) all doc end = any_cons (prepared_query_score s doc) (scores_by ss doc) ∙ (λ j. either (all.0 doc end j) (any_end ss all.1 doc end j))
+
+pub each_end : (ss : List PreparedQueryState) → AllByRecursion QueryEnds ss → ScoresEnd (λ (doc : ℕ). each_of (scores_by ss doc))
+each_end [] all doc end = refl
+each_end (s ∷ ss) all doc end = ap (λ (score : Option ℕ). fold both score (scores_by ss doc)) (all.0 doc end) ∙ both_never (scores_by ss doc)
+
+-- The queries that were prepared so far, with those that are left, are all.
+pub record IsPreparing (s : Scored) (index : OpenIndexState) (all left : List Query) (parts : List PreparedQueryState) : Type 0 where
+  pub scores : (doc : ℕ) → scores_by parts doc ++ tree_scores s (trees_of left) doc ≡ tree_scores s (trees_of all) doc
+  pub ends : AllByRecursion QueryEnds parts
+  pub sound : trees_damage index (trees_of left) ≡ trees_damage index (trees_of all)
+  pub fields : list_all (has_fields (length index.readers)) left ≡ true
+
+ends_more : (parts : List PreparedQueryState) (part : PreparedQueryState) → AllByRecursion QueryEnds parts → QueryEnds part → AllByRecursion QueryEnds (parts ++ part ∷ [])
+ends_more [] part all end = (end, tt)
+ends_more (p ∷ ps) part all end = (all.0, ends_more ps part all.1 end)
+
+-- one query more
+pub prepares_next : (s : Scored) (index : OpenIndexState) (all left others : List Query) (q : Query) (parts more : List PreparedQueryState) (part : PreparedQueryState) → IsPreparing s index all left parts → left ≡ q ∷ others → ((doc : ℕ) → prepared_query_score part doc ≡ query_score s q doc)
+    → QueryEnds part → query_damage index q ≡ None → more ≡ parts ++ part ∷ [] → IsPreparing s index all others more
+prepares_next s index all left others q parts more part i is same end sound more_is = record {
+  scores = λ doc.
+      let later = tree_scores s (trees_of others) doc in
+      ap (λ (ps : List PreparedQueryState). scores_by ps doc ++ later) more_is
+      ∙ ap (λ (row : List (Option ℕ)). row ++ later) (map-append (λ (p : PreparedQueryState). prepared_query_score p doc) parts (part ∷ []))
+      ∙ append_assoc (scores_by parts doc) (prepared_query_score part doc ∷ []) later
+      ∙ ap (λ (score : Option ℕ). scores_by parts doc ++ score ∷ later) (same doc)
+      ∙ ap (λ (qs : List Query). scores_by parts doc ++ tree_scores s (trees_of qs) doc) (sym is) ∙ i.scores doc;
+  ends = subst (AllByRecursion QueryEnds) (sym more_is) (ends_more parts part i.ends end);
+  sound = ap (λ (d : Option Part). first_of d (trees_damage index (trees_of others))) (sym sound) ∙ ap (λ (qs : List Query). trees_damage index (trees_of qs)) (sym is) ∙ i.sound;
+  fields = (and_parts (has_fields (length index.readers) q) (list_all (has_fields (length index.readers)) others) (rw is at i.fields)).1;
+}
+
+-- ---- scorers of parts
+-- each part is less deep
+pub part_inside : (ss : List PreparedQueryState) (i : ℕ) (x : PreparedQueryState) → i < length ss → x ≡ get_or ss i x → suc x.depth ≤ depth_under ss
+part_inside [] i x inside is = absurd (omega (arith, inside))
+part_inside (s ∷ ss) zero x inside is = let deep = ap (λ (p : PreparedQueryState). p.depth) is in omega (arith, deep)
+part_inside (s ∷ ss) (suc i) x inside is = let later = part_inside ss i x (omega (arith, inside)) is in omega (arith, later)
+
+-- one scorer more
+pub scores_more : (parts : List PreparedQueryState) (i : ℕ) (part : PreparedQueryState) (scorers more : List ScorerState) (scorer : ScorerState) → i < length parts → part ≡ get_or parts i part → ((doc : ℕ) → score_of scorer doc ≡ prepared_query_score part doc) → more ≡ scorers ++ scorer ∷ []
+    → ((doc : ℕ) → scores_at scorers doc ++ scores_by (drop i parts) doc ≡ scores_by parts doc) → (doc : ℕ) → scores_at more doc ++ scores_by (drop (i + 1) parts) doc ≡ scores_by parts doc
+scores_more parts i part scorers more scorer inside is same more_is all doc =
+    let later = scores_by (drop (i + 1) parts) doc in
+    ap (λ (ss : List ScorerState). scores_at ss doc ++ later) more_is
+    ∙ ap (λ (row : List (Option ℕ)). row ++ later) (map-append (λ (s : ScorerState). score_of s doc) scorers (scorer ∷ []))
+    ∙ append_assoc (scores_at scorers doc) (score_of scorer doc ∷ []) later
+    ∙ ap (λ (score : Option ℕ). scores_at scorers doc ++ score ∷ later) (same doc)
+    ∙ ap (λ (ps : List PreparedQueryState). scores_at scorers doc ++ scores_by ps doc) (sym at) ∙ all doc
+  where
+    at : drop i parts ≡ part ∷ drop (i + 1) parts
+    at = drop-cons parts i part inside ∙ rw (← is, add-one i) refl

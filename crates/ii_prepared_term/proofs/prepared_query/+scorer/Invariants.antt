@@ -1,0 +1,20 @@
+use Rattle.std.proofs.Common.{◌≡◌, ◌*◌, ◌+◌, ◌++◌, ℕ, drop}
+use Rattle.ii_scorer.specs.Scorers.{scores_at}
+use Rattle.ii_prepared_term.specs.PreparedParts.{depth_of}
+use Rattle.ii_prepared_term.specs.PreparedQueries.{depth_under, scores_by}
+use Rattle.ii_prepared_term.proofs.prepared_query.+scorer.Given as goal
+
+abbrev pub decreases-PreparedQuery::scorer : goal.decreases-PreparedQuery::scorer
+decreases-PreparedQuery::scorer l = 3 * l.self.now.depth + 2
+
+abbrev pub decreases-scorer_of : goal.decreases-scorer_of
+decreases-scorer_of l = 3 * depth_of l.parts.now + 1
+
+abbrev pub decreases-scorers_of : goal.decreases-scorers_of
+decreases-scorers_of l = 3 * depth_under l.parts.now.items
+
+abbrev pub decreases-scorer_without : goal.decreases-scorer_without
+decreases-scorer_without l = 3 * l.other.now.depth + 3
+
+abbrev pub invariant-scorers_of-loop-part : goal.invariant-scorers_of-loop-part
+invariant-scorers_of-loop-part l = record { scores : (doc : ℕ) → scores_at l.scorers.items doc ++ scores_by (drop l.part-index l.parts.items) doc ≡ scores_by l.parts.items doc }

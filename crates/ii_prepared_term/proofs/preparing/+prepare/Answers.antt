@@ -1,0 +1,35 @@
+use Rattle.std.proofs.Common.{◌≡◌, ◌<◌, ◌+◌, drop, get_or, length, rules}
+use Rattle.ii_search.proofs.QueryLemmas.{and_deep, and_has_fields, or_deep, or_has_fields, query_at}
+use Rattle.ii_ranking.specs.Scores.{scored_in}
+use Rattle.ii_ranking.proofs.QueryScoreLemmas.{refused_next}
+use Rattle.ii_prepared_term.proofs.PreparedQueryLemmas.{prepares_next}
+use Rattle.ii_prepared_term.proofs.preparing.+prepare.Goals as goal
+
+pub prepare_each-returns-in-Err-clause-fault : goal.prepare_each-returns-in-Err-clause-fault
+prepare_each-returns-in-Err-clause-fault g t c =
+    let l = c.loop-query in
+    let all = c.args.queries.now.items in
+    let inside : l.query-index < length all = search rules in
+    let is : c.query-item.result ≡ get_or all l.query-index c.query-item.result = search rules in
+    refused_next c.args.index.now all (drop l.query-index all) (drop (l.query-index + 1) all) c.query-item.result c.in-Err.fault l.invariant.preparing.sound (query_at all l.query-index c.query-item.result inside is) c.in-Err.ensures.fault
+
+pub prepare-prepare_each-requires : goal.prepare-prepare_each-requires
+prepare-prepare_each-requires g t c κs within =
+    let deep = and_deep c.args.query.now c.in-And.queries c.in-And.is in
+    let fields = and_has_fields (length c.args.index.now.readers) c.args.query.now c.in-And.queries c.in-And.is c.requires.fields in
+    search (rules, deep, fields)
+
+pub prepare-prepare_each-requires-in-Or : goal.prepare-prepare_each-requires-in-Or
+prepare-prepare_each-requires-in-Or g t c κs within =
+    let deep = or_deep c.args.query.now c.in-Or.queries c.in-Or.is in
+    let fields = or_has_fields (length c.args.index.now.readers) c.args.query.now c.in-Or.queries c.in-Or.is c.requires.fields in
+    search (rules, deep, fields)
+
+pub prepare_each-loop-query-preserved : goal.prepare_each-loop-query-preserved
+prepare_each-loop-query-preserved g t c =
+    let l = c.loop-query in
+    let all = c.args.queries.now.items in
+    let s = scored_in c.args.index.now (g.S.Bm25StatisticsProvider.statistics c.args.statistics.now) in
+    let inside : l.query-index < length all = search rules in
+    let is : c.query-item.result ≡ get_or all l.query-index c.query-item.result = search rules in
+    record { preparing = prepares_next s c.args.index.now all (drop l.query-index all) (drop (l.query-index + 1) all) c.query-item.result l.parts.items c.push.new.self.items c.in-Ok.part l.invariant.preparing (query_at all l.query-index c.query-item.result inside is) c.in-Ok.ensures.scores c.in-Ok.ensures.ends c.in-Ok.ensures.sound c.in_ok-push.ensures.items }

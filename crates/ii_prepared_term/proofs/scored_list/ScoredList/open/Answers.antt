@@ -1,0 +1,18 @@
+use Rattle.std.proofs.Common.{rules}
+use Rattle.ii_ranking.specs.Scores.{query_score, scored_in}
+use Rattle.ii_prepared_term.specs.ScoredLists.{entries_of}
+use Rattle.ii_prepared_term.proofs.ScoredListLemmas.{entries_end, listed_is, listed_up}
+use Rattle.ii_prepared_term.proofs.scored_list.ScoredList.open.Goals as goal
+
+pub invariant_of-result : goal.invariant_of-result
+invariant_of-result g c = record {
+  ascending = listed_up c.in_ok-docs.docs.items (query_score (scored_in c.args.index.now (g.S.Bm25StatisticsProvider.statistics c.args.statistics.now)) c.args.query.now) c.in_ok-docs.ensures.listed;
+  up_to = c.greatest_of-most.ensures;
+  fits = search rules;
+}
+
+pub returns-clause-scores : goal.returns-clause-scores
+returns-clause-scores g c = listed_is c.in_ok-docs.docs.items (query_score (scored_in c.args.index.now (g.S.Bm25StatisticsProvider.statistics c.args.statistics.now)) c.args.query.now) c.in_ok-docs.ensures.listed c.in_ok-docs.ensures.ends
+
+pub returns-clause-ends : goal.returns-clause-ends
+returns-clause-ends g c = entries_end (entries_of c.in_ok-docs.docs.items) (listed_up c.in_ok-docs.docs.items (query_score (scored_in c.args.index.now (g.S.Bm25StatisticsProvider.statistics c.args.statistics.now)) c.args.query.now) c.in_ok-docs.ensures.listed)

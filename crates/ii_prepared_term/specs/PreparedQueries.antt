@@ -1,0 +1,25 @@
+-- A query that is prepared for ranking: what documents score by it.
+use Rattle.std.specs.Prelude.{◌≡◌, ℕ, suc, ◌≤◌, List, [], ◌∷◌, Option, None, get_or, map, max}
+use Rattle.ii_base.specs.declared.doc_id.TheConstants.{TERMINATED}
+
+-- what each document below `TERMINATED` scores by a prepared query, and how deep the query is nested
+pub record PreparedQueryState : Type 0 where
+  pub scores : List (Option ℕ)
+  pub depth : ℕ
+
+-- what a document scores
+abbrev pub prepared_query_score : PreparedQueryState → ℕ → Option ℕ
+prepared_query_score s doc = get_or s.scores doc None
+
+-- what a document scores by each of some queries
+abbrev pub scores_by : List PreparedQueryState → ℕ → List (Option ℕ)
+scores_by parts doc = map (λ (s : PreparedQueryState). prepared_query_score s doc) parts
+
+-- one more than the depth of the deepest of some queries
+abbrev pub depth_under : List PreparedQueryState → ℕ
+depth_under [] = 0
+depth_under (s ∷ ss) = max (suc s.depth) (depth_under ss)
+
+-- No document from `TERMINATED` on has a score.
+abbrev pub ScoresEnd : (ℕ → Option ℕ) → Type 0
+ScoresEnd f = (doc : ℕ) → TERMINATED ≤ doc → f doc ≡ None
