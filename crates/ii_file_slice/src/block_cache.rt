@@ -9,9 +9,9 @@ use ii_store::file_digest::BLOCK_LEN;
 use std::alloc::{AllocError, Global};
 use std::marker::Model;
 
-/// A file of which the last read blocks are kept in memory, so that a search that reads a block many times reads it
-/// from the file once. A block has `BLOCK_LEN` bytes, and begins at a multiple of that in the file whose blocks are checked. Block
-/// `n` is kept in the place `n % num_blocks`, in which it replaces another one.
+/// A file of which the last read blocks are kept in memory, so that a search that reads a block many times seldom reads it
+/// from the file again. A block has `BLOCK_LEN` bytes, and begins at a multiple of that in the file whose blocks are checked.
+/// Each is kept in one place, in which it replaces another one.
 #[derive(Drop)]
 pub struct BlockCache<'a, H: FileHandle> {
     file: &'a H,
@@ -25,6 +25,10 @@ struct CachedBlock {
     start: u64,
     bytes: Bytes,
 }
+
+// The places of blocks are the high bits of multiples of this number, 2^64 divided by the golden ratio. So two parts of a
+// file that are read in turns seldom share places, whatever is between them.
+const SPREAD: u64 = 0x9E37_79B9_7F4A_7C15;
 
 // Where a block lies in a file: the number that says in which place it is kept, its first byte and its length.
 #[derive(Clone, Copy)]
@@ -116,7 +120,7 @@ impl<'a, H: FileHandle> BlockCache<'a, H> {
         ensures range { (bytes : List ℕ) → H.bytes self.old ≡ Some bytes → IsErrOf result faults.Range → length bytes < block.start + block.len }
         ensures sound { (bytes : List ℕ) → H.bytes self.old ≡ Some bytes → H.is_sound self.old → block.start + block.len ≤ length bytes → IfErr result (λ e. e ≡ faults.OutOfMemory) }
     {
-        let place = (block.number % self.blocks.len() as u64) as usize;
+        let place = place_of(block.number, self.blocks.len());
         let kept = &self.blocks[place];
         if kept.start == block.start && kept.bytes.len() == block.len {
             return Ok(kept.bytes.slice(skipped..skipped + len)?);
@@ -132,6 +136,15 @@ impl<'a, H: FileHandle> BlockCache<'a, H> {
         };
         Ok(read)
     }
+}
+
+// Returns the place of a block, one of `num_blocks`.
+fn place_of(number: u64, num_blocks: usize) -> usize
+    requires { 0 < num_blocks }
+    ensures { result < num_blocks }
+{
+    let spread = number.wrapping_mul(SPREAD) >> 32;
+    (spread % num_blocks as u64) as usize
 }
 
 // Returns a block without bytes.

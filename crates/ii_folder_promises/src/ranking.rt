@@ -13,7 +13,7 @@ ghost use Rattle.ii_fieldnorm.specs.Norms.{id_of_norm};
 ghost use Rattle.ii_indexing.specs.RamFiles.{IsRamFault};
 ghost use Rattle.ii_indexing.specs.Refusals.{calls_fault};
 ghost use Rattle.ii_query_parser.specs.Queries.{has_fields, keeps_positions, matches};
-ghost use Rattle.ii_ranking.specs.Scores.{scored_in, term_score};
+ghost use Rattle.ii_ranking.specs.Scores.{query_score, scored_in, term_score};
 ghost use Rattle.ii_ranking.specs.Statistics.{statistics_of};
 ghost use Rattle.ii_ranking.specs.TokenScores.{token_score};
 ghost use Rattle.ii_base.specs.Schema.{SchemaEntry};
@@ -22,7 +22,7 @@ ghost use Rattle.ii_ranking.specs.declared.shares.Share.{Share};
 ghost use Rattle.ii_segment_search.specs.Searcher.{HaveFields, MayAsk, Reaches, SegmentsHold, total_living};
 ghost use Rattle.ii_segments.specs.Segments.{Segment, index_tokens, num_docs_of, type_of_field};
 
-use ii_prepared_term::PreparedTerm;
+use ii_prepared_term::{PreparedQuery, PreparedTerm};
 use ii_ram::{DocId, Fault, IndexCall, OpenIndex, Query, Schema, Term, TextAnalyzer, index_in_ram};
 use ii_ranking::laws::segments_score_as_one;
 use ii_ranking::{
@@ -71,6 +71,30 @@ pub fn the_best_of_a_term_come_first(
         → Contains best.items (score, doc) ⊎ All (λ (b : ℕ × ℕ). score ≤ b.0) best.items) }
 {
     let prepared = PreparedTerm::open(alloc, index, statistics, term)?;
+    let docs = TopDocs::with_limit(limit);
+    prepared.search(alloc, num_docs, &docs)
+}
+
+/// A query that is prepared gives the best of the documents that match it: at most as many as are wanted, the greatest score
+/// first, and of equal ones the smaller document. Each is returned with its score, and no document that matches and isn't
+/// returned has a greater score than one that is.
+pub fn the_best_of_a_prepared_query_come_first(
+    alloc: Global,
+    index: &OpenIndex,
+    num_docs: DocId,
+    statistics: &GatheredStatistics,
+    query: &Query,
+    limit: usize,
+) -> Result<Vec<(Score, DocId)>, Fault>
+    requires { has_fields (length index.now.readers) query.now ≡ true }
+    ensures few { IfOk result (λ best. length best.items ≤ limit) }
+    ensures order { IfOk result (λ best. (i j : ℕ) → i ≤ j → j < length best.items → (get_or best.items j (0, 0)).0 ≤ (get_or best.items i (0, 0)).0) }
+    ensures ties { IfOk result (λ best. (i j : ℕ) → i ≤ j → j < length best.items → (get_or best.items j (0, 0)).0 ≡ (get_or best.items i (0, 0)).0 → (get_or best.items i (0, 0)).1 ≤ (get_or best.items j (0, 0)).1) }
+    ensures scores { IfOk result (λ best. All (λ (b : ℕ × ℕ). (b.1 < num_docs) × (query_score (scored_in index.now (statistics_of statistics.now)) query.now b.1 ≡ Some b.0)) best.items) }
+    ensures greatest { IfOk result (λ best. (doc score : ℕ) → doc < num_docs → query_score (scored_in index.now (statistics_of statistics.now)) query.now doc ≡ Some score
+        → Contains best.items (score, doc) ⊎ All (λ (b : ℕ × ℕ). score ≤ b.0) best.items) }
+{
+    let prepared = PreparedQuery::open(alloc, index, statistics, query)?;
     let docs = TopDocs::with_limit(limit);
     prepared.search(alloc, num_docs, &docs)
 }

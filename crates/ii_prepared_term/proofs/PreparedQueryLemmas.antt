@@ -5,7 +5,6 @@ use Rattle.std.proofs.Math.Seq.{drop-cons}
 use Rattle.std.proofs.lemmas.Bool.{and_parts}
 use Rattle.std.proofs.lemmas.List.{map-append}
 use Rattle.ii_io.specs.declared.faults.Part.{Part}
-use Rattle.ii_base.specs.declared.doc_id.TheConstants.{TERMINATED}
 use Rattle.ii_query_parser.specs.declared.query.Query.{Query}
 use Rattle.ii_query_parser.specs.Queries.{has_fields, trees_of}
 use Rattle.ii_reader.specs.OpenIndex.{OpenIndexState}

@@ -1,5 +1,5 @@
 -- Laws of documents that are listed with their scores.
-use Rattle.std.proofs.Common.{◌≡◌, ◌∙◌, ℕ, zero, suc, ◌+◌, ◌^◌, ◌<◌, ◌≤◌, Bool, true, false, inl, inr, List, [], ◌∷◌, Option, None, Some, drop, get_or, length, map, nat_eq, refl, sym, ap, subst, arith}
+use Rattle.std.proofs.Common.{◌≡◌, ◌∙◌, ℕ, zero, suc, ◌+◌, ◌<◌, ◌≤◌, Bool, true, false, inl, inr, List, [], ◌∷◌, Option, None, Some, drop, get_or, length, nat_eq, refl, sym, ap, subst, arith}
 use Rattle.std.specs.List.{AllByRecursion}
 use Rattle.std.specs.Option.{option_map}
 use Rattle.std.proofs.lemmas.Bool.{cases_lt}
@@ -15,7 +15,7 @@ use Rattle.ii_ranking.proofs.EntryLemmas.{entry_here, none_below}
 use Rattle.ii_ranking.proofs.LeafLemmas.{IsRow, entry_row, leaf_bounded, leaf_is, leaf_went, row_ends}
 use Rattle.ii_ranking.proofs.ListingLemmas.{listed_ascends, listed_at}
 use Rattle.ii_prepared_term.specs.PreparedQueries.{ScoresEnd}
-use Rattle.ii_prepared_term.specs.ScoredLists.{IsScoredList, ScoredListState, entries_of, listed_score, listed_state}
+use Rattle.ii_prepared_term.specs.ScoredLists.{IsScoredList, ScoredListState, entries_of, listed_state}
 
 -- what a document scores by entries
 abbrev pub score_by_entries : List Entry → ℕ → Option ℕ

@@ -1,16 +1,14 @@
 //! A query that is searched many times.
-ghost use Rattle.std.specs.Prelude.{◌≡◌, ◌+◌, ◌<◌, ◌^◌, ◌++◌, ℕ, IfErr, IfOk, List, None, OnOk, Some, if◌then◌else◌, length, min, nat_lt, true};
+ghost use Rattle.std.specs.Prelude.{◌≡◌, ◌+◌, ◌<◌, ◌^◌, ◌++◌, ℕ, IfOk, List, None, OnOk, Some, if◌then◌else◌, min, nat_lt};
 ghost use Rattle.std.specs.List.{AllByRecursion};
 ghost use Rattle.ii_io.specs.Faults.{OnlyMemory};
 ghost use Rattle.ii_alive.specs.Alive.{num_living};
 ghost use Rattle.ii_base.specs.declared.doc_id.TheConstants.{TERMINATED};
 ghost use Rattle.ii_bm25.specs.declared.bm25.TheConstants.{SCORE_ONE};
-ghost use Rattle.ii_query_parser.specs.Queries.{has_fields};
 ghost use Rattle.ii_scorer.specs.Combinations.{any_of, each_of, unless};
 ghost use Rattle.ii_scorer.specs.Scorers.{score_of, scores_at};
 ghost use Rattle.ii_scorer.specs.TopDocs.{AreBest, scored_docs};
 ghost use Rattle.ii_scorer.specs.TopNComputer.{KeepsBest};
-ghost use Rattle.ii_ranking.specs.Scores.{IsScoreFault, query_damage, query_score, scored_in};
 ghost use Rattle.ii_ranking.specs.Segments.{segment_scored};
 ghost use Rattle.ii_prepared_term.specs.PreparedParts.{score_by_parts};
 ghost use Rattle.ii_prepared_term.specs.PreparedQueries.{ScoresEnd, prepared_query_score, scores_by};

@@ -13,7 +13,7 @@ ghost use Rattle.ii_query_parser.specs.Queries.{has_fields, keeps_positions, mat
 use bytes::Bytes;
 use ii_file_slice::FileFault;
 use ii_ram::{Query, QueryCursor, Schema, SegmentPostings, TermOrPhrase, search};
-use ii_warmup::{EnableScoring, IndexHandles, warm_up};
+use ii_warmup::{EnableScoring, IndexHandles, SearchHints, warm_up};
 use std::alloc::Global;
 
 /// A query finds exactly the documents whose tokens match it, in ascending order, in a small index that has just what
@@ -34,7 +34,15 @@ pub fn queries_find_the_same_when_warmed_up(
     ensures fault { (tokens : List IndexToken) → (num_docs : ℕ) → HoldTokens (option_of schema.now) files.now.terms.now files.now.postings.now files.now.positions.now tokens → HoldNorms schema.now num_docs files.now.fieldnorms.now tokens
         → IfErr result (λ e. (e ≡ FileFault.Index faults.OutOfMemory) ⊎ (e ≡ FileFault.Index (faults.Limit Offset))) }
 {
-    let part = match warm_up(alloc, files, schema, query, EnableScoring::Disabled) {
+    let mut hints = SearchHints::new(alloc);
+    let part = match warm_up(
+        alloc,
+        files,
+        schema,
+        query,
+        EnableScoring::Disabled,
+        &mut hints,
+    ) {
         Ok(part) => part,
         Err(fault) => return Err(fault),
     };

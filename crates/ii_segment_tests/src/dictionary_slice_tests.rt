@@ -4,7 +4,7 @@ use bytes::Bytes;
 use ii_file_slice::{BlockCache, CompositeSlices, FileFault, FileHandle};
 use ii_ram::{Fault, Field, Part};
 use ii_termdict::{TermDictionary, TermInfo};
-use ii_termdict_slice::TermDictionarySlice;
+use ii_termdict_slice::{SearchHint, TermDictionarySlice};
 use nequllpa_indexing::Documents;
 use std::alloc::Global;
 use std::test::Fail;
@@ -121,22 +121,31 @@ fn dictionary_slice<H: FileHandle>(
     Ok(TermDictionarySlice::open(alloc, cache)?)
 }
 
-// Returns the first number whose key isn't found as in the dictionary, or after whose key another one is found.
+// Returns the first number whose key isn't found as in the dictionary, or after whose key another one is found. Each key is
+// also searched from where the last one was, and the one after it from there.
 fn first_wrong_key<H: FileHandle>(
     alloc: Global,
     terms: &TermDictionary,
     slice: &mut TermDictionarySlice<'_, H>,
 ) -> Result<Option<u32>, Fail> {
+    let mut hint = SearchHint::none();
     for number in 0..NUM_KEYS {
         let key = format!(in alloc; "k{number}")?;
+        let near = slice.get_near(alloc, key.as_bytes(), &mut hint)?;
         let Some(info) = slice.get(alloc, key.as_bytes())? else {
             return Ok(Some(number));
         };
+        if near != Some(info) {
+            return Ok(Some(number));
+        }
         if info.doc_freq != doc_freq_of(number) || terms.get(key.as_bytes()) != Some(info) {
             return Ok(Some(number));
         }
         let next = format!(in alloc; "k{number}!")?;
         if slice.get(alloc, next.as_bytes())?.is_some() {
+            return Ok(Some(number));
+        }
+        if slice.get_near(alloc, next.as_bytes(), &mut hint)?.is_some() {
             return Ok(Some(number));
         }
     }

@@ -8,7 +8,7 @@ use crate::index_files::{
 use ii_file_slice::{FileFault, FileHandle, ReadFault};
 use ii_ram::{DocId, DocSet, Fault, OpenIndex, Query, TERMINATED};
 use ii_ranking::{GatheredStatistics, Score, TopDocs};
-use ii_warmup::{EnableScoring, IndexHandles, warm_up};
+use ii_warmup::{EnableScoring, IndexHandles, SearchHints, warm_up};
 use std::alloc::Global;
 use std::test::Fail;
 
@@ -112,7 +112,8 @@ fn warmed<H: FileHandle>(
     ensures { IfOk result (λ index. length index.readers ≡ 1) }
 {
     let schema = schema(alloc)?;
-    Ok(warm_up(alloc, files, &schema, query, scoring)?)
+    let mut hints = SearchHints::new(alloc);
+    Ok(warm_up(alloc, files, &schema, query, scoring, &mut hints)?)
 }
 
 // Returns whether what a query reads of an index has these documents that match.
@@ -265,7 +266,8 @@ fn fault_of(
     };
     let query = query_of(alloc, text, NUM_DOCS)?;
     let schema = schema(alloc)?;
-    Ok(warm_up(alloc, &handles, &schema, &query, scoring).err())
+    let mut hints = SearchHints::new(alloc);
+    Ok(warm_up(alloc, &handles, &schema, &query, scoring, &mut hints).err())
 }
 
 #[test]

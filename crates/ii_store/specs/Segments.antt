@@ -1,5 +1,5 @@
 -- The segments that the files of a folder hold, and what a commit leaves, wherever it is stopped.
-use Rattle.std.specs.Prelude.{◌≡◌, ◌⊎◌, ℕ, ◌+◌, ◌==◌, not, List, [], ◌∷◌, map, length, Option, None, Some, Result, Ok, Err, if◌then◌else◌}
+use Rattle.std.specs.Prelude.{◌≡◌, ◌<◌, ◌⊎◌, ℕ, ◌+◌, ◌==◌, IsSomeAnd, not, List, [], ◌∷◌, map, length, Option, None, Some, Result, Ok, Err, if◌then◌else◌}
 use Rattle.std.specs.List.{flat_map}
 use Rattle.ii_store.specs.declared.faults.IndexFault.{IndexFault}
 use Rattle.ii_store.specs.declared.faults.IndexFault.TheVariants.{NoIndex, MissingFile, WrongFileLength, WrongFileChecksum}
@@ -37,6 +37,10 @@ listed_bytes l (Some bytes) =
     if not (length bytes == l.file.len) then Err (WrongFileLength l.id l.file.component)
     else if not (has_digest l.file.digest bytes) then Err (WrongFileChecksum l.id l.file.component)
     else Ok bytes
+
+-- A file has more bytes than this.
+abbrev pub IsLonger : ℕ → Option (List ℕ) → Type 0
+IsLonger len seen = IsSomeAnd seen (λ bytes. len < length bytes)
 
 -- the bytes of all listed files, or the first fault
 unfoldable pub contents_of : List ListedFile → Files → Result (List (List ℕ)) IndexFault

@@ -1,16 +1,16 @@
 //! Commits a list of segments so that a stop leaves either the old list or the new one, and reads it back.
-ghost use Rattle.std.specs.Prelude.{◌≡◌, ◌+◌, Ok, OnOk, Some};
+ghost use Rattle.std.specs.Prelude.{◌≡◌, ◌+◌, IfOk, IsTrue, Ok, OnOk, Some};
 ghost use Rattle.ii_directory.specs.declared.name.Name.TheVariants.{Meta, Segment};
 ghost use Rattle.ii_directory.specs.Directory.{Elapses, IsRefusal, Obeys, is_obeyed};
 ghost use Rattle.ii_store.specs.Faults.{IsRefused};
 ghost use Rattle.ii_store.specs.Index.{AnswersFromFiles};
 ghost use Rattle.ii_store.specs.IndexMeta.{IsValidMeta, meta_view};
-ghost use Rattle.ii_store.specs.Segments.{AreThere, KeepsOtherFiles, LeavesOneList, ListedFile, MayBeReplaced, generation_in, index_with, list_in, listed_bytes, segments_of};
+ghost use Rattle.ii_store.specs.Segments.{AreThere, KeepsOtherFiles, IsLonger, LeavesOneList, ListedFile, MayBeReplaced, generation_in, index_with, list_in, listed_bytes, segments_of};
 
 use crate::faults::{IndexFault, StoreFault};
 use crate::index_meta::{FileMeta, IndexMeta, encode};
 use crate::index_meta_reader::decode;
-use ii_directory::{Directory, DirectoryFault, Name, SegmentId};
+use ii_directory::{Directory, DirectoryFault, Name, ReadAt, SegmentId};
 use std::alloc::Global;
 
 /// Puts a new list of segments in the place of the old one: writes it as `meta.new`, and atomically renames
@@ -76,7 +76,7 @@ pub fn load_meta<D: Directory>(alloc: Global, directory: &D) -> Result<IndexMeta
 /// Loads a file of a segment, as `meta` lists it.
 ///
 /// Returns `MissingFile` if there is no such file, else `WrongFileLength` or `WrongFileChecksum` if it isn't
-/// the one that `meta` describes.
+/// the one that `meta` describes. A longer file isn't read.
 #[tactic(auto, unfolding(crate::specs::Segments::listed_bytes))]
 pub fn load_segment_file<D: Directory>(
     alloc: Global,
@@ -87,7 +87,11 @@ pub fn load_segment_file<D: Directory>(
     ensures answers { D.is_known directory.now → AnswersFromFiles (λ v. v.items) result (listed_bytes (record { id = id; file = file.now }) (D.seen directory.now (Segment id file.now.component))) }
     ensures obeyed { is_obeyed IsRefused (D.may_refuse directory.now) result }
 {
-    let Some(bytes) = directory.read(alloc, Name::Segment(id, file.component))? else {
+    let name = Name::Segment(id, file.component);
+    if is_longer(alloc, directory, name, file.len)? {
+        return Err(StoreFault::Index(IndexFault::WrongFileLength(id, file.component)));
+    }
+    let Some(bytes) = directory.read(alloc, name)? else {
         return Err(StoreFault::Index(IndexFault::MissingFile(id, file.component)));
     };
     if bytes.len() as u64 != file.len {
@@ -97,4 +101,21 @@ pub fn load_segment_file<D: Directory>(
         return Err(StoreFault::Index(IndexFault::WrongFileChecksum(id, file.component)));
     }
     Ok(bytes)
+}
+
+// Returns whether a file has a byte after the first `len`, which may be known though none of these was read.
+fn is_longer<D: Directory>(
+    alloc: Global,
+    directory: &D,
+    name: Name,
+    len: u64,
+) -> Result<bool, DirectoryFault>
+    ensures longer { D.is_known directory.now → IfOk result (λ longer. IsTrue longer → IsLonger len (D.seen directory.now name)) }
+    ensures obeys { is_obeyed IsRefusal (D.may_refuse directory.now) result }
+{
+    let Some(file) = directory.open(alloc, name)? else {
+        return Ok(false);
+    };
+    let mut byte = [0u8; 1];
+    Ok(file.read_exact_at(&mut byte, len).is_ok())
 }

@@ -8,6 +8,7 @@ ghost use Rattle.ii_termdict_slice.specs.Reading.{Reads};
 ghost use Rattle.ii_termdict_slice.specs.Slices.{HasParts, IsOrdinalOf, ends_in, from_keys};
 
 use crate::reading::{read_bytes, read_u64};
+use crate::search_hint::{SearchHint, SearchSteps};
 use crate::store_slice::read_term_info;
 use bytes::Bytes;
 use ii_file_slice::{BlockCache, FileFault, FileHandle};
@@ -20,8 +21,8 @@ use std::marker::Model;
 // The number of bytes of a number of terms, and of the end of a key.
 const END_SIZE: u64 = u64::SIZE_IN_BYTES as u64;
 
-/// A dictionary that is read by ranges of its file. A lookup reads only the keys that a binary search compares, their ends,
-/// and what describes the term that it finds; blocks that were read are kept. The rest isn't validated.
+/// A dictionary that is read by ranges of its file. A lookup reads only the keys that a search compares, their ends, and what
+/// describes the term that it finds; blocks that were read are kept. The rest isn't validated.
 ///
 /// Its model is that of the file.
 #[derive(Drop)]
@@ -83,7 +84,25 @@ impl<'a, H: FileHandle> TermDictionarySlice<'a, H> {
         ensures file { self.new ≡ self.old }
         ensures reads { Reads (H.bytes self.old) (H.is_sound self.old) (λ bs. IsOk (dictionary bs)) (λ bs found. IfOk (dictionary bs) (λ entries. found ≡ info_under key.now entries)) result }
     {
-        let found = match find(alloc, &mut self.file, self.num_terms, key) {
+        self.get_near(alloc, key, &mut SearchHint::none())
+    }
+
+    /// Returns what `get` does. The search begins where `hint` says that another dictionary has the key, and leaves there
+    /// where this one has it, or would have it: in dictionaries with about the same keys it reads only a few blocks.
+    ///
+    /// # Errors
+    ///
+    /// Those of `get`.
+    pub fn get_near(
+        &mut self,
+        alloc: Global,
+        key: &[u8],
+        hint: &mut SearchHint,
+    ) -> Result<Option<TermInfo>, FileFault>
+        ensures file { self.new ≡ self.old }
+        ensures reads { Reads (H.bytes self.old) (H.is_sound self.old) (λ bs. IsOk (dictionary bs)) (λ bs found. IfOk (dictionary bs) (λ entries. found ≡ info_under key.now entries)) result }
+    {
+        let found = match find(alloc, &mut self.file, self.num_terms, key, hint) {
             Ok(found) => found,
             Err(fault) => return Err(fault),
         };
@@ -178,32 +197,38 @@ fn compare_key<H: FileHandle>(
     }
 }
 
-// Searches for the ordinal of a key by binary search.
+// Searches for the ordinal of a key, from where a hint says, and leaves there where it is or would be.
 fn find<H: FileHandle>(
     alloc: Global,
     file: &mut BlockCache<'_, H>,
     num_terms: u64,
     key: &[u8],
+    hint: &mut SearchHint,
 ) -> Result<Option<u64>, FileFault>
     requires { 8 + 8 * num_terms < 2 ^ 64 }
     ensures file { file.new ≡ file.old }
     ensures within { IfOk result (λ found. IfSome found (λ ord. ord < num_terms)) }
     ensures reads { Reads (H.bytes file.old) (H.is_sound file.old) (HasParts num_terms) (IsOrdinalOf num_terms key.now) result }
 {
+    let mut steps = hint.steps(num_terms);
     let mut low = 0u64;
     let mut high = num_terms;
     while low < high {
-        let middle = low + (high - low) / 2;
-        let order = match compare_key(alloc, file, num_terms, middle, key) {
+        let ord = steps.next(low, high);
+        let order = match compare_key(alloc, file, num_terms, ord, key) {
             Ok(order) => order,
             Err(fault) => return Err(fault),
         };
         match order {
-            Ordering::Less => high = middle,
-            Ordering::Equal => return Ok(Some(middle)),
-            Ordering::Greater => low = middle + 1,
+            Ordering::Less => high = ord,
+            Ordering::Equal => {
+                *hint = SearchHint::at(ord, num_terms);
+                return Ok(Some(ord));
+            }
+            Ordering::Greater => low = ord + 1,
         }
     }
+    *hint = SearchHint::at(low, num_terms);
     Ok(None)
 }
 

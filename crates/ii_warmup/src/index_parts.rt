@@ -15,6 +15,7 @@ ghost use Rattle.ii_warmup.specs.Warmup.{WarmsUp, all_lie, all_sound};
 use crate::looked_up_terms::read_wanted_terms;
 use crate::norms::open_norms;
 use crate::scoring::EnableScoring;
+use crate::search_hints::SearchHints;
 use crate::terms::{QueryRange, QueryTerm, query_ranges, query_terms};
 use crate::warm_field::{FieldFiles, warm_up_field};
 use ii_base::{Fault, Field, IndexRecordOption, Part, Schema};
@@ -40,8 +41,8 @@ pub struct IndexHandles<'a, H: FileHandle> {
 /// what it finds in the whole index.
 ///
 /// Of each file, the table of its bodies is read. Of a field that the query names, each term is looked up in the
-/// dictionary, by a binary search; if the query has a range of the field's terms, the whole dictionary is read. Of the
-/// postings and positions, the bytes of the terms that the query has are read; if the search ranks, also the field's
+/// dictionary, by a search that begins where `hints` say that the term was in the last segment; if the query has a range of
+/// the field's terms, the whole dictionary is read. Of the postings and positions, the bytes of the terms that the query has are read; if the search ranks, also the field's
 /// norms. Of each other field, only the number of tokens is read.
 ///
 /// # Errors
@@ -61,6 +62,7 @@ pub fn warm_up<H: FileHandle>(
     schema: &Schema,
     query: &Query,
     scoring: EnableScoring,
+    hints: &mut SearchHints,
 ) -> Result<OpenIndex, FileFault>
     ensures many { IfOk result (λ part. length part.readers ≡ length schema.now) }
     // if the files hold an index
@@ -90,7 +92,7 @@ pub fn warm_up<H: FileHandle>(
         Ok(tables) => tables,
         Err(fault) => return Err(fault),
     };
-    let readers = match tables.open_fields(alloc, schema, &terms, &ranges) {
+    let readers = match tables.open_fields(alloc, schema, &terms, &ranges, hints) {
         Ok(readers) => readers,
         Err(fault) => return Err(fault),
     };
@@ -145,6 +147,7 @@ impl<'a, H: FileHandle> IndexTables<'a, H> {
         schema: &Schema,
         terms: &[QueryTerm<'_>],
         ranges: &[QueryRange<'_>],
+        hints: &mut SearchHints,
     ) -> Result<Vec<InvertedIndexReader>, FileFault>
         ensures many { IfOk result (λ readers. length readers.items ≡ length schema.now) }
         ensures few { IfOk result (λ readers. length readers.items < 2 ^ 32) }
@@ -161,7 +164,7 @@ impl<'a, H: FileHandle> IndexTables<'a, H> {
         for place in 0..schema.num_fields() {
             let field = Field::from_field_id(place as u32);
             let option = schema.get_field_entry(field).index_record_option();
-            let reader = match self.open_field(alloc, field, option, terms, ranges) {
+            let reader = match self.open_field(alloc, field, option, terms, ranges, hints) {
                 Ok(reader) => reader,
                 Err(fault) => return Err(fault),
             };
@@ -180,6 +183,7 @@ impl<'a, H: FileHandle> IndexTables<'a, H> {
         option: IndexRecordOption,
         terms: &[QueryTerm<'_>],
         ranges: &[QueryRange<'_>],
+        hints: &mut SearchHints,
     ) -> Result<InvertedIndexReader, FileFault>
         ensures warms { (bodies : IndexBodies) (whole : InvertedIndexReaderState) → KnownTables (H.bytes self.now.terms.file) (H.bytes self.now.postings.file) (H.bytes self.now.positions.file) bodies → reader_of_field bodies field option ≡ Ok whole
             → WarmsUp (requests_of terms.now ranges.now field) whole result }
@@ -198,7 +202,7 @@ impl<'a, H: FileHandle> IndexTables<'a, H> {
         let Some(positions) = self.positions.open_read(field) else {
             return Err(FileFault::Index(Fault::Damaged(Part::Composite)));
         };
-        let wanted = match read_wanted_terms(alloc, field, &dictionary, terms, ranges) {
+        let wanted = match read_wanted_terms(alloc, field, &dictionary, terms, ranges, hints) {
             Ok(wanted) => wanted,
             Err(fault) => return Err(fault),
         };

@@ -12,6 +12,7 @@ ghost use Rattle.ii_warmup.specs.QueryTerms.{range_view, requests_of, term_view}
 ghost use Rattle.ii_warmup.specs.Warmup.{wanted_entries, wanted_keys, wanted_view};
 
 use crate::copying::new_cache;
+use crate::search_hints::{SearchHints, place_of_key};
 use crate::terms::{QueryRange, QueryTerm};
 use crate::wanted_terms::{WantedTerm, has_range, names_field, requested_of, wanted_terms};
 use ii_base::{Fault, Field};
@@ -25,14 +26,15 @@ use std::collections::BTreeSet;
 const CACHED_BLOCKS: usize = 256;
 
 // Returns the terms of a field's dictionary that terms and ranges of a query have, each with what they request of it, in
-// ascending order of the bytes of their keys. Each term is looked up; if a range is of the field, the whole dictionary is
-// read, and if no term and no range is, none of it.
+// ascending order of the bytes of their keys. Each term is looked up, from where the hints say; if a range is of the field,
+// the whole dictionary is read, and if no term and no range is, none of it.
 pub(crate) fn read_wanted_terms<H: FileHandle>(
     alloc: Global,
     field: Field,
     body: &FileSlice<'_, H>,
     terms: &[QueryTerm<'_>],
     ranges: &[QueryRange<'_>],
+    hints: &mut SearchHints,
 ) -> Result<Vec<WantedTerm>, FileFault>
     ensures ascending { IfOk result (λ wanted. AreAscending (wanted_keys wanted.items)) }
     ensures reads { Reads (slice_if body.now.start body.now.len (H.bytes body.now.file.now)) (H.is_sound body.now.file.now) (λ bs. IsOk (dictionary bs))
@@ -42,7 +44,7 @@ pub(crate) fn read_wanted_terms<H: FileHandle>(
         return Ok(Vec::new(alloc));
     }
     if !has_range(field, ranges) {
-        return look_up_terms(alloc, field, body, terms, ranges);
+        return look_up_terms(alloc, field, body, terms, ranges, hints);
     }
     let dictionary = match read_dictionary(alloc, body) {
         Ok(dictionary) => dictionary,
@@ -78,6 +80,7 @@ fn look_up_terms<H: FileHandle>(
     body: &FileSlice<'_, H>,
     terms: &[QueryTerm<'_>],
     ranges: &[QueryRange<'_>],
+    hints: &mut SearchHints,
 ) -> Result<Vec<WantedTerm>, FileFault>
     requires { list_any (λ r. r.range.prefix.field == field) (map range_view ranges.now) ≡ false }
     ensures ascending { IfOk result (λ wanted. AreAscending (wanted_keys wanted.items)) }
@@ -98,7 +101,7 @@ fn look_up_terms<H: FileHandle>(
     };
     let mut wanted = Vec::new(alloc);
     while let Some(key) = keys.pop_first() {
-        let found = match look_up(alloc, &mut slice, key, field, terms, ranges) {
+        let found = match look_up(alloc, &mut slice, key, field, terms, ranges, hints) {
             Ok(found) => found,
             Err(fault) => return Err(fault),
         };
@@ -110,7 +113,7 @@ fn look_up_terms<H: FileHandle>(
     Ok(wanted)
 }
 
-// Looks up a key, if terms or ranges have it.
+// Looks up a key, if terms or ranges have it, from where the hints say.
 fn look_up<H: FileHandle>(
     alloc: Global,
     slice: &mut TermDictionarySlice<'_, H>,
@@ -118,6 +121,7 @@ fn look_up<H: FileHandle>(
     field: Field,
     terms: &[QueryTerm<'_>],
     ranges: &[QueryRange<'_>],
+    hints: &mut SearchHints,
 ) -> Result<Option<WantedTerm>, FileFault>
     ensures file { slice.new ≡ slice.old }
     ensures key { IfOk result (λ found. IfSome found (λ t. t.key.items ≡ key.items)) }
@@ -128,10 +132,13 @@ fn look_up<H: FileHandle>(
         Some(option) => option,
         None => return Ok(None),
     };
-    let found = match slice.get(alloc, &key) {
+    let place = place_of_key(field, &key, terms);
+    let mut hint = hints.at(place);
+    let found = match slice.get_near(alloc, &key, &mut hint) {
         Ok(found) => found,
         Err(fault) => return Err(fault),
     };
+    hints.put(place, hint);
     match found {
         Some(info) => Ok(Some(WantedTerm { key, info, option })),
         None => Ok(None),

@@ -15,7 +15,7 @@ use ii_directory::ReadAt;
 use ii_query_parser::Query;
 use ii_reader::OpenIndex;
 use ii_segment_store::{OpenSegment, OpenSegments};
-use ii_warmup::{EnableScoring, IndexHandles, warm_up};
+use ii_warmup::{EnableScoring, IndexHandles, SearchHints, warm_up};
 use nequllpa_opening::{Opened, OpenedIndex, schema_of};
 use std::alloc::Global;
 
@@ -62,9 +62,10 @@ fn warmed_each<F: ReadAt + Drop>(
     ensures opened { (entries : List SchemaEntry) → text_schema schema.now ≡ Ok entries → IfOk result (λ opened. AllZip (WarmsAs entries query.now scoring) segments.items opened.items) }
     ensures refused { (entries : List SchemaEntry) → text_schema schema.now ≡ Ok entries → IfErr result (λ fault. HoldsOfOne (λ s. IsWarmupRefusal schema.now entries query.now s fault) segments.items) }
 {
+    let mut hints = SearchHints::new(alloc);
     let mut opened = Vec::new(alloc);
     for segment in segments {
-        let one = match warmed_segment(alloc, schema, segment, query, scoring) {
+        let one = match warmed_segment(alloc, schema, segment, query, scoring, &mut hints) {
             Ok(one) => one,
             Err(fault) => return Err(fault),
         };
@@ -80,6 +81,7 @@ fn warmed_segment<F: ReadAt + Drop>(
     segment: OpenSegment<F>,
     query: &Query,
     scoring: EnableScoring,
+    hints: &mut SearchHints,
 ) -> Result<Opened, WarmupFault>
     ensures opened { (entries : List SchemaEntry) → text_schema schema.now ≡ Ok entries → IfOk result (WarmsAs entries query.now scoring segment) }
     ensures refused { (entries : List SchemaEntry) → text_schema schema.now ≡ Ok entries → IfErr result (IsWarmupRefusal schema.now entries query.now segment) }
@@ -88,7 +90,7 @@ fn warmed_segment<F: ReadAt + Drop>(
         Ok(schema) => schema,
         Err(fault) => return Err(WarmupFault::Open(fault)),
     };
-    match warmed_index(alloc, &schema, &segment, query, scoring) {
+    match warmed_index(alloc, &schema, &segment, query, scoring, hints) {
         Ok(index) => {
             let num_docs = segment.num_docs();
             Ok(Opened::of_parts(schema, index, num_docs, segment.into_alive()))
@@ -107,6 +109,7 @@ fn warmed_index<F: ReadAt + Drop>(
     segment: &OpenSegment<F>,
     query: &Query,
     scoring: EnableScoring,
+    hints: &mut SearchHints,
 ) -> Result<OpenIndex, WarmupFault>
     ensures complete { IfOk result (λ _. lacks_file segment.now ≡ false) }
     ensures many { IfOk result (λ index. length index.readers ≡ length schema.now) }
@@ -132,7 +135,7 @@ fn warmed_index<F: ReadAt + Drop>(
         positions,
         fieldnorms,
     };
-    match warm_up(alloc, &files, schema, query, scoring) {
+    match warm_up(alloc, &files, schema, query, scoring, hints) {
         Ok(index) => Ok(index),
         Err(fault) => Err(WarmupFault::File(fault)),
     }

@@ -1,4 +1,4 @@
-use Rattle.std.proofs.Common.{◌≡◌, ◌<◌, ℕ, get_or, length, rules, sym}
+use Rattle.std.proofs.Common.{◌≡◌, ◌<◌, get_or, length, rules, sym}
 use Rattle.ii_scorer.specs.Scorers.{score_of}
 use Rattle.ii_scorer.proofs.PartsLemmas.{row_is}
 use Rattle.ii_prepared_term.specs.PreparedParts.{score_by_parts}

@@ -1,4 +1,4 @@
-use Rattle.std.proofs.Common.{◌∙◌, ◌+◌, ◌-◌, ◌/◌, ap, arith, sym}
+use Rattle.std.proofs.Common.{◌∙◌, ap, arith, sym}
 use Rattle.ii_termdict.proofs.SearchLemmas.{above_less, below_greater, found_equal, none_equal}
 use Rattle.ii_termdict.specs.Dictionary.{key_of}
 use Rattle.ii_termdict_slice.specs.Slices.{ends_in, from_keys}
@@ -10,7 +10,7 @@ returns-in-Err-clause-reads g c = reads_err (rw c.loop-low.invariant.same at c.i
 
 pub returns-in-Equal-clause-reads : goal.returns-in-Equal-clause-reads
 returns-in-Equal-clause-reads g c =
-    let middle = c.loop-low.low + (c.loop-low.high - c.loop-low.low) / 2 in
+    let middle = c.next-ord.result in
     reads_ok
     (λ bs known parts. (
       omega (arith, c.loop-low-test.true, c.loop-low.invariant.within),
@@ -27,7 +27,7 @@ loop-low-preserved-in-Less g c =
       same = c.compare_key.ensures.file ∙ known.same;
       below = λ bs here parts j h. known.below bs (ap g.H.FileHandle.bytes (sym c.compare_key.ensures.file) ∙ here) parts j h;
       above = λ bs here parts j h w.
-          above_less n (ends_in bs) (from_keys n bs) c.args.key.now (c.loop-low.low + (c.loop-low.high - c.loop-low.low) / 2) j parts.opened.ascend
+          above_less n (ends_in bs) (from_keys n bs) c.args.key.now c.next-ord.result j parts.opened.ascend
           (sym (c.in-Ok.ensures.reads.exact bs (ap g.H.FileHandle.bytes (sym c.compare_key.ensures.file) ∙ here) parts) ∙ c.in-Less.is) h w;
     }
 
@@ -40,7 +40,7 @@ loop-low-preserved g c =
       within = known.within;
       same = c.compare_key.ensures.file ∙ known.same;
       below = λ bs here parts j h.
-          below_greater n (ends_in bs) (from_keys n bs) c.args.key.now (c.loop-low.low + (c.loop-low.high - c.loop-low.low) / 2) j parts.opened.ascend (omega (arith, c.loop-low-test.true, known.within))
+          below_greater n (ends_in bs) (from_keys n bs) c.args.key.now c.next-ord.result j parts.opened.ascend (omega (arith, c.loop-low-test.true, known.within))
           (sym (c.in-Ok.ensures.reads.exact bs (ap g.H.FileHandle.bytes (sym c.compare_key.ensures.file) ∙ here) parts) ∙ c.in-Greater.is) h;
       above = λ bs here parts j h w. known.above bs (ap g.H.FileHandle.bytes (sym c.compare_key.ensures.file) ∙ here) parts j h w;
     }

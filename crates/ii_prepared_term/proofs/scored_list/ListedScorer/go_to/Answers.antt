@@ -1,4 +1,3 @@
-use Rattle.std.proofs.Common.{refl}
 use Rattle.ii_docset.proofs.CursorLemmas.{IsAscending_drop}
 use Rattle.ii_prepared_term.specs.ScoredLists.{entries_of}
 use Rattle.ii_prepared_term.proofs.scored_list.ListedScorer.go_to.Goals as goal

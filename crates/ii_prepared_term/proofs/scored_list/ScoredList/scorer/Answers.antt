@@ -1,4 +1,4 @@
-use Rattle.std.proofs.Common.{arith, refl}
+use Rattle.std.proofs.Common.{arith}
 use Rattle.ii_prepared_term.specs.ScoredLists.{entries_of}
 use Rattle.ii_prepared_term.proofs.ScoredListLemmas.{entries_end}
 use Rattle.ii_prepared_term.proofs.scored_list.ScoredList.scorer.Goals as goal

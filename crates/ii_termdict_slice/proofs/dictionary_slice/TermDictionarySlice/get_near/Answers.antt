@@ -2,7 +2,7 @@ use Rattle.std.proofs.Common.{◌∙◌, ap}
 use Rattle.ii_termdict.proofs.SearchLemmas.{info_hit, info_miss}
 use Rattle.ii_termdict_slice.specs.Slices.{ends_in, from_keys}
 use Rattle.ii_termdict_slice.proofs.ReadingLemmas.{reads_err, reads_ok}
-use Rattle.ii_termdict_slice.proofs.dictionary_slice.TermDictionarySlice.get.Goals as goal
+use Rattle.ii_termdict_slice.proofs.dictionary_slice.TermDictionarySlice.get_near.Goals as goal
 
 pub returns-in-Err-clause-reads : goal.returns-in-Err-clause-reads
 returns-in-Err-clause-reads g c = rw (← c.self.view_is) (reads_err c.in-Err.ensures.reads (λ bs known there. c.self.invariant.0 bs known there))
