@@ -132,7 +132,9 @@ impl<'a> PreparedSegments<'a> {
         let mut base = 0;
         for place in 0..self.segments.len() {
             let segment = &self.segments[place];
-            segment.query.push_living(alloc, segment.alive, base, computer)?;
+            segment
+                .query
+                .push_living(alloc, segment.alive, base, computer)?;
             base += segment.alive.num_living();
         }
         Ok(())
