@@ -131,13 +131,12 @@ fn first_wrong_key<H: FileHandle>(
     let mut hint = SearchHint::none();
     for number in 0..NUM_KEYS {
         let key = format!(in alloc; "k{number}")?;
-        let near = slice.get_near(alloc, key.as_bytes(), &mut hint)?;
+        if slice.get_near(alloc, key.as_bytes(), &mut hint)? != terms.get(key.as_bytes()) {
+            return Ok(Some(number));
+        }
         let Some(info) = slice.get(alloc, key.as_bytes())? else {
             return Ok(Some(number));
         };
-        if near != Some(info) {
-            return Ok(Some(number));
-        }
         if info.doc_freq != doc_freq_of(number) || terms.get(key.as_bytes()) != Some(info) {
             return Ok(Some(number));
         }
