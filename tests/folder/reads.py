@@ -1,6 +1,7 @@
 #!/usr/bin/env python3
-"""Counts what a search for one word reads of an index, of one segment and of many: at most `MOST` bytes of each segment for each
-word, beside `meta` and the tables of blocks, however large the index is.
+"""Counts what a search for one word reads of an index, of one segment and of many: at most `MOST` bytes of the first segment for
+each word, and `LATER` of each further one, in which the search begins where the last one has the word; beside `meta` and the
+tables of blocks, however large the index is.
 
     reads.py              as the gate runs it
     reads.py LINES PARTS  an index of that many lines in that many segments; prints times too"""
@@ -17,6 +18,7 @@ import users
 
 BLOCK = 4_096
 MOST = 40 * BLOCK
+LATER = 20 * BLOCK
 WORDS = 200_000
 PER_LINE = 90
 SCHEMA = '[[field]]\nname = "body"\ntype = "text"\n'
@@ -77,7 +79,7 @@ def reads(user):
         if out != b'%d\n' % whole:
             raise users.Failed(f'{query}: {out!r}, the complete files have {whole}')
         terms = query.count(' OR ') + 1
-        if size > parts * terms * MOST + tables:
+        if size > terms * (MOST + (parts - 1) * LATER) + tables:
             raise users.Failed(f'{query}: {size} bytes read of {parts} segments')
         seconds = min([seconds] + [read_by(user, library, 'search', 'index', query, '--count')[3] for _ in range(3)])
         told.append(f'{query}: {whole} found, {size / 1e6:.2f} MB in {calls} reads, {1000 * seconds:.1f} ms')
