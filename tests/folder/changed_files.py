@@ -136,12 +136,14 @@ def odd_reads(user, library):
 
 def far_too_long(user):
     """Lengthens each file of a segment to 2^40 bytes, which take no room on the disk. A command that reads the files complete must
-    name it without reading it. (`check` reads it, to look at its lists.)"""
+    name it without reading it, and so must `check`."""
     for kind, what in {**KINDS, 'count': 'counts'}.items():
         path = user.path('index', f'{0:016x}.{kind}')
         size = os.path.getsize(path)
         os.truncate(path, HUGE)
         said = f'the file of {what} of segment 0 has another length than meta says'
+        if said not in user.wants(['check', 'index'], 1).decode():
+            raise Failed(f'check: no {said}')
         for words in (['search', 'index', '--batch', '--count'], ['search', 'index', 'w29*', '--count'], ['terms', 'index', 'body'], ['fields', 'index']):
             done = user.run(*words, given=b'w5')
             told = (done.stdout + done.stderr).decode()

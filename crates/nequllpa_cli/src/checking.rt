@@ -3,6 +3,7 @@ use crate::check_progress::CheckProgress;
 use crate::commands::{ended, format_given, status_of};
 use clap::ArgMatches;
 use ii_base::{Fault, Schema};
+use ii_directory::ReadAt;
 use ii_segment_store::loading::{alive_file, file_of, load_flags};
 use ii_store::segments::{load_meta, load_segment_file};
 use ii_store::{
@@ -29,6 +30,9 @@ const COMPONENTS: [SegmentComponent; 4] = [
     SegmentComponent::Positions,
     SegmentComponent::FieldNorms,
 ];
+
+// A file that has so many bytes more than it was saved with isn't read: 1 GiB.
+const MOST_SPARE: u64 = 1 << 30;
 
 /// Checks that each file of a folder is as it was saved, and that their contents agree.
 pub fn answer_check(
@@ -202,7 +206,12 @@ fn left_of_file(
         Err(StoreFault::Index(fault)) => fault,
     };
     sum.changed = sum.changed.saturating_add(1);
-    match folder.read(rt.alloc(), Name::Segment(segment.id, component)) {
+    let name = Name::Segment(segment.id, component);
+    if is_far_longer(rt, path, name, file.len) {
+        tell_changed(rt, path, sum.rows_of(segment), component, fault, None)?;
+        return Ok(Ok(Vec::new(rt.alloc())));
+    }
+    match folder.read(rt.alloc(), name) {
         Ok(Some(bytes)) => {
             let len = Some(bytes.len() as u64);
             tell_changed(rt, path, sum.rows_of(segment), component, fault, len)?;
@@ -214,6 +223,17 @@ fn left_of_file(
         }
         Err(fault) => Ok(Err(fault)),
     }
+}
+
+// Returns whether a file has `MOST_SPARE` bytes more than it was saved with. In a sparse file these take no room on the disk, so
+// it isn't read then.
+fn is_far_longer(rt: &HostRuntime, path: &str, name: Name, len: u64) -> bool {
+    let Ok(Some(file)) = Folder::new(rt, path).open(rt.alloc(), name) else {
+        return false;
+    };
+    let mut byte = [0u8; 1];
+    file.read_exact_at(&mut byte, len.saturating_add(MOST_SPARE))
+        .is_ok()
 }
 
 // Prints a file that isn't as it was saved, and its byte range if it has bytes.
