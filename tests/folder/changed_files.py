@@ -135,8 +135,8 @@ def odd_reads(user, library):
 
 
 def far_too_long(user):
-    """Lengthens each file of a segment to 2^40 bytes, which take no room on the disk. A command that reads the files complete must
-    name it without reading it, and so must `check`."""
+    """Lengthens files of a segment to 2^40 bytes, which take no room on the disk. A command that reads the files complete must
+    name the file without reading it, and so must `check`."""
     for kind, what in {**KINDS, 'count': 'counts'}.items():
         path = user.path('index', f'{0:016x}.{kind}')
         size = os.path.getsize(path)
