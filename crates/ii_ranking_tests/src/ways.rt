@@ -7,13 +7,18 @@ use std::alloc::Global;
 // document.
 const ABSENT_WORDS: u32 = 65;
 
-/// Returns the best documents of a query, given as `LIMIT OFFSET QUERY`, or what each way gives if they differ.
-pub fn answer(alloc: Global, index: &Index<MemoryDirectory>, asked: &str) -> Result<String> {
+/// Cuts `LIMIT OFFSET QUERY`: which of the best documents are wanted, and the text of the query.
+pub fn wanted(asked: &str) -> Result<(TopDocs, &str)> {
     let (limit, rest) = asked.split_once(' ').context("a limit is missing")?;
     let (offset, text) = rest.split_once(' ').context("an offset is missing")?;
     let limit: usize = limit.parse().context("a limit is expected")?;
     let offset: usize = offset.parse().context("an offset is expected")?;
-    let docs = TopDocs::with_limit(limit).and_offset(offset);
+    Ok((TopDocs::with_limit(limit).and_offset(offset), text))
+}
+
+/// Returns the best documents of a query, given as `LIMIT OFFSET QUERY`, or what each way gives if they differ.
+pub fn answer(alloc: Global, index: &Index<MemoryDirectory>, asked: &str) -> Result<String> {
+    let (docs, text) = wanted(asked)?;
     answer_text(alloc, index, text, &docs)
 }
 
@@ -42,8 +47,8 @@ fn answer_text(
     )?)
 }
 
-// Parses the text of a query, whose words without a field are looked up in body, tag and flag.
-fn parsed(alloc: Global, index: &Index<MemoryDirectory>, text: &str) -> Result<Query> {
+/// Parses the text of a query, whose words without a field are looked up in body, tag and flag.
+pub fn parsed(alloc: Global, index: &Index<MemoryDirectory>, text: &str) -> Result<Query> {
     let texts = [
         Field::from_field_id(1),
         Field::from_field_id(2),
@@ -52,8 +57,8 @@ fn parsed(alloc: Global, index: &Index<MemoryDirectory>, text: &str) -> Result<Q
     Ok(index.parse_query(alloc, &texts, text)?)
 }
 
-// Returns the text of a query with more clauses, which finds the same.
-fn longer_text(alloc: Global, text: &str) -> Result<String> {
+/// Returns the text of a query with more clauses, which finds the same.
+pub fn longer_text(alloc: Global, text: &str) -> Result<String> {
     let mut longer = format!(in alloc; "({text})")?;
     for number in 0..ABSENT_WORDS {
         write!(longer, " OR absent{number}")?;
