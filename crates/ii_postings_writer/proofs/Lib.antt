@@ -23,6 +23,7 @@ pub mod SortKeyLemmas
 pub mod SortedLemmas
 pub mod TermIndexLemmas
 pub mod TermLemmas
+pub mod TermSteps
 mod TermsLemmas
 pub mod TextLaws
 pub mod TokenFaults

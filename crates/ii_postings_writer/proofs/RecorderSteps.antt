@@ -1,7 +1,7 @@
 -- What a recorder has after one more position of a document that isn't below its last one.
 use Rattle.std.proofs.Common.{◌≡◌, ◌≢◌, ℕ, ◌<◌, ◌≤◌, ◌==◌, Bool, true, false, List, [], ◌∷◌, ◌++◌, nat_le, nat_lt, ◌+◌, refl, sym, ap, arith, ◌∙◌, Some, None, Option, Ok, Err, Result, inl, inr, subst}
-use Rattle.std.specs.Prelude.{unwrap_or, IsTrue, IfErr, IfSome, MatchOption}
-use Rattle.std.specs.Option.{option_to_list}
+use Rattle.std.specs.Prelude.{unwrap_or, IsSome, IsTrue, IfErr, IfSome, MatchOption}
+use Rattle.std.specs.Option.{option_map, option_to_list}
 use Rattle.std.proofs.lemmas.List.{map-append}
 use Rattle.ii_base.specs.declared.schema.index_record_option.IndexRecordOption.{IndexRecordOption}
 use Rattle.ii_base.specs.Entries.{Entry, are_documents, docs_of}
@@ -67,6 +67,13 @@ last_below doc r h other =
     let below : o.entry.doc < doc = omega (arith, current_is doc r h, other, o.within) in
     rw (o.entries, last) below
 
+-- which closes the open one first
+pub opened_then : (doc : ℕ) (r closed new : RecorderState) → EndsBy doc r → current_doc r ≢ doc → closed ≡ record r { closed = entries_of_recorder r; pending = None } → new ≡ record closed { pending = Some (begun closed.option doc) } → new ≡ opened_at doc r
+opened_then doc r closed new h other is_closed is_new = is_new ∙ ap (λ (q : RecorderState). record q { pending = Some (begun q.option doc) }) is_closed ∙ sym (opened_anew doc r h other)
+
+pub has_pending : (doc : ℕ) (r : RecorderState) → EndsBy doc r → IsSome r.pending
+has_pending doc r h = rw (open_in doc r h).pending refl
+
 -- a document is open then
 pub opened_pending : (doc : ℕ) (r : RecorderState) → (opened_at doc r).pending ≡ Some (entry_for_doc doc r)
 opened_pending doc r = by r.pending refl
@@ -104,6 +111,14 @@ recorded_refusal {T} doc position r s result is h =
     let kept : s.option ≡ r.option = ap (λ (q : RecorderState). q.option) is ∙ opened_option doc r in
     let at = subst (λ (p : Option Entry). IfSome p (AnswersPosition s.option position result)) pending h in
     refused_by (position_fault r.option position (entry_for_doc doc r)) result (subst (λ (o : IndexRecordOption). AnswersPosition o position result (entry_for_doc doc r)) kept at)
+
+-- a position of the document that was opened
+pub recorded_in : (doc position : ℕ) (r s n : RecorderState) → s ≡ opened_at doc r → n ≡ record s { pending = option_map (with_position s.option position) s.pending } → n ≡ recorded_at doc position r
+recorded_in doc position r s n opened is =
+    is
+    ∙ ap (λ (q : RecorderState). record q { pending = option_map (with_position q.option position) q.pending }) opened
+    ∙ ap (λ (p : Option Entry). record (opened_at doc r) { pending = option_map (with_position (opened_at doc r).option position) p }) (opened_pending doc r)
+    ∙ ap (λ (o : IndexRecordOption). record (opened_at doc r) { pending = Some (with_position o position (entry_for_doc doc r)) }) (opened_option doc r)
 
 -- one more document above those of a list
 pub ascend_push : (ds : List ℕ) (last doc : ℕ) → IsTrue (are_documents (ds ++ last ∷ [])) → last < doc → doc < TERMINATED → IsTrue (are_documents ((ds ++ last ∷ []) ++ doc ∷ []))

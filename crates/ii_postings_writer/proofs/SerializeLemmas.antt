@@ -1,6 +1,5 @@
 -- Terms of a field that are written in order.
-use Rattle.std.proofs.Common.{Option, Result, Ok, Err, OnOk, zero, suc, ◌+◌, ◌<◌, arith, append_assoc, take, map, length, Ordering, Less, get_or, ◌≡◌, ℕ, Bool, List, [], ◌∷◌, ◌++◌, refl, sym, ap, ◌∙◌, subst}
-use Rattle.std.specs.Prelude.{if◌then◌else◌, IsTrue, ◌^◌}
+use Rattle.std.proofs.Common.{Option, Result, Ok, Err, OnOk, zero, suc, ◌+◌, ◌<◌, arith, append_assoc, take, map, length, Ordering, Less, get_or, ◌≡◌, ℕ, List, [], ◌∷◌, ◌++◌, refl, sym, ap, ◌∙◌, subst}
 use Rattle.std.specs.List.{AllByRecursion}
 use Rattle.std.specs.List.Sorted.{IsStrictlySortedBy}
 use Rattle.std.specs.Cmp.Lexicographic.{slice_cmp}
@@ -12,19 +11,13 @@ use Rattle.ii_termdict.specs.ReadBack.{AreAscending}
 use Rattle.ii_base.specs.Schema.{SchemaEntry}
 use Rattle.ii_definitions.specs.Fields.{option_of}
 use Rattle.ii_postings_writer.specs.declared.sorted_terms.TermOfField.{TermOfField}
-use Rattle.ii_base.specs.declared.schema.index_record_option.IndexRecordOption.TheVariants.{Basic}
 use Rattle.ii_base.specs.declared.schema.index_record_option.IndexRecordOption.{IndexRecordOption}
-use Rattle.ii_base.specs.Options.{has_freq, has_positions}
 use Rattle.ii_base.specs.Entries.{Entry}
-use Rattle.ii_recorder.specs.FieldTerms.{term_under}
-use Rattle.ii_recorder.specs.OpenTerm.{OpenTermState}
 use Rattle.ii_recorder.specs.IndexBodies.{IndexBodiesState}
 use Rattle.ii_recorder.specs.IndexSerializer.{IndexSerializerState, IsWriting}
-use Rattle.ii_recorder.specs.Pushed.{FillTooLarge, HaveDeltas, pushed_freqs, with_entries}
-use Rattle.ii_recorder.specs.Recorded.{RecorderState, entries_of_recorder}
+use Rattle.ii_recorder.specs.Pushed.{with_entries}
 use Rattle.ii_recorder.specs.Terms.{WrittenTerm}
 use Rattle.ii_postings_writer.specs.SortedTerms.{IsTold, IsWritable, state_of, written_term}
-use Rattle.ii_postings_writer.specs.TermLimits.{HasLargeSum}
 use Rattle.ii_fieldnorm.specs.Readers.{Norms}
 use Rattle.ii_layout.proofs.BoundLemmas.{all_push}
 use Rattle.ii_recorder.proofs.PushLemmas.{writing_pushed}
@@ -34,15 +27,6 @@ pub pushed_writing : (option : IndexRecordOption) (es : List Entry) (initial : I
     → new ≡ with_entries option s es → IsWriting initial s field tokens norms ts pending → IsWriting initial new field tokens norms ts pending
 pushed_writing option es initial s new field tokens norms ts pending is w =
     subst (λ (n : IndexSerializerState). IsWriting initial n field tokens norms ts pending) (sym is) (writing_pushed option initial s es field tokens norms ts pending w)
-
--- a term that was started
-abbrev pub begun_term : Bool → OpenTermState → OpenTermState
-begun_term counted t = record t { skip_info = if counted then t.mode else Basic; docs = []; freqs = []; deltas = [] }
-
-pub term_written : (key : List ℕ) (t : OpenTermState) (r : RecorderState) (s new : IndexSerializerState) (counted : Bool) → counted ≡ has_freq r.option → s.field.term ≡ begun_term counted t
-    → new ≡ with_entries r.option s (entries_of_recorder r) → term_under key new.field.term ≡ written_term t.norms t.mode (record { key = key; recorder = r })
-term_written key t r s new counted same begun is =
-    ap (λ (n : IndexSerializerState). term_under key n.field.term) is ∙ rw (begun, same) refl
 
 all_taken : {X : Type 0} (P : X → Type 0) (n : ℕ) (xs : List X) → AllByRecursion P xs → AllByRecursion P (take n xs)
 all_taken P zero xs all = tt
@@ -106,25 +90,6 @@ one_more_told mode terms k t inside is told all =
     let more : map state_of (take (k + 1) terms) ≡ map state_of (take k terms) ++ state_of t ∷ [] =
     ap (map state_of) (take_more terms k t inside) ∙ map-append state_of (take k terms) (get_or terms k t ∷ []) ∙ ap (λ (u : TermOfField). map state_of (take k terms) ++ state_of u ∷ []) (sym is) in
     subst (AllByRecursion (IsTold mode)) (sym more) (all_push (IsTold mode) (map state_of (take k terms)) (state_of t) all told)
-
--- what is known of the entries of a term that was started
-pub was_told : (t : OpenTermState) (key : List ℕ) (r : RecorderState) (begun : OpenTermState) (counted : Bool) → counted ≡ has_freq r.option → begun ≡ begun_term counted t
-    → ¬ FillTooLarge begun.skip_info begun.freqs (pushed_freqs r.option (entries_of_recorder r)) → AllByRecursion (λ n. n < 2 ^ 32) (pushed_freqs r.option (entries_of_recorder r)) → (IsTrue (has_positions r.option) → HaveDeltas (entries_of_recorder r))
-    → IsTold t.mode (record { key = key; recorder = r })
-was_told t key r begun counted same is small fit located =
-    let here = subst (λ (u : OpenTermState). ¬ FillTooLarge u.skip_info u.freqs (pushed_freqs r.option (entries_of_recorder r))) is small in
-    record {
-      small = subst (λ (c : Bool). ¬ FillTooLarge (if c then t.mode else Basic) [] (pushed_freqs r.option (entries_of_recorder r))) same here;
-      fit = fit;
-      located = located;
-    }
-
--- and what is too large
-pub was_large : (t : OpenTermState) (key : List ℕ) (r : RecorderState) (begun : OpenTermState) (counted : Bool) (norms : Option Norms) → counted ≡ has_freq r.option → begun ≡ begun_term counted t
-    → FillTooLarge begun.skip_info begun.freqs (pushed_freqs r.option (entries_of_recorder r)) → HasLargeSum (written_term norms t.mode (record { key = key; recorder = r }))
-was_large t key r begun counted norms same is large =
-    let here = subst (λ (u : OpenTermState). FillTooLarge u.skip_info u.freqs (pushed_freqs r.option (entries_of_recorder r))) is large in
-    subst (λ (c : Bool). FillTooLarge (if c then t.mode else Basic) [] (pushed_freqs r.option (entries_of_recorder r))) same here
 
 pub always_on_ok : {X E : Type 0} (r : Result X E) (P : Type 0) → P → OnOk r P
 always_on_ok (Ok x) P p = p

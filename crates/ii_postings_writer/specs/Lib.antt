@@ -12,6 +12,7 @@ pub mod SortKeys
 pub mod SortedTerms
 pub mod TermKeys
 pub mod TermLimits
+pub mod TermSteps
 pub mod TokenFiles
 pub mod WordRefusals
 pub mod WriteFaults

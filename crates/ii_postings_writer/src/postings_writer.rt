@@ -6,7 +6,7 @@ ghost use Rattle.ii_base.specs.declared.doc_id.TheConstants.{TERMINATED};
 ghost use Rattle.ii_fieldnorm.specs.Readers.{Norms};
 ghost use Rattle.ii_termdict.specs.ReadBack.{AreAscending};
 ghost use Rattle.ii_recorder.specs.IndexBodies.{AllGrow, IndexBodiesState, LacksField};
-ghost use Rattle.ii_recorder.specs.IndexSerializer.{EndsWriting, IsInField, IsWriting};
+ghost use Rattle.ii_recorder.specs.IndexSerializer.{EndsInMemory, EndsWriting, IsInField, IsWriting};
 ghost use Rattle.ii_recorder.specs.Recorded.{u32_max};
 ghost use Rattle.ii_recorder.specs.Terms.{WrittenTerm};
 ghost use Rattle.ii_definitions.specs.Fields.{option_of};
@@ -16,6 +16,7 @@ ghost use Rattle.ii_postings_writer.specs.IndexingTerm.{term_bytes, AreTermBytes
 ghost use Rattle.ii_postings_writer.specs.PostingsWriter.{HasTokens, IndexesWords, PostingsWriterState, RefusesWords, TextState, subscribe_fault, term_token, text_fault, text_piece, text_state, tokens_counted};
 ghost use Rattle.ii_postings_writer.specs.Records.{Records};
 ghost use Rattle.ii_postings_writer.specs.SortedTerms.{IsTold, IsWritable, state_of, written_term, norms_in};
+ghost use Rattle.ii_postings_writer.specs.TermSteps.{IsBegunTerm};
 ghost use Rattle.ii_postings_writer.specs.WordRefusals.{gap_fault, u64_max, words_fault};
 ghost use Rattle.ii_postings_writer.specs.WriteFaults.{IsTermsFaultAfter, IsTermFaultAfter, ClosesOrStays, EndsParts, IsContextFault, IsPartFault, IsPartsFault};
 ghost use Rattle.ii_json.specs.LeafVisit.{IsRefusedBy, first_fault};
@@ -167,7 +168,9 @@ pub trait PostingsWriter: Drop {
     {
         for place in 0..terms.len() {
             let term = terms[place];
-            serialize_one_term(term, keys, buffer_lender, serializer)?;
+            begin_term(term, keys, serializer)?;
+            term.recorder.serialize(buffer_lender, serializer)?;
+            serializer.close_term()?;
         }
         Ok(())
     }
@@ -306,29 +309,19 @@ impl PostingsWriter for SpecializedPostingsWriter {
     }
 }
 
-// Writes a term of the field. If it has a path, its key is composed in a buffer.
-fn serialize_one_term<W: Write>(
+// Starts a term of the field. If it has a path, its key is composed in a buffer.
+fn begin_term<W: Write>(
     term: TermOfField<'_>,
     keys: &mut JsonTermSerializer,
-    buffer_lender: &mut BufferLender,
     serializer: &mut FieldSerializer<'_, W>,
 ) -> Result<(), Fault>
     requires open { serializer.old.index.now.closed ≡ false }
     requires between { serializer.old.index.now.field.term_open ≡ false }
     requires ascending { AreAscending (serializer.old.index.now.field.places.keys ++ (state_of term).key ∷ []) }
-    requires writable { IsWritable serializer.old.index.now.field.term.norms (state_of term) }
     ensures same_reference { serializer.new.index.ghost_name ≡ serializer.old.index.ghost_name }
-    ensures writing { (initial : IndexBodiesState) (field tokens : ℕ) (norms : Option Norms) (ts : List WrittenTerm) → IsWriting initial serializer.old.index.now field tokens norms ts []
-        → OnOk result (IsWriting initial serializer.new.index.now field tokens norms (ts ++ written_term norms (option_of serializer.old.index.now.entries field) (state_of term.entry) ∷ []) []) }
-    ensures told { OnOk result (IsTold serializer.old.index.now.field.term.mode (state_of term.entry)) }
-    ensures between { OnOk result (serializer.new.index.now.field.term_open ≡ false) }
-
-    // The state afterwards, and the errors.
-    ensures ends { EndsWriting serializer.old.index.now serializer.new.index.now result }
-    ensures grow { AllGrow serializer.old.index.now.bodies serializer.new.index.now.bodies }
-    ensures fault { (initial : IndexBodiesState) (field tokens : ℕ) (norms : Option Norms) (ts : List WrittenTerm) → IsWriting initial serializer.old.index.now field tokens norms ts []
-        → IfErr result (IsTermFaultAfter initial (option_of serializer.old.index.now.entries field) tokens ts
-        (written_term norms (option_of serializer.old.index.now.entries field) (state_of term.entry))) }
+    ensures begun { OnOk result (IsBegunTerm serializer.old.index.now serializer.new.index.now (state_of term.entry)) }
+    ensures ends { EndsInMemory serializer.old.index.now serializer.new.index.now result }
+    ensures only { OnlyMemory result }
 {
     if let Err(refused) = compose_key(term, keys) {
         serializer.shut();
@@ -336,9 +329,7 @@ fn serialize_one_term<W: Write>(
     }
     let key = key_of(term, keys);
     let doc_freq = term.recorder.term_doc_freq().unwrap_or(0);
-    serializer.new_term(key, doc_freq, term.recorder.has_term_freq())?;
-    term.recorder.serialize(buffer_lender, serializer)?;
-    serializer.close_term()
+    serializer.new_term(key, doc_freq, term.recorder.has_term_freq())
 }
 
 // Composes the key of a term in a buffer, if the term has a path.
@@ -519,48 +510,23 @@ impl TermRecorders {
     {
         match self.recorders.get_mut(TermBytes { bytes: term }) {
             Some(recorder) => {
-                open_doc(recorder, doc)?;
+                if recorder.current_doc() == doc {
+                    return recorder.record_position(position);
+                }
+                recorder.close_doc()?;
+                recorder.new_doc(doc)?;
                 recorder.record_position(position)
             }
             None => {
-                let recorder = recorder_with(self.alloc, option, doc, position)?;
+                let mut recorder = AnyRecorder::new(self.alloc, option);
+                recorder.new_doc(doc)?;
+                recorder.record_position(position)?;
                 let key = TermKey::new(self.alloc, term)?;
                 self.recorders.insert(key, recorder)?;
                 Ok(())
             }
         }
     }
-}
-
-// Creates a recorder with one position.
-fn recorder_with(
-    alloc: Global,
-    option: IndexRecordOption,
-    doc: DocId,
-    position: u32,
-) -> Result<AnyRecorder, Fault>
-    ensures ok { IfOk result (λ r. any_state r ≡ recorded_at doc position (new_recorder option)) }
-    ensures refused { IsRefusedBy (record_fault doc position (new_recorder option)) result }
-{
-    let mut recorder = AnyRecorder::new(alloc, option);
-    recorder.new_doc(doc)?;
-    recorder.record_position(position)?;
-    Ok(recorder)
-}
-
-// Starts a document, unless it is the last one.
-#[tactic(auto, using(crate::proofs::RecorderSteps::opened_same, crate::proofs::RecorderSteps::opened_anew, crate::proofs::RecorderSteps::last_below))]
-fn open_doc(recorder: &mut AnyRecorder, doc: DocId) -> Result<(), Fault>
-    requires low { doc < TERMINATED }
-    requires ends { EndsBy doc (any_state recorder.old) }
-    ensures ok { OnOk result (any_state recorder.new ≡ opened_at doc (any_state recorder.old)) }
-    ensures only { OnlyMemory result }
-{
-    if recorder.current_doc() == doc {
-        return Ok(());
-    }
-    recorder.close_doc()?;
-    recorder.new_doc(doc)
 }
 
 // Writes a field with the number of tokens of its writer and its terms, if it has any.

@@ -1,19 +1,21 @@
 -- Entries that are added one after the other.
 use Rattle.std.proofs.Common.{◌^◌, ◌≡◌, ℕ, ◌+◌, ◌-◌, ◌<◌, ◌≤◌, Bool, true, false, if◌then◌else◌, List, [], ◌∷◌, ◌++◌, length, take, Result, Ok, Err, is_err, refl, sym, ap, subst, ◌∙◌, arith, append_assoc, length-append, ⊎_elim}
 use Rattle.std.proofs.lemmas.Bool.{and_parts, cases_lt, ltb-true}
-use Rattle.std.specs.Prelude.{◌&&◌, nat_le, nat_lt, Option, IsTrue, IsErrOf}
+use Rattle.std.specs.Prelude.{◌&&◌, ◌↔◌, ◌⊎◌, nat_le, nat_lt, Option, OnOk, IfErr, IsTrue, IsErrOf}
 use Rattle.std.specs.List.{AllByRecursion}
 use Rattle.std.proofs.lemmas.Grind.{flat_map-append}
 use Rattle.std.proofs.lemmas.List.{append-nil, map-append, take-append-le}
 use Rattle.std.proofs.Math.Seq.{take-append-add}
 use Rattle.ii_io.specs.declared.faults.Fault.{Fault}
-use Rattle.ii_io.specs.declared.faults.Fault.TheVariants.{SerializerClosed}
+use Rattle.ii_io.specs.declared.faults.Fault.TheVariants.{Limit, OutOfMemory, SerializerClosed}
+use Rattle.ii_io.specs.declared.faults.LimitName.TheVariants.{BlockFrequencySum}
 use Rattle.ii_base.specs.declared.schema.index_record_option.IndexRecordOption.{IndexRecordOption}
 use Rattle.ii_base.specs.Options.{has_freq, has_positions}
 use Rattle.ii_base.specs.declared.doc_id.TheConstants.{TERMINATED}
 use Rattle.ii_definitions.proofs.ListLaws.{all_both}
 use Rattle.ii_fieldnorm.specs.Readers.{Norms}
 use Rattle.ii_layout.specs.Bounds.{Covers}
+use Rattle.ii_layout.specs.PostingsSerializer.{IsSumTooLarge}
 use Rattle.ii_codes.specs.Sums.{differences}
 use Rattle.ii_base.specs.Entries.{Entry, ascend_from, docs_of}
 use Rattle.ii_recorder.specs.IndexBodies.{IndexBodiesState}
@@ -220,6 +222,42 @@ ascend_one least [] d ys h =
     let both = (and_parts (nat_le least d && nat_lt d TERMINATED) (ascend_from (d + 1) ys) h).0 in
     ltb-true d TERMINATED (and_parts (nat_le least d) (nat_lt d TERMINATED) both).1
 ascend_one least (x ∷ xs) d ys h = ascend_one (x + 1) xs d ys (and_parts (nat_le least x && nat_lt x TERMINATED) (ascend_from (x + 1) (xs ++ d ∷ ys)) h).1
+
+-- a serializer whose open term has one more document
+abbrev with_document : IndexSerializerState → ℕ → ℕ → List ℕ → IndexSerializerState
+with_document s doc n deltas =
+    let t = s.field.term in
+    record s {
+      field = record s.field {
+        term = record t { docs = t.docs ++ doc ∷ []; freqs = t.freqs ++ n ∷ []; deltas = if has_positions t.mode then t.deltas ++ deltas else t.deltas };
+      };
+    }
+
+-- one entry that the serializer was given, and its answer
+pub pushes_one : (option : IndexRecordOption) (s b : IndexSerializerState) (e : Entry) (n : ℕ) (deltas : List ℕ) (result : Result (Unit {0}) Fault)
+    → n ≡ (if has_freq option then e.term_freq else 0) → deltas ≡ differences 0 e.positions → n < 2 ^ 32
+    → OnOk result (b ≡ with_document s e.doc n deltas) → EndsInMemory s b result
+    → (IsErrOf result (Limit BlockFrequencySum) ↔ (s.closed ≡ false) × IsSumTooLarge s.field.term.skip_info (s.field.term.freqs ++ n ∷ []))
+    → IfErr result (λ f. (f ≡ OutOfMemory) ⊎ (f ≡ SerializerClosed) ⊎ (f ≡ Limit BlockFrequencySum))
+    → Pushes option s b (e ∷ []) result
+pushes_one option s b e n deltas (Ok tt) counted located fits ok ends limit only =
+    let opened = open_before s.closed ends.closing.closed.1 in
+    record {
+      ok = ok ∙ rw (counted, located, append-nil (differences 0 e.positions)) refl;
+      small = λ large. let first : large.0 ≡ 0 = omega (arith, large.1) in let sum = rw (first, ← counted) at large.2 in let refused = limit.1 (opened, sum) in absurd (cc);
+      fit = (subst (λ m. m < 2 ^ 32) counted fits, tt);
+      ends = ends;
+      limit = λ is. absurd (cc);
+      only = tt;
+    }
+pushes_one option s b e n deltas (Err f) counted located fits ok ends limit only = record {
+  ok = tt;
+  small = tt;
+  fit = tt;
+  ends = ends;
+  limit = λ is. (0, omega arith, rw (← counted) (limit.0 is).1);
+  only = only;
+}
 
 -- a document that is left lies below the end
 pub pushing_below : (option : IndexRecordOption) (s b : IndexSerializerState) (es rest : List Entry) (e : Entry) (more : List Entry) → IsPushing option s b es rest → rest ≡ e ∷ more → MayPush option s es → e.doc < TERMINATED

@@ -245,15 +245,6 @@ fn push_vint(value: u32, output: &mut SmallVec<u8, 22>) -> Result<(), Fault>
     Ok(())
 }
 
-// Adds a document.
-fn push_doc<W: Write>(doc: DocId, serializer: &mut FieldSerializer<'_, W>) -> Result<(), Fault>
-    requires { MayPush Basic serializer.old.index.now (document doc ∷ []) }
-    ensures same_reference { serializer.new.index.ghost_name ≡ serializer.old.index.ghost_name }
-    ensures pushes { Pushes Basic serializer.old.index.now serializer.new.index.now (document doc ∷ []) result }
-{
-    serializer.write_doc(doc, 0, &[])
-}
-
 impl Recorder for DocIdRecorder {
     ghost state = { λ r. r };
 
@@ -293,7 +284,7 @@ impl Recorder for DocIdRecorder {
             return checked;
         }
         while let Some(doc) = docs.next() {
-            let pushed = push_doc(doc, serializer);
+            let pushed = serializer.write_doc(doc, 0, &[]);
             if pushed.is_err() {
                 return pushed;
             }
@@ -365,19 +356,6 @@ fn next_or(numbers: &mut VInt32Reader<'_>, other: u32) -> u32
     }
 }
 
-// Adds a document with its term frequency.
-fn push_counted_doc<W: Write>(
-    doc: DocId,
-    term_freq: u32,
-    serializer: &mut FieldSerializer<'_, W>,
-) -> Result<(), Fault>
-    requires { MayPush WithFreqs serializer.old.index.now (counted doc term_freq ∷ []) }
-    ensures same_reference { serializer.new.index.ghost_name ≡ serializer.old.index.ghost_name }
-    ensures pushes { Pushes WithFreqs serializer.old.index.now serializer.new.index.now (counted doc term_freq ∷ []) result }
-{
-    serializer.write_doc(doc, term_freq, &[])
-}
-
 impl Recorder for TermFrequencyRecorder {
     ghost state = { λ r. r };
 
@@ -424,7 +402,7 @@ impl Recorder for TermFrequencyRecorder {
             // The numbers end before the term frequency of the open document.
             let term_freq = next_or(&mut numbers, self.term_freq);
             let doc = last + delta;
-            let pushed = push_counted_doc(doc, term_freq, serializer);
+            let pushed = serializer.write_doc(doc, term_freq, &[]);
             if pushed.is_err() {
                 return pushed;
             }
@@ -514,29 +492,6 @@ fn take_deltas(numbers: &mut VInt32Reader<'_>, deltas: &mut Vec<u32>) -> Result<
     Ok(count)
 }
 
-// Adds the document whose positions are next among the numbers.
-fn push_located_doc<W: Write>(
-    doc: DocId,
-    numbers: &mut VInt32Reader<'_>,
-    deltas: &mut Vec<u32>,
-    serializer: &mut FieldSerializer<'_, W>,
-) -> Result<(), Fault>
-    requires open { serializer.old.index.now.closed ≡ false }
-    requires few { length (first_positions numbers.old) < 2 ^ 32 }
-    requires may { MayPush WithFreqsAndPositions serializer.old.index.now (located_at doc (first_positions numbers.old) ∷ []) }
-    ensures same_reference { serializer.new.index.ghost_name ≡ serializer.old.index.ghost_name }
-    ensures rest { OnOk result (numbers.new ≡ behind_positions numbers.old) }
-    ensures pushes { Pushes WithFreqsAndPositions serializer.old.index.now serializer.new.index.now (located_at doc (first_positions numbers.old) ∷ []) result }
-{
-    match take_deltas(numbers, deltas) {
-        Ok(count) => serializer.write_doc(doc, count, deltas),
-        Err(refused) => {
-            serializer.shut();
-            Err(refused)
-        }
-    }
-}
-
 // Returns all bytes.
 fn all_bytes(bytes: &[u8]) -> &[u8]
     ensures value { result.now ≡ bytes.now }
@@ -600,7 +555,14 @@ impl Recorder for TfAndPositionRecorder {
         let mut last = 0;
         while let Some(delta) = numbers.next() {
             let doc = last + delta;
-            let pushed = push_located_doc(doc, &mut numbers, deltas, serializer);
+            let count = match take_deltas(&mut numbers, deltas) {
+                Ok(count) => count,
+                Err(refused) => {
+                    serializer.shut();
+                    return Err(refused);
+                }
+            };
+            let pushed = serializer.write_doc(doc, count, deltas);
             if pushed.is_err() {
                 return pushed;
             }
