@@ -1,3 +1,6 @@
+pub mod BlockListLaws
+pub mod BoundLemmas
+pub mod NeededLemmas
 pub mod OrderLemmas
 pub mod PartsLemmas
 pub mod PassLemmas
@@ -6,3 +9,4 @@ pub mod SumLemmas
 pub mod TopLemmas
 mod TopNLemmas
 pub mod RunLemmas
+pub mod WorkedRows

@@ -14,6 +14,10 @@ pub record TopNState : Type 0 where
 abbrev pub num_up_to : ℕ → List (ℕ × ℕ) → ℕ
 num_up_to key kept = count_by (λ (k : ℕ × ℕ). nat_le (rank_key k) key) kept
 
+-- how many of these documents score at least this
+abbrev pub num_reaching : ℕ → List (ℕ × ℕ) → ℕ
+num_reaching score scored = count_by (λ (d : ℕ × ℕ). nat_le score d.0) scored
+
 -- Of these documents all were kept but some, each of which comes after as many as are wanted of those that were.
 pub record KeepsBest (scored : List (ℕ × ℕ)) (s : TopNState) : Type 0 where
   pub others : List (ℕ × ℕ)
