@@ -1,8 +1,11 @@
 -- Laws of the bounds of documents, and of the lists of scorers.
-use Rattle.std.proofs.Common.{◌≡◌, ◌∙◌, ◌⊎◌, inl, inr, ℕ, zero, suc, ◌+◌, ◌<◌, ◌≤◌, List, [], ◌∷◌, ◌++◌, Some, ap, arith, get_or, length, refl, set, slice_get, subst, sym, take}
-use Rattle.std.specs.List.{AllZip}
+use Rattle.std.proofs.Common.{◌≡◌, ◌∙◌, ◌⊎◌, inl, inr, ℕ, zero, suc, ◌+◌, ◌-◌, ◌^◌, ◌<◌, ◌≤◌, List, [], ◌∷◌, ◌++◌, Some, ap, arith, get_or, length, min, refl, set, slice_get, subst, sym, take}
+use Rattle.std.specs.List.{AllZip, sum_by}
+use Rattle.std.specs.List.Sorted.{IsPermutation}
 use Rattle.std.proofs.lemmas.List.{take_all}
 use Rattle.std.proofs.lemmas.List.FromFn.{get_or-map-range_with_len}
+use Rattle.std.proofs.lemmas.List.Sorted.{sum_by-IsPermutation}
+use Rattle.std.proofs.lemmas.List.Sums.{sum_by-cons}
 use Rattle.ii_base.specs.declared.doc_id.TheConstants.{TERMINATED}
 use Rattle.ii_scorer.specs.BlockLists.{BlockList, ReadsOnly}
 use Rattle.ii_scorer.specs.Combinations.{add}
@@ -57,6 +60,15 @@ bound_more ss place doc s at =
     row [] i t at = absurd (cc)
     row (y ∷ ts) zero t at = let same = ap (λ (z : ScorerState). bound_of z doc) (some_injective y t at) in omega (arith, same)
     row (y ∷ ts) (suc i) t at = ap (add (bound_of y doc)) (row ts i t at) ∙ sym (add_grouped (bound_of y doc) (bound_over (take i ts) doc) (bound_of t doc))
+
+-- their sum
+bound_summed : (ss : List ScorerState) (doc : ℕ) → bound_over ss doc ≡ min (2 ^ 64 - 1) (sum_by (λ (s : ScorerState). bound_of s doc) ss)
+bound_summed [] doc = omega arith
+bound_summed (s ∷ ss) doc = let later = bound_summed ss doc in let more = sum_by-cons (λ (t : ScorerState). bound_of t doc) s ss in omega (arith, later, more)
+
+-- it doesn't depend on their order
+pub bound_in_order : (ss sorted : List ScorerState) (doc : ℕ) → IsPermutation ss sorted → bound_over sorted doc ≡ bound_over ss doc
+bound_in_order ss sorted doc same = bound_summed sorted doc ∙ ap (min (2 ^ 64 - 1)) (sum_by-IsPermutation (λ (s : ScorerState). bound_of s doc) ss sorted same) ∙ sym (bound_summed ss doc)
 
 -- ---- lists of some scorers
 -- one of them was read

@@ -1,6 +1,7 @@
 -- The scores of documents that a scorer hasn't passed.
 use Rattle.std.specs.Prelude.{◌≡◌, ◌⊎◌, ⊤, ℕ, suc, ◌^◌, ◌<◌, ◌≤◌, List, [], ◌∷◌, Option, None, Some, get_or, if◌then◌else◌, map, max, nat_le}
 use Rattle.std.specs.List.{AllByRecursion, flat_map, range_with_len}
+use Rattle.std.specs.List.Sorted.{IsPermutation}
 use Rattle.ii_base.specs.declared.doc_id.TheConstants.{TERMINATED}
 use Rattle.ii_scorer.specs.BlockLists.{BlockList}
 use Rattle.ii_scorer.specs.Combinations.{add}
@@ -105,6 +106,12 @@ bound_over (s ∷ ss) doc = add (bound_of s doc) (bound_over ss doc)
 -- the lists of some scorers, one after the other
 abbrev pub lists_of : List ScorerState → List BlockList
 lists_of = flat_map (λ (s : ScorerState). s.lists)
+
+-- These are the lists of some scorers in some order.
+pub record AreListsOf (ss : List ScorerState) (lists : List BlockList) : Type 0 where
+  pub order : List ScorerState
+  pub same : IsPermutation ss order
+  pub are : lists ≡ lists_of order
 
 -- one more than the depth of the deepest of some scorers
 abbrev pub depth_over : List ScorerState → ℕ

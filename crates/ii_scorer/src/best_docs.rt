@@ -3,6 +3,7 @@ ghost use Rattle.std.specs.Prelude.{◌≡◌, ◌≤◌, ◌<◌, ◌++◌, ℕ
 ghost use Rattle.ii_io.specs.Faults.{OnlyMemory};
 ghost use Rattle.ii_base.specs.declared.doc_id.TheConstants.{TERMINATED};
 ghost use Rattle.ii_scorer.specs.BestDocs.{AreNumbers, Numbering, counted_score, numbered_docs};
+ghost use Rattle.ii_scorer.specs.BlockLists.{ReadsOnly};
 ghost use Rattle.ii_scorer.specs.Scorers.{KeepsFrom, score_of};
 ghost use Rattle.ii_scorer.specs.TopDocs.{with_score};
 ghost use Rattle.ii_scorer.specs.TopNComputer.{KeepsBest, MayBePassed};
@@ -74,6 +75,7 @@ fn push_doc<T: Scorer, N: DocNumbers>(
     requires passes { (score : ℕ) → score < least → MayBePassed computer.old (score, (N.numbering numbers.now).number doc) }
     ensures kept { (scored : List (ℕ × ℕ)) → KeepsBest scored computer.old → OnOk result (KeepsBest (scored ++ with_score (counted_score (N.numbering numbers.now) (score_of (T.state scorer.old)) doc) ((N.numbering numbers.now).number doc)) computer.new) }
     ensures moved { KeepsFrom doc (T.state scorer.old) (T.state scorer.new) }
+    ensures work { ReadsOnly (λ from. from ≡ doc) (T.state scorer.old).lists (T.state scorer.new).lists }
     ensures wanted { computer.new.top_n ≡ computer.old.top_n }
     ensures only { OnlyMemory result }
 {

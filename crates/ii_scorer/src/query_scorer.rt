@@ -7,7 +7,7 @@ ghost use Rattle.ii_bm25.specs.declared.bm25.TheConstants.{SCORE_ONE};
 ghost use Rattle.ii_scorer.specs.BlockLists.{ReadsOnly};
 ghost use Rattle.ii_scorer.specs.Combinations.{any_of, each_of, either, unless};
 ghost use Rattle.ii_scorer.specs.QueryScorers.{PartsAreBounded, bound_by_parts, depth_of, lists_by_parts, score_by_parts};
-ghost use Rattle.ii_scorer.specs.Scorers.{AreBounded, IsBoundUntil, IsBounded, IsNext, IsUpTo, KeepsFrom, MayScore, bound_of, bound_over, if_at_least, lists_of, score_of, scores_at, sums_after};
+ghost use Rattle.ii_scorer.specs.Scorers.{AreBounded, AreListsOf, IsBoundUntil, IsBounded, IsNext, IsUpTo, KeepsFrom, MayScore, bound_of, bound_over, if_at_least, lists_of, score_of, scores_at, sums_after};
 
 use crate::combination::{both, either, if_at_least};
 use crate::scorer::{ScoreBound, Scorer};
@@ -64,7 +64,8 @@ impl<T: Scorer> Model for QueryScorer<T> {
 impl<T: Scorer> QueryScorer<T> {
     /// Returns a scorer of no documents.
     pub fn nothing() -> QueryScorer<T>
-        ensures { (doc : ℕ) → score_of result doc ≡ None }
+        ensures scores { (doc : ℕ) → score_of result doc ≡ None }
+        ensures lists { result.lists ≡ [] }
     {
         QueryScorer {
             parts: ScorerParts::Nothing,
@@ -75,7 +76,9 @@ impl<T: Scorer> QueryScorer<T> {
 
     /// Returns a scorer of the documents of one scorer.
     pub fn one(scorer: T) -> QueryScorer<T>
-        ensures { (doc : ℕ) → score_of result doc ≡ score_of (T.state scorer) doc }
+        ensures scores { (doc : ℕ) → score_of result doc ≡ score_of (T.state scorer) doc }
+        ensures bounds { (doc : ℕ) → doc < TERMINATED → bound_of result doc ≡ bound_of (T.state scorer) doc }
+        ensures lists { result.lists ≡ (T.state scorer).lists }
     {
         let most = scorer.max_score();
         let has_runs = scorer.has_runs();
@@ -88,7 +91,9 @@ impl<T: Scorer> QueryScorer<T> {
 
     /// Returns a scorer of all documents below `limit`, each of which scores 1.0. No document is `TERMINATED` or above.
     pub fn all(limit: DocId) -> QueryScorer<T>
-        ensures { (doc : ℕ) → score_of result doc ≡ (if nat_lt doc (min limit TERMINATED) then Some SCORE_ONE else None) }
+        ensures scores { (doc : ℕ) → score_of result doc ≡ (if nat_lt doc (min limit TERMINATED) then Some SCORE_ONE else None) }
+        ensures bounds { (doc : ℕ) → doc < TERMINATED → bound_of result doc ≡ SCORE_ONE }
+        ensures lists { result.lists ≡ [] }
     {
         QueryScorer {
             parts: ScorerParts::All(limit),
@@ -100,7 +105,9 @@ impl<T: Scorer> QueryScorer<T> {
     /// Returns a scorer of the documents that each of some scorers matches, with the sum of their scores; of none
     /// without scorers.
     pub fn each(scorers: Vec<QueryScorer<T>>) -> QueryScorer<T>
-        ensures { (doc : ℕ) → score_of result doc ≡ each_of (scores_at scorers.items doc) }
+        ensures scores { (doc : ℕ) → score_of result doc ≡ each_of (scores_at scorers.items doc) }
+        ensures bounds { (doc : ℕ) → doc < TERMINATED → bound_of result doc ≡ bound_over scorers.items doc }
+        ensures lists { result.lists ≡ lists_of scorers.items }
     {
         let most = sum_of_most(&scorers);
         let has_runs = have_runs(&scorers);
@@ -115,6 +122,8 @@ impl<T: Scorer> QueryScorer<T> {
     /// that match. Fails only with `OutOfMemory`.
     pub fn any(alloc: Global, scorers: Vec<QueryScorer<T>>) -> Result<QueryScorer<T>, Fault>
         ensures scores { IfOk result (λ scorer. (doc : ℕ) → score_of scorer doc ≡ any_of (scores_at scorers.items doc)) }
+        ensures bounds { IfOk result (λ scorer. (doc : ℕ) → doc < TERMINATED → bound_of scorer doc ≡ bound_over scorers.items doc) }
+        ensures lists { IfOk result (λ scorer. AreListsOf scorers.items scorer.lists) }
         ensures only { OnlyMemory result }
     {
         let mut parts = scorers;
@@ -140,6 +149,8 @@ impl<T: Scorer> QueryScorer<T> {
         other: QueryScorer<T>,
     ) -> Result<QueryScorer<T>, Fault>
         ensures scores { IfOk result (λ scorer. (doc : ℕ) → score_of scorer doc ≡ unless (score_of first doc) (score_of other doc)) }
+        ensures bounds { IfOk result (λ scorer. (doc : ℕ) → doc < TERMINATED → bound_of scorer doc ≡ bound_of first doc) }
+        ensures lists { IfOk result (λ scorer. scorer.lists ≡ first.lists ++ other.lists) }
         ensures only { OnlyMemory result }
     {
         let most = first.bound();
