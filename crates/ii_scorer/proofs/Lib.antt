@@ -1,3 +1,4 @@
+mod HeapLemmas
 pub mod OrderLemmas
 pub mod PartsLemmas
 pub mod PassLemmas

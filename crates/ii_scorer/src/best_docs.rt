@@ -49,7 +49,11 @@ pub fn push_best<T: Scorer, N: DocNumbers>(
     let num_docs = numbers.num_docs();
     let mut doc = 0;
     while doc < num_docs {
-        let least = computer.least_score(numbers.number(doc));
+        let Some(least) = computer.least_score(numbers.number(doc)) else {
+            // No score exceeds it, so each later document may be passed.
+            let _most = scorer.max_score();
+            return Ok(());
+        };
         let next = scorer.skip_to_score(doc, least);
         if next >= num_docs.min(TERMINATED) {
             return Ok(());
