@@ -1,5 +1,6 @@
 pub mod BlockListLaws
 pub mod BoundLemmas
+mod HeapLemmas
 pub mod NeededLemmas
 pub mod OrderLemmas
 pub mod PartsLemmas

@@ -8,7 +8,7 @@ use Rattle.ii_scorer.specs.BestDocs.{IsNeeded, Numbering, NumbersComeAfter, coun
 use Rattle.ii_scorer.specs.BlockLists.{BlockList, ReadsOnly}
 use Rattle.ii_scorer.specs.Scorers.{IsBelow, MayScore, ScorerState, bound_of, score_of}
 use Rattle.ii_scorer.specs.TopDocs.{with_score}
-use Rattle.ii_scorer.specs.TopNComputer.{num_reaching}
+use Rattle.ii_scorer.specs.TopNComputer.{KeepsBest, TopNState, num_reaching}
 use Rattle.ii_scorer.proofs.BlockListLaws.{all_gone, all_on, all_unread, all_weaker}
 use Rattle.ii_scorer.proofs.PassLemmas.{below_counted}
 use Rattle.ii_scorer.proofs.TopLemmas.{scored_more}
@@ -74,6 +74,13 @@ still_needed n f scored least score top_n doc from low up below few =
     let whole : doc + (from - doc) ≡ from = omega (arith, low) in
     let same = still_on n f scored score doc (from - doc) (λ d above inside. below_more least score (f d) up (below d above (omega (arith, inside, whole)))) in
     subst (λ (k : ℕ). num_reaching score (scored ++ first_numbered n k f) < top_n) whole (omega (arith, same, few))
+
+-- the least score of those that are kept
+pub least_needed : (n : Numbering) (f : ℕ → Option ℕ) (scored : List (ℕ × ℕ)) (s : TopNState) (top_n doc number least : ℕ) → number ≡ n.number doc → doc < n.num_docs → s.top_n ≡ top_n → NumbersComeAfter scored n → KeepsBest (scored ++ first_numbered n doc f) s
+    → ((rows : List (ℕ × ℕ)) → KeepsBest rows s → All (λ (a : ℕ × ℕ). a.1 < number) rows → (score : ℕ) → least ≤ score → num_reaching score rows < s.top_n) → (score : ℕ) → least ≤ score → num_reaching score (scored ++ first_numbered n doc f) < top_n
+least_needed n f scored s top_n doc number least is inside wanted after kept needed score up =
+    let rows = scored ++ first_numbered n doc f in
+    subst (λ (most : ℕ). num_reaching score rows < most) wanted (needed rows kept (subst (λ (m : ℕ). All (λ (a : ℕ × ℕ). a.1 < m) rows) (sym is) (numbers_below n f scored doc after inside)) score up)
 
 -- ---- what is read from a document on, up to the next one that may score enough
 module _ (n : Numbering) (s now : ScorerState) (scored : List (ℕ × ℕ)) (top_n doc least next : ℕ) (same : now.bounds ≡ s.bounds) (needed : (score : ℕ) → least ≤ score → num_reaching score (scored ++ first_numbered n doc (score_of s)) < top_n) (passed : (d : ℕ) → doc ≤ d → d < next → IsBelow least (score_of s d)) where
