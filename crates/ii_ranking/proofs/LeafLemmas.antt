@@ -22,7 +22,8 @@ use Rattle.ii_docset.specs.Intersection.{has_doc}
 use Rattle.ii_docset.proofs.CursorLemmas.{doc_below, nothing_left}
 use Rattle.ii_docset.proofs.IntersectionLemmas.{doc_at-from_doc, has_doc-from_doc, has_doc_below}
 use Rattle.ii_fieldnorm.specs.Readers.{Norms, norms_of_ids}
-use Rattle.ii_scorer.specs.Scorers.{IsBelow, IsBounded, IsNext, IsPassed, IsUpTo, KeepsFrom, ScorerState, if_at_least, score_of, scores_below}
+use Rattle.ii_scorer.specs.Scorers.{IsBelow, IsBounded, IsNext, IsPassed, IsUpTo, KeepsFrom, ScorerState, bound_of, if_at_least, score_of, scores_below}
+use Rattle.ii_scorer.proofs.BoundLemmas.{row_reaches}
 use Rattle.ii_scorer.proofs.PartsLemmas.{row_alike, row_end, row_holds, row_is, row_next, row_score}
 use Rattle.ii_scorer.proofs.ScorerLemmas.{below_none}
 use Rattle.ii_ranking.specs.LeafScorers.{leaf_of}
@@ -126,6 +127,7 @@ leaf_keeps f g most from alike none = record {
   alike = row_alike from f g alike;
   most = refl;
   depth = refl;
+  bounds = refl;
   bounded = λ b. record { fits = b.fits; ends = λ doc end. row_end TERMINATED g doc end; each = λ doc. up_to b doc (nat_lt doc from) refl };
 }
   where
@@ -158,6 +160,9 @@ leaf_here f row most doc least old new given score end is at same =
 -- ---- bounds
 pub leaf_bounded : (f : ℕ → Option ℕ) (most : ℕ) → most < 2 ^ 64 → ((doc : ℕ) → IsUpTo most (f doc)) → IsBounded (leaf_of f most)
 leaf_bounded f most few up = record { fits = few; ends = λ doc end. row_end TERMINATED f doc end; each = λ doc. row_holds (IsUpTo most) f doc tt (up doc) }
+
+pub leaf_within : (f : ℕ → Option ℕ) (most given doc : ℕ) → given ≡ most → doc < TERMINATED → given ≤ bound_of (leaf_of f most) doc
+leaf_within f most given doc is low = row_reaches given doc (λ (d : ℕ). most) low (omega (arith, is))
 
 pub entry_up_to : (score : ℕ → ℕ) (most : ℕ) (found : Option Entry) → ((count : ℕ) → score count ≤ most) → IsUpTo most (option_map (λ (e : Entry). score e.term_freq) found)
 entry_up_to score most None up = tt
@@ -210,4 +215,4 @@ phrase_opened index st first others slop es parts norms w listed parts_are found
 
 -- what keeps the documents from one on keeps those from a later one on
 pub keeps_later : (from later : ℕ) (old new : ScorerState) → from ≤ later → KeepsFrom from old new → KeepsFrom later old new
-keeps_later from later old new up k = record { alike = λ doc above. k.alike doc (omega (arith, up, above)); most = k.most; depth = k.depth; bounded = k.bounded }
+keeps_later from later old new up k = record { alike = λ doc above. k.alike doc (omega (arith, up, above)); most = k.most; depth = k.depth; bounds = k.bounds; bounded = k.bounded }
