@@ -1,19 +1,20 @@
 -- Laws of the best of documents that come one by one.
-use Rattle.std.proofs.Common.{◌≡◌, ℕ, zero, suc, ◌+◌, ◌-◌, ◌^◌, ◌<◌, ◌≤◌, inl, inr, Bool, true, false, List, [], ◌∷◌, ◌++◌, Option, None, Some, Result, Ok, Err, drop, get_or, length, min, nat_le, take, refl, sym, ap, ◌∙◌, subst, arith, append_assoc, slice_get, if◌then◌else◌}
-use Rattle.std.specs.Prelude.{⊤, IfOk, Vec}
+use Rattle.std.proofs.Common.{◌≡◌, ℕ, zero, suc, ◌+◌, ◌-◌, ◌^◌, ◌<◌, ◌≤◌, inl, inr, Bool, true, false, List, [], ◌∷◌, ◌++◌, Option, None, Some, Result, Ok, Err, drop, get_or, length, min, nat_le, nat_lt, take, refl, sym, ap, ◌∙◌, subst, arith, append_assoc, if◌then◌else◌}
+use Rattle.std.specs.Prelude.{⊤, IfOk, IfSome, Vec}
 use Rattle.std.specs.declared.alloc.Global.{Global}
-use Rattle.std.proofs.lemmas.Bool.{leb-true, leb-false, le-leb}
+use Rattle.std.proofs.lemmas.Bool.{leb-true, leb-false, le-leb, ltb-false, ltb-true}
+use Rattle.std.specs.Option.{SomeIff}
 use Rattle.std.specs.List.{All, AllByRecursion}
 use Rattle.std.specs.List.Sorted.{IsPermutation}
 use Rattle.std.proofs.lemmas.List.{append-nil, drop-take, length-take, take-append-drop, take_all}
-use Rattle.std.proofs.lemmas.List.Elements.{All-from_recursion, All-get_or, recursion_from_All}
-use Rattle.std.proofs.lemmas.List.Sorted.{All-permutation, IsPermutation-append_left, IsPermutation-cons, IsPermutation-middle, IsPermutation-append_right, IsPermutation-append_comm, IsPermutation-refl, IsPermutation-trans, length_permutation, sum_by-IsPermutation}
+use Rattle.std.proofs.lemmas.List.Elements.{All-cons, All-from_recursion, All-get_or, All-head, recursion_from_All}
+use Rattle.std.proofs.lemmas.List.Sorted.{All-permutation, IsPermutation-append_left, IsPermutation-cons, IsPermutation-middle, IsPermutation-append_right, IsPermutation-append_comm, IsPermutation-refl, IsPermutation-sym, IsPermutation-to_front, IsPermutation-trans, length_permutation, sum_by-IsPermutation}
 use Rattle.std.proofs.lemmas.List.Sums.{count_by-le-length, sum_by-append, sum_by-cons}
 use Rattle.ii_definitions.proofs.ListLaws.{all_both}
 use Rattle.ii_scorer.specs.declared.top_docs.TopDocs.{TopDocs}
 use Rattle.ii_scorer.specs.TopDocs.{AreBest, AreRanked, Fits, Precedes, rank_key}
 use Rattle.ii_scorer.proofs.TopLemmas.{ranks}
-use Rattle.ii_scorer.specs.TopNComputer.{IsThreshold, KeepsBest, TopNState, num_up_to}
+use Rattle.ii_scorer.specs.TopNComputer.{IsTooLow, IsWorst, KeepsBest, MayBePassed, TopNState, num_reaching, num_up_to}
 
 abbrev Doc : Type 0
 Doc = ℕ × ℕ
@@ -26,7 +27,7 @@ both : (key : ℕ) (xs ys : List Doc) → num_up_to key (xs ++ ys) ≡ num_up_to
 both key xs ys = sum_by-append (λ (a : Doc). if up_to key a then 1 else 0) xs ys
 
 -- no documents
-pub none_kept : (n : ℕ) → KeepsBest [] (record { top_n = n; kept = []; threshold = None })
+pub none_kept : (n : ℕ) → KeepsBest [] (record { top_n = n; kept = [] })
 none_kept n = record { others = []; same = IsPermutation-refl []; fits = All-from_recursion Fits [] tt; enough = All-from_recursion (λ (a : Doc). n ≤ num_up_to (rank_key a) []) [] tt }
 
 -- ---- a document more
@@ -159,6 +160,10 @@ all_counted key (x ∷ xs) all = omega (arith, with_one key x xs all.0, all_coun
 few_up_to : (key : ℕ) (xs : List Doc) → num_up_to key xs ≤ length xs
 few_up_to key xs = count_by-le-length (up_to key) xs
 
+lower : (low high : ℕ) (xs : List Doc) → low ≤ high → AllByRecursion (λ (x : Doc). rank_key x ≤ low) xs → AllByRecursion (λ (x : Doc). rank_key x ≤ high) xs
+lower low high [] le all = tt
+lower low high (x ∷ xs) le all = (omega (arith, le, all.0), lower low high xs le all.1)
+
 all_if_counted : (key : ℕ) (xs : List Doc) → length xs ≤ num_up_to key xs → AllByRecursion (λ (x : Doc). rank_key x ≤ key) xs
 all_if_counted key [] many = tt
 all_if_counted key (x ∷ xs) many = by (up_to key x) refl (λ left. all_if_counted key xs left)
@@ -168,8 +173,8 @@ all_if_counted key (x ∷ xs) many = by (up_to key x) refl (λ left. all_if_coun
     by false is rest = absurd (omega (arith, without_one key x xs is, many, few_up_to key xs))
 
 -- ---- those that aren't among the best are dropped
-pub cuts : (scored : List Doc) (s : TopNState) (ranked : List Doc) (threshold : Option (ℕ × ℕ)) → All Fits ranked → IsPermutation s.kept ranked → Ascends ranked → KeepsBest scored s → KeepsBest scored (record { top_n = s.top_n; kept = take s.top_n ranked; threshold = threshold })
-cuts scored s ranked threshold fits same up h = record { others = drop s.top_n ranked ++ h.others; same = all; fits = fitting; enough = All-from_recursion _ (drop s.top_n ranked ++ h.others) enough }
+pub cuts : (scored : List Doc) (s : TopNState) (ranked : List Doc) → All Fits ranked → IsPermutation s.kept ranked → Ascends ranked → KeepsBest scored s → KeepsBest scored (record { top_n = s.top_n; kept = take s.top_n ranked })
+cuts scored s ranked fits same up h = record { others = drop s.top_n ranked ++ h.others; same = all; fits = fitting; enough = All-from_recursion _ (drop s.top_n ranked ++ h.others) enough }
   where
     all : IsPermutation scored (take s.top_n ranked ++ (drop s.top_n ranked ++ h.others))
     all =
@@ -188,24 +193,118 @@ cuts scored s ranked threshold fits same up h = record { others = drop s.top_n r
     enough : AllByRecursion (λ (a : Doc). s.top_n ≤ num_up_to (rank_key a) (take s.top_n ranked)) (drop s.top_n ranked ++ h.others)
     enough = all_both (λ (a : Doc). s.top_n ≤ num_up_to (rank_key a) (take s.top_n ranked)) (drop s.top_n ranked) h.others (after_first s.top_n ranked up) (still h.others (recursion_from_All _ h.others h.enough))
 
--- the last key of as many as are wanted is a threshold
-last_up : (xs : List Doc) → Ascends xs → (a : Doc) → slice_get xs (length xs - 1) ≡ Some a → AllByRecursion (λ (x : Doc). rank_key x ≤ rank_key a) xs
-last_up [] up a is = tt
-last_up (x ∷ []) up a is = let same : x ≡ a = cc in (omega (arith, ap rank_key same), tt)
-last_up (x ∷ y ∷ xs) up a is =
-    let place : suc (length (y ∷ xs) - 1) ≡ length (x ∷ y ∷ xs) - 1 = omega arith in
-    let rest = last_up (y ∷ xs) up.1 a (ap (slice_get (x ∷ y ∷ xs)) place ∙ is) in
-    (omega (arith, up.0.0, rest.0), rest)
+none_without : (n : ℕ) (kept others : List Doc) → length kept < n → AllByRecursion (λ (a : Doc). n ≤ num_up_to (rank_key a) kept) others → others ≡ []
+none_without n kept [] few all = refl
+none_without n kept (x ∷ xs) few all = absurd (omega (arith, few, all.0, few_up_to (rank_key x) kept))
 
-pub last_is_threshold : (n : ℕ) (ranked : List Doc) → n ≤ length ranked → Ascends ranked → IsThreshold (record { top_n = n; kept = take n ranked; threshold = slice_get (take n ranked) (length (take n ranked) - 1) })
-last_is_threshold n ranked many up = by (slice_get (take n ranked) (length (take n ranked) - 1)) refl
+-- ---- a document takes the place of the worst
+-- the order of those that are kept doesn't matter
+pub kept_in_order : (scored kept sorted : List Doc) (n : ℕ) → IsPermutation kept sorted → KeepsBest scored (record { top_n = n; kept = kept }) → KeepsBest scored (record { top_n = n; kept = sorted })
+kept_in_order scored kept sorted n same h = record {
+  others = h.others;
+  same = IsPermutation-trans _ _ _ h.same (IsPermutation-append_left h.others kept sorted same);
+  fits = h.fits;
+  enough = All-from_recursion _ h.others (more h.others (recursion_from_All _ h.others h.enough));
+}
   where
-    by : (last : Option Doc) → slice_get (take n ranked) (length (take n ranked) - 1) ≡ last → IsThreshold (record { top_n = n; kept = take n ranked; threshold = last })
-    by None is = tt
-    by (Some a) is =
-        let every = all_counted (rank_key a) (take n ranked) (last_up (take n ranked) (ascends_take n ranked up) a is) in
-        let long : length (take n ranked) ≡ n = length-take n ranked ∙ omega (arith, many) in
-        omega (arith, every, long)
+    more : (xs : List Doc) → AllByRecursion (λ (a : Doc). n ≤ num_up_to (rank_key a) kept) xs → AllByRecursion (λ (a : Doc). n ≤ num_up_to (rank_key a) sorted) xs
+    more [] all = tt
+    more (x ∷ xs) all = (omega (arith, all.0, sum_by-IsPermutation (λ (a : Doc). if up_to (rank_key x) a then 1 else 0) kept sorted same), more xs all.1)
+
+-- the worst is dropped if as many others are kept as are wanted
+drops_worst : (scored rest : List Doc) (worst : Doc) (n : ℕ) → Fits worst → AllByRecursion (λ (a : Doc). rank_key a ≤ rank_key worst) rest → n ≤ length rest → KeepsBest scored (record { top_n = n; kept = worst ∷ rest }) → KeepsBest scored (record { top_n = n; kept = rest })
+drops_worst scored rest worst n fits last many h = record {
+  others = worst ∷ h.others;
+  same = IsPermutation-trans _ _ _ h.same (IsPermutation-sym _ _ (IsPermutation-middle rest worst h.others));
+  fits = All-cons Fits worst h.others fits h.fits;
+  enough = All-from_recursion _ (worst ∷ h.others) (omega (arith, many, all_counted (rank_key worst) rest last), more h.others (recursion_from_All _ h.others h.enough));
+}
+  where
+    enough : (a : Doc) → n ≤ num_up_to (rank_key a) (worst ∷ rest) → n ≤ num_up_to (rank_key a) rest
+    enough a all = by (up_to (rank_key a) worst) refl
+      where
+        by : (b : Bool) → up_to (rank_key a) worst ≡ b → n ≤ num_up_to (rank_key a) rest
+        by true is = let low = leb-true (rank_key worst) (rank_key a) is in omega (arith, many, all_counted (rank_key a) rest (lower (rank_key worst) (rank_key a) rest low last))
+        by false is = omega (arith, all, without_one (rank_key a) worst rest is)
+
+    more : (xs : List Doc) → AllByRecursion (λ (a : Doc). n ≤ num_up_to (rank_key a) (worst ∷ rest)) xs → AllByRecursion (λ (a : Doc). n ≤ num_up_to (rank_key a) rest) xs
+    more [] all = tt
+    more (x ∷ xs) all = (enough x all.0, more xs all.1)
+
+-- a document is kept besides
+pub adds_one : (scored kept new : List Doc) (n : ℕ) (a : Doc) → IsPermutation (a ∷ kept) new → KeepsBest scored (record { top_n = n; kept = kept }) → KeepsBest (scored ++ a ∷ []) (record { top_n = n; kept = new })
+adds_one scored kept new n a same h = kept_in_order (scored ++ a ∷ []) (kept ++ a ∷ []) new n (IsPermutation-trans _ _ _ (IsPermutation-to_front kept a) same) (keeps_more scored (record { top_n = n; kept = kept }) a h)
+
+-- and in place of the worst
+pub replaces_worst : (scored kept new : List Doc) (n : ℕ) (a worst : Doc) (w : IsWorst worst kept) → All Fits kept → rank_key a < rank_key worst → n ≤ length kept → IsPermutation (a ∷ w.rest) new → KeepsBest scored (record { top_n = n; kept = kept }) → KeepsBest (scored ++ a ∷ []) (record { top_n = n; kept = new })
+replaces_worst scored kept new n a worst w fits less many same h =
+    let fit = All-head Fits worst w.rest (subst (All Fits) w.first fits) in
+    let long : n ≤ length (a ∷ w.rest) = omega (arith, many, ap length w.first) in
+    let both : KeepsBest (scored ++ a ∷ []) (record { top_n = n; kept = worst ∷ a ∷ w.rest }) = adds_one scored (worst ∷ w.rest) (worst ∷ a ∷ w.rest) n a (IsPermutation-middle (a ∷ []) worst w.rest) (subst (λ (xs : List Doc). KeepsBest scored (record { top_n = n; kept = xs })) w.first h) in
+    kept_in_order (scored ++ a ∷ []) (a ∷ w.rest) new n same
+    (drops_worst (scored ++ a ∷ []) (a ∷ w.rest) worst n fit (omega (arith, less), recursion_from_All _ w.rest w.last) long both)
+
+-- ---- those that are kept, once they are as many as are wanted, come up to the worst
+up_to_worst : (kept : List Doc) (worst : Doc) (w : IsWorst worst kept) → num_up_to (rank_key worst) kept ≡ length kept
+up_to_worst kept worst w = subst (λ (xs : List Doc). num_up_to (rank_key worst) xs ≡ length xs) (sym w.first) (all_counted (rank_key worst) (worst ∷ w.rest) (omega arith, recursion_from_All _ w.rest w.last))
+
+-- so one that comes after it may be passed
+pub after_worst : (kept : List Doc) (n : ℕ) (worst a : Doc) → IsWorst worst kept → n ≤ length kept → rank_key worst ≤ rank_key a → MayBePassed (record { top_n = n; kept = kept }) a
+after_worst kept n worst a w many above = record { key = rank_key worst; wanted = omega (arith, many, up_to_worst kept worst w); above = above }
+
+-- ---- how many of the documents reach a score
+reaching_both : (score : ℕ) (xs ys : List Doc) → num_reaching score (xs ++ ys) ≡ num_reaching score xs + num_reaching score ys
+reaching_both score xs ys = sum_by-append (λ (d : Doc). if nat_le score d.0 then 1 else 0) xs ys
+
+reaching_scored : (score : ℕ) (scored : List Doc) (s : TopNState) (h : KeepsBest scored s) → num_reaching score scored ≡ num_reaching score s.kept + num_reaching score h.others
+reaching_scored score scored s h = sym (sum_by-IsPermutation (λ (d : Doc). if nat_le score d.0 then 1 else 0) scored (s.kept ++ h.others) h.same) ∙ reaching_both score s.kept h.others
+
+reaches_not : (score : ℕ) (x : Doc) (xs : List Doc) → x.0 < score → num_reaching score (x ∷ xs) ≡ num_reaching score xs
+reaches_not score x xs low = by (nat_le score x.0) refl
+  where
+    by : (b : Bool) → nat_le score x.0 ≡ b → num_reaching score (x ∷ xs) ≡ num_reaching score xs
+    by true is = let up = leb-true score x.0 is in absurd (omega (arith, up, low))
+    by false is = sum_by-cons (λ (d : Doc). if nat_le score d.0 then 1 else 0) x xs ∙ (let none = ap weight is in omega (arith, none))
+
+-- fewer than are wanted reach any score, if fewer are kept
+pub few_reach : (scored : List Doc) (s : TopNState) (score : ℕ) → length s.kept < s.top_n → KeepsBest scored s → num_reaching score scored < s.top_n
+few_reach scored s score few h =
+    let none = none_without s.top_n s.kept h.others few (recursion_from_All _ h.others h.enough) in
+    let zero_others : num_reaching score h.others ≡ 0 = ap (num_reaching score) none in
+    omega (arith, few, reaching_scored score scored s h, zero_others, count_by-le-length (λ (d : Doc). nat_le score d.0) s.kept)
+
+-- those that were passed score no more than the worst that is kept
+others_below : (kept : List Doc) (n score : ℕ) (worst : Doc) → IsWorst worst kept → length kept ≤ n → Fits worst → worst.0 < score → (xs : List Doc) → AllByRecursion Fits xs → AllByRecursion (λ (a : Doc). n ≤ num_up_to (rank_key a) kept) xs → num_reaching score xs ≡ 0
+others_below kept n score worst w few fit low [] fits enough = refl
+others_below kept n score worst w few fit low (x ∷ xs) fits enough =
+    let all = all_if_counted (rank_key x) (worst ∷ w.rest) (subst (λ (ys : List Doc). length ys ≤ num_up_to (rank_key x) ys) w.first (omega (arith, few, enough.0))) in
+    let below : x.0 < score = omega (arith, all.0, fits.0.score, fits.0.doc, fit.score, fit.doc, low) in
+    reaches_not score x xs below ∙ others_below kept n score worst w few fit low xs fits.1 enough.1
+
+-- fewer than are wanted reach a score that the worst one doesn't
+pub few_above_worst : (scored kept : List Doc) (n score : ℕ) (worst : Doc) → IsWorst worst kept → All Fits kept → length kept ≤ n → worst.0 < score → KeepsBest scored (record { top_n = n; kept = kept }) → num_reaching score scored < n
+few_above_worst scored kept n score worst w fits few low h =
+    let fit = All-head Fits worst w.rest (subst (All Fits) w.first fits) in
+    let none = others_below kept n score worst w few fit low h.others (recursion_from_All Fits h.others h.fits) (recursion_from_All _ h.others h.enough) in
+    let one : num_reaching score kept ≡ num_reaching score w.rest = ap (num_reaching score) w.first ∙ reaches_not score worst w.rest low in
+    omega (arith, few, reaching_scored score scored (record { top_n = n; kept = kept }) h, none, one, count_by-le-length (λ (d : Doc). nat_le score d.0) w.rest, ap length w.first)
+
+-- the worst that is kept was pushed
+pub worst_pushed : (P : Doc → Type 0) (scored kept : List Doc) (n : ℕ) (worst : Doc) → IsWorst worst kept → KeepsBest scored (record { top_n = n; kept = kept }) → All P scored → P worst
+worst_pushed P scored kept n worst w h all = All-head P worst (w.rest ++ h.others) (subst (λ (xs : List Doc). All P (xs ++ h.others)) w.first (All-permutation P scored (kept ++ h.others) h.same all))
+
+-- the least score is one more than that of the worst, if there is such a score
+pub up_to_least : (worst score : ℕ) (least : Option ℕ) → score < 2 ^ 64 → SomeIff least (worst + 1 < 2 ^ 64) (worst + 1) → IsTooLow least score → score ≤ worst
+up_to_least worst score None fits is low = by (nat_lt (worst + 1) (2 ^ 64)) refl
+  where
+    by : (b : Bool) → nat_lt (worst + 1) (2 ^ 64) ≡ b → score ≤ worst
+    by true inside = absurd (is (ltb-true (worst + 1) (2 ^ 64) inside))
+    by false outside = let above = ltb-false (worst + 1) (2 ^ 64) outside in omega (arith, fits, above)
+up_to_least worst score (Some least) fits is low = omega (arith, low, is.1)
+
+pub above_least : (worst : ℕ) (least : Option ℕ) → SomeIff least (worst + 1 < 2 ^ 64) (worst + 1) → (P : ℕ → Type 0) → ((score : ℕ) → worst < score → P score) → IfSome least (λ (from : ℕ). (score : ℕ) → from ≤ score → P score)
+above_least worst None is P each = tt
+above_least worst (Some least) is P each = λ score up. each score (omega (arith, up, is.1))
 
 -- ---- a list in the order of its keys
 record IsSorted (xs : List Doc) : Type 0 where
@@ -280,10 +379,6 @@ take_same zero xs ys many = refl
 take_same (suc n) [] ys many = absurd (omega (arith, many))
 take_same (suc n) (x ∷ xs) ys many = ap (λ (zs : List Doc). x ∷ zs) (take_same n xs ys (omega (arith, many)))
 
-none_without : (n : ℕ) (kept others : List Doc) → length kept < n → AllByRecursion (λ (a : Doc). n ≤ num_up_to (rank_key a) kept) others → others ≡ []
-none_without n kept [] few all = refl
-none_without n kept (x ∷ xs) few all = absurd (omega (arith, few, all.0, few_up_to (rank_key x) kept))
-
 no_length : (xs : List Doc) → length xs ≡ 0 → xs ≡ []
 no_length [] none = refl
 no_length (x ∷ xs) none = absurd (omega (arith, none))
@@ -297,8 +392,8 @@ best_of_kept docs scored best s wanted few fits h b = record { ranked = all; are
     up : Ascends b.ranked
     up = ranked_ascends s.kept b.ranked fitting b.are_ranked
 
-    cut : KeepsBest scored (record { top_n = s.top_n; kept = take s.top_n b.ranked; threshold = None })
-    cut = cuts scored s b.ranked None fitting b.are_ranked.same up h
+    cut : KeepsBest scored (record { top_n = s.top_n; kept = take s.top_n b.ranked })
+    cut = cuts scored s b.ranked fitting b.are_ranked.same up h
 
     last : IsSorted cut.others
     last = sorts cut.others

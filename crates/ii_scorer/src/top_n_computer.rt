@@ -1,59 +1,58 @@
 //! Keeps the best of documents that come one by one.
-ghost use Rattle.std.specs.Prelude.{◌≡◌, ◌≤◌, ◌<◌, ◌-◌, ◌++◌, ◌∷◌, [], ℕ, List, None, OnOk, length, slice_get};
+ghost use Rattle.std.specs.Prelude.{◌≡◌, ◌≤◌, ◌<◌, ◌^◌, ◌++◌, ◌∷◌, [], ℕ, List, IfSome, MatchOption, OnOk, drop, map};
+ghost use Rattle.std.specs.BinaryHeap.{IsHeap, heap_items, heap_len};
 ghost use Rattle.std.specs.List.{All};
+ghost use Rattle.std.specs.List.Sorted.{IsPermutation};
 ghost use Rattle.ii_io.specs.Faults.{OnlyMemory};
 ghost use Rattle.ii_scorer.specs.TopDocs.{Fits, rank_key, with_score};
-ghost use Rattle.ii_scorer.specs.TopNComputer.{KeepsBest, MayBePassed};
+ghost use Rattle.ii_scorer.specs.TopNComputer.{IsTooLow, IsWorst, KeepsBest, MayBePassed, distance_cmp, num_reaching, with_distance};
 
-use crate::top_docs::{rank, rank_key};
+use crate::top_docs::rank_key;
 use ii_base::{DocId, Fault};
 use ii_bm25::Score;
 use std::alloc::Global;
+use std::collections::BinaryHeap;
 use std::marker::Model;
 
-/// Keeps the best of documents that are added one by one, in a buffer of at most about twice as many as are wanted.
-/// Once it is full, those that aren't among the best are dropped; from then on a document that comes after the last of
-/// these is passed.
+/// Keeps the best of documents that are added one by one, at most as many as are wanted. Once so many are kept, a
+/// document that comes after the worst of them is passed, and one that comes before it takes its place.
 ///
-/// Its model is how many are wanted, the documents that it keeps, and the one from which on documents are passed.
+/// Its model is how many are wanted, and the documents that it keeps.
 pub struct TopNComputer {
     top_n: usize,
-    buffer: Vec<(Score, DocId)>,
-    threshold: Option<(Score, DocId)>,
+    // Each with what its score is below the greatest one, so that the worst document is the greatest of the heap.
+    heap: BinaryHeap<(Score, DocId)>,
 }
 
 // Makes each drop a call.
 impl Drop for TopNComputer {
     fn drop(self) {
-        let TopNComputer {
-            top_n: _,
-            buffer: _,
-            threshold: _,
-        } = self;
+        let TopNComputer { top_n: _, heap: _ } = self;
     }
 }
 
 impl Model for TopNComputer {
+    ghost use Rattle.std.specs.Prelude.{◌≤◌, length, map};
+    ghost use Rattle.std.specs.BinaryHeap.{IsHeap, heap_items};
     ghost use Rattle.std.specs.List.{All};
     ghost use Rattle.ii_scorer.specs.TopDocs.{Fits};
-    ghost use Rattle.ii_scorer.specs.TopNComputer.{IsThreshold, TopNState};
+    ghost use Rattle.ii_scorer.specs.TopNComputer.{TopNState, distance_cmp, with_distance};
 
     ghost Value = { TopNState };
 
-    ghost view = { λ s. record { top_n = s.top_n; kept = s.buffer.items; threshold = s.threshold } };
+    ghost view = { λ s. record { top_n = s.top_n; kept = map with_distance (heap_items s.heap) } };
 
-    ghost invariant = { λ s. All Fits s.buffer.items × IsThreshold (record { top_n = s.top_n; kept = s.buffer.items; threshold = s.threshold }) };
+    ghost invariant = { λ s. All Fits (heap_items s.heap) × IsHeap distance_cmp (heap_items s.heap) × (length (heap_items s.heap) ≤ s.top_n) };
 }
 
 impl TopNComputer {
     /// Returns one without documents, of which so many are wanted.
     pub fn new(alloc: Global, top_n: usize) -> TopNComputer
-        ensures { result ≡ record { top_n = top_n; kept = []; threshold = None } }
+        ensures { result ≡ record { top_n = top_n; kept = [] } }
     {
         TopNComputer {
             top_n,
-            buffer: Vec::new(alloc),
-            threshold: None,
+            heap: BinaryHeap::new(alloc),
         }
     }
 
@@ -63,15 +62,17 @@ impl TopNComputer {
         ensures wanted { self.new.top_n ≡ self.old.top_n }
         ensures only { OnlyMemory result }
     {
-        if let Some(threshold) = self.threshold {
-            if rank_key(score, doc) >= rank_key(threshold.0, threshold.1) {
-                return Ok(());
-            }
+        if self.heap.len() < self.top_n {
+            self.heap.push(with_distance((score, doc)))?;
+            return Ok(());
         }
-        self.buffer.push((score, doc))?;
-        if self.buffer.len() / 2 >= self.top_n {
-            self.truncate();
+        let Some(worst) = worst_of(&self.heap) else {
+            return Ok(());
+        };
+        if rank_key(score, doc) >= rank_key(worst.0, worst.1) {
+            return Ok(());
         }
+        replace_worst(&mut self.heap, with_distance((score, doc)));
         Ok(())
     }
 
@@ -87,30 +88,20 @@ impl TopNComputer {
         }
     }
 
-    // Drops the documents that aren't among the best.
-    fn truncate(&mut self)
-        requires { self.old.top_n ≤ length self.old.kept }
-        ensures kept { (scored : List (ℕ × ℕ)) → KeepsBest scored self.old → KeepsBest scored self.new }
-        ensures wanted { self.new.top_n ≡ self.old.top_n }
+    /// Returns the least score that a document from `doc` on must have to be kept: with less it may be passed. `None`
+    /// means that each may be passed, whatever it scores.
+    pub fn least_score(&self, doc: DocId) -> Option<Score>
+        ensures passed { (score later : ℕ) → score < 2 ^ 64 → doc ≤ later → IsTooLow result score → MayBePassed self.now (score, later) }
+        ensures needed { (scored : List (ℕ × ℕ)) → KeepsBest scored self.now → All (λ (a : ℕ × ℕ). a.1 < doc) scored → IfSome result (λ least. (score : ℕ) → least ≤ score → num_reaching score scored < self.now.top_n) }
     {
-        rank(&mut self.buffer);
-        self.buffer.truncate(self.top_n);
-        self.threshold = last_of(self.buffer.as_slice());
-    }
-
-    /// Returns the least score that a document from `doc` on must have to be kept: with less it may be passed.
-    pub fn least_score(&self, doc: DocId) -> Score
-        ensures { (score later : ℕ) → score < result → doc ≤ later → MayBePassed self.now (score, later) }
-    {
-        match self.threshold {
-            Some(threshold) => {
-                if threshold.1 < doc {
-                    threshold.0.saturating_add(1)
-                } else {
-                    threshold.0
-                }
-            }
-            None => 0,
+        if self.heap.len() < self.top_n {
+            return Some(0);
+        }
+        let worst = worst_of(&self.heap)?;
+        if worst.1 < doc {
+            worst.0.checked_add(1)
+        } else {
+            Some(worst.0)
         }
     }
 
@@ -119,21 +110,48 @@ impl TopNComputer {
         ensures kept { result.items ≡ self.kept }
         ensures fits { All Fits result.items }
     {
-        let TopNComputer {
-            top_n: _,
-            buffer,
-            threshold: _,
-        } = self;
-        buffer
+        let TopNComputer { top_n: _, heap } = self;
+        let mut kept = heap.into_vec();
+        exchange(kept.as_mut_slice());
+        kept
     }
 }
 
-// Returns the last document.
-fn last_of(ranked: &[(Score, DocId)]) -> Option<(Score, DocId)>
-    ensures { result ≡ slice_get ranked.now (length ranked.now - 1) }
+// Returns the worst of documents with their distances, with its score.
+fn worst_of(heap: &BinaryHeap<(Score, DocId)>) -> Option<(Score, DocId)>
+    requires order { IsHeap distance_cmp (heap_items heap.now) }
+    requires fits { All Fits (heap_items heap.now) }
+    ensures { MatchOption result (heap_items heap.now ≡ []) (λ (worst : ℕ × ℕ). IsWorst worst (map with_distance (heap_items heap.now))) }
 {
-    match ranked.last() {
-        Some(last) => Some((last.0, last.1)),
+    match heap.peek() {
+        Some(worst) => Some(with_distance(*worst)),
         None => None,
     }
+}
+
+// Replaces the worst of documents with their distances.
+fn replace_worst(heap: &mut BinaryHeap<(Score, DocId)>, document: (Score, DocId))
+    requires order { IsHeap distance_cmp (heap_items heap.old) }
+    requires some { 0 < heap_len heap.old }
+    ensures order { IsHeap distance_cmp (heap_items heap.new) }
+    ensures items { IsPermutation (document ∷ drop 1 (heap_items heap.old)) (heap_items heap.new) }
+{
+    let mut worst = heap.peek_mut().unwrap();
+    *worst = document;
+}
+
+// Exchanges scores and their distances.
+fn exchange(scored: &mut [(Score, DocId)])
+    ensures { scored.new ≡ map with_distance scored.old }
+{
+    for document in scored.iter_mut() {
+        *document = with_distance(*document);
+    }
+}
+
+// Returns a document with what its score is below the greatest one in place of the score.
+fn with_distance(document: (Score, DocId)) -> (Score, DocId)
+    ensures { result ≡ with_distance document }
+{
+    (u64::MAX - document.0, document.1)
 }
