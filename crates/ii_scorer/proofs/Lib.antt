@@ -1,4 +1,7 @@
+pub mod BlockListLaws
+pub mod BoundLemmas
 mod HeapLemmas
+pub mod NeededLemmas
 pub mod OrderLemmas
 pub mod PartsLemmas
 pub mod PassLemmas
@@ -7,3 +10,4 @@ pub mod SumLemmas
 pub mod TopLemmas
 mod TopNLemmas
 pub mod RunLemmas
+pub mod WorkedRows

@@ -5,6 +5,7 @@ use Rattle.std.proofs.lemmas.Bool.{ltb-false, ltb-true}
 use Rattle.std.proofs.lemmas.List.FromFn.{get_or-map-range_with_len, length-map-range_with_len}
 use Rattle.ii_base.specs.declared.doc_id.TheConstants.{TERMINATED}
 use Rattle.ii_bm25.specs.declared.bm25.TheConstants.{SCORE_ONE}
+use Rattle.ii_scorer.specs.BlockLists.{BlockList}
 use Rattle.ii_scorer.specs.Combinations.{any_of, both, each_of, either, unless}
 use Rattle.ii_scorer.specs.Scorers.{AreBounded, IsBelow, IsBounded, IsNext, IsUpTo, KeepsFrom, ScorerState, if_at_least, most_of, score_of, scores_at, scores_below}
 use Rattle.ii_scorer.specs.QueryScorers.{PartsAreBounded, score_by_parts}
@@ -94,8 +95,8 @@ none_reaches state most target least parts up few b = record {
   passed = λ doc from passed. below_if_up_to most least (score_by_parts state parts doc) few (parts_up_to state most parts doc b);
 }
 
-pub view_bounded : {T : Type 0} (state : T → ScorerState) (most depth : ℕ) (parts : ScorerParts T) → most < 2 ^ 64 → PartsAreBounded state most parts → IsBounded (record { scores = scores_below TERMINATED (score_by_parts state parts); most = most; depth = depth })
-view_bounded state most depth parts few b = record {
+pub view_bounded : {T : Type 0} (state : T → ScorerState) (most depth : ℕ) (bounds : List ℕ) (lists : List BlockList) (parts : ScorerParts T) → most < 2 ^ 64 → PartsAreBounded state most parts → IsBounded (record { scores = scores_below TERMINATED (score_by_parts state parts); most = most; depth = depth; bounds = bounds; lists = lists })
+view_bounded state most depth bounds lists parts few b = record {
   fits = few;
   ends = λ doc end. row_end TERMINATED (score_by_parts state parts) doc end;
   each = λ doc. row_holds (IsUpTo most) (score_by_parts state parts) doc tt (parts_up_to state most parts doc b);

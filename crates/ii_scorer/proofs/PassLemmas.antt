@@ -17,7 +17,7 @@ passes_scored scored s (Some n) number least few small below may h =
     let pass = may n below in
     passes_one scored s (n, number) pass.key (record { score = omega (arith, below, few); doc = small }) pass.wanted pass.above h
 
-below_counted : (n : Numbering) (f : ℕ → Option ℕ) (least doc : ℕ) → IsBelow least (f doc) → IsBelow least (counted_score n f doc)
+pub below_counted : (n : Numbering) (f : ℕ → Option ℕ) (least doc : ℕ) → IsBelow least (f doc) → IsBelow least (counted_score n f doc)
 below_counted n f least doc below = by (n.counts doc)
   where
     by : (t : Bool) → IsBelow least (if t then f doc else None)

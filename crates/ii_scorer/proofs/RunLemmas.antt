@@ -1,17 +1,20 @@
 -- Runs of documents that are passed by their bounds.
-use Rattle.std.proofs.Common.{◌≡◌, ◌∙◌, ℕ, zero, suc, ◌+◌, ◌<◌, ◌≤◌, ◌^◌, inl, inr, Bool, true, false, List, [], ◌∷◌, ◌++◌, Option, None, Some, arith, get_or, length, min, nat_lt, refl, slice_get, subst, sym, take, ap}
-use Rattle.std.specs.List.{AllByRecursion, AllZip, fold}
+use Rattle.std.proofs.Common.{◌≡◌, ◌∙◌, ℕ, zero, suc, ◌+◌, ◌<◌, ◌≤◌, ◌^◌, inl, Bool, true, false, List, [], ◌∷◌, ◌++◌, Option, None, Some, arith, get_or, length, min, nat_lt, refl, slice_get, subst, sym, take, ap}
+use Rattle.std.specs.List.{AllZip, fold}
 use Rattle.std.proofs.lemmas.Bool.{ltb-false, ltb-true}
 use Rattle.std.proofs.lemmas.List.{take_all}
 use Rattle.ii_base.specs.declared.doc_id.TheConstants.{TERMINATED}
+use Rattle.ii_scorer.specs.BlockLists.{BlockList, ReadsOnly}
 use Rattle.ii_scorer.specs.Combinations.{add, any_of, both, each_of, either}
 use Rattle.ii_scorer.specs.QueryScorers.{PartsAreBounded, score_by_parts}
-use Rattle.ii_scorer.specs.Scorers.{IsBelow, IsBoundUntil, IsBounded, IsNext, IsPassed, IsUpTo, KeepsFrom, ScorerState, score_of, scores_at, scores_below}
+use Rattle.ii_scorer.specs.Scorers.{IsBelow, IsBoundUntil, IsNext, IsPassed, IsUpTo, KeepsFrom, MayScore, ScorerState, bound_of, bound_over, score_of, scores_at, scores_below}
 use Rattle.ii_scorer.specs.declared.query_scorer.ScorerParts.{ScorerParts}
 use Rattle.ii_scorer.specs.declared.query_scorer.ScorerParts.TheVariants.{Nothing, One, All, Each, Any, Without}
 use Rattle.ii_scorer.specs.declared.scorer.ScoreBound.{ScoreBound}
+use Rattle.ii_scorer.proofs.BlockListLaws.{all_on, all_weaker}
+use Rattle.ii_scorer.proofs.BoundLemmas.{bound_more}
 use Rattle.ii_scorer.proofs.PartsLemmas.{all_ends, any_ends, each_ends, row_holds, unless_ends}
-use Rattle.ii_scorer.proofs.ScorerLemmas.{below_if_up_to, up_to_either, up_to_more, zip_at}
+use Rattle.ii_scorer.proofs.ScorerLemmas.{below_if_up_to, up_to_either, zip_at}
 use Rattle.ii_scorer.proofs.SumLemmas.{any_append, both_never}
 
 -- ---- bounds of one scorer
@@ -35,9 +38,10 @@ pub record BoundsFirst (place target most end : ℕ) (ss : List ScorerState) : T
   pub up_to : end ≤ TERMINATED
   pub fits : most < 2 ^ 64
   pub each : (doc : ℕ) → target ≤ doc → doc < end → IsUpTo most (any_of (scores_at (take place ss) doc))
+  pub within : (doc : ℕ) → target ≤ doc → doc < end → most ≤ bound_over (take place ss) doc
 
 pub bounds_none : (target : ℕ) (ss : List ScorerState) → target < TERMINATED → BoundsFirst 0 target 0 TERMINATED ss
-bounds_none target ss low = record { ahead = low; up_to = omega arith; fits = omega arith; each = λ doc from below. tt }
+bounds_none target ss low = record { ahead = low; up_to = omega arith; fits = omega arith; each = λ doc from below. tt; within = λ doc from below. omega arith }
 
 any_more : (ss : List ScorerState) (place doc : ℕ) (s : ScorerState) → slice_get ss place ≡ Some s → any_of (scores_at (take (place + 1) ss) doc) ≡ either (any_of (scores_at (take place ss) doc)) (score_of s doc)
 any_more ss place doc s at =
@@ -54,8 +58,8 @@ any_more ss place doc s at =
 
 -- one scorer more
 pub bounds_next : (place target most end : ℕ) (olds news : List ScorerState) (x : ScorerState) (b : ScoreBound) (sum last : ℕ) → place < length news → x ≡ get_or news place x → AllZip (KeepsFrom target) olds news
-    → BoundsFirst place target most end olds → IsBoundUntil target (score_of x) b → sum ≡ add most b.most → last ≡ min end b.end → BoundsFirst (place + 1) target sum last olds
-bounds_next place target most end olds news x b sum last inside is kept so_far bound sum_is last_is = by (zip_at target olds news place x inside is kept)
+    → BoundsFirst place target most end olds → IsBoundUntil target (score_of x) b → ((doc : ℕ) → target ≤ doc → doc < b.end → b.most ≤ bound_of x doc) → sum ≡ add most b.most → last ≡ min end b.end → BoundsFirst (place + 1) target sum last olds
+bounds_next place target most end olds news x b sum last inside is kept so_far bound within sum_is last_is = by (zip_at target olds news place x inside is kept)
   where
     by : (o : ScorerState) × (slice_get olds place ≡ Some o) × KeepsFrom target o x → BoundsFirst (place + 1) target sum last olds
     by (o, at, went) = record {
@@ -67,6 +71,11 @@ bounds_next place target most end olds news x b sum last inside is kept so_far b
           let part : IsUpTo b.most (score_of o doc) = subst (IsUpTo b.most) (went.alike doc from) (bound.each doc from (omega (arith, below, last_is))) in
           let both : IsUpTo (add most b.most) (either (any_of (scores_at (take place olds) doc)) (score_of o doc)) = up_to_either most b.most (any_of (scores_at (take place olds) doc)) (score_of o doc) so_far.fits bound.fits before part in
           subst (λ (n : ℕ). IsUpTo n (any_of (scores_at (take (place + 1) olds) doc))) (sym sum_is) (subst (IsUpTo (add most b.most)) (sym (any_more olds place doc o at)) both);
+      within = λ doc from below.
+          let before = so_far.within doc from (omega (arith, below, last_is)) in
+          let part : b.most ≤ bound_of o doc = subst (λ (bounds : List ℕ). b.most ≤ get_or bounds doc 0) went.bounds (within doc from (omega (arith, below, last_is))) in
+          let more = bound_more olds place doc o at in
+          omega (arith, before, part, more, sum_is);
     }
 
 -- all of them
@@ -77,6 +86,10 @@ bounds_any place target b ss all is = record {
   fits = is.fits;
   each = λ doc from below. subst (λ (ts : List ScorerState). IsUpTo b.most (any_of (scores_at ts doc))) (take_all place ss all) (is.each doc from below);
 }
+
+-- The bound of some documents is within the bounds of these by all of them.
+pub bounds_within : (place target most end : ℕ) (ss : List ScorerState) → length ss ≤ place → BoundsFirst place target most end ss → (doc : ℕ) → target ≤ doc → doc < end → most ≤ bound_over ss doc
+bounds_within place target most end ss all is doc from below = subst (λ (ts : List ScorerState). most ≤ bound_over ts doc) (take_all place ss all) (is.within doc from below)
 
 -- what each has to match scores no more than what one has to match
 each_below_any : (most : ℕ) (scores : List (Option ℕ)) → IsUpTo most (any_of scores) → IsUpTo most (each_of scores)
@@ -154,3 +167,25 @@ skips_end target least doc f g so_far end none = record {
     by : (d : ℕ) → target ≤ d → (t : Bool) → nat_lt d doc ≡ t → IsBelow least (f d)
     by d from true at = so_far.passed d from (ltb-true d doc at)
     by d from false at = let up = ltb-false d doc at in rw (none d (omega (arith, up, end))) tt
+
+-- ---- what is read meanwhile
+-- Lists were read only at documents from a target on, up to another one, whose bound reaches a score.
+abbrev pub ReadsUpTo : ℕ → ℕ → ℕ → (ℕ → ℕ) → List BlockList → List BlockList → Type 0
+ReadsUpTo target least doc bound = ReadsOnly (MayScore target least doc bound)
+
+-- what is at most a bound is at most the same bound later
+pub reaches_then : (f g : ℕ → ℕ) (least most doc : ℕ) → f ≡ g → least ≤ most → most ≤ f doc → least ≤ g doc
+reaches_then f g least most doc same low up = let here = ap (λ (h : ℕ → ℕ). h doc) same in omega (arith, low, up, here)
+
+-- nothing more was read
+pub reads_still : (target least doc next : ℕ) (bound : ℕ → ℕ) (xs ys zs : List BlockList) → doc ≤ next → ReadsUpTo target least doc bound xs ys → ReadsOnly (λ (from : ℕ). ⊥) ys zs → ReadsUpTo target least next bound xs zs
+reads_still target least doc next bound xs ys zs up so_far none =
+    all_on (MayScore target least next bound) xs ys zs
+    (all_weaker (MayScore target least doc bound) (MayScore target least next bound) (λ d may. record { low = may.low; up_to = let high = may.up_to in omega (arith, high, up); inside = may.inside; reaches = may.reaches }) xs ys so_far)
+    (all_weaker (λ (from : ℕ). ⊥) (MayScore target least next bound) (λ d never. absurd never) ys zs none)
+
+-- more was read at one document
+pub reads_here : (target least doc next : ℕ) (bound : ℕ → ℕ) (xs ys zs ws : List BlockList) → target ≤ doc → doc ≤ next → doc < TERMINATED → least ≤ bound doc → ReadsUpTo target least doc bound xs ys → ReadsOnly (λ (from : ℕ). ⊥) ys zs → ReadsOnly (λ (from : ℕ). from ≡ doc) zs ws → ReadsUpTo target least next bound xs ws
+reads_here target least doc next bound xs ys zs ws low up inside reaches so_far none here =
+    all_on (MayScore target least next bound) xs zs ws (reads_still target least doc next bound xs ys zs up so_far none)
+    (all_weaker (λ (from : ℕ). from ≡ doc) (MayScore target least next bound) (λ d at. subst (MayScore target least next bound) (sym at) (record { low = low; up_to = up; inside = inside; reaches = reaches })) zs ws here)

@@ -193,13 +193,14 @@ each_missing (x ∷ ss) (suc i) doc s at none = later (score_of x doc) ss i at
 
 -- ---- scorers that went on
 pub keeps_same : (doc : ℕ) (s : ScorerState) → KeepsFrom doc s s
-keeps_same doc s = record { alike = λ d from. refl; most = refl; depth = refl; bounded = λ b. b }
+keeps_same doc s = record { alike = λ d from. refl; most = refl; depth = refl; bounds = refl; bounded = λ b. b }
 
 pub keeps_then : (doc : ℕ) (a b c : ScorerState) → KeepsFrom doc a b → KeepsFrom doc b c → KeepsFrom doc a c
 keeps_then doc a b c first second = record {
   alike = λ d from. second.alike d from ∙ first.alike d from;
   most = second.most ∙ first.most;
   depth = second.depth ∙ first.depth;
+  bounds = second.bounds ∙ first.bounds;
   bounded = λ bounded. second.bounded (first.bounded bounded);
 }
 

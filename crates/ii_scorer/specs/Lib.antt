@@ -1,4 +1,5 @@
 pub mod BestDocs
+pub mod BlockLists
 pub mod Combinations
 pub mod QueryScorers
 pub mod ScorerDepths

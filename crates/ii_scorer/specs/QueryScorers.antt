@@ -1,9 +1,10 @@
 -- The scores of documents by the parts of a scorer.
-use Rattle.std.specs.Prelude.{◌≡◌, ⊤, ℕ, ◌+◌, ◌≤◌, Option, None, Some, if◌then◌else◌, max, min, nat_lt}
+use Rattle.std.specs.Prelude.{◌≡◌, ⊤, ℕ, ◌+◌, ◌≤◌, List, [], ◌++◌, Option, None, Some, if◌then◌else◌, max, min, nat_lt}
 use Rattle.ii_base.specs.declared.doc_id.TheConstants.{TERMINATED}
 use Rattle.ii_bm25.specs.declared.bm25.TheConstants.{SCORE_ONE}
+use Rattle.ii_scorer.specs.BlockLists.{BlockList}
 use Rattle.ii_scorer.specs.Combinations.{any_of, each_of, unless}
-use Rattle.ii_scorer.specs.Scorers.{AreBounded, IsBounded, ScorerState, depth_over, score_of, scores_at, sums_after}
+use Rattle.ii_scorer.specs.Scorers.{AreBounded, IsBounded, ScorerState, bound_of, bound_over, depth_over, lists_of, score_of, scores_at, sums_after}
 use Rattle.ii_scorer.specs.declared.query_scorer.ScorerParts.{ScorerParts}
 use Rattle.ii_scorer.specs.declared.query_scorer.ScorerParts.TheVariants.{Nothing, One, All, Each, Any, Without}
 
@@ -15,6 +16,24 @@ score_by_parts state (All limit) doc = if nat_lt doc (min limit TERMINATED) then
 score_by_parts state (Each parts) doc = each_of (scores_at parts.items doc)
 score_by_parts state (Any parts sums) doc = any_of (scores_at parts.items doc)
 score_by_parts state (Without first other) doc = unless (score_of first.value doc) (score_of other.value doc)
+
+-- its bound by them, of which none exceeds a number
+abbrev pub bound_by_parts : {T : Type 0} → (T → ScorerState) → ℕ → ScorerParts T → ℕ → ℕ
+bound_by_parts state most Nothing doc = most
+bound_by_parts state most (One scorer) doc = bound_of (state scorer) doc
+bound_by_parts state most (All limit) doc = most
+bound_by_parts state most (Each parts) doc = bound_over parts.items doc
+bound_by_parts state most (Any parts sums) doc = bound_over parts.items doc
+bound_by_parts state most (Without first other) doc = bound_of first.value doc
+
+-- the lists that they read
+abbrev pub lists_by_parts : {T : Type 0} → (T → ScorerState) → ScorerParts T → List BlockList
+lists_by_parts state Nothing = []
+lists_by_parts state (One scorer) = (state scorer).lists
+lists_by_parts state (All limit) = []
+lists_by_parts state (Each parts) = lists_of parts.items
+lists_by_parts state (Any parts sums) = lists_of parts.items
+lists_by_parts state (Without first other) = first.value.lists ++ other.value.lists
 
 -- how deep they are nested
 abbrev pub depth_of : {T : Type 0} → ScorerParts T → ℕ

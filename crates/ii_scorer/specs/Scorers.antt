@@ -1,23 +1,35 @@
 -- The scores of documents that a scorer hasn't passed.
 use Rattle.std.specs.Prelude.{◌≡◌, ◌⊎◌, ⊤, ℕ, suc, ◌^◌, ◌<◌, ◌≤◌, List, [], ◌∷◌, Option, None, Some, get_or, if◌then◌else◌, map, max, nat_le}
-use Rattle.std.specs.List.{AllByRecursion, range_with_len}
+use Rattle.std.specs.List.{AllByRecursion, flat_map, range_with_len}
+use Rattle.std.specs.List.Sorted.{IsPermutation}
 use Rattle.ii_base.specs.declared.doc_id.TheConstants.{TERMINATED}
+use Rattle.ii_scorer.specs.BlockLists.{BlockList}
 use Rattle.ii_scorer.specs.Combinations.{add}
 use Rattle.ii_scorer.specs.declared.scorer.ScoreBound.{ScoreBound}
 
--- what each document below `TERMINATED` scores that wasn't passed, at most how much, and how deep the scorer is nested
+-- what each document below `TERMINATED` scores that wasn't passed, at most how much, how deep the scorer is nested, a bound of each of these documents, and the lists that it reads
 pub record ScorerState : Type 0 where
   pub scores : List (Option ℕ)
   pub most : ℕ
   pub depth : ℕ
+  pub bounds : List ℕ
+  pub lists : List BlockList
 
 -- what a document scores
 abbrev pub score_of : ScorerState → ℕ → Option ℕ
 score_of s doc = get_or s.scores doc None
 
+-- the bound of a document
+abbrev pub bound_of : ScorerState → ℕ → ℕ
+bound_of s doc = get_or s.bounds doc 0
+
 -- what the documents below a number score
 unfoldable pub scores_below : ℕ → (ℕ → Option ℕ) → List (Option ℕ)
 scores_below n f = map f (range_with_len 0 n)
+
+-- their bounds
+unfoldable pub bounds_below : ℕ → (ℕ → ℕ) → List ℕ
+bounds_below n f = map f (range_with_len 0 n)
 
 -- A score is below this one, if there is a score.
 abbrev pub IsBelow : ℕ → Option ℕ → Type 0
@@ -57,11 +69,19 @@ pub record IsBoundUntil (target : ℕ) (f : ℕ → Option ℕ) (bound : ScoreBo
   pub fits : bound.most < 2 ^ 64
   pub each : (doc : ℕ) → target ≤ doc → doc < bound.end → IsUpTo bound.most (f doc)
 
+-- A document from a target on, up to another one, may score this by its bound.
+pub record MayScore (target least next : ℕ) (bound : ℕ → ℕ) (doc : ℕ) : Type 0 where
+  pub low : target ≤ doc
+  pub up_to : doc ≤ next
+  pub inside : doc < TERMINATED
+  pub reaches : least ≤ bound doc
+
 -- A scorer passed no document from this one on.
 pub record KeepsFrom (doc : ℕ) (old new : ScorerState) : Type 0 where
   pub alike : (d : ℕ) → doc ≤ d → score_of new d ≡ score_of old d
   pub most : new.most ≡ old.most
   pub depth : new.depth ≡ old.depth
+  pub bounds : new.bounds ≡ old.bounds
   pub bounded : IsBounded old → IsBounded new
 
 -- what a document scores by each of some scorers
@@ -77,6 +97,21 @@ most_of (s ∷ ss) = add s.most (most_of ss)
 abbrev pub sums_after : ℕ → List ScorerState → List ℕ
 sums_after sum [] = []
 sums_after sum (s ∷ ss) = add sum s.most ∷ sums_after (add sum s.most) ss
+
+-- the sum of the bounds of a document by some scorers, at most 2^64 - 1
+abbrev pub bound_over : List ScorerState → ℕ → ℕ
+bound_over [] doc = 0
+bound_over (s ∷ ss) doc = add (bound_of s doc) (bound_over ss doc)
+
+-- the lists of some scorers, one after the other
+abbrev pub lists_of : List ScorerState → List BlockList
+lists_of = flat_map (λ (s : ScorerState). s.lists)
+
+-- These are the lists of some scorers in some order.
+pub record AreListsOf (ss : List ScorerState) (lists : List BlockList) : Type 0 where
+  pub order : List ScorerState
+  pub same : IsPermutation ss order
+  pub are : lists ≡ lists_of order
 
 -- one more than the depth of the deepest of some scorers
 abbrev pub depth_over : List ScorerState → ℕ

@@ -2,7 +2,8 @@
 ghost use Rattle.std.specs.Prelude.{◌≡◌, ◌≤◌, ◌<◌, ◌++◌, ℕ, List, OnOk};
 ghost use Rattle.ii_io.specs.Faults.{OnlyMemory};
 ghost use Rattle.ii_base.specs.declared.doc_id.TheConstants.{TERMINATED};
-ghost use Rattle.ii_scorer.specs.BestDocs.{AreNumbers, Numbering, counted_score, numbered_docs};
+ghost use Rattle.ii_scorer.specs.BestDocs.{AreNumbers, IsNeeded, Numbering, NumbersComeAfter, counted_score, numbered_docs};
+ghost use Rattle.ii_scorer.specs.BlockLists.{ReadsOnly};
 ghost use Rattle.ii_scorer.specs.Scorers.{KeepsFrom, score_of};
 ghost use Rattle.ii_scorer.specs.TopDocs.{with_score};
 ghost use Rattle.ii_scorer.specs.TopNComputer.{KeepsBest, MayBePassed};
@@ -35,7 +36,8 @@ pub trait DocNumbers {
 
 /// Adds the documents that count and have a score, each by its number with the score, to those of which the best are kept.
 /// Documents that score too little for that are passed. Their numbers must have 32 bits, and ascend. Fails only with
-/// `OutOfMemory`.
+/// `OutOfMemory`. Also where it fails, a block of a list is decoded at most once, and only if it has the first document
+/// from a document on, of whose bound this holds: fewer of those before it than are wanted score as much.
 pub fn push_best<T: Scorer, N: DocNumbers>(
     scorer: &mut T,
     numbers: &N,
@@ -44,6 +46,7 @@ pub fn push_best<T: Scorer, N: DocNumbers>(
     requires { AreNumbers (N.numbering numbers.now) }
     ensures kept { (scored : List (ℕ × ℕ)) → KeepsBest scored computer.old → OnOk result (KeepsBest (scored ++ numbered_docs (N.numbering numbers.now) (score_of (T.state scorer.old))) computer.new) }
     ensures wanted { computer.new.top_n ≡ computer.old.top_n }
+    ensures work { (scored : List (ℕ × ℕ)) → KeepsBest scored computer.old → NumbersComeAfter scored (N.numbering numbers.now) → ReadsOnly (IsNeeded scored (N.numbering numbers.now) (T.state scorer.old) computer.old.top_n) (T.state scorer.old).lists (T.state scorer.new).lists }
     ensures only { OnlyMemory result }
 {
     let num_docs = numbers.num_docs();
@@ -78,6 +81,7 @@ fn push_doc<T: Scorer, N: DocNumbers>(
     requires passes { (score : ℕ) → score < least → MayBePassed computer.old (score, (N.numbering numbers.now).number doc) }
     ensures kept { (scored : List (ℕ × ℕ)) → KeepsBest scored computer.old → OnOk result (KeepsBest (scored ++ with_score (counted_score (N.numbering numbers.now) (score_of (T.state scorer.old)) doc) ((N.numbering numbers.now).number doc)) computer.new) }
     ensures moved { KeepsFrom doc (T.state scorer.old) (T.state scorer.new) }
+    ensures work { ReadsOnly (λ from. from ≡ doc) (T.state scorer.old).lists (T.state scorer.new).lists }
     ensures wanted { computer.new.top_n ≡ computer.old.top_n }
     ensures only { OnlyMemory result }
 {

@@ -1,12 +1,13 @@
 //! Scorers that are combined from others.
-ghost use Rattle.std.specs.Prelude.{◌≡◌, ◌<◌, ◌≤◌, ◌-◌, ℕ, IfOk, Option, None, Some, get_or, if◌then◌else◌, length, min, nat_lt};
+ghost use Rattle.std.specs.Prelude.{◌≡◌, ◌<◌, ◌≤◌, ◌-◌, ◌++◌, ◌⊎◌, ℕ, IfOk, Option, None, Some, [], false, get_or, if◌then◌else◌, length, min, nat_lt};
 ghost use Rattle.std.specs.List.{AllByRecursion, AllZip};
 ghost use Rattle.ii_io.specs.Faults.{OnlyMemory};
 ghost use Rattle.ii_base.specs.declared.doc_id.TheConstants.{TERMINATED};
 ghost use Rattle.ii_bm25.specs.declared.bm25.TheConstants.{SCORE_ONE};
+ghost use Rattle.ii_scorer.specs.BlockLists.{ReadsOnly};
 ghost use Rattle.ii_scorer.specs.Combinations.{any_of, each_of, either, unless};
-ghost use Rattle.ii_scorer.specs.QueryScorers.{PartsAreBounded, depth_of, score_by_parts};
-ghost use Rattle.ii_scorer.specs.Scorers.{AreBounded, IsBoundUntil, IsBounded, IsNext, IsUpTo, KeepsFrom, if_at_least, score_of, scores_at, sums_after};
+ghost use Rattle.ii_scorer.specs.QueryScorers.{PartsAreBounded, bound_by_parts, depth_of, lists_by_parts, score_by_parts};
+ghost use Rattle.ii_scorer.specs.Scorers.{AreBounded, AreListsOf, IsBoundUntil, IsBounded, IsNext, IsUpTo, KeepsFrom, MayScore, bound_of, bound_over, if_at_least, lists_of, score_of, scores_at, sums_after};
 
 use crate::combination::{both, either, if_at_least};
 use crate::scorer::{ScoreBound, Scorer};
@@ -23,7 +24,7 @@ pub struct QueryScorer<T: Scorer> {
     parts: ScorerParts<T>,
     // no document scores more
     most: Score,
-    // whether it pays to ask for bounds of runs
+    // whether it pays to ask for bounds of runs; if not, there are no lists
     has_runs: bool,
 }
 
@@ -40,16 +41,17 @@ enum ScorerParts<T: Scorer> {
 }
 
 impl<T: Scorer> Model for QueryScorer<T> {
+    ghost use Rattle.std.specs.Prelude.{◌≡◌, [], false};
     ghost use Rattle.ii_base.specs.declared.doc_id.TheConstants.{TERMINATED};
-    ghost use Rattle.ii_scorer.specs.Scorers.{ScorerState, scores_below};
+    ghost use Rattle.ii_scorer.specs.Scorers.{ScorerState, bounds_below, scores_below};
 
     ghost Value = { ScorerState };
 
-    ghost use Rattle.ii_scorer.specs.QueryScorers.{PartsAreBounded, depth_of, score_by_parts};
+    ghost use Rattle.ii_scorer.specs.QueryScorers.{PartsAreBounded, bound_by_parts, depth_of, lists_by_parts, score_by_parts};
 
-    ghost view = { λ s. record { scores = scores_below TERMINATED (score_by_parts T.state s.parts); most = s.most; depth = depth_of s.parts } };
+    ghost view = { λ s. record { scores = scores_below TERMINATED (score_by_parts T.state s.parts); most = s.most; depth = depth_of s.parts; bounds = bounds_below TERMINATED (bound_by_parts T.state s.most s.parts); lists = lists_by_parts T.state s.parts } };
 
-    ghost invariant = { λ s. PartsAreBounded T.state s.most s.parts };
+    ghost invariant = { λ s. PartsAreBounded T.state s.most s.parts × (s.has_runs ≡ false → lists_by_parts T.state s.parts ≡ []) };
 
     ghost size = { λ s. s.depth };
 
@@ -62,7 +64,8 @@ impl<T: Scorer> Model for QueryScorer<T> {
 impl<T: Scorer> QueryScorer<T> {
     /// Returns a scorer of no documents.
     pub fn nothing() -> QueryScorer<T>
-        ensures { (doc : ℕ) → score_of result doc ≡ None }
+        ensures scores { (doc : ℕ) → score_of result doc ≡ None }
+        ensures lists { result.lists ≡ [] }
     {
         QueryScorer {
             parts: ScorerParts::Nothing,
@@ -73,7 +76,9 @@ impl<T: Scorer> QueryScorer<T> {
 
     /// Returns a scorer of the documents of one scorer.
     pub fn one(scorer: T) -> QueryScorer<T>
-        ensures { (doc : ℕ) → score_of result doc ≡ score_of (T.state scorer) doc }
+        ensures scores { (doc : ℕ) → score_of result doc ≡ score_of (T.state scorer) doc }
+        ensures bounds { (doc : ℕ) → doc < TERMINATED → bound_of result doc ≡ bound_of (T.state scorer) doc }
+        ensures lists { result.lists ≡ (T.state scorer).lists }
     {
         let most = scorer.max_score();
         let has_runs = scorer.has_runs();
@@ -86,7 +91,9 @@ impl<T: Scorer> QueryScorer<T> {
 
     /// Returns a scorer of all documents below `limit`, each of which scores 1.0. No document is `TERMINATED` or above.
     pub fn all(limit: DocId) -> QueryScorer<T>
-        ensures { (doc : ℕ) → score_of result doc ≡ (if nat_lt doc (min limit TERMINATED) then Some SCORE_ONE else None) }
+        ensures scores { (doc : ℕ) → score_of result doc ≡ (if nat_lt doc (min limit TERMINATED) then Some SCORE_ONE else None) }
+        ensures bounds { (doc : ℕ) → doc < TERMINATED → bound_of result doc ≡ SCORE_ONE }
+        ensures lists { result.lists ≡ [] }
     {
         QueryScorer {
             parts: ScorerParts::All(limit),
@@ -98,7 +105,9 @@ impl<T: Scorer> QueryScorer<T> {
     /// Returns a scorer of the documents that each of some scorers matches, with the sum of their scores; of none
     /// without scorers.
     pub fn each(scorers: Vec<QueryScorer<T>>) -> QueryScorer<T>
-        ensures { (doc : ℕ) → score_of result doc ≡ each_of (scores_at scorers.items doc) }
+        ensures scores { (doc : ℕ) → score_of result doc ≡ each_of (scores_at scorers.items doc) }
+        ensures bounds { (doc : ℕ) → doc < TERMINATED → bound_of result doc ≡ bound_over scorers.items doc }
+        ensures lists { result.lists ≡ lists_of scorers.items }
     {
         let most = sum_of_most(&scorers);
         let has_runs = have_runs(&scorers);
@@ -113,6 +122,8 @@ impl<T: Scorer> QueryScorer<T> {
     /// that match. Fails only with `OutOfMemory`.
     pub fn any(alloc: Global, scorers: Vec<QueryScorer<T>>) -> Result<QueryScorer<T>, Fault>
         ensures scores { IfOk result (λ scorer. (doc : ℕ) → score_of scorer doc ≡ any_of (scores_at scorers.items doc)) }
+        ensures bounds { IfOk result (λ scorer. (doc : ℕ) → doc < TERMINATED → bound_of scorer doc ≡ bound_over scorers.items doc) }
+        ensures lists { IfOk result (λ scorer. AreListsOf scorers.items scorer.lists) }
         ensures only { OnlyMemory result }
     {
         let mut parts = scorers;
@@ -138,10 +149,12 @@ impl<T: Scorer> QueryScorer<T> {
         other: QueryScorer<T>,
     ) -> Result<QueryScorer<T>, Fault>
         ensures scores { IfOk result (λ scorer. (doc : ℕ) → score_of scorer doc ≡ unless (score_of first doc) (score_of other doc)) }
+        ensures bounds { IfOk result (λ scorer. (doc : ℕ) → doc < TERMINATED → bound_of scorer doc ≡ bound_of first doc) }
+        ensures lists { IfOk result (λ scorer. scorer.lists ≡ first.lists ++ other.lists) }
         ensures only { OnlyMemory result }
     {
         let most = first.bound();
-        let has_runs = first.has_runs;
+        let has_runs = first.has_runs() | other.has_runs();
         let first = Box::new(alloc, first)?;
         let other = Box::new(alloc, other)?;
         Ok(QueryScorer {
@@ -165,6 +178,7 @@ impl<T: Scorer> QueryScorer<T> {
         requires { target ≤ TERMINATED }
         ensures next { IsNext target least (score_of self.old) result }
         ensures kept { KeepsFrom target self.old self.new }
+        ensures work { ReadsOnly (λ from. from ≡ target) self.old.lists self.new.lists }
     {
         next_of(&mut self.parts, self.most, target, least)
     }
@@ -175,6 +189,8 @@ impl<T: Scorer> QueryScorer<T> {
         requires { target < TERMINATED }
         ensures bound { IsBoundUntil target (score_of self.old) result }
         ensures kept { KeepsFrom target self.old self.new }
+        ensures within { (doc : ℕ) → target ≤ doc → doc < result.end → result.most ≤ bound_of self.old doc }
+        ensures work { ReadsOnly (λ _. ⊥) self.old.lists self.new.lists }
     {
         bound_by(&mut self.parts, self.most, target)
     }
@@ -185,6 +201,7 @@ impl<T: Scorer> QueryScorer<T> {
         requires { doc < TERMINATED }
         ensures score { result ≡ if_at_least least (score_of self.old doc) }
         ensures kept { KeepsFrom doc self.old self.new }
+        ensures work { ReadsOnly (λ from. from ≡ doc) self.old.lists self.new.lists }
     {
         score_by(&mut self.parts, self.most, doc, least)
     }
@@ -232,9 +249,11 @@ fn sum_of_most<T: Scorer>(parts: &Vec<QueryScorer<T>>) -> Score
 }
 
 // Returns whether it pays to ask one of some scorers for bounds of runs.
-fn have_runs<T: Scorer>(parts: &Vec<QueryScorer<T>>) -> bool {
+fn have_runs<T: Scorer>(parts: &Vec<QueryScorer<T>>) -> bool
+    ensures { result ≡ false → lists_of parts.now.items ≡ [] }
+{
     for place in 0..parts.len() {
-        if parts[place].has_runs {
+        if parts[place].has_runs() {
             return true;
         }
     }
@@ -265,6 +284,8 @@ fn next_of<T: Scorer>(parts: &mut ScorerParts<T>, most: Score, target: DocId, le
     ensures alike { (doc : ℕ) → target ≤ doc → score_by_parts T.state parts.new doc ≡ score_by_parts T.state parts.old doc }
     ensures depth { depth_of parts.new ≡ depth_of parts.old }
     ensures bounded { PartsAreBounded T.state most parts.new }
+    ensures bounds { bound_by_parts T.state most parts.new ≡ bound_by_parts T.state most parts.old }
+    ensures work { ReadsOnly (λ from. from ≡ target) (lists_by_parts T.state parts.old) (lists_by_parts T.state parts.new) }
 {
     if most < least {
         return TERMINATED;
@@ -289,10 +310,14 @@ fn skip_to<T: Scorer>(
 ) -> DocId
     requires up_to { target ≤ TERMINATED }
     requires bounded { PartsAreBounded T.state most parts.old }
+    requires runs { has_runs ≡ false → lists_by_parts T.state parts.old ≡ [] }
     ensures next { IsNext target least (score_by_parts T.state parts.old) result }
     ensures alike { (doc : ℕ) → result ≤ doc → score_by_parts T.state parts.new doc ≡ score_by_parts T.state parts.old doc }
     ensures depth { depth_of parts.new ≡ depth_of parts.old }
     ensures bounded { PartsAreBounded T.state most parts.new }
+    ensures bounds { bound_by_parts T.state most parts.new ≡ bound_by_parts T.state most parts.old }
+    ensures reached { result < TERMINATED → (lists_by_parts T.state parts.old ≡ []) ⊎ (least ≤ bound_by_parts T.state most parts.old result) }
+    ensures work { ReadsOnly (MayScore target least result (bound_by_parts T.state most parts.old)) (lists_by_parts T.state parts.old) (lists_by_parts T.state parts.new) }
 {
     let ScorerParts::One(scorer) = parts else {
         return skip_runs(parts, most, has_runs, target, least);
@@ -313,10 +338,14 @@ fn skip_runs<T: Scorer>(
 ) -> DocId
     requires up_to { target ≤ TERMINATED }
     requires bounded { PartsAreBounded T.state most parts.old }
+    requires runs { has_runs ≡ false → lists_by_parts T.state parts.old ≡ [] }
     ensures next { IsNext target least (score_by_parts T.state parts.old) result }
     ensures alike { (doc : ℕ) → result ≤ doc → score_by_parts T.state parts.new doc ≡ score_by_parts T.state parts.old doc }
     ensures depth { depth_of parts.new ≡ depth_of parts.old }
     ensures bounded { PartsAreBounded T.state most parts.new }
+    ensures bounds { bound_by_parts T.state most parts.new ≡ bound_by_parts T.state most parts.old }
+    ensures reached { result < TERMINATED → (lists_by_parts T.state parts.old ≡ []) ⊎ (least ≤ bound_by_parts T.state most parts.old result) }
+    ensures work { ReadsOnly (MayScore target least result (bound_by_parts T.state most parts.old)) (lists_by_parts T.state parts.old) (lists_by_parts T.state parts.new) }
 {
     if !has_runs {
         return next_of(parts, most, target, least);
@@ -345,6 +374,9 @@ fn bound_by<T: Scorer>(parts: &mut ScorerParts<T>, most: Score, target: DocId) -
     ensures alike { (doc : ℕ) → target ≤ doc → score_by_parts T.state parts.new doc ≡ score_by_parts T.state parts.old doc }
     ensures depth { depth_of parts.new ≡ depth_of parts.old }
     ensures bounded { PartsAreBounded T.state most parts.new }
+    ensures bounds { bound_by_parts T.state most parts.new ≡ bound_by_parts T.state most parts.old }
+    ensures within { (doc : ℕ) → target ≤ doc → doc < result.end → result.most ≤ bound_by_parts T.state most parts.old doc }
+    ensures work { ReadsOnly (λ _. ⊥) (lists_by_parts T.state parts.old) (lists_by_parts T.state parts.new) }
 {
     match parts {
         ScorerParts::One(scorer) => scorer.max_score_until(target),
@@ -365,6 +397,8 @@ fn bound_of_all<T: Scorer>(parts: &mut Vec<QueryScorer<T>>, target: DocId) -> Sc
     ensures any { IsBoundUntil target (λ doc. any_of (scores_at parts.old.items doc)) result }
     ensures each { IsBoundUntil target (λ doc. each_of (scores_at parts.old.items doc)) result }
     ensures kept { AllZip (KeepsFrom target) parts.old.items parts.new.items }
+    ensures within { (doc : ℕ) → target ≤ doc → doc < result.end → result.most ≤ bound_over parts.old.items doc }
+    ensures work { ReadsOnly (λ _. ⊥) (lists_of parts.old.items) (lists_of parts.new.items) }
 {
     let mut most: Score = 0;
     let mut end = TERMINATED;
@@ -391,6 +425,7 @@ fn meet<T: Scorer>(parts: &mut Vec<QueryScorer<T>>, target: DocId) -> DocId
     requires { target ≤ TERMINATED }
     ensures next { IsNext target 0 (λ doc. each_of (scores_at parts.old.items doc)) result }
     ensures kept { AllZip (KeepsFrom target) parts.old.items parts.new.items }
+    ensures work { ReadsOnly (λ from. from ≡ target) (lists_of parts.old.items) (lists_of parts.new.items) }
 {
     for place in 0..parts.len() {
         let next = parts[place].go_to(target, 0);
@@ -418,6 +453,7 @@ fn next_of_any<T: Scorer>(
     requires sums { sums.now.items ≡ sums_after 0 parts.old.items }
     ensures next { IsNext target least (λ doc. any_of (scores_at parts.old.items doc)) result }
     ensures kept { AllZip (KeepsFrom target) parts.old.items parts.new.items }
+    ensures work { ReadsOnly (λ from. from ≡ target) (lists_of parts.old.items) (lists_of parts.new.items) }
 {
     let mut next = TERMINATED;
     for place in num_below(sums, least)..parts.len() {
@@ -453,6 +489,8 @@ fn score_by<T: Scorer>(
     ensures alike { (d : ℕ) → doc ≤ d → score_by_parts T.state parts.new d ≡ score_by_parts T.state parts.old d }
     ensures depth { depth_of parts.new ≡ depth_of parts.old }
     ensures bounded { PartsAreBounded T.state most parts.new }
+    ensures bounds { bound_by_parts T.state most parts.new ≡ bound_by_parts T.state most parts.old }
+    ensures work { ReadsOnly (λ from. from ≡ doc) (lists_by_parts T.state parts.old) (lists_by_parts T.state parts.new) }
 {
     match parts {
         ScorerParts::Nothing => None,
@@ -480,6 +518,7 @@ fn score_of_each<T: Scorer>(parts: &mut Vec<QueryScorer<T>>, doc: DocId) -> Opti
     requires { doc < TERMINATED }
     ensures score { result ≡ each_of (scores_at parts.old.items doc) }
     ensures kept { AllZip (KeepsFrom doc) parts.old.items parts.new.items }
+    ensures work { ReadsOnly (λ from. from ≡ doc) (lists_of parts.old.items) (lists_of parts.new.items) }
 {
     if parts.is_empty() {
         return None;
@@ -509,6 +548,7 @@ fn score_of_any<T: Scorer>(
     requires sums { sums.now.items ≡ sums_after 0 parts.old.items }
     ensures score { result ≡ if_at_least least (any_of (scores_at parts.old.items doc)) }
     ensures kept { AllZip (KeepsFrom doc) parts.old.items parts.new.items }
+    ensures work { ReadsOnly (λ from. from ≡ doc) (lists_of parts.old.items) (lists_of parts.new.items) }
 {
     let mut sum = None;
     let mut place = parts.len();
@@ -545,6 +585,7 @@ fn score_without<T: Scorer>(
     ensures score { result ≡ if_at_least least (unless (score_of first.old.value doc) (score_of other.old.value doc)) }
     ensures first_kept { KeepsFrom doc first.old.value first.new.value }
     ensures other_kept { KeepsFrom doc other.old.value other.new.value }
+    ensures work { ReadsOnly (λ from. from ≡ doc) (first.old.value.lists ++ other.old.value.lists) (first.new.value.lists ++ other.new.value.lists) }
 {
     let score = first.score(doc, least);
     if score.is_none() {

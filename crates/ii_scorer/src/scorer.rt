@@ -1,6 +1,7 @@
-ghost use Rattle.std.specs.Prelude.{◌≡◌, ◌<◌, ◌≤◌, ℕ};
+ghost use Rattle.std.specs.Prelude.{◌≡◌, ◌<◌, ◌≤◌, ◌⊎◌, ℕ, [], false};
 ghost use Rattle.ii_base.specs.declared.doc_id.TheConstants.{TERMINATED};
-ghost use Rattle.ii_scorer.specs.Scorers.{IsBoundUntil, IsBounded, IsNext, KeepsFrom, ScorerState, if_at_least, score_of};
+ghost use Rattle.ii_scorer.specs.BlockLists.{ReadsOnly};
+ghost use Rattle.ii_scorer.specs.Scorers.{IsBoundUntil, IsBounded, IsNext, KeepsFrom, MayScore, ScorerState, bound_of, if_at_least, score_of};
 
 use ii_base::{DocId, TERMINATED};
 use ii_bm25::Score;
@@ -14,7 +15,8 @@ pub struct ScoreBound {
 
 /// Gives the scores of documents, which are asked for in ascending order.
 ///
-/// Its model is what each document scores that wasn't passed, and a score that none exceeds.
+/// Its model is what each document scores that wasn't passed, a score that none exceeds, a bound of each document, and the
+/// lists that it reads.
 pub trait Scorer: Drop {
     ghost state: { Self → ScorerState };
 
@@ -24,41 +26,44 @@ pub trait Scorer: Drop {
         ensures bounded { IsBounded (state self.now) };
 
     /// Returns a document from `target` on, such that those before it score less than `least`; or `TERMINATED`, if
-    /// all from `target` on do. Passes at most the documents below `target`. The target must be at most
-    /// `TERMINATED`.
+    /// all from `target` on do. Passes at most the documents below `target`, and decodes at most the block of a list that
+    /// has the first document from `target` on. The target must be at most `TERMINATED`.
     fn seek_with_score(&mut self, target: DocId, least: Score) -> DocId
         requires { target ≤ TERMINATED }
         ensures next { IsNext target least (score_of (state self.old)) result }
-        ensures kept { KeepsFrom target (state self.old) (state self.new) };
+        ensures kept { KeepsFrom target (state self.old) (state self.new) }
+        ensures work { ReadsOnly (λ from. from ≡ target) (state self.old).lists (state self.new).lists };
 
     /// Returns such a document as `seek_with_score` does, and may pass those before it, since they score less than
-    /// `least`. The target must be at most `TERMINATED`.
+    /// `least`. Decodes blocks only for documents whose bound reaches `least`; so does that of the document that it
+    /// returns, if there are lists. The target must be at most `TERMINATED`.
     fn skip_to_score(&mut self, target: DocId, least: Score) -> DocId
         requires { target ≤ TERMINATED }
         ensures next { IsNext target least (score_of (state self.old)) result }
-        ensures kept { KeepsFrom result (state self.old) (state self.new) };
+        ensures kept { KeepsFrom result (state self.old) (state self.new) }
+        ensures reached { result < TERMINATED → ((state self.old).lists ≡ []) ⊎ (least ≤ bound_of (state self.old) result) }
+        ensures work { ReadsOnly (MayScore target least result (bound_of (state self.old))) (state self.old).lists (state self.new).lists };
 
-    /// Returns a score that no document from `target` on exceeds, up to the end that comes with it. Passes at most the
-    /// documents below `target`, which must be below `TERMINATED`.
+    /// Returns a score that no document from `target` on exceeds, up to the end that comes with it; nor does it exceed the
+    /// bounds of these documents. Passes at most the documents below `target`, which must be below `TERMINATED`, and
+    /// decodes nothing.
     fn max_score_until(&mut self, target: DocId) -> ScoreBound
         requires { target < TERMINATED }
         ensures bound { IsBoundUntil target (score_of (state self.old)) result }
         ensures kept { KeepsFrom target (state self.old) (state self.new) }
-    {
-        ScoreBound {
-            most: self.max_score(),
-            end: TERMINATED,
-        }
-    }
+        ensures within { (doc : ℕ) → target ≤ doc → doc < result.end → result.most ≤ bound_of (state self.old) doc }
+        ensures work { ReadsOnly (λ _. ⊥) (state self.old).lists (state self.new).lists };
 
-    /// Returns whether `max_score_until` may give runs that end before `TERMINATED`, so that it pays to ask for them.
-    fn has_runs(&self) -> bool {
-        false
-    }
+    /// Returns whether `max_score_until` may give runs that end before `TERMINATED`, so that it pays to ask for them. If
+    /// it doesn't, there are no lists.
+    fn has_runs(&self) -> bool
+        ensures lists { result ≡ false → (state self.now).lists ≡ [] };
 
-    /// Returns what a document scores, if that is at least `least`. Passes at most the documents below it.
+    /// Returns what a document scores, if that is at least `least`. Passes at most the documents below it, and decodes at
+    /// most the block of a list that has the first document from it on.
     fn score_at(&mut self, doc: DocId, least: Score) -> Option<Score>
         requires { doc < TERMINATED }
         ensures score { result ≡ if_at_least least (score_of (state self.old) doc) }
-        ensures kept { KeepsFrom doc (state self.old) (state self.new) };
+        ensures kept { KeepsFrom doc (state self.old) (state self.new) }
+        ensures work { ReadsOnly (λ from. from ≡ doc) (state self.old).lists (state self.new).lists };
 }

@@ -1,8 +1,10 @@
-use Rattle.std.proofs.Common.{◌≡◌, ◌∙◌, ◌++◌, ◌^◌, ◌<◌, ◌≤◌, ℕ, arith, inl, rules, subst, sym}
+use Rattle.std.proofs.Common.{◌≡◌, ◌∙◌, ◌++◌, ◌^◌, ◌<◌, ◌≤◌, ℕ, List, append-nil, arith, inl, refl, rules, subst, sym}
 use Rattle.ii_base.specs.declared.doc_id.TheConstants.{TERMINATED}
-use Rattle.ii_scorer.specs.BestDocs.{first_numbered}
+use Rattle.ii_scorer.specs.BestDocs.{IsNeeded, first_numbered}
 use Rattle.ii_scorer.specs.Scorers.{IsBelow, score_of}
 use Rattle.ii_scorer.specs.TopNComputer.{KeepsBest}
+use Rattle.ii_scorer.proofs.BlockListLaws.{all_none}
+use Rattle.ii_scorer.proofs.NeededLemmas.{least_needed, push_needed, skip_needed}
 use Rattle.ii_scorer.proofs.PassLemmas.{below_all, numbered_more, past_end, passes_to}
 use Rattle.ii_scorer.proofs.best_docs.push_best.Goals as goal
 
@@ -66,6 +68,12 @@ loop-doc-preserved g c =
           ))
           (l.invariant.kept scored h)));
       wanted = c.push_doc.ensures.wanted ∙ l.invariant.wanted;
+      bounds = c.push_doc.ensures.moved.bounds ∙ c.skip_to_score-next.ensures.kept.bounds ∙ l.invariant.bounds;
+      work = λ scored h after.
+          push_needed n (g.T.Scorer.state c.args.scorer.now) (g.T.Scorer.state l.scorer) scored c.args.computer.now.top_n l.doc c.in-Some.least next l.invariant.bounds
+          (least_needed n f scored l.computer c.args.computer.now.top_n l.doc c.number.result c.in-Some.least c.number.ensures (search rules) l.invariant.wanted after (l.invariant.kept scored h) c.in-Some.ensures.needed)
+          (λ d from below. subst (IsBelow c.in-Some.least) (l.invariant.alike d from) (c.skip_to_score-next.ensures.next.passed d from (inl below)))
+          (g.T.Scorer.state c.args.scorer.now).lists (g.T.Scorer.state c.skip_to_score-next.new.self).lists (g.T.Scorer.state c.push_doc.new.scorer).lists up (c.skip_to_score-next.ensures.reached low) (l.invariant.work scored h after) c.skip_to_score-next.ensures.work c.push_doc.ensures.work;
     }
 
 pub returns-clause-kept : goal.returns-clause-kept
@@ -77,3 +85,39 @@ returns-clause-kept g c = λ scored h.
     let within = l.invariant.inside in
     let all : l.doc ≡ n.num_docs = omega (arith, many, over, within) in
     subst (λ (k : ℕ). KeepsBest (scored ++ first_numbered n k (score_of (g.T.Scorer.state c.args.scorer.now))) l.computer) all (l.invariant.kept scored h)
+
+pub loop-doc-init : goal.loop-doc-init
+loop-doc-init g c = record {
+  low = omega arith;
+  inside = omega arith;
+  alike = λ d from. refl;
+  kept = λ scored h. subst (λ (rows : List (ℕ × ℕ)). KeepsBest rows c.args.computer.now) (sym (append-nil scored)) h;
+  wanted = refl;
+  bounds = refl;
+  work = λ scored h after. all_none (IsNeeded scored (g.N.DocNumbers.numbering c.args.numbers.now) (g.T.Scorer.state c.args.scorer.now) c.args.computer.now.top_n) (g.T.Scorer.state c.args.scorer.now).lists;
+}
+
+pub returns-then-next-min-clause-work : goal.returns-then-next-min-clause-work
+returns-then-next-min-clause-work g c = λ scored h after.
+    let l = c.loop-doc in
+    let n = g.N.DocNumbers.numbering c.args.numbers.now in
+    let f = score_of (g.T.Scorer.state c.args.scorer.now) in
+    let next = c.skip_to_score-next.result in
+    skip_needed n (g.T.Scorer.state c.args.scorer.now) (g.T.Scorer.state l.scorer) scored c.args.computer.now.top_n l.doc c.in-Some.least next l.invariant.bounds
+    (least_needed n f scored l.computer c.args.computer.now.top_n l.doc c.number.result c.in-Some.least c.number.ensures (search rules) l.invariant.wanted after (l.invariant.kept scored h) c.in-Some.ensures.needed)
+    (λ d from below. subst (IsBelow c.in-Some.least) (l.invariant.alike d from) (c.skip_to_score-next.ensures.next.passed d from (inl below)))
+    (g.T.Scorer.state c.args.scorer.now).lists (g.T.Scorer.state c.skip_to_score-next.new.self).lists (l.invariant.work scored h after) c.skip_to_score-next.ensures.work
+
+pub returns-in_err-push_doc-clause-work : goal.returns-in_err-push_doc-clause-work
+returns-in_err-push_doc-clause-work g c = λ scored h after.
+    let l = c.loop-doc in
+    let n = g.N.DocNumbers.numbering c.args.numbers.now in
+    let f = score_of (g.T.Scorer.state c.args.scorer.now) in
+    let next = c.skip_to_score-next.result in
+    let least = c.min.ensures in
+    let before = c.if-next-min.false in
+    let low : next < TERMINATED = omega (arith, least, before) in
+    push_needed n (g.T.Scorer.state c.args.scorer.now) (g.T.Scorer.state l.scorer) scored c.args.computer.now.top_n l.doc c.in-Some.least next l.invariant.bounds
+    (least_needed n f scored l.computer c.args.computer.now.top_n l.doc c.number.result c.in-Some.least c.number.ensures (search rules) l.invariant.wanted after (l.invariant.kept scored h) c.in-Some.ensures.needed)
+    (λ d from below. subst (IsBelow c.in-Some.least) (l.invariant.alike d from) (c.skip_to_score-next.ensures.next.passed d from (inl below)))
+    (g.T.Scorer.state c.args.scorer.now).lists (g.T.Scorer.state c.skip_to_score-next.new.self).lists (g.T.Scorer.state c.push_doc.new.scorer).lists c.skip_to_score-next.ensures.next.low (c.skip_to_score-next.ensures.reached low) (l.invariant.work scored h after) c.skip_to_score-next.ensures.work c.push_doc.ensures.work

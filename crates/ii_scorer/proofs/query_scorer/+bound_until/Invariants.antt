@@ -1,6 +1,7 @@
-use Rattle.std.proofs.Common.{◌*◌, ◌+◌}
+use Rattle.std.proofs.Common.{◌*◌, ◌+◌, ℕ}
 use Rattle.std.specs.List.{AllZip}
-use Rattle.ii_scorer.specs.Scorers.{KeepsFrom, depth_over}
+use Rattle.ii_scorer.specs.BlockLists.{ReadsOnly}
+use Rattle.ii_scorer.specs.Scorers.{KeepsFrom, depth_over, lists_of}
 use Rattle.ii_scorer.specs.QueryScorers.{depth_of}
 use Rattle.ii_scorer.proofs.RunLemmas.{BoundsFirst}
 use Rattle.ii_scorer.proofs.query_scorer.+bound_until.Given as goal
@@ -18,4 +19,5 @@ abbrev pub invariant-bound_of_all-loop-place : goal.invariant-bound_of_all-loop-
 invariant-bound_of_all-loop-place g l = record {
   kept : AllZip (KeepsFrom l.target) l.fn.parts.items l.parts.items;
   bounds : BoundsFirst l.place l.target l.most l.end l.fn.parts.items;
+  work : ReadsOnly (λ (from : ℕ). ⊥) (lists_of l.fn.parts.items) (lists_of l.parts.items);
 }

@@ -1,7 +1,8 @@
-use Rattle.std.proofs.Common.{◌*◌, ◌+◌, ◌<◌}
+use Rattle.std.proofs.Common.{◌≡◌, ◌*◌, ◌+◌, ◌<◌, ℕ}
 use Rattle.std.specs.List.{AllZip}
 use Rattle.ii_base.specs.declared.doc_id.TheConstants.{TERMINATED}
-use Rattle.ii_scorer.specs.Scorers.{KeepsFrom, depth_over}
+use Rattle.ii_scorer.specs.BlockLists.{ReadsOnly}
+use Rattle.ii_scorer.specs.Scorers.{KeepsFrom, depth_over, lists_of}
 use Rattle.ii_scorer.specs.QueryScorers.{depth_of}
 use Rattle.ii_scorer.proofs.ScorerLemmas.{PassesParts}
 use Rattle.ii_scorer.proofs.query_scorer.+go_to.Given as goal
@@ -22,10 +23,12 @@ abbrev pub invariant-meet-loop-place : goal.invariant-meet-loop-place
 invariant-meet-loop-place g l = record {
   kept : AllZip (KeepsFrom l.target) l.fn.parts.items l.parts.items;
   low : 0 < l.place → l.target < TERMINATED;
+  work : ReadsOnly (λ (from : ℕ). from ≡ l.target) (lists_of l.fn.parts.items) (lists_of l.parts.items);
 }
 
 abbrev pub invariant-next_of_any-loop-place : goal.invariant-next_of_any-loop-place
 invariant-next_of_any-loop-place g l = record {
   kept : AllZip (KeepsFrom l.target) l.fn.parts.items l.parts.items;
   passes : PassesParts l.initial.place l.place l.target l.next l.fn.parts.items;
+  work : ReadsOnly (λ (from : ℕ). from ≡ l.target) (lists_of l.fn.parts.items) (lists_of l.parts.items);
 }

@@ -1,9 +1,13 @@
 use Rattle.std.proofs.Common.{◌≡◌, ◌∙◌, ◌+◌, ◌-◌, ◌<◌, ℕ, suc, List, None, Option, arith, drop, get_or, length, refl, rules, subst, sym, ap}
 use Rattle.std.specs.List.{fold}
 use Rattle.std.proofs.lemmas.List.{get_or_default}
+use Rattle.ii_scorer.specs.BlockLists.{ReadsOnly}
 use Rattle.ii_scorer.specs.Combinations.{any_of, both}
-use Rattle.ii_scorer.specs.QueryScorers.{depth_of, score_by_parts}
-use Rattle.ii_scorer.specs.Scorers.{IsUpTo, scores_at, sums_after}
+use Rattle.ii_base.specs.declared.doc_id.TheConstants.{TERMINATED}
+use Rattle.ii_scorer.specs.QueryScorers.{bound_by_parts, depth_of, lists_by_parts, score_by_parts}
+use Rattle.ii_scorer.specs.Scorers.{IsUpTo, ScorerState, bounds_below, lists_of, scores_at, sums_after}
+use Rattle.ii_scorer.proofs.BlockListLaws.{all_append, all_none}
+use Rattle.ii_scorer.proofs.BoundLemmas.{lists_next, lists_set, zip_bounds}
 use Rattle.ii_scorer.proofs.PartsLemmas.{row_alike, row_score, view_bounded, zip_any, zip_are_bounded, zip_each}
 use Rattle.ii_scorer.proofs.ScorerLemmas.{any_next, any_start, any_without, depth_zipped, each_next, each_over, each_start, sums_long, zip_depth, zip_long, zip_same, zip_set, zip_sums}
 use Rattle.ii_scorer.proofs.query_scorer.+score.Goals as goal
@@ -17,7 +21,8 @@ QueryScorer::score-returns-clause-kept g t c = rw (← c.self.view_is)
       alike = row_alike c.args.doc (score_by_parts g.T.Scorer.state c.self.inside.parts) (score_by_parts g.T.Scorer.state c.score_by.new.parts) c.score_by.ensures.alike;
       most = refl;
       depth = c.score_by.ensures.depth;
-      bounded = λ b. view_bounded g.T.Scorer.state c.self.inside.most (depth_of c.score_by.new.parts) c.score_by.new.parts b.fits c.score_by.ensures.bounded;
+      bounds = ap (bounds_below TERMINATED) c.score_by.ensures.bounds;
+      bounded = λ b. view_bounded g.T.Scorer.state c.self.inside.most (depth_of c.score_by.new.parts) (bounds_below TERMINATED (bound_by_parts g.T.Scorer.state c.self.inside.most c.score_by.new.parts)) (lists_by_parts g.T.Scorer.state c.score_by.new.parts) c.score_by.new.parts b.fits c.score_by.ensures.bounded;
     })
 
 pub score_by-returns-in-Each-clause-alike : goal.score_by-returns-in-Each-clause-alike
@@ -43,7 +48,7 @@ score_by-returns-in-Any-clause-bounded g t c =
     (zip_are_bounded c.args.doc c.args.most olds news c.score_of_any.ensures.kept b.0, b.1 ∙ sym (zip_sums c.args.doc 0 olds news c.score_of_any.ensures.kept))
 
 pub score_of_any-loop-place-init : goal.score_of_any-loop-place-init
-score_of_any-loop-place-init g t c = record { within = search rules; kept = zip_same c.args.doc c.args.parts.now.items; sum = any_start c.args.parts.now.items c.len-place.result c.args.doc (search rules) }
+score_of_any-loop-place-init g t c = record { within = search rules; kept = zip_same c.args.doc c.args.parts.now.items; sum = any_start c.args.parts.now.items c.len-place.result c.args.doc (search rules); work = all_none (λ (from : ℕ). from ≡ c.args.doc) (lists_of c.args.parts.now.items) }
 
 pub score_of_any-index-requires : goal.score_of_any-index-requires
 score_of_any-index-requires g t c =
@@ -100,6 +105,7 @@ score_of_any-loop-place-preserved g t c =
       sum = c.either-sum.ensures
           ∙ any_next c.args.doc i ss l.parts.items c.index_mut.result.now l.sum c.score-score.result inside c.index_mut.ensures.value l.invariant.kept c.score-score.ensures.score
           (l.invariant.sum ∙ ap (λ (n : ℕ). any_of (scores_at (drop n ss) c.args.doc)) (sym before));
+      work = lists_next (λ (from : ℕ). from ≡ c.args.doc) c.args.parts.now.items l.parts.items i c.index_mut.result.now c.score-score.new.self inside c.index_mut.ensures.value c.score-score.ensures.work l.invariant.work;
     }
 
 pub score_of_each-loop-place-init : goal.score_of_each-loop-place-init
@@ -109,6 +115,7 @@ score_of_each-loop-place-init g t c =
     record {
       kept = zip_set c.args.doc ss ss 0 c.index_mut.result.now c.score-sum.new.self inside c.index_mut.ensures.value c.score-sum.ensures.kept (zip_same c.args.doc ss);
       sum = each_start c.args.doc ss ss c.index_mut.result.now c.score-sum.result inside c.index_mut.ensures.value (zip_same c.args.doc ss) c.score-sum.ensures.score;
+      work = lists_set (λ (from : ℕ). from ≡ c.args.doc) ss 0 c.index_mut.result.now c.score-sum.new.self inside c.index_mut.ensures.value c.score-sum.ensures.work;
     }
 
 pub score_of_each-returns-then-is_none-clause-score : goal.score_of_each-returns-then-is_none-clause-score
@@ -133,4 +140,29 @@ score_of_each-loop-place-preserved g t c =
       kept = zip_set c.args.doc ss l.parts.items l.place c.index_mut-in-loop-place.result.now c.score-score.new.self inside c.index_mut-in-loop-place.ensures.value c.score-score.ensures.kept l.invariant.kept;
       sum = ap (λ (s : Option ℕ). fold both s (scores_at (drop (l.place + 1) ss) c.args.doc)) c.both-sum.ensures
           ∙ each_next c.args.doc l.place ss l.parts.items c.index_mut-in-loop-place.result.now l.sum c.score-score.result inside c.index_mut-in-loop-place.ensures.value l.invariant.kept c.score-score.ensures.score l.invariant.sum;
+      work = lists_next (λ (from : ℕ). from ≡ c.args.doc) c.args.parts.now.items l.parts.items l.place c.index_mut-in-loop-place.result.now c.score-score.new.self inside c.index_mut-in-loop-place.ensures.value c.score-score.ensures.work l.invariant.work;
     }
+
+pub score_by-returns-in-Each-clause-bounds : goal.score_by-returns-in-Each-clause-bounds
+score_by-returns-in-Each-clause-bounds g t c = rw c.in-Each.is (zip_bounds c.args.doc c.in-Each.parts.items c.score_of_each.new.parts.items c.score_of_each.ensures.kept)
+
+pub score_by-returns-in-Any-clause-bounds : goal.score_by-returns-in-Any-clause-bounds
+score_by-returns-in-Any-clause-bounds g t c = rw c.in-Any.is (zip_bounds c.args.doc c.in-Any.parts.items c.score_of_any.new.parts.items c.score_of_any.ensures.kept)
+
+pub score_without-returns-then-is_none-clause-work : goal.score_without-returns-then-is_none-clause-work
+score_without-returns-then-is_none-clause-work g t c =
+    let other = c.args.other.now.value.lists in
+    let read = subst (λ (s : ScorerState). ReadsOnly (λ (from : ℕ). from ≡ c.args.doc) s.lists c.score-score.new.self.lists) c.deref_mut.ensures.value c.score-score.ensures.work in
+    all_append (λ (from : ℕ). from ≡ c.args.doc) c.args.first.now.value.lists c.score-score.new.self.lists other other read (all_none (λ (from : ℕ). from ≡ c.args.doc) other)
+
+pub score_without-returns-then-is_some-clause-work : goal.score_without-returns-then-is_some-clause-work
+score_without-returns-then-is_some-clause-work g t c =
+    let read = subst (λ (s : ScorerState). ReadsOnly (λ (from : ℕ). from ≡ c.args.doc) s.lists c.score-score.new.self.lists) c.deref_mut.ensures.value c.score-score.ensures.work in
+    let asked = subst (λ (s : ScorerState). ReadsOnly (λ (from : ℕ). from ≡ c.args.doc) s.lists c.score.new.self.lists) c.deref_mut-2.ensures.value c.score.ensures.work in
+    all_append (λ (from : ℕ). from ≡ c.args.doc) c.args.first.now.value.lists c.score-score.new.self.lists c.args.other.now.value.lists c.score.new.self.lists read asked
+
+pub score_without-returns-clause-work : goal.score_without-returns-clause-work
+score_without-returns-clause-work g t c =
+    let read = subst (λ (s : ScorerState). ReadsOnly (λ (from : ℕ). from ≡ c.args.doc) s.lists c.score-score.new.self.lists) c.deref_mut.ensures.value c.score-score.ensures.work in
+    let asked = subst (λ (s : ScorerState). ReadsOnly (λ (from : ℕ). from ≡ c.args.doc) s.lists c.score.new.self.lists) c.deref_mut-2.ensures.value c.score.ensures.work in
+    all_append (λ (from : ℕ). from ≡ c.args.doc) c.args.first.now.value.lists c.score-score.new.self.lists c.args.other.now.value.lists c.score.new.self.lists read asked

@@ -4,5 +4,5 @@ use Rattle.ii_scorer.specs.declared.query_scorer.ScorerParts.TheVariants.{Nothin
 use Rattle.ii_scorer.proofs.PartsLemmas.{row_is}
 use Rattle.ii_scorer.proofs.query_scorer.QueryScorer.nothing.Goals as goal
 
-pub returns : goal.returns
-returns g c = row_is (score_by_parts g.T.Scorer.state Nothing) (λ (d : ℕ). None) (λ d. refl) (λ d end. refl)
+pub returns-clause-scores : goal.returns-clause-scores
+returns-clause-scores g c = row_is (score_by_parts g.T.Scorer.state Nothing) (λ (d : ℕ). None) (λ d. refl) (λ d end. refl)
