@@ -1,8 +1,7 @@
 -- Laws of combined scores.
-use Rattle.std.proofs.Common.{◌≡◌, ℕ, ◌<◌, ◌≤◌, List, Option, None, Some, get_or, length, refl}
+use Rattle.std.proofs.Common.{◌≡◌, ℕ, ◌<◌, ◌≤◌, List, Option, None, get_or, length}
 use Rattle.ii_ranking.specs.declared.combination.Combination.{Combination}
 use Rattle.ii_ranking.specs.Combinations.{combined}
-use Rattle.ii_scorer.specs.Combinations.{either}
 
 -- The scores of the first documents were combined with others.
 pub record IsCombining (by : Combination) (others : ℕ → Option ℕ) (k : ℕ) (old new : List (Option ℕ)) : Type 0 where

@@ -1,10 +1,9 @@
 -- Laws of scorers over one cursor.
-use Rattle.std.proofs.Common.{◌≡◌, ◌∙◌, ℕ, zero, suc, ◌*◌, ◌^◌, ◌<◌, ◌≤◌, Bool, true, false, inl, inr, List, [], ◌∷◌, Option, None, Some, Result, Ok, filter, get_or, if◌then◌else◌, length, map, nat_eq, nat_lt, refl, sym, ap, subst, slice_index_or, arith}
-use Rattle.std.specs.Option.{option_map, unwrap_or}
+use Rattle.std.proofs.Common.{◌≡◌, ◌∙◌, ℕ, zero, suc, ◌^◌, ◌<◌, ◌≤◌, Bool, true, false, inl, inr, List, [], ◌∷◌, Option, None, Some, Ok, get_or, if◌then◌else◌, length, map, nat_eq, nat_lt, refl, sym, ap, subst, slice_index_or, arith}
+use Rattle.std.specs.Option.{option_map}
 use Rattle.std.proofs.lemmas.Bool.{cases_lt, ltb-false, ltb-true, ne_eqb}
 use Rattle.std.proofs.lemmas.Bool.Decides.{leb_tells}
 use Rattle.std.proofs.lemmas.List.{get_or_default}
-use Rattle.std.proofs.lemmas.List.Elements.{filter_agree}
 use Rattle.ii_io.specs.Composite.{body_of}
 use Rattle.ii_base.specs.Entries.{Entry}
 use Rattle.ii_base.specs.Terms.{TermState}
@@ -22,7 +21,8 @@ use Rattle.ii_docset.specs.Intersection.{has_doc}
 use Rattle.ii_docset.proofs.CursorLemmas.{doc_below, nothing_left}
 use Rattle.ii_docset.proofs.IntersectionLemmas.{doc_at-from_doc, has_doc-from_doc, has_doc_below}
 use Rattle.ii_fieldnorm.specs.Readers.{Norms, norms_of_ids}
-use Rattle.ii_scorer.specs.Scorers.{IsBelow, IsBounded, IsNext, IsPassed, IsUpTo, KeepsFrom, ScorerState, if_at_least, score_of, scores_below}
+use Rattle.ii_scorer.specs.Scorers.{IsBelow, IsBounded, IsNext, IsPassed, IsUpTo, KeepsFrom, ScorerState, bound_of, if_at_least, score_of}
+use Rattle.ii_scorer.proofs.BoundLemmas.{row_reaches}
 use Rattle.ii_scorer.proofs.PartsLemmas.{row_alike, row_end, row_holds, row_is, row_next, row_score}
 use Rattle.ii_scorer.proofs.ScorerLemmas.{below_none}
 use Rattle.ii_ranking.specs.LeafScorers.{leaf_of}
@@ -30,7 +30,7 @@ use Rattle.ii_ranking.specs.NormIds.{id_among}
 use Rattle.ii_ranking.specs.Scores.{entry_at, if_occurs, norm_id_in, parts_of, phrase_count, phrase_score, scored_in, term_score}
 use Rattle.ii_ranking.proofs.ScoreLemmas.{phrase_same}
 use Rattle.ii_ranking.proofs.EntryLemmas.{none_below}
-use Rattle.ii_ranking.proofs.ShareEntryLemmas.{entry_from, has_doc_above}
+use Rattle.ii_ranking.proofs.ShareEntryLemmas.{entry_from}
 
 -- What documents score by a list of entries: nothing without an entry, and the same by the entries from a document on.
 pub record IsRow (f : List Entry → ℕ → Option ℕ) : Type 0 where
@@ -126,6 +126,7 @@ leaf_keeps f g most from alike none = record {
   alike = row_alike from f g alike;
   most = refl;
   depth = refl;
+  bounds = refl;
   bounded = λ b. record { fits = b.fits; ends = λ doc end. row_end TERMINATED g doc end; each = λ doc. up_to b doc (nat_lt doc from) refl };
 }
   where
@@ -158,6 +159,9 @@ leaf_here f row most doc least old new given score end is at same =
 -- ---- bounds
 pub leaf_bounded : (f : ℕ → Option ℕ) (most : ℕ) → most < 2 ^ 64 → ((doc : ℕ) → IsUpTo most (f doc)) → IsBounded (leaf_of f most)
 leaf_bounded f most few up = record { fits = few; ends = λ doc end. row_end TERMINATED f doc end; each = λ doc. row_holds (IsUpTo most) f doc tt (up doc) }
+
+pub leaf_within : (f : ℕ → Option ℕ) (most given doc : ℕ) → given ≡ most → doc < TERMINATED → given ≤ bound_of (leaf_of f most) doc
+leaf_within f most given doc is low = row_reaches given doc (λ (d : ℕ). most) low (omega (arith, is))
 
 pub entry_up_to : (score : ℕ → ℕ) (most : ℕ) (found : Option Entry) → ((count : ℕ) → score count ≤ most) → IsUpTo most (option_map (λ (e : Entry). score e.term_freq) found)
 entry_up_to score most None up = tt
@@ -210,4 +214,4 @@ phrase_opened index st first others slop es parts norms w listed parts_are found
 
 -- what keeps the documents from one on keeps those from a later one on
 pub keeps_later : (from later : ℕ) (old new : ScorerState) → from ≤ later → KeepsFrom from old new → KeepsFrom later old new
-keeps_later from later old new up k = record { alike = λ doc above. k.alike doc (omega (arith, up, above)); most = k.most; depth = k.depth; bounded = k.bounded }
+keeps_later from later old new up k = record { alike = λ doc above. k.alike doc (omega (arith, up, above)); most = k.most; depth = k.depth; bounds = k.bounds; bounded = k.bounded }

@@ -1,5 +1,5 @@
 -- Laws of the scores of queries that are made of others.
-use Rattle.std.proofs.Common.{◌≡◌, ◌∙◌, ℕ, ◌+◌, ◌<◌, ◌≤◌, inl, inr, Bool, true, false, List, [], ◌∷◌, Option, None, Some, Result, Ok, Err, OnOk, Box, Global, Vec, get_or, if◌then◌else◌, length, map, replicate, refl, sym, ap, arith}
+use Rattle.std.proofs.Common.{◌≡◌, ◌∙◌, ℕ, ◌+◌, ◌<◌, ◌≤◌, inl, inr, Bool, true, false, List, [], ◌∷◌, Option, None, Result, Ok, Err, OnOk, Box, Global, Vec, get_or, if◌then◌else◌, length, map, replicate, refl, sym, ap, arith}
 use Rattle.std.specs.List.{fold, list_all, range_with_len}
 use Rattle.std.proofs.lemmas.Bool.{and_parts}
 use Rattle.std.proofs.lemmas.List.{get_or-replicate, get_or_default, length-replicate, same_lists}

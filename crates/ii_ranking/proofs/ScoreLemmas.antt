@@ -1,8 +1,7 @@
 -- Laws of the scores of terms and phrases.
-use Rattle.std.proofs.Common.{◌≡◌, ℕ, ◌+◌, ◌<◌, inl, inr, true, List, [], ◌∷◌, ◌++◌, append_assoc, Option, None, IfErr, Result, Err, Ok, get_or, length, map, nat_lt, refl, sym, ap, ◌∙◌}
+use Rattle.std.proofs.Common.{◌≡◌, ℕ, ◌+◌, ◌<◌, inl, inr, true, List, [], ◌∷◌, ◌++◌, append_assoc, Option, None, Result, Ok, get_or, length, map, nat_lt, refl, sym, ap, ◌∙◌}
 use Rattle.std.specs.List.{list_all}
 use Rattle.std.proofs.lemmas.Bool.{and_parts, ltb-true}
-use Rattle.ii_io.specs.Faults.{OnlyMemory}
 use Rattle.ii_io.specs.declared.faults.Fault.{Fault}
 use Rattle.std.proofs.Math.Numerals.{add-one}
 use Rattle.std.specs.Option.{option_map}

@@ -1,13 +1,12 @@
 -- Laws of cursors that skip documents whose term frequency, or score, is too small.
-use Rattle.std.proofs.Common.{◌≡◌, ◌≢◌, ◌⊎◌, ◌∙◌, ℕ, ◌+◌, ◌<◌, ◌≤◌, Bool, true, false, ◌&&◌, inl, inr, List, [], ◌∷◌, Option, None, Some, if◌then◌else◌, max, nat_le, nat_lt, refl, sym, ap, subst, arith}
-use Rattle.std.specs.Option.{option_map}
+use Rattle.std.proofs.Common.{◌≡◌, ◌≢◌, ◌⊎◌, ◌∙◌, ℕ, ◌+◌, ◌<◌, ◌≤◌, Bool, true, false, ◌&&◌, inl, inr, List, [], ◌∷◌, Option, None, Some, max, nat_le, nat_lt, refl, sym, ap, subst, arith}
 use Rattle.std.proofs.lemmas.Bool.{and_parts, cases_eq, cases_lt, le-leb, leb-false, leb-true, ltb-false, ltb-true, ne_eqb}
 use Rattle.std.proofs.lemmas.Bool.Decides.{leb_tells}
 use Rattle.ii_base.specs.Entries.{Entry}
 use Rattle.ii_base.specs.declared.doc_id.TheConstants.{TERMINATED}
 use Rattle.ii_bm25.specs.Bm25.{bm25_score}
 use Rattle.ii_docset.specs.Cursor.{IsAscending, IsSound, doc_at, from_doc, term_freq_at}
-use Rattle.ii_docset.proofs.CursorLemmas.{from_doc_here, nothing_left}
+use Rattle.ii_docset.proofs.CursorLemmas.{from_doc_here}
 use Rattle.ii_docset.proofs.IntersectionLemmas.{doc_at-from_doc}
 use Rattle.ii_reader.specs.Bounds.{is_wanted, sought_with_freq}
 use Rattle.ii_scorer.specs.Scorers.{IsBelow}

@@ -1,5 +1,5 @@
 -- What documents score by the postings of a term, of a phrase, or of a range, that weren't passed.
-use Rattle.std.specs.Prelude.{ℕ, ◌*◌, ◌^◌, Option, None, Some, if◌then◌else◌}
+use Rattle.std.specs.Prelude.{ℕ, ◌*◌, ◌^◌, [], Option, None, Some, if◌then◌else◌}
 use Rattle.std.specs.Option.{option_map}
 use Rattle.ii_base.specs.Entries.{Entry}
 use Rattle.ii_base.specs.declared.doc_id.TheConstants.{TERMINATED}
@@ -7,7 +7,7 @@ use Rattle.ii_bm25.specs.Bm25.{bm25_score}
 use Rattle.ii_bm25.specs.declared.bm25.TheConstants.{SCORE_ONE}
 use Rattle.ii_docset.specs.Intersection.{has_doc}
 use Rattle.ii_query.specs.Phrase.{parts_in}
-use Rattle.ii_scorer.specs.Scorers.{ScorerState, scores_below}
+use Rattle.ii_scorer.specs.Scorers.{ScorerState, bounds_below, scores_below}
 use Rattle.ii_ranking.specs.declared.leaf_scorer.LeafScorer.{LeafScorer}
 use Rattle.ii_ranking.specs.declared.leaf_scorer.LeafScorer.TheVariants.{Term, Phrase, Found}
 use Rattle.ii_ranking.specs.declared.found_scorer.FoundScorer.{FoundScorer}
@@ -28,9 +28,9 @@ score_by_phrase s doc = if_occurs (bm25_score s.weight (id_among s.norms doc)) (
 abbrev pub score_by_found : FoundScorer → ℕ → Option ℕ
 score_by_found s doc = if has_doc s.cursor.rest doc then Some SCORE_ONE else None
 
--- a scorer that isn't made of others
+-- a scorer that isn't made of others, with one bound of all documents and without lists in blocks
 abbrev pub leaf_of : (ℕ → Option ℕ) → ℕ → ScorerState
-leaf_of f most = record { scores = scores_below TERMINATED f; most = most; depth = 0 }
+leaf_of f most = record { scores = scores_below TERMINATED f; most = most; depth = 0; bounds = bounds_below TERMINATED (λ (doc : ℕ). most); lists = [] }
 
 abbrev pub term_state : TermScorer → ScorerState
 term_state s = leaf_of (score_by_term s) (s.by.weight.weight * 2 ^ 16)

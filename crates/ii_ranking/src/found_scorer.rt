@@ -9,11 +9,11 @@ ghost use Rattle.ii_ranking.specs.LeafScorers.{found_state, score_by_found};
 ghost use Rattle.ii_ranking.specs.Scores.{IsScoreFault, damage_of, opened_or_none};
 
 use crate::term_scorer::go_on;
-use ii_base::{DocId, Fault};
+use ii_base::{DocId, Fault, TERMINATED};
 use ii_bm25::{SCORE_ONE, Score};
 use ii_query_parser::Query;
 use ii_reader::{OpenIndex, SegmentPostings};
-use ii_scorer::{Scorer, if_at_least};
+use ii_scorer::{ScoreBound, Scorer, if_at_least};
 use ii_search::{QueryCursor, TermOrPhrase, search};
 use std::alloc::Global;
 
@@ -54,6 +54,17 @@ impl Scorer for FoundScorer {
 
     fn skip_to_score(&mut self, target: DocId, least: Score) -> DocId {
         self.seek_with_score(target, least)
+    }
+
+    fn max_score_until(&mut self, _target: DocId) -> ScoreBound {
+        ScoreBound {
+            most: self.max_score(),
+            end: TERMINATED,
+        }
+    }
+
+    fn has_runs(&self) -> bool {
+        false
     }
 
     fn score_at(&mut self, doc: DocId, least: Score) -> Option<Score> {

@@ -6,7 +6,7 @@ use crate::phrase_scorer::PhraseScorer;
 use crate::term_scorer::TermScorer;
 use ii_base::DocId;
 use ii_bm25::Score;
-use ii_scorer::Scorer;
+use ii_scorer::{ScoreBound, Scorer};
 
 // Gives what documents score by a term, a phrase, or documents that each score 1.0.
 #[derive(Drop)]
@@ -40,6 +40,22 @@ impl Scorer for LeafScorer {
             LeafScorer::Term(scorer) => scorer.skip_to_score(target, least),
             LeafScorer::Phrase(scorer) => scorer.skip_to_score(target, least),
             LeafScorer::Found(scorer) => scorer.skip_to_score(target, least),
+        }
+    }
+
+    fn max_score_until(&mut self, target: DocId) -> ScoreBound {
+        match self {
+            LeafScorer::Term(scorer) => scorer.max_score_until(target),
+            LeafScorer::Phrase(scorer) => scorer.max_score_until(target),
+            LeafScorer::Found(scorer) => scorer.max_score_until(target),
+        }
+    }
+
+    fn has_runs(&self) -> bool {
+        match self {
+            LeafScorer::Term(scorer) => scorer.has_runs(),
+            LeafScorer::Phrase(scorer) => scorer.has_runs(),
+            LeafScorer::Found(scorer) => scorer.has_runs(),
         }
     }
 

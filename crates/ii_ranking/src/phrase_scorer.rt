@@ -6,13 +6,13 @@ ghost use Rattle.ii_ranking.specs.LeafScorers.{phrase_state, score_by_phrase};
 ghost use Rattle.ii_ranking.specs.Scores.{IsScoreFault, phrase_damage, phrase_score, scored_in};
 
 use crate::phrase_scores::{phrase_norms, phrase_parts, score_of};
-use ii_base::{DocId, Fault, IndexRecordOption, Term};
+use ii_base::{DocId, Fault, IndexRecordOption, TERMINATED, Term};
 use ii_bm25::{Bm25StatisticsProvider, Bm25Weight, Score};
 use ii_fieldnorm::FieldNormReader;
 use ii_query::{PhrasePart, clear_all, count_starts};
 use ii_query_parser::PhraseTerm;
 use ii_reader::{OpenIndex, SegmentPostings};
-use ii_scorer::{Scorer, if_at_least};
+use ii_scorer::{ScoreBound, Scorer, if_at_least};
 use ii_search::postings_of;
 use std::alloc::Global;
 
@@ -73,6 +73,17 @@ impl Scorer for PhraseScorer {
 
     fn skip_to_score(&mut self, target: DocId, least: Score) -> DocId {
         self.seek_with_score(target, least)
+    }
+
+    fn max_score_until(&mut self, _target: DocId) -> ScoreBound {
+        ScoreBound {
+            most: self.max_score(),
+            end: TERMINATED,
+        }
+    }
+
+    fn has_runs(&self) -> bool {
+        false
     }
 
     fn score_at(&mut self, doc: DocId, least: Score) -> Option<Score> {

@@ -13,7 +13,7 @@ use ii_base::{DocId, Fault, IndexRecordOption, TERMINATED, Term};
 use ii_bm25::{Bm25StatisticsProvider, Score};
 use ii_docset::{DocSet, Postings};
 use ii_reader::{OpenIndex, SegmentPostings};
-use ii_scorer::{Scorer, if_at_least};
+use ii_scorer::{ScoreBound, Scorer, if_at_least};
 use ii_search::postings_of;
 use std::alloc::Global;
 
@@ -62,6 +62,17 @@ impl Scorer for TermScorer {
     fn skip_to_score(&mut self, target: DocId, least: Score) -> DocId {
         let freq = self.by.least_term_freq(least);
         go_to_score(&mut self.cursor, &self.by, freq, target, least)
+    }
+
+    fn max_score_until(&mut self, _target: DocId) -> ScoreBound {
+        ScoreBound {
+            most: self.max_score(),
+            end: TERMINATED,
+        }
+    }
+
+    fn has_runs(&self) -> bool {
+        false
     }
 
     fn score_at(&mut self, doc: DocId, least: Score) -> Option<Score> {

@@ -1,4 +1,4 @@
-use Rattle.std.proofs.Common.{drop, length}
+use Rattle.std.proofs.Common.{drop}
 use Rattle.ii_ranking.specs.Scores.{scored_in}
 use Rattle.ii_ranking.proofs.OpeningLemmas.{IsOpening}
 use Rattle.ii_ranking.proofs.opening.+open_scorer.Given as goal

@@ -5,4 +5,4 @@ use Rattle.ii_ranking.proofs.LeafLemmas.{leaf_is}
 use Rattle.ii_ranking.proofs.opening.open_found.Goals as goal
 
 pub returns-in-Ok-clause-scores : goal.returns-in-Ok-clause-scores
-returns-in-Ok-clause-scores c = λ doc. c.one.ensures doc ∙ leaf_is (score_by_found c.in-Ok.scorer) _ SCORE_ONE c.in-Ok.ensures.scores c.in-Ok.ensures.ends doc
+returns-in-Ok-clause-scores c = λ doc. c.one.ensures.scores doc ∙ leaf_is (score_by_found c.in-Ok.scorer) _ SCORE_ONE c.in-Ok.ensures.scores c.in-Ok.ensures.ends doc

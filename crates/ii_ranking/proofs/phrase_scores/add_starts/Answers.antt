@@ -1,9 +1,8 @@
 use Rattle.std.proofs.Common.{◌∙◌, ◌≤◌, ◌<◌, ℕ, Option, ap, arith, drop, refl, sym}
-use Rattle.std.specs.List.{AllByRecursion}
 use Rattle.ii_base.specs.declared.doc_id.TheConstants.{TERMINATED}
 use Rattle.ii_base.specs.Entries.{Entry}
 use Rattle.ii_docset.proofs.CursorLemmas.{nothing_left}
-use Rattle.ii_docset.specs.Cursor.{IsCurrent, doc_at}
+use Rattle.ii_docset.specs.Cursor.{doc_at}
 use Rattle.ii_bm25.specs.Bm25.{bm25_score}
 use Rattle.ii_query.specs.Phrase.{PhrasePartState, parts_in}
 use Rattle.ii_query.proofs.ReadsLemmas.{unread_after, unread_all}

@@ -1,4 +1,4 @@
-use Rattle.std.proofs.Common.{◌++◌, ◌<◌, ◌^◌, ℕ, List, arith, rules, subst}
+use Rattle.std.proofs.Common.{◌++◌, ℕ, List, arith, subst}
 use Rattle.ii_scorer.specs.Scorers.{score_of}
 use Rattle.ii_scorer.specs.TopNComputer.{KeepsBest}
 use Rattle.ii_scorer.proofs.TopLemmas.{scored_alike}

@@ -1,4 +1,4 @@
-use Rattle.std.proofs.Common.{◌≡◌, ◌∙◌, ◌++◌, ℕ, List, Option, None, append-nil, append_assoc, ap, get_or, refl, subst, sym, rules}
+use Rattle.std.proofs.Common.{◌≡◌, ◌∙◌, ◌++◌, ℕ, List, Option, None, append_assoc, ap, get_or, subst, sym, rules}
 use Rattle.std.proofs.lemmas.List.{get_or_default}
 use Rattle.ii_scorer.specs.TopDocs.{scored_docs, with_score}
 use Rattle.ii_scorer.specs.TopNComputer.{KeepsBest}

@@ -1,5 +1,5 @@
-use Rattle.std.proofs.Common.{◌+◌, ◌++◌, ◌<◌, ◌^◌, ℕ, List, Option, None, ap, arith, if◌then◌else◌, length, subst}
-use Rattle.ii_alive.specs.Alive.{num_living, rank}
+use Rattle.std.proofs.Common.{◌+◌, ◌++◌, ℕ, List, Option, None, ap, arith, if◌then◌else◌, length, subst}
+use Rattle.ii_alive.specs.Alive.{rank}
 use Rattle.ii_alive.proofs.RankLemmas.{rank_mono}
 use Rattle.ii_segments.specs.Segments.{is_living}
 use Rattle.ii_scorer.specs.Scorers.{score_of}

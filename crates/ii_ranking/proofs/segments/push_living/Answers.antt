@@ -1,4 +1,4 @@
-use Rattle.std.proofs.Common.{◌≡◌, ◌∙◌, ◌+◌, ◌++◌, ℕ, List, Option, None, append-nil, append_assoc, ap, get_or, if◌then◌else◌, refl, rules, subst, sym}
+use Rattle.std.proofs.Common.{◌≡◌, ◌∙◌, ◌+◌, ◌++◌, ℕ, List, Option, None, append_assoc, ap, get_or, if◌then◌else◌, rules, subst, sym}
 use Rattle.std.proofs.lemmas.List.{get_or_default}
 use Rattle.ii_alive.specs.Alive.{rank}
 use Rattle.ii_segments.specs.Segments.{is_living}

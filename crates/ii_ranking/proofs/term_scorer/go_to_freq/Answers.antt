@@ -1,7 +1,4 @@
-use Rattle.std.proofs.Common.{◌≡◌, ◌≤◌, ℕ, List, arith, subst, sym}
-use Rattle.ii_base.specs.Entries.{Entry}
-use Rattle.ii_base.specs.declared.doc_id.TheConstants.{TERMINATED}
-use Rattle.ii_docset.specs.Cursor.{IsTarget}
+use Rattle.std.proofs.Common.{ℕ, arith, subst, sym}
 use Rattle.ii_docset.proofs.CursorLemmas.{doc_below}
 use Rattle.ii_ranking.specs.TermWeights.{SkipsFewer}
 use Rattle.ii_ranking.proofs.SkipLemmas.{skips_to, skips_to_freq}

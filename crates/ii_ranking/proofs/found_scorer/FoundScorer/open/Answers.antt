@@ -1,4 +1,3 @@
-use Rattle.std.proofs.Common.{ℕ}
 use Rattle.ii_ranking.proofs.LeafLemmas.{found_row, row_ends}
 use Rattle.ii_ranking.proofs.found_scorer.FoundScorer.open.Goals as goal
 

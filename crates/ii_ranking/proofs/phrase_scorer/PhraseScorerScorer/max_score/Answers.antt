@@ -1,5 +1,4 @@
-use Rattle.std.proofs.Common.{◌≡◌, ◌∙◌, ◌*◌, ◌^◌, ◌<◌, ◌≤◌, ℕ, List, Option, ap, arith, refl, rules, subst, sym}
-use Rattle.ii_base.specs.Entries.{Entry}
+use Rattle.std.proofs.Common.{◌*◌, ◌^◌, ◌<◌, ◌≤◌, ℕ, rules, subst}
 use Rattle.ii_bm25.specs.Bm25.{bm25_score}
 use Rattle.ii_query.specs.Phrase.{parts_in}
 use Rattle.ii_ranking.specs.LeafScorers.{score_by_phrase}

@@ -1,4 +1,4 @@
-use Rattle.std.proofs.Common.{◌≡◌, ◌∙◌, ◌*◌, ◌^◌, ◌<◌, ◌≤◌, ℕ, List, Option, ap, arith, refl, rules, subst, sym}
+use Rattle.std.proofs.Common.{◌∙◌, ◌*◌, ◌^◌, ℕ, List, Option, ap, arith, refl, sym}
 use Rattle.ii_base.specs.Entries.{Entry}
 use Rattle.ii_bm25.specs.Bm25.{bm25_score}
 use Rattle.ii_query.specs.Phrase.{PhrasePartState, parts_in}

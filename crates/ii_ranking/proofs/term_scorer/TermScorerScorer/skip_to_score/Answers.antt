@@ -1,7 +1,6 @@
-use Rattle.std.proofs.Common.{◌*◌, ◌^◌, ℕ, Option, refl, subst, sym}
-use Rattle.ii_base.specs.Entries.{Entry}
-use Rattle.ii_scorer.specs.Scorers.{IsNext, KeepsFrom, score_of}
-use Rattle.ii_ranking.specs.LeafScorers.{leaf_of, score_by_term, term_state}
+use Rattle.std.proofs.Common.{◌*◌, ◌^◌, ℕ, refl, subst, sym}
+use Rattle.ii_scorer.specs.Scorers.{KeepsFrom}
+use Rattle.ii_ranking.specs.LeafScorers.{leaf_of, term_state}
 use Rattle.ii_ranking.specs.Scores.{entry_at}
 use Rattle.ii_ranking.specs.TermWeights.{SkipsLess, TermWeightState, score_by_entry}
 use Rattle.ii_ranking.proofs.LeafLemmas.{entry_row, leaf_skips, leaf_went}

@@ -1,0 +1,7 @@
+use Rattle.std.proofs.Common.{◌*◌, ◌^◌}
+use Rattle.ii_ranking.specs.LeafScorers.{score_by_phrase}
+use Rattle.ii_ranking.proofs.LeafLemmas.{leaf_within}
+use Rattle.ii_ranking.proofs.phrase_scorer.PhraseScorerScorer.max_score_until.Goals as goal
+
+pub returns-clause-within : goal.returns-clause-within
+returns-clause-within c = λ doc from below. leaf_within (score_by_phrase c.args.self.now) (c.args.self.now.weight.weight * 2 ^ 16) c.max_score.result doc c.max_score.ensures.most below
