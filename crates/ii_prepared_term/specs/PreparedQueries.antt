@@ -1,11 +1,14 @@
 -- A query that is prepared for ranking: what documents score by it.
 use Rattle.std.specs.Prelude.{◌≡◌, ℕ, suc, ◌≤◌, List, [], ◌∷◌, Option, None, get_or, map, max}
+use Rattle.std.specs.List.{flat_map}
 use Rattle.ii_base.specs.declared.doc_id.TheConstants.{TERMINATED}
+use Rattle.ii_scorer.specs.BlockLists.{BlockList}
 
--- what each document below `TERMINATED` scores by a prepared query, and how deep the query is nested
+-- what each document below `TERMINATED` scores by a prepared query, how deep the query is nested, and the lists of its terms
 pub record PreparedQueryState : Type 0 where
   pub scores : List (Option ℕ)
   pub depth : ℕ
+  pub lists : List BlockList
 
 -- what a document scores
 abbrev pub prepared_query_score : PreparedQueryState → ℕ → Option ℕ
@@ -19,6 +22,10 @@ scores_by parts doc = map (λ (s : PreparedQueryState). prepared_query_score s d
 abbrev pub depth_under : List PreparedQueryState → ℕ
 depth_under [] = 0
 depth_under (s ∷ ss) = max (suc s.depth) (depth_under ss)
+
+-- the lists of the terms of some queries, one after the other
+abbrev pub lists_under : List PreparedQueryState → List BlockList
+lists_under = flat_map (λ (s : PreparedQueryState). s.lists)
 
 -- No document from `TERMINATED` on has a score.
 abbrev pub ScoresEnd : (ℕ → Option ℕ) → Type 0

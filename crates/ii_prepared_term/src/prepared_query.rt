@@ -1,17 +1,19 @@
 //! A query that is searched many times.
-ghost use Rattle.std.specs.Prelude.{◌≡◌, ◌+◌, ◌<◌, ◌^◌, ◌++◌, ℕ, IfOk, List, None, OnOk, Some, if◌then◌else◌, min, nat_lt};
+ghost use Rattle.std.specs.Prelude.{◌≡◌, ◌+◌, ◌<◌, ◌^◌, ◌++◌, ◌∷◌, [], ℕ, IfOk, List, None, OnOk, Some, if◌then◌else◌, min, nat_lt};
 ghost use Rattle.std.specs.List.{AllByRecursion};
 ghost use Rattle.ii_io.specs.Faults.{OnlyMemory};
 ghost use Rattle.ii_alive.specs.Alive.{num_living};
 ghost use Rattle.ii_base.specs.declared.doc_id.TheConstants.{TERMINATED};
 ghost use Rattle.ii_bm25.specs.declared.bm25.TheConstants.{SCORE_ONE};
+ghost use Rattle.ii_scorer.specs.BlockLists.{BlockList};
 ghost use Rattle.ii_scorer.specs.Combinations.{any_of, each_of, unless};
-ghost use Rattle.ii_scorer.specs.Scorers.{score_of, scores_at};
+ghost use Rattle.ii_scorer.specs.Scorers.{lists_of, score_of, scores_at};
 ghost use Rattle.ii_scorer.specs.TopDocs.{AreBest, scored_docs};
 ghost use Rattle.ii_scorer.specs.TopNComputer.{KeepsBest};
 ghost use Rattle.ii_ranking.specs.Segments.{segment_scored};
-ghost use Rattle.ii_prepared_term.specs.PreparedParts.{score_by_parts};
-ghost use Rattle.ii_prepared_term.specs.PreparedQueries.{ScoresEnd, prepared_query_score, scores_by};
+ghost use Rattle.ii_prepared_term.specs.PreparedParts.{lists_by_parts, score_by_parts};
+ghost use Rattle.ii_prepared_term.specs.PreparedQueries.{ScoresEnd, lists_under, prepared_query_score, scores_by};
+ghost use Rattle.ii_prepared_term.specs.PreparedScorers.{AreUnread, term_list};
 ghost use Rattle.ii_prepared_term.specs.PreparedTerms.{prepared_score};
 ghost use Rattle.ii_prepared_term.specs.ScoredLists.{listed_score};
 
@@ -30,7 +32,7 @@ use std::marker::Model;
 /// and of each range were listed with their scores. It holds all that a search needs, so it is searched without the
 /// index, as often as wanted.
 ///
-/// Its model is what each document scores.
+/// Its model is what each document scores, and the lists of its terms.
 #[cycle(prepared_query)]
 #[derive(Drop)]
 pub struct PreparedQuery {
@@ -56,9 +58,9 @@ impl Model for PreparedQuery {
 
     ghost Value = { PreparedQueryState };
 
-    ghost use Rattle.ii_prepared_term.specs.PreparedParts.{depth_of, score_by_parts};
+    ghost use Rattle.ii_prepared_term.specs.PreparedParts.{depth_of, lists_by_parts, score_by_parts};
 
-    ghost view = { λ s. record { scores = scores_below TERMINATED (score_by_parts s.parts); depth = depth_of s.parts } };
+    ghost view = { λ s. record { scores = scores_below TERMINATED (score_by_parts s.parts); depth = depth_of s.parts; lists = lists_by_parts s.parts } };
 
     ghost size = { λ s. s.depth };
 
@@ -204,10 +206,12 @@ impl PreparedQuery {
         push_best(&mut scorer, &numbers, computer)
     }
 
-    // Returns a scorer of all documents that match the query. It recurses once for each level of nesting.
+    /// Returns a scorer of all documents that match the query, of whose lists no block was decoded but the first. It
+    /// recurses once for each level of nesting. Fails only with `OutOfMemory`.
     #[cycle(scorer)]
-    fn scorer(&self, alloc: Global) -> Result<QueryScorer<PreparedLeaf<'_>>, Fault>
+    pub fn scorer(&self, alloc: Global) -> Result<QueryScorer<PreparedLeaf<'_>>, Fault>
         ensures scores { IfOk result (λ scorer. (doc : ℕ) → score_of scorer doc ≡ prepared_query_score self.now doc) }
+        ensures lists { IfOk result (λ scorer. AreUnread self.now.lists scorer.lists) }
         ensures only { OnlyMemory result }
     {
         let scorer = match scorer_of(alloc, &self.parts) {
@@ -224,6 +228,7 @@ impl PreparedQuery {
 #[cycle(scorer)]
 fn scorer_of(alloc: Global, parts: &PreparedParts) -> Result<QueryScorer<PreparedLeaf<'_>>, Fault>
     ensures scores { IfOk result (λ scorer. (doc : ℕ) → score_of scorer doc ≡ score_by_parts parts.now doc) }
+    ensures lists { IfOk result (λ scorer. AreUnread (lists_by_parts parts.now) scorer.lists) }
     ensures only { OnlyMemory result }
 {
     match parts {
@@ -254,6 +259,7 @@ fn scorers_of(
     parts: &Vec<PreparedQuery>,
 ) -> Result<Vec<QueryScorer<PreparedLeaf<'_>>>, Fault>
     ensures scores { IfOk result (λ scorers. (doc : ℕ) → scores_at scorers.items doc ≡ scores_by parts.now.items doc) }
+    ensures lists { IfOk result (λ scorers. AreUnread (lists_under parts.now.items) (lists_of scorers.items)) }
     ensures only { OnlyMemory result }
 {
     let mut scorers = Vec::new(alloc);
@@ -276,6 +282,7 @@ fn scorer_without<'a>(
     other: &'a PreparedQuery,
 ) -> Result<QueryScorer<PreparedLeaf<'a>>, Fault>
     ensures scores { IfOk result (λ scorer. (doc : ℕ) → score_of scorer doc ≡ unless (score_of first.entry doc) (prepared_query_score other.now doc)) }
+    ensures lists { IfOk result (λ scorer. (all : List BlockList) → AreUnread all first.entry.lists → AreUnread (all ++ other.now.lists) scorer.lists) }
     ensures only { OnlyMemory result }
 {
     match other.scorer(alloc) {
@@ -290,6 +297,7 @@ fn scorer_without<'a>(
 // Returns the scorer of a prepared term.
 fn scorer_of_term(term: &PreparedTerm) -> Result<QueryScorer<PreparedLeaf<'_>>, Fault>
     ensures scores { IfOk result (λ scorer. (doc : ℕ) → score_of scorer doc ≡ prepared_score term.now doc) }
+    ensures lists { IfOk result (λ scorer. AreUnread (term_list term.now ∷ []) scorer.lists) }
     ensures only { OnlyMemory result }
 {
     let scorer = term.scorer()?;
@@ -298,7 +306,8 @@ fn scorer_of_term(term: &PreparedTerm) -> Result<QueryScorer<PreparedLeaf<'_>>, 
 
 // Returns the scorer of a list.
 fn scorer_of_list(list: &ScoredList) -> QueryScorer<PreparedLeaf<'_>>
-    ensures { (doc : ℕ) → score_of result doc ≡ listed_score list.now doc }
+    ensures scores { (doc : ℕ) → score_of result doc ≡ listed_score list.now doc }
+    ensures lists { result.lists ≡ [] }
 {
     QueryScorer::one(PreparedLeaf::Listed(list.scorer()))
 }

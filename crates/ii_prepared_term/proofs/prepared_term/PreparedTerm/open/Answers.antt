@@ -7,7 +7,7 @@ use Rattle.ii_prepared_term.proofs.PreparedLemmas.{first_prepared, prepared_ends
 use Rattle.ii_prepared_term.proofs.prepared_term.PreparedTerm.open.Goals as goal
 
 pub invariant_of-result : goal.invariant_of-result
-invariant_of-result g c = first_prepared (state_of c.in_ok-weight.weight c.in_ok-norms.norms c.in_ok-shares.shares c.in_ok-cursor.cursor) c.in_ok-walked.walked c.in_ok-walked.ensures.same c.doc-first.ensures.sound c.in_ok-shares.ensures.bounds c.in_ok-shares.ensures.ends
+invariant_of-result g c = (first_prepared (state_of c.in_ok-weight.weight c.in_ok-norms.norms c.in_ok-shares.shares c.in_ok-cursor.cursor) c.in_ok-walked.walked c.in_ok-walked.ensures.same c.doc-first.ensures.sound c.in_ok-shares.ensures.bounds c.in_ok-shares.ensures.ends, c.in_ok-cursor.ensures.start)
 
 pub returns-clause-scores : goal.returns-clause-scores
 returns-clause-scores g c =
