@@ -1,18 +1,21 @@
 -- Laws of queries that are prepared part by part.
-use Rattle.std.proofs.Common.{◌≡◌, ◌∙◌, ℕ, zero, suc, ◌+◌, ◌<◌, ◌≤◌, true, List, [], ◌∷◌, ◌++◌, Option, None, add-one, ap, append_assoc, arith, drop, get_or, length, refl, subst, sym}
+use Rattle.std.proofs.Common.{◌≡◌, ◌∙◌, ℕ, zero, suc, ◌+◌, ◌<◌, ◌≤◌, true, List, [], ◌∷◌, ◌++◌, Option, None, add-one, ap, append-nil, append_assoc, arith, drop, get_or, length, refl, subst, sym}
 use Rattle.std.specs.List.{AllByRecursion, fold, list_all}
 use Rattle.std.proofs.Math.Seq.{drop-cons}
 use Rattle.std.proofs.lemmas.Bool.{and_parts}
+use Rattle.std.proofs.lemmas.Grind.{flat_map-append}
 use Rattle.std.proofs.lemmas.List.{map-append}
 use Rattle.ii_io.specs.declared.faults.Part.{Part}
 use Rattle.ii_query_parser.specs.declared.query.Query.{Query}
 use Rattle.ii_query_parser.specs.Queries.{has_fields, trees_of}
 use Rattle.ii_reader.specs.OpenIndex.{OpenIndexState}
+use Rattle.ii_scorer.specs.BlockLists.{BlockList}
 use Rattle.ii_scorer.specs.Combinations.{any_of, both, each_of, either}
 use Rattle.ii_scorer.specs.Scorers.{ScorerState, score_of, scores_at}
 use Rattle.ii_scorer.proofs.SumLemmas.{any_cons, both_never}
 use Rattle.ii_ranking.specs.Scores.{Scored, first_of, query_damage, query_score, tree_scores, trees_damage}
-use Rattle.ii_prepared_term.specs.PreparedQueries.{PreparedQueryState, ScoresEnd, depth_under, prepared_query_score, scores_by}
+use Rattle.ii_prepared_term.specs.PreparedQueries.{PreparedQueryState, ScoresEnd, depth_under, lists_under, prepared_query_score, scores_by}
+use Rattle.ii_prepared_term.specs.QueryDocs.{docs_in, query_docs, trees_docs}
 
 -- No document from `TERMINATED` on has a score by a query.
 abbrev pub QueryEnds : PreparedQueryState → Type 0
@@ -52,6 +55,16 @@ prepares_next s index all left others q parts more part i is same end sound more
   sound = ap (λ (d : Option Part). first_of d (trees_damage index (trees_of others))) (sym sound) ∙ ap (λ (qs : List Query). trees_damage index (trees_of qs)) (sym is) ∙ i.sound;
   fields = (and_parts (has_fields (length index.readers) q) (list_all (has_fields (length index.readers)) others) (rw is at i.fields)).1;
 }
+
+-- the lists of one query more
+pub lists_next : (index : OpenIndexState) (all left others : List Query) (q : Query) (parts more : List PreparedQueryState) (part : PreparedQueryState) → left ≡ q ∷ others → docs_in part.lists ≡ query_docs index q → more ≡ parts ++ part ∷ []
+    → docs_in (lists_under parts) ++ trees_docs index (trees_of left) ≡ trees_docs index (trees_of all) → docs_in (lists_under more) ++ trees_docs index (trees_of others) ≡ trees_docs index (trees_of all)
+lists_next index all left others q parts more part is docs more_is so_far =
+    ap (λ (ps : List PreparedQueryState). docs_in (lists_under ps) ++ trees_docs index (trees_of others)) more_is
+    ∙ ap (λ (ls : List BlockList). docs_in ls ++ trees_docs index (trees_of others)) (flat_map-append (λ (s : PreparedQueryState). s.lists) parts (part ∷ []) ∙ ap (λ (ls : List BlockList). lists_under parts ++ ls) (append-nil part.lists))
+    ∙ ap (λ (rows : List (List ℕ)). rows ++ trees_docs index (trees_of others)) (map-append (λ (l : BlockList). l.docs) (lists_under parts) part.lists ∙ ap (λ (rows : List (List ℕ)). docs_in (lists_under parts) ++ rows) docs)
+    ∙ append_assoc (docs_in (lists_under parts)) (query_docs index q) (trees_docs index (trees_of others))
+    ∙ ap (λ (qs : List Query). docs_in (lists_under parts) ++ trees_docs index (trees_of qs)) (sym is) ∙ so_far
 
 -- ---- scorers of parts
 -- each part is less deep

@@ -1,5 +1,6 @@
 -- Rows that compute the definitions of a prepared term.
-use Rattle.std.proofs.Common.{◌≡◌, ℕ, List, [], ◌∷◌, Option, None, Some, if◌then◌else◌, nat_eq, refl, arith}
+use Rattle.std.proofs.Common.{◌≡◌, ℕ, List, [], ◌∷◌, Option, None, Some, Ok, Err, if◌then◌else◌, nat_eq, refl, arith}
+use Rattle.ii_io.specs.declared.faults.Part.TheVariants.{Range}
 use Rattle.ii_base.specs.Entries.{Entry, counted}
 use Rattle.ii_bm25.specs.Bm25.{Bm25State}
 use Rattle.ii_base.specs.declared.schema.index_record_option.IndexRecordOption.TheVariants.{Basic}
@@ -12,6 +13,7 @@ use Rattle.ii_ranking.specs.TermWeights.{score_by_entry}
 use Rattle.ii_prepared_term.specs.PreparedQueries.{PreparedQueryState, prepared_query_score}
 use Rattle.ii_prepared_term.specs.PreparedScorers.{HasRest}
 use Rattle.ii_prepared_term.specs.PreparedTerms.{EndAhead, PreparedTermState, prepared_bound}
+use Rattle.ii_prepared_term.specs.QueryDocs.{docs_or_none}
 use Rattle.ii_prepared_term.specs.ScoredLists.{entries_of, listed_score}
 
 -- two documents with the counts 3 and 1
@@ -80,3 +82,10 @@ row_query_none = refl
 
 row_query_end : prepared_query_score query 2 ≡ None
 row_query_end = refl
+
+-- the documents of a list, and of one that is corrupt
+row_docs : docs_or_none (Ok list) ≡ 7 ∷ 9 ∷ []
+row_docs = refl
+
+row_no_docs : docs_or_none (Err Range) ≡ []
+row_no_docs = refl

@@ -5,4 +5,5 @@ pub mod PreparedQueries
 pub mod PreparedScorers
 pub mod PreparedSegments
 pub mod PreparedTerms
+pub mod QueryDocs
 pub mod ScoredLists

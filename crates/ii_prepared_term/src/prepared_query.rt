@@ -74,6 +74,7 @@ impl PreparedQuery {
     // Returns a query that matches nothing.
     pub(crate) fn nothing() -> PreparedQuery
         ensures scores { (doc : ℕ) → prepared_query_score result doc ≡ None }
+        ensures lists { result.lists ≡ [] }
         ensures ends { ScoresEnd (prepared_query_score result) }
     {
         PreparedQuery {
@@ -84,6 +85,7 @@ impl PreparedQuery {
     // Returns one that matches all documents below `limit`, each of which scores 1.0.
     pub(crate) fn all(limit: DocId) -> PreparedQuery
         ensures scores { (doc : ℕ) → prepared_query_score result doc ≡ (if nat_lt doc (min limit TERMINATED) then Some SCORE_ONE else None) }
+        ensures lists { result.lists ≡ [] }
         ensures ends { ScoresEnd (prepared_query_score result) }
     {
         PreparedQuery {
@@ -95,6 +97,7 @@ impl PreparedQuery {
     pub(crate) fn of_term(term: PreparedTerm) -> PreparedQuery
         requires { ScoresEnd (prepared_score term) }
         ensures scores { (doc : ℕ) → prepared_query_score result doc ≡ prepared_score term doc }
+        ensures lists { result.lists ≡ term_list term ∷ [] }
         ensures ends { ScoresEnd (prepared_query_score result) }
     {
         PreparedQuery {
@@ -106,6 +109,7 @@ impl PreparedQuery {
     pub(crate) fn of_list(list: ScoredList) -> PreparedQuery
         requires { ScoresEnd (listed_score list) }
         ensures scores { (doc : ℕ) → prepared_query_score result doc ≡ listed_score list doc }
+        ensures lists { result.lists ≡ [] }
         ensures ends { ScoresEnd (prepared_query_score result) }
     {
         PreparedQuery {
@@ -117,6 +121,7 @@ impl PreparedQuery {
     pub(crate) fn each(parts: Vec<PreparedQuery>) -> PreparedQuery
         requires { AllByRecursion (λ s. ScoresEnd (prepared_query_score s)) parts.items }
         ensures scores { (doc : ℕ) → prepared_query_score result doc ≡ each_of (scores_by parts.items doc) }
+        ensures lists { result.lists ≡ lists_under parts.items }
         ensures ends { ScoresEnd (prepared_query_score result) }
     {
         PreparedQuery {
@@ -128,6 +133,7 @@ impl PreparedQuery {
     pub(crate) fn any(parts: Vec<PreparedQuery>) -> PreparedQuery
         requires { AllByRecursion (λ s. ScoresEnd (prepared_query_score s)) parts.items }
         ensures scores { (doc : ℕ) → prepared_query_score result doc ≡ any_of (scores_by parts.items doc) }
+        ensures lists { result.lists ≡ lists_under parts.items }
         ensures ends { ScoresEnd (prepared_query_score result) }
     {
         PreparedQuery {
@@ -143,6 +149,7 @@ impl PreparedQuery {
     ) -> Result<PreparedQuery, Fault>
         requires { ScoresEnd (prepared_query_score first) }
         ensures scores { IfOk result (λ query. (doc : ℕ) → prepared_query_score query doc ≡ unless (prepared_query_score first doc) (prepared_query_score other doc)) }
+        ensures lists { IfOk result (λ query. query.lists ≡ first.lists ++ other.lists) }
         ensures ends { IfOk result (λ query. ScoresEnd (prepared_query_score query)) }
         ensures only { OnlyMemory result }
     {
