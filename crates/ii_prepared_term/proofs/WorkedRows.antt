@@ -10,7 +10,7 @@ use Rattle.ii_reader.specs.SegmentPostings.{postings_of_none}
 use Rattle.ii_ranking.specs.Listing.{scored_below}
 use Rattle.ii_ranking.specs.Scores.{entry_at}
 use Rattle.ii_ranking.specs.TermWeights.{score_by_entry}
-use Rattle.ii_prepared_term.specs.PreparedQueries.{PreparedQueryState, prepared_query_score}
+use Rattle.ii_prepared_term.specs.PreparedQueries.{PreparedQueryState, bound_under, prepared_query_bound, prepared_query_score}
 use Rattle.ii_prepared_term.specs.PreparedScorers.{HasRest}
 use Rattle.ii_prepared_term.specs.PreparedTerms.{EndAhead, PreparedTermState, prepared_bound}
 use Rattle.ii_prepared_term.specs.QueryDocs.{docs_or_none}
@@ -70,9 +70,16 @@ row_none_listed = refl
 row_listed_score : listed_score (record { rest = entries_of ((5, 1) ∷ []); most = 5 }) 1 ≡ Some 5
 row_listed_score = refl
 
--- a prepared query scores what its row says, and nothing after it
+-- a prepared query scores what its row says, at most the bound of its other row, and nothing after them
 abbrev query : PreparedQueryState
-query = record { scores = None ∷ Some 5 ∷ []; depth = 0; lists = [] }
+query = record { scores = None ∷ Some 5 ∷ []; bounds = 6 ∷ 7 ∷ []; depth = 0; lists = [] }
+
+row_query_bound : prepared_query_bound query 1 ≡ 7
+row_query_bound = refl
+
+-- two queries together
+row_both_bounds : bound_under (query ∷ query ∷ []) 0 ≡ 12
+row_both_bounds = refl
 
 row_query : prepared_query_score query 1 ≡ Some 5
 row_query = refl

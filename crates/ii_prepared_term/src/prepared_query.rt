@@ -7,14 +7,14 @@ ghost use Rattle.ii_base.specs.declared.doc_id.TheConstants.{TERMINATED};
 ghost use Rattle.ii_bm25.specs.declared.bm25.TheConstants.{SCORE_ONE};
 ghost use Rattle.ii_scorer.specs.BlockLists.{BlockList};
 ghost use Rattle.ii_scorer.specs.Combinations.{any_of, each_of, unless};
-ghost use Rattle.ii_scorer.specs.Scorers.{lists_of, score_of, scores_at};
+ghost use Rattle.ii_scorer.specs.Scorers.{bound_of, bound_over, lists_of, score_of, scores_at};
 ghost use Rattle.ii_scorer.specs.TopDocs.{AreBest, scored_docs};
 ghost use Rattle.ii_scorer.specs.TopNComputer.{KeepsBest};
 ghost use Rattle.ii_ranking.specs.Segments.{segment_scored};
-ghost use Rattle.ii_prepared_term.specs.PreparedParts.{lists_by_parts, score_by_parts};
-ghost use Rattle.ii_prepared_term.specs.PreparedQueries.{ScoresEnd, lists_under, prepared_query_score, scores_by};
+ghost use Rattle.ii_prepared_term.specs.PreparedParts.{bound_by_parts, lists_by_parts, score_by_parts};
+ghost use Rattle.ii_prepared_term.specs.PreparedQueries.{ScoresEnd, bound_under, lists_under, prepared_query_bound, prepared_query_score, scores_by};
 ghost use Rattle.ii_prepared_term.specs.PreparedScorers.{AreUnread, term_list};
-ghost use Rattle.ii_prepared_term.specs.PreparedTerms.{prepared_score};
+ghost use Rattle.ii_prepared_term.specs.PreparedTerms.{prepared_bound, prepared_score};
 ghost use Rattle.ii_prepared_term.specs.ScoredLists.{listed_score};
 
 use crate::prepared_leaf::PreparedLeaf;
@@ -32,7 +32,7 @@ use std::marker::Model;
 /// and of each range were listed with their scores. It holds all that a search needs, so it is searched without the
 /// index, as often as wanted.
 ///
-/// Its model is what each document scores, and the lists of its terms.
+/// Its model is what each document scores, a bound of that, and the lists of its terms.
 #[cycle(prepared_query)]
 #[derive(Drop)]
 pub struct PreparedQuery {
@@ -53,14 +53,14 @@ enum PreparedParts {
 
 impl Model for PreparedQuery {
     ghost use Rattle.ii_base.specs.declared.doc_id.TheConstants.{TERMINATED};
-    ghost use Rattle.ii_scorer.specs.Scorers.{scores_below};
+    ghost use Rattle.ii_scorer.specs.Scorers.{bounds_below, scores_below};
     ghost use Rattle.ii_prepared_term.specs.PreparedQueries.{PreparedQueryState};
 
     ghost Value = { PreparedQueryState };
 
-    ghost use Rattle.ii_prepared_term.specs.PreparedParts.{depth_of, lists_by_parts, score_by_parts};
+    ghost use Rattle.ii_prepared_term.specs.PreparedParts.{bound_by_parts, depth_of, lists_by_parts, score_by_parts};
 
-    ghost view = { λ s. record { scores = scores_below TERMINATED (score_by_parts s.parts); depth = depth_of s.parts; lists = lists_by_parts s.parts } };
+    ghost view = { λ s. record { scores = scores_below TERMINATED (score_by_parts s.parts); bounds = bounds_below TERMINATED (bound_by_parts s.parts); depth = depth_of s.parts; lists = lists_by_parts s.parts } };
 
     ghost size = { λ s. s.depth };
 
@@ -213,11 +213,13 @@ impl PreparedQuery {
         push_best(&mut scorer, &numbers, computer)
     }
 
-    /// Returns a scorer of all documents that match the query, of whose lists no block was decoded but the first. It
+    /// Returns a scorer of all documents that match the query, of whose lists no block was decoded but the first. Its
+    /// bounds are those of the query: of a term that of the document's run, of and and or the sum, at most `u64::MAX`. It
     /// recurses once for each level of nesting. Fails only with `OutOfMemory`.
     #[cycle(scorer)]
     pub fn scorer(&self, alloc: Global) -> Result<QueryScorer<PreparedLeaf<'_>>, Fault>
         ensures scores { IfOk result (λ scorer. (doc : ℕ) → score_of scorer doc ≡ prepared_query_score self.now doc) }
+        ensures bounds { IfOk result (λ scorer. (doc : ℕ) → doc < TERMINATED → bound_of scorer doc ≡ prepared_query_bound self.now doc) }
         ensures lists { IfOk result (λ scorer. AreUnread self.now.lists scorer.lists) }
         ensures only { OnlyMemory result }
     {
@@ -235,11 +237,12 @@ impl PreparedQuery {
 #[cycle(scorer)]
 fn scorer_of(alloc: Global, parts: &PreparedParts) -> Result<QueryScorer<PreparedLeaf<'_>>, Fault>
     ensures scores { IfOk result (λ scorer. (doc : ℕ) → score_of scorer doc ≡ score_by_parts parts.now doc) }
+    ensures bounds { IfOk result (λ scorer. (doc : ℕ) → doc < TERMINATED → bound_of scorer doc ≡ bound_by_parts parts.now doc) }
     ensures lists { IfOk result (λ scorer. AreUnread (lists_by_parts parts.now) scorer.lists) }
     ensures only { OnlyMemory result }
 {
     match parts {
-        PreparedParts::Nothing => Ok(QueryScorer::nothing()),
+        PreparedParts::Nothing => Ok(QueryScorer::each(Vec::new(alloc))),
         PreparedParts::All(limit) => Ok(QueryScorer::all(*limit)),
         PreparedParts::Term(term) => scorer_of_term(term),
         PreparedParts::Listed(list) => Ok(scorer_of_list(list)),
@@ -266,6 +269,7 @@ fn scorers_of(
     parts: &Vec<PreparedQuery>,
 ) -> Result<Vec<QueryScorer<PreparedLeaf<'_>>>, Fault>
     ensures scores { IfOk result (λ scorers. (doc : ℕ) → scores_at scorers.items doc ≡ scores_by parts.now.items doc) }
+    ensures bounds { IfOk result (λ scorers. (doc : ℕ) → doc < TERMINATED → bound_over scorers.items doc ≡ bound_under parts.now.items doc) }
     ensures lists { IfOk result (λ scorers. AreUnread (lists_under parts.now.items) (lists_of scorers.items)) }
     ensures only { OnlyMemory result }
 {
@@ -289,6 +293,7 @@ fn scorer_without<'a>(
     other: &'a PreparedQuery,
 ) -> Result<QueryScorer<PreparedLeaf<'a>>, Fault>
     ensures scores { IfOk result (λ scorer. (doc : ℕ) → score_of scorer doc ≡ unless (score_of first.entry doc) (prepared_query_score other.now doc)) }
+    ensures bounds { IfOk result (λ scorer. (doc : ℕ) → doc < TERMINATED → bound_of scorer doc ≡ bound_of first.entry doc) }
     ensures lists { IfOk result (λ scorer. (all : List BlockList) → AreUnread all first.entry.lists → AreUnread (all ++ other.now.lists) scorer.lists) }
     ensures only { OnlyMemory result }
 {
@@ -304,6 +309,7 @@ fn scorer_without<'a>(
 // Returns the scorer of a prepared term.
 fn scorer_of_term(term: &PreparedTerm) -> Result<QueryScorer<PreparedLeaf<'_>>, Fault>
     ensures scores { IfOk result (λ scorer. (doc : ℕ) → score_of scorer doc ≡ prepared_score term.now doc) }
+    ensures bounds { IfOk result (λ scorer. (doc : ℕ) → doc < TERMINATED → bound_of scorer doc ≡ prepared_bound term.now doc) }
     ensures lists { IfOk result (λ scorer. AreUnread (term_list term.now ∷ []) scorer.lists) }
     ensures only { OnlyMemory result }
 {
@@ -314,6 +320,7 @@ fn scorer_of_term(term: &PreparedTerm) -> Result<QueryScorer<PreparedLeaf<'_>>, 
 // Returns the scorer of a list.
 fn scorer_of_list(list: &ScoredList) -> QueryScorer<PreparedLeaf<'_>>
     ensures scores { (doc : ℕ) → score_of result doc ≡ listed_score list.now doc }
+    ensures bounds { (doc : ℕ) → doc < TERMINATED → bound_of result doc ≡ list.now.most }
     ensures lists { result.lists ≡ [] }
 {
     QueryScorer::one(PreparedLeaf::Listed(list.scorer()))
