@@ -10,7 +10,7 @@ use Rattle.ii_docset.specs.Cursor.{IsAscending, doc_at}
 use Rattle.ii_docset.specs.Intersection.{has_doc}
 use Rattle.ii_docset.proofs.CursorLemmas.{nothing_left}
 use Rattle.ii_fieldnorm.specs.Readers.{Norms}
-use Rattle.ii_block_shares.specs.BlockShares.{AreBounds, EndWithDocs, IsPlace, IsRunBound, IsWithin, TakesRun, bound_at, share_bound, share_of}
+use Rattle.ii_block_shares.specs.BlockShares.{AreBounds, EndWithDocs, IsPlace, IsRunBound, IsWithin, TakesRun, bound_at, last_end, most_within, share_bound, share_of}
 use Rattle.ii_block_shares.specs.declared.block_shares.BlockShare.{BlockShare}
 
 -- the bound of a document of the first run, and that of a later one
@@ -104,13 +104,14 @@ ends_with blocks pushed b all is ends last = subst (λ (bs : List BlockShare). E
     more (c ∷ cs) each = (each.0, more cs each.1)
 
 -- a bound of the documents of a run from a target on
-pub run_bounds : (blocks : List BlockShare) (run : BlockShare) (place target weight most end : ℕ) → place < length blocks → run ≡ get_or blocks place run → IsPlace blocks place target → target < run.end → target < TERMINATED → most < 2 ^ 64 → end ≡ min run.end TERMINATED
+pub run_bounds : (blocks : List BlockShare) (run : BlockShare) (place target weight most end : ℕ) → place < length blocks → run ≡ get_or blocks place run → IsPlace blocks place target → target < run.end → target < TERMINATED → most < 2 ^ 64 → most ≡ weight * share_bound run.share / 2 ^ 12 → end ≡ min run.end TERMINATED
     → ((share : ℕ) → share ≤ share_bound run.share → weight * share / 2 ^ 12 ≤ most) → IsRunBound blocks weight target (record { most = most; end = end })
-run_bounds blocks run place target weight most end inside is from ahead low few end_is up = record {
+run_bounds blocks run place target weight most end inside is from ahead low few most_is end_is up = record {
   ahead = omega (arith, ahead, low, end_is);
   up_to = omega (arith, end_is);
   fits = few;
   each = λ d share above before within. up share (subst (λ (o : Option ℕ). IsWithin o share) (in_run blocks run place target inside is from d above (omega (arith, before, end_is))) within);
+  exact = λ d above before. subst (λ (o : Option ℕ). most ≤ most_within weight o) (sym (in_run blocks run place target inside is from d above (omega (arith, before, end_is)))) (omega (arith, most_is));
 }
 
 -- no run is left
@@ -120,4 +121,10 @@ no_run blocks place target weight past from low = record {
   up_to = omega arith;
   fits = omega arith;
   each = λ d share above before within. absurd (subst (λ (o : Option ℕ). IsWithin o share) (from d above ∙ ap (λ (bs : List BlockShare). bound_at bs d) (drop_all place blocks past)) within);
+  exact = λ d above before. omega arith;
 }
+
+-- the end of one run more
+pub last_more : (blocks : List BlockShare) (b : BlockShare) → last_end (blocks ++ b ∷ []) ≡ max (last_end blocks) b.end
+last_more [] b = omega arith
+last_more (c ∷ cs) b = omega (arith, last_more cs b)

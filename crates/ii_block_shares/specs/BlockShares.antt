@@ -1,5 +1,5 @@
 -- The greatest shares of runs of documents, by which documents are passed that score too little.
-use Rattle.std.specs.Prelude.{◌≡◌, ℕ, ◌+◌, ◌-◌, ◌*◌, ◌/◌, ◌^◌, ◌<◌, ◌≤◌, List, [], ◌∷◌, Option, None, Some, drop, if◌then◌else◌, nat_lt, true}
+use Rattle.std.specs.Prelude.{◌≡◌, ℕ, ◌+◌, ◌-◌, ◌*◌, ◌/◌, ◌^◌, ◌<◌, ◌≤◌, List, [], ◌∷◌, Option, None, Some, drop, if◌then◌else◌, max, nat_lt, true}
 use Rattle.std.specs.List.{AllByRecursion}
 use Rattle.ii_base.specs.Entries.{Entry}
 use Rattle.ii_bm25.specs.Bm25.{Bm25State, bm25_share}
@@ -46,17 +46,28 @@ abbrev pub MayReach : ℕ → ℕ → Option ℕ → Type 0
 MayReach weight least None = ⊥
 MayReach weight least (Some bound) = least ≤ weight * bound / 2 ^ 12
 
+-- the greatest score of a share within a bound; 0 without a bound
+abbrev pub most_within : ℕ → Option ℕ → ℕ
+most_within weight None = 0
+most_within weight (Some bound) = weight * bound / 2 ^ 12
+
+-- the greatest of the ends of runs
+abbrev pub last_end : List BlockShare → ℕ
+last_end [] = 0
+last_end (b ∷ bs) = max b.end (last_end bs)
+
 -- A document is the first one from a target on that may score at least this by its bound: those before it score less, whatever their shares within the bounds.
 pub record IsFirstReaching (blocks : List BlockShare) (weight least target doc : ℕ) : Type 0 where
   pub low : target ≤ doc
   pub passed : (d share : ℕ) → target ≤ d → d < doc → IsWithin (bound_at blocks d) share → weight * share / 2 ^ 12 < least
 
--- No document from a target on, up to the end of a bound, scores more than the bound, whatever its share within the bound of its run.
+-- No document from a target on, up to the end of a bound, scores more than the bound, whatever its share within the bound of its run; nor is the bound greater than these allow.
 pub record IsRunBound (blocks : List BlockShare) (weight target : ℕ) (bound : RunBound) : Type 0 where
   pub ahead : target < bound.end
   pub up_to : bound.end ≤ TERMINATED
   pub fits : bound.most < 2 ^ 64
   pub each : (d share : ℕ) → target ≤ d → d < bound.end → IsWithin (bound_at blocks d) share → weight * share / 2 ^ 12 ≤ bound.most
+  pub exact : (d : ℕ) → target ≤ d → d < bound.end → bound.most ≤ most_within weight (bound_at blocks d)
 
 -- A cursor went over a run of documents, none of which has a greater share than the run's.
 pub record TakesRun (w : Bm25State) (norms : Option Norms) (old new : List Entry) (b : BlockShare) : Type 0 where

@@ -1,7 +1,7 @@
 //! The greatest share of a term's score in each run of its list.
 ghost use Rattle.std.specs.Prelude.{◌≡◌, IfOk, List};
 ghost use Rattle.ii_io.specs.Faults.{OnlyMemory};
-ghost use Rattle.ii_block_shares.specs.BlockShares.{AreBounds, EndWithDocs};
+ghost use Rattle.ii_block_shares.specs.BlockShares.{AreBounds, EndWithDocs, last_end};
 
 use crate::runs::take_run;
 use ii_base::{DocId, Fault, TERMINATED};
@@ -27,15 +27,20 @@ pub struct BlockShare {
 #[derive(Drop)]
 pub struct BlockShares {
     blocks: Vec<BlockShare>,
+    // the greatest of their ends
+    end: DocId,
 }
 
 impl Model for BlockShares {
-    ghost use Rattle.std.specs.Prelude.{List};
+    ghost use Rattle.std.specs.Prelude.{◌≡◌, List};
+    ghost use Rattle.ii_block_shares.specs.BlockShares.{last_end};
     ghost use Rattle.ii_block_shares.specs.declared.block_shares.BlockShare.{BlockShare};
 
     ghost Value = { List BlockShare };
 
     ghost view = { λ s. s.blocks.items };
+
+    ghost invariant = { λ s. s.end ≡ last_end s.blocks.items };
 }
 
 impl BlockShares {
@@ -53,13 +58,22 @@ impl BlockShares {
         ensures only { OnlyMemory result }
     {
         let mut blocks = Vec::new(alloc);
+        let mut end: DocId = 0;
         let mut doc = cursor.doc();
         while doc < TERMINATED {
             let block = take_run(cursor, norms, weight);
             blocks.push(block)?;
+            end = end.max(block.end);
             doc = cursor.doc();
         }
-        Ok(BlockShares { blocks })
+        Ok(BlockShares { blocks, end })
+    }
+
+    /// Returns the document after the last one of all runs, 0 if there are none.
+    pub fn end(&self) -> DocId
+        ensures { result ≡ last_end self.now }
+    {
+        self.end
     }
 
     // Returns the runs.

@@ -79,8 +79,8 @@ impl<'a> ShareReader<'a> {
         place.doc.min(TERMINATED)
     }
 
-    /// Returns what no document from `target` on scores more than, up to the end of the first run that ends after `target`;
-    /// 0 and `TERMINATED` if no run does. The target must be below `TERMINATED`. Ascending targets are found fastest.
+    /// Returns the greatest score that a document from `target` on may have, up to the end of the first run that ends after
+    /// `target`; 0 and `TERMINATED` if no run does. The target must be below `TERMINATED`. Ascending targets are found fastest.
     pub fn bound_from(&mut self, weight: &Bm25Weight, target: DocId) -> RunBound
         requires { target < TERMINATED }
         ensures same { self.new ≡ self.old }
@@ -134,7 +134,8 @@ fn bound_of_run(blocks: &[BlockShare], block: usize, weight: &Bm25Weight, target
 
 // Returns a score that no document of a run exceeds.
 fn most_of_run(run: BlockShare, weight: &Bm25Weight) -> Score
-    ensures { (share : ℕ) → share ≤ share_bound run.share → weight.now.weight * share / 2 ^ 12 ≤ result }
+    ensures value { result ≡ weight.now.weight * share_bound run.share / 2 ^ 12 }
+    ensures bounds { (share : ℕ) → share ≤ share_bound run.share → weight.now.weight * share / 2 ^ 12 ≤ result }
 {
     weight.score_of_share((u64::from(run.share) + 1) << 20)
 }

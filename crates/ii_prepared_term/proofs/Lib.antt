@@ -1,5 +1,7 @@
+mod ListOrderLemmas
 pub mod PreparedLemmas
 pub mod PreparedQueryLemmas
 pub mod PreparedSegmentLemmas
+mod ReadLemmas
 pub mod ScoredListLemmas
 mod WorkedRows

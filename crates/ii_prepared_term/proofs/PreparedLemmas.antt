@@ -1,34 +1,35 @@
 -- Laws of a prepared term: what its bounds pass, and its scorer.
-use Rattle.std.proofs.Common.{◌≡◌, ◌≢◌, ◌⊎◌, ◌∙◌, ℕ, ◌+◌, ◌-◌, ◌*◌, ◌/◌, ◌^◌, ◌<◌, ◌≤◌, true, false, true≢false, inl, inr, List, [], ◌∷◌, Option, None, Some, length, max, refl, sym, ap, subst, arith}
+use Rattle.std.proofs.Common.{◌≡◌, ◌≢◌, ◌⊎◌, ◌∙◌, ℕ, ◌+◌, ◌-◌, ◌*◌, ◌/◌, ◌^◌, ◌<◌, ◌≤◌, true, false, true≢false, inl, inr, List, [], ◌∷◌, Option, None, Some, max, mul-le-mul_left, refl, sym, ap, subst, arith}
 use Rattle.std.proofs.lemmas.Bool.{cases_eq, cases_lt, le-leb, ne_eqb}
 use Rattle.std.proofs.lemmas.Bool.Decides.{leb_tells}
 use Rattle.ii_base.specs.Entries.{Entry}
 use Rattle.ii_base.specs.declared.doc_id.TheConstants.{TERMINATED}
-use Rattle.ii_block_shares.specs.BlockShares.{AreBounds, EndWithDocs, IsFirstReaching, IsRunBound, IsWithin, MayReach, bound_at, share_of}
+use Rattle.ii_block_shares.specs.BlockShares.{AreBounds, EndWithDocs, IsFirstReaching, IsRunBound, IsWithin, MayReach, bound_at, last_end, most_within, share_of}
 use Rattle.ii_block_shares.specs.NormIds as shares
 use Rattle.ii_block_shares.specs.declared.block_shares.BlockShare.{BlockShare}
 use Rattle.ii_block_shares.specs.declared.share_reader.RunBound.{RunBound}
-use Rattle.ii_block_shares.proofs.RunLemmas.{bound_here, bound_later}
+use Rattle.ii_block_shares.proofs.RunLemmas.{bound_later}
 use Rattle.ii_bm25.specs.Bm25.{Bm25State, bm25_score}
-use Rattle.ii_check.proofs.DecodedBlocksLaws.{allowed_last, allowed_none, allowed_on, allowed_weaker}
 use Rattle.ii_docset.specs.Cursor.{IsAscending, IsSound, doc_at, from_doc, term_freq_at}
 use Rattle.ii_docset.specs.Intersection.{has_doc}
 use Rattle.ii_docset.proofs.CursorLemmas.{doc_below, from_doc_here}
-use Rattle.ii_docset.proofs.IntersectionLemmas.{doc_at-from_doc, has_doc-from_doc, has_doc_below}
+use Rattle.ii_docset.proofs.IntersectionLemmas.{doc_at-from_doc, has_doc-from_doc}
 use Rattle.ii_fieldnorm.specs.Readers.{Norms}
-use Rattle.ii_reader.specs.SegmentPostings.{DecodesOnce, SegmentPostingsState, StandsInBlock, WentLazily}
-use Rattle.ii_scorer.specs.Scorers.{IsBelow, IsBoundUntil, IsNext, IsPassed, IsUpTo, score_of}
+use Rattle.ii_reader.specs.SegmentPostings.{SegmentPostingsState}
+use Rattle.ii_scorer.specs.Scorers.{IsBelow, IsBoundUntil, IsBounded, IsNext, IsPassed, IsUpTo, KeepsFrom, bound_of, if_at_least, score_of}
 use Rattle.ii_scorer.specs.declared.scorer.ScoreBound.{ScoreBound}
-use Rattle.ii_scorer.proofs.PartsLemmas.{row_holds, row_next}
+use Rattle.ii_scorer.proofs.BoundLemmas.{row_within}
+use Rattle.ii_scorer.proofs.PartsLemmas.{row_alike, row_end, row_holds, row_is, row_next, row_score}
 use Rattle.ii_scorer.proofs.ScorerLemmas.{below_none}
 use Rattle.ii_ranking.specs.NormIds.{id_among}
 use Rattle.ii_ranking.specs.Scores.{entry_at}
 use Rattle.ii_ranking.specs.TermWeights.{TermWeightState, score_by_entry}
 use Rattle.ii_ranking.proofs.EntryLemmas.{count_here, entry_here, none_below}
-use Rattle.ii_ranking.proofs.LeafLemmas.{IsRow, entry_row, leaf_is, row_ends}
+use Rattle.ii_ranking.proofs.LeafLemmas.{IsRow, entry_passed, entry_row, entry_up_to, row_ends}
 use Rattle.ii_ranking.proofs.ShareEntryLemmas.{entry_from}
 use Rattle.ii_ranking.proofs.SkipLemmas.{from_later}
-use Rattle.ii_prepared_term.specs.PreparedTerms.{DecodesReaching, EndAhead, GoesToScore, HasReaching, IsPrepared, PreparedTermState, prepared_score, prepared_state}
+use Rattle.ii_prepared_term.specs.PreparedScorers.{PreparedScorerState, left_of, prepared_state}
+use Rattle.ii_prepared_term.specs.PreparedTerms.{EndAhead, GoesTo, GoesToScore, IsPrepared, PreparedTermState, prepared_bound, prepared_score}
 
 -- the state of a term, by its parts
 abbrev pub state_of : Bm25State → Option Norms → List BlockShare → SegmentPostingsState → PreparedTermState
@@ -47,7 +48,7 @@ bounds_later w blocks from (e ∷ es) all =
     keeps later = (all.0, later)
 
 -- the first document that is left isn't an earlier one
-first_up : (from : ℕ) (es : List Entry) → IsAscending es → doc_at es ≤ doc_at (from_doc from es)
+pub first_up : (from : ℕ) (es : List Entry) → IsAscending es → doc_at es ≤ doc_at (from_doc from es)
 first_up from [] up = omega arith
 first_up from (e ∷ es) up =
     elim (leb_tells from e.doc) [
@@ -137,23 +138,20 @@ module _ (w : TermWeightState) (blocks : List BlockShare) (least : ℕ) where
     }
 
     -- a cursor goes to one that may
-    pub goes : (doc : ℕ) (new : List Entry) → first ≤ TERMINATED → doc ≡ doc_at new → new ≡ from_doc first old → IsSound new → GoesToScore (score_by_entry w) target least doc old new
-    goes doc new up_to at is later = record {
-      low = let low = f.low in let up = above in omega (arith, low, up);
-      up_to = let end = doc_below new later.ascending in omega (arith, at, end);
-      current = λ low. at;
-      dropped = first;
-      kept = above;
-      rest = is;
-      sound = later;
+    pub goes : (doc : ℕ) (new : List Entry) → GoesTo first doc old new → GoesToScore (score_by_entry w) target least doc old new
+    goes doc new g = record {
+      low = let low = f.low in let up = g.low in omega (arith, low, up);
+      up_to = g.up_to;
+      current = g.current;
+      dropped = g.dropped;
+      kept = let kept = g.kept in let up = g.low in omega (arith, kept, up);
+      rest = g.rest;
+      sound = g.sound;
       passed = λ d from before. elim (cases_lt d first) [
         | inl low ↦ passed_by d from low
-        | inr up ↦ below_none least (score_by_entry w d (entry_at old d)) (ap (score_by_entry w d) (sym (entry_from first d old up) ∙ ap (λ (es : List Entry). entry_at es d) (sym is) ∙ none_below d new later.ascending (omega (arith, at, before))))
+        | inr up ↦ below_none least (score_by_entry w d (entry_at old d)) (ap (score_by_entry w d) (g.passed d up before))
       ];
     }
-      where
-        above : first ≤ doc
-        above = let low : first ≤ doc_at new = subst (λ (es : List Entry). first ≤ doc_at es) (sym is) (doc_at-from_doc first old up_to) in omega (arith, at, low)
 
   -- past a document that scores less
   pub goes_on : (target doc next count score : ℕ) (old now new : List Entry) → doc < TERMINATED → count ≡ term_freq_at false now → score ≡ bm25_score w.weight (id_among w.norms doc) count → score < least
@@ -188,106 +186,85 @@ module _ (w : TermWeightState) (blocks : List BlockShare) (least : ℕ) where
             | inr above ↦ absurd (other (omega (arith, low, above)))
           ]
 
--- ---- what is decoded
+-- ---- a cursor goes to the first document from a target on
+-- it is there, or after it
+pub goes_nowhere : (target : ℕ) (es : List Entry) → IsSound es → target ≤ doc_at es → GoesTo target (doc_at es) es es
+goes_nowhere target es sound low = record {
+  low = low;
+  up_to = doc_below es sound.ascending;
+  current = λ inside. refl;
+  dropped = 0;
+  kept = omega arith;
+  rest = from_first es sound.ascending;
+  sound = sound;
+  passed = λ d from before. none_below d es sound.ascending before;
+}
+
+-- there is none: all runs end before it
+bound_past : (runs : List BlockShare) (d : ℕ) → last_end runs ≤ d → bound_at runs d ≡ None
+bound_past [] d past = refl
+bound_past (run ∷ runs) d past = bound_later run runs d (omega (arith, past)) ∙ bound_past runs d (omega (arith, past))
+
+no_entry_past : (w : TermWeightState) (runs : List BlockShare) (d : ℕ) (es : List Entry) → AreBounds w.weight w.norms runs es → bound_at runs d ≡ None → entry_at es d ≡ None
+no_entry_past w runs d [] all none = refl
+no_entry_past w runs d (e ∷ es) all none = elim (cases_eq e.doc d) [
+  | inl same ↦ absurd (subst (λ (bound : Option ℕ). IsWithin bound (share_of w.weight w.norms e)) (ap (bound_at runs) same ∙ none) all.0)
+  | inr other ↦ rw (ne_eqb e.doc d other) (no_entry_past w runs d es all.1 none)
+]
+
+pub goes_past : (s : PreparedTermState) (target : ℕ) → IsPrepared s → target ≤ TERMINATED → last_end s.shares ≤ target → GoesTo target TERMINATED s.cursor.rest s.cursor.rest
+goes_past s target is up_to past = record {
+  low = up_to;
+  up_to = omega arith;
+  current = λ low. absurd (omega (arith, low));
+  dropped = 0;
+  kept = omega arith;
+  rest = from_first s.cursor.rest is.sound.ascending;
+  sound = is.sound;
+  passed = λ d from before. no_entry_past s.by s.shares d s.cursor.rest is.bounds (bound_past s.shares d (omega (arith, past, from)));
+}
+
+-- a cursor seeks it
+pub goes_there : (target doc : ℕ) (old new : List Entry) → target ≤ TERMINATED → doc ≡ doc_at new → new ≡ from_doc target old → IsSound new → GoesTo target doc old new
+goes_there target doc old new up_to at is sound = record {
+  low = let low : target ≤ doc_at new = subst (λ (es : List Entry). target ≤ doc_at es) (sym is) (doc_at-from_doc target old up_to) in omega (arith, at, low);
+  up_to = let end = doc_below new sound.ascending in omega (arith, at, end);
+  current = λ low. at;
+  dropped = target;
+  kept = omega arith;
+  rest = is;
+  sound = sound;
+  passed = λ d from before. sym (entry_from target d old from) ∙ ap (λ (es : List Entry). entry_at es d) (sym is) ∙ none_below d new sound.ascending (omega (arith, at, before));
+}
+
 -- a list that has a document has a first one
 has_current : (doc : ℕ) (es : List Entry) → IsAscending es → has_doc es doc ≡ true → doc_at es < TERMINATED
 has_current doc [] up has = absurd (true≢false (sym has))
 has_current doc (e ∷ es) up has = let first = up.0 in let low = doc_below es up.1 in omega (arith, first, low)
 
--- a document that a list has isn't before its first one
-has_above : (doc : ℕ) (es : List Entry) → IsAscending es → has_doc es doc ≡ true → doc_at es ≤ doc
-has_above doc es up has = elim (cases_lt doc (doc_at es)) [
-  | inl low ↦ absurd (true≢false (sym has ∙ has_doc_below doc es up low))
-  | inr above ↦ above
+-- there is one: a run ends after it
+pub finds_one : (runs : List BlockShare) (target : ℕ) (old new : List Entry) → EndAhead runs old → target < last_end runs → doc_at old < target → new ≡ from_doc target old → IsAscending new → doc_at new < TERMINATED
+finds_one [] target old new ends inside ahead is up = absurd (omega (arith, inside))
+finds_one (run ∷ runs) target old new ends inside ahead is up = elim (cases_lt target run.end) [
+  | inl here ↦ has_current (run.end - 1) new up (ap (λ (es : List Entry). has_doc es (run.end - 1)) is ∙ has_doc-from_doc target (run.end - 1) old (omega (arith, here)) ∙ ends.0 (omega (arith, ahead, here)))
+  | inr after ↦ finds_one runs target old new ends.1 (omega (arith, inside, after)) ahead is up
 ]
 
--- a cursor that goes to a document of a run stays in the run
-pub stays_in_run : (weight least first : ℕ) (runs : List BlockShare) (old new : List Entry) → EndAhead runs old → new ≡ from_doc first old → IsAscending new → first ≤ TERMINATED → doc_at old < first → MayReach weight least (bound_at runs first)
-    → (doc_at new < TERMINATED) × MayReach weight least (bound_at runs (doc_at new))
-stays_in_run weight least first [] old new each is up end ahead reaches = absurd reaches
-stays_in_run weight least first (run ∷ runs) old new each is up end ahead reaches = elim (cases_lt first run.end) [
-  | inl inside ↦ here inside
-  | inr after ↦ later after (stays_in_run weight least first runs old new each.1 is up end ahead (subst (MayReach weight least) (bound_later run runs first after) reaches))
-]
-  where
-    here : first < run.end → (doc_at new < TERMINATED) × MayReach weight least (bound_at (run ∷ runs) (doc_at new))
-    here inside =
-        let has : has_doc new (run.end - 1) ≡ true = ap (λ (es : List Entry). has_doc es (run.end - 1)) is ∙ has_doc-from_doc first (run.end - 1) old (omega (arith, inside)) ∙ each.0 (omega (arith, ahead, inside)) in
-        let low = has_above (run.end - 1) new up has in
-        (has_current (run.end - 1) new up has, subst (MayReach weight least) (bound_here run runs first inside ∙ sym (bound_here run runs (doc_at new) (omega (arith, low, inside)))) reaches)
+-- ---- bounds of what documents score
+pub reaches_bound : (weight least : ℕ) (bound : Option ℕ) → MayReach weight least bound → least ≤ most_within weight bound
+reaches_bound weight least None reaches = absurd reaches
+reaches_bound weight least (Some bound) reaches = reaches
 
-    later : run.end ≤ first → (doc_at new < TERMINATED) × MayReach weight least (bound_at runs (doc_at new)) → (doc_at new < TERMINATED) × MayReach weight least (bound_at (run ∷ runs) (doc_at new))
-    later after found =
-        let low : first ≤ doc_at new = subst (λ (es : List Entry). first ≤ doc_at es) (sym is) (doc_at-from_doc first old end) in
-        (found.0, subst (MayReach weight least) (sym (bound_later run runs (doc_at new) (omega (arith, low, after)))) found.1)
+within_up : (weight : ℕ) (bound : Option ℕ) (share : ℕ) → IsWithin bound share → weight * share / 2 ^ 12 ≤ most_within weight bound
+within_up weight None share within = absurd within
+within_up weight (Some bound) share within = let up : weight * share ≤ weight * bound = mul-le-mul_left weight within in omega (arith, up)
 
-module _ (weight least : ℕ) (runs : List BlockShare) where
-  -- nothing
-  pub decodes_none : (cursor : SegmentPostingsState) → DecodesReaching weight least runs cursor cursor
-  decodes_none cursor = record {
-    doc_freq = refl;
-    forward = omega arith;
-    doc_blocks = allowed_none (HasReaching weight least runs cursor) cursor.block cursor.doc_blocks;
-    freq_blocks = allowed_none (HasReaching weight least runs cursor) cursor.block cursor.freq_blocks;
-  }
-
-  -- the block of a document to which a cursor goes
-  pub decodes_one : (first : ℕ) (old new : SegmentPostingsState) → EndAhead runs old.rest → first ≤ TERMINATED → doc_at old.rest < first → MayReach weight least (bound_at runs first) → new.rest ≡ from_doc first old.rest → IsAscending new.rest
-      → WentLazily old new → DecodesOnce old new → StandsInBlock new → DecodesReaching weight least runs old new
-  decodes_one first old new ends end ahead reaches is up went once place = record {
-    doc_freq = went.doc_freq;
-    forward = went.forward;
-    doc_blocks = allowed_last (HasReaching weight least runs old) old.block new.block old.doc_blocks new.doc_blocks here once.doc_blocks;
-    freq_blocks = allowed_last (HasReaching weight least runs old) old.block new.block old.freq_blocks new.freq_blocks here once.freq_blocks;
-  }
-    where
-      some : (es : List Entry) → doc_at es < TERMINATED → 0 < length es
-      some [] low = absurd (omega (arith, low))
-      some (e ∷ es) low = omega arith
-
-      here : HasReaching weight least runs old new.block
-      here =
-          let found = stays_in_run weight least first runs old.rest new.rest ends is up end ahead reaches in
-          let many = went.doc_freq in
-          let inside = place.here (some new.rest found.0) in
-          let near = place.near in
-          record {
-            left = new.rest;
-            remain = sym (from_doc_here (doc_at new.rest) new.rest up (omega arith)) ∙ ap (from_doc (doc_at new.rest)) is ∙ from_later first (doc_at new.rest) old.rest (subst (λ (es : List Entry). first ≤ doc_at es) (sym is) (doc_at-from_doc first old.rest end));
-            current = found.0;
-            first = omega (arith, many, inside);
-            last = omega (arith, many, near);
-            reaches = found.1;
-          }
-
-  -- of a cursor over fewer documents the same blocks have such a document
-  still_reaching : (dropped block : ℕ) (old now : SegmentPostingsState) → now.doc_freq ≡ old.doc_freq → now.rest ≡ from_doc dropped old.rest → dropped ≤ TERMINATED → IsAscending now.rest → HasReaching weight least runs now block → HasReaching weight least runs old block
-  still_reaching dropped block old now many is end up h = record {
-    left = h.left;
-    remain = h.remain ∙ ap (from_doc (doc_at h.left)) is ∙ from_later dropped (doc_at h.left) old.rest (omega (arith, low, above));
-    current = h.current;
-    first = let first = h.first in omega (arith, many, first);
-    last = let last = h.last in omega (arith, many, last);
-    reaches = h.reaches;
-  }
-    where
-      low : dropped ≤ doc_at now.rest
-      low = subst (λ (es : List Entry). dropped ≤ doc_at es) (sym is) (doc_at-from_doc dropped old.rest end)
-
-      above : doc_at now.rest ≤ doc_at h.left
-      above = subst (λ (es : List Entry). doc_at now.rest ≤ doc_at es) (sym h.remain) (first_up (doc_at h.left) now.rest up)
-
-  -- more of them
-  pub decodes_on : (dropped : ℕ) (old now new : SegmentPostingsState) → now.rest ≡ from_doc dropped old.rest → dropped ≤ TERMINATED → IsAscending now.rest → DecodesReaching weight least runs old now → DecodesReaching weight least runs now new → DecodesReaching weight least runs old new
-  decodes_on dropped old now new is end up d e =
-      let P = HasReaching weight least runs old in
-      let weaker : (block : ℕ) → now.block < block → block ≤ new.block → HasReaching weight least runs now block → HasReaching weight least runs old block = λ block low high h. still_reaching dropped block old now d.doc_freq is end up h in
-      record {
-        doc_freq = e.doc_freq ∙ d.doc_freq;
-        forward = let low = d.forward in let high = e.forward in omega (arith, low, high);
-        doc_blocks = allowed_on P old.block now.block new.block old.doc_blocks now.doc_blocks new.doc_blocks d.forward e.forward d.doc_blocks (allowed_weaker (HasReaching weight least runs now) P now.block new.block now.doc_blocks new.doc_blocks weaker e.doc_blocks);
-        freq_blocks = allowed_on P old.block now.block new.block old.freq_blocks now.freq_blocks new.freq_blocks d.forward e.forward d.freq_blocks (allowed_weaker (HasReaching weight least runs now) P now.block new.block now.freq_blocks new.freq_blocks weaker e.freq_blocks);
-      }
+-- a document that scores this has a bound that reaches it
+pub score_reaches : (s : PreparedTermState) (doc least count score : ℕ) (now : List Entry) → AreBounds s.by.weight s.by.norms s.shares now → doc ≡ doc_at now → doc < TERMINATED → count ≡ term_freq_at false now → score ≡ bm25_score s.by.weight (id_among s.by.norms doc) count → least ≤ score → least ≤ prepared_bound s doc
+score_reaches s doc least count score now all at inside counted score_is reaches =
+    let here : score_by_entry s.by doc (entry_at now doc) ≡ Some (bm25_score s.by.weight (id_among s.by.norms doc) count) = count_here (bm25_score s.by.weight (id_among s.by.norms doc)) doc count now at inside counted in
+    let up = subst (IsUpTo (prepared_bound s doc)) here (up_score s.by s.shares (prepared_bound s doc) doc now all (λ share within. within_up s.by.weight.weight (bound_at s.shares doc) share within)) in
+    omega (arith, score_is, reaches, up)
 
 -- ---- the scorer
 pub prepared_row : (w : TermWeightState) → IsRow (λ (es : List Entry) (doc : ℕ). score_by_entry w doc (entry_at es doc))
@@ -297,29 +274,82 @@ pub prepared_ends : (s : PreparedTermState) → IsPrepared s → (doc : ℕ) →
 prepared_ends s is = row_ends _ (prepared_row s.by) s.cursor.rest is.sound.ascending
 
 -- what it scores is what a document scores by the term
-pub prepared_scores : (s : PreparedTermState) → IsPrepared s → (doc : ℕ) → score_of (prepared_state s) doc ≡ prepared_score s doc
-prepared_scores s is = leaf_is (prepared_score s) (prepared_score s) (s.by.weight.weight * 2 ^ 16) (λ doc. refl) (prepared_ends s is)
+pub prepared_scores : (s : PreparedScorerState) → IsPrepared (left_of s) → (doc : ℕ) → score_of (prepared_state s) doc ≡ prepared_score (left_of s) doc
+prepared_scores s is = row_is (prepared_score (left_of s)) (prepared_score (left_of s)) (λ doc. refl) (prepared_ends (left_of s) is)
+
+-- none scores more than the weight allows
+pub prepared_bounded : (s : PreparedScorerState) (most : ℕ) → most ≡ s.term.by.weight.weight * 2 ^ 16 → most < 2 ^ 64 → ((id count : ℕ) → bm25_score s.term.by.weight id count ≤ most) → IsBounded (prepared_state s)
+prepared_bounded s most is few up = record {
+  fits = omega (arith, is, few);
+  ends = λ doc end. row_end TERMINATED (prepared_score (left_of s)) doc end;
+  each = λ doc. row_holds (IsUpTo (s.term.by.weight.weight * 2 ^ 16)) (prepared_score (left_of s)) doc tt
+      (entry_up_to (λ (count : ℕ). bm25_score s.term.by.weight (id_among s.term.by.norms doc) count) (s.term.by.weight.weight * 2 ^ 16) (entry_at s.cursor.rest doc) (λ count. let here = up (id_among s.term.by.norms doc) count in omega (arith, here, is)));
+}
 
 -- the documents from a target on before the next one score less
-pub passes_next : (s : PreparedTermState) (target least next : ℕ) → IsPrepared s → target ≤ next → next ≤ TERMINATED → ((d : ℕ) → target ≤ d → d < next → IsBelow least (prepared_score s d)) → IsNext target least (score_of (prepared_state s)) next
-passes_next s target least next is low up_to passed = row_next target least next (prepared_score s) (record { low = low; up_to = up_to; passed = λ doc from gone. by doc from gone })
+pub passes_next : (s : PreparedScorerState) (target least next : ℕ) → IsPrepared (left_of s) → target ≤ next → next ≤ TERMINATED → ((d : ℕ) → target ≤ d → d < next → IsBelow least (prepared_score (left_of s) d)) → IsNext target least (score_of (prepared_state s)) next
+passes_next s target least next is low up_to passed = row_next target least next (prepared_score (left_of s)) (record { low = low; up_to = up_to; passed = λ doc from gone. by doc from gone })
   where
-    by : (doc : ℕ) → target ≤ doc → IsPassed next doc → IsBelow least (prepared_score s doc)
+    by : (doc : ℕ) → target ≤ doc → IsPassed next doc → IsBelow least (prepared_score (left_of s) doc)
     by doc from (inl before) = passed doc from before
     by doc from (inr end) = elim (cases_lt doc next) [
       | inl before ↦ passed doc from before
-      | inr above ↦ below_none least (prepared_score s doc) (prepared_ends s is doc (omega (arith, end, above)))
+      | inr above ↦ below_none least (prepared_score (left_of s) doc) (prepared_ends (left_of s) is doc (omega (arith, end, above)))
     ]
 
+pub goes_next : (s : PreparedScorerState) (target least next : ℕ) (new : List Entry) → IsPrepared (left_of s) → GoesTo target next s.cursor.rest new → IsNext target least (score_of (prepared_state s)) next
+goes_next s target least next new is g = passes_next s target least next is g.low g.up_to (λ d from before. below_none least (prepared_score (left_of s) d) (ap (score_by_entry s.term.by d) (g.passed d from before)))
+
+-- the documents that are left score the same
+pub still_scores : (t : PreparedTermState) (old new : SegmentPostingsState) (dropped from : ℕ) → dropped ≤ from → new.rest ≡ from_doc dropped old.rest → KeepsFrom from (prepared_state (record { term = t; cursor = old })) (prepared_state (record { term = t; cursor = new }))
+still_scores t old new dropped from kept rest = record {
+  alike = λ doc up. row_alike dropped f g (λ d above. ap (score_by_entry t.by d) (ap (λ (es : List Entry). entry_at es d) rest ∙ entry_from dropped d old.rest above)) doc (omega (arith, kept, up));
+  most = refl;
+  depth = refl;
+  bounds = refl;
+  bounded = λ b. record { fits = b.fits; ends = λ doc end. row_end TERMINATED g doc end; each = λ doc. up_to b doc };
+}
+  where
+    f : ℕ → Option ℕ
+    f doc = score_by_entry t.by doc (entry_at old.rest doc)
+
+    g : ℕ → Option ℕ
+    g doc = score_by_entry t.by doc (entry_at new.rest doc)
+
+    up_to : IsBounded (prepared_state (record { term = t; cursor = old })) → (doc : ℕ) → IsUpTo (t.by.weight.weight * 2 ^ 16) (score_of (prepared_state (record { term = t; cursor = new })) doc)
+    up_to b doc = elim (cases_lt doc dropped) [
+      | inl low ↦ row_holds (IsUpTo (t.by.weight.weight * 2 ^ 16)) g doc tt (subst (λ (found : Option Entry). IsUpTo (t.by.weight.weight * 2 ^ 16) (score_by_entry t.by doc found)) (sym (ap (λ (es : List Entry). entry_at es doc) rest ∙ entry_passed dropped doc old.rest low)) tt)
+      | inr above ↦ subst (IsUpTo (t.by.weight.weight * 2 ^ 16)) (sym (row_alike dropped f g (λ d high. ap (score_by_entry t.by d) (ap (λ (es : List Entry). entry_at es d) rest ∙ entry_from dropped d old.rest high)) doc above)) (b.each doc)
+    ]
+
+-- a document that the list doesn't have scores nothing
+pub scores_none : (s : PreparedScorerState) (doc least next : ℕ) (new : List Entry) → doc < TERMINATED → GoesTo doc next s.cursor.rest new → (next ≡ doc → ⊥) → None ≡ if_at_least least (score_of (prepared_state s) doc)
+scores_none s doc least next new inside g other =
+    let none : prepared_score (left_of s) doc ≡ None = ap (score_by_entry s.term.by doc) (g.passed doc (omega arith) (strict g.low)) in
+    row_score least doc None (prepared_score (left_of s)) inside (sym (ap (if_at_least least) none))
+  where
+    strict : doc ≤ next → doc < next
+    strict low = elim (cases_lt doc next) [
+      | inl less ↦ less
+      | inr above ↦ absurd (other (omega (arith, low, above)))
+    ]
+
+-- one that it has
+pub scores_here : (s : PreparedScorerState) (doc least count score : ℕ) (new : List Entry) (given : Option ℕ) → doc < TERMINATED → GoesTo doc doc s.cursor.rest new → count ≡ term_freq_at false new → score ≡ bm25_score s.term.by.weight (id_among s.term.by.norms doc) count → given ≡ if_at_least least (Some score) → given ≡ if_at_least least (score_of (prepared_state s) doc)
+scores_here s doc least count score new given inside g counted score_is is =
+    let here : score_by_entry s.term.by doc (entry_at new doc) ≡ Some (bm25_score s.term.by.weight (id_among s.term.by.norms doc) count) = count_here (bm25_score s.term.by.weight (id_among s.term.by.norms doc)) doc count new (g.current inside) inside counted in
+    let same : prepared_score (left_of s) doc ≡ Some score = sym (ap (score_by_entry s.term.by doc) (ap (λ (es : List Entry). entry_at es doc) g.rest ∙ entry_from g.dropped doc s.cursor.rest g.kept)) ∙ here ∙ ap (λ (n : ℕ). Some n) (sym score_is) in
+    row_score least doc given (prepared_score (left_of s)) inside (is ∙ ap (if_at_least least) (sym same))
+
 -- no document from a target on, up to the end of a run's bound, scores more
-pub run_bound : (s : PreparedTermState) (target : ℕ) (run : RunBound) (bound : ScoreBound) → IsPrepared s → IsRunBound s.shares s.by.weight.weight target run → bound.most ≡ run.most → bound.end ≡ run.end → IsBoundUntil target (score_of (prepared_state s)) bound
+pub run_bound : (s : PreparedScorerState) (target : ℕ) (run : RunBound) (bound : ScoreBound) → IsPrepared (left_of s) → IsRunBound s.term.shares s.term.by.weight.weight target run → bound.most ≡ run.most → bound.end ≡ run.end → IsBoundUntil target (score_of (prepared_state s)) bound
 run_bound s target run bound is b most_is end_is = record {
   ahead = let ahead = b.ahead in omega (arith, ahead, end_is);
   up_to = let up = b.up_to in omega (arith, up, end_is);
   fits = let few = b.fits in omega (arith, few, most_is);
   each = λ d from below.
-      row_holds (IsUpTo bound.most) (prepared_score s) d tt
-      (subst (λ (n : ℕ). IsUpTo n (prepared_score s d)) (sym most_is) (up_score s.by s.shares run.most d s.cursor.rest is.bounds (λ share within. b.each d share from (omega (arith, below, end_is)) within)));
+      row_holds (IsUpTo bound.most) (prepared_score (left_of s)) d tt
+      (subst (λ (n : ℕ). IsUpTo n (prepared_score (left_of s) d)) (sym most_is) (up_score s.term.by s.term.shares run.most d s.cursor.rest is.bounds (λ share within. b.each d share from (omega (arith, below, end_is)) within)));
 }
 
 -- a cursor over fewer documents
@@ -341,3 +371,7 @@ first_prepared s walked same sound bounds ends = record {
     ends_ahead : (runs : List BlockShare) → EndWithDocs runs s.cursor.rest → EndAhead runs s.cursor.rest
     ends_ahead [] each = tt
     ends_ahead (run ∷ runs) each = (λ ahead. each.0, ends_ahead runs each.1)
+
+-- ---- its bounds
+pub run_within : (s : PreparedScorerState) (target : ℕ) (run : RunBound) (bound : ScoreBound) → IsRunBound s.term.shares s.term.by.weight.weight target run → bound.most ≡ run.most → bound.end ≡ run.end → (doc : ℕ) → target ≤ doc → doc < bound.end → bound.most ≤ bound_of (prepared_state s) doc
+run_within s target run bound b most_is end_is = row_within target bound.most bound.end (prepared_bound s.term) (let up = b.up_to in omega (arith, up, end_is)) (λ doc from below. subst (λ (n : ℕ). n ≤ prepared_bound s.term doc) (sym most_is) (b.exact doc from (omega (arith, below, end_is))))

@@ -1,18 +1,21 @@
 -- Laws of queries that are prepared part by part.
-use Rattle.std.proofs.Common.{◌≡◌, ◌∙◌, ℕ, zero, suc, ◌+◌, ◌<◌, ◌≤◌, true, List, [], ◌∷◌, ◌++◌, Option, None, add-one, ap, append_assoc, arith, drop, get_or, length, refl, subst, sym}
+use Rattle.std.proofs.Common.{◌≡◌, ◌∙◌, ℕ, zero, suc, ◌+◌, ◌<◌, ◌≤◌, true, List, [], ◌∷◌, ◌++◌, Option, None, add-one, ap, append-nil, append_assoc, arith, drop, get_or, length, map, refl, subst, sym}
 use Rattle.std.specs.List.{AllByRecursion, fold, list_all}
 use Rattle.std.proofs.Math.Seq.{drop-cons}
 use Rattle.std.proofs.lemmas.Bool.{and_parts}
+use Rattle.std.proofs.lemmas.Grind.{flat_map-append}
 use Rattle.std.proofs.lemmas.List.{map-append}
 use Rattle.ii_io.specs.declared.faults.Part.{Part}
 use Rattle.ii_query_parser.specs.declared.query.Query.{Query}
 use Rattle.ii_query_parser.specs.Queries.{has_fields, trees_of}
 use Rattle.ii_reader.specs.OpenIndex.{OpenIndexState}
-use Rattle.ii_scorer.specs.Combinations.{any_of, both, each_of, either}
-use Rattle.ii_scorer.specs.Scorers.{ScorerState, score_of, scores_at}
+use Rattle.ii_scorer.specs.BlockLists.{BlockList}
+use Rattle.ii_scorer.specs.Combinations.{add, any_of, both, each_of, either}
+use Rattle.ii_scorer.specs.Scorers.{ScorerState, bound_of, bound_over}
 use Rattle.ii_scorer.proofs.SumLemmas.{any_cons, both_never}
 use Rattle.ii_ranking.specs.Scores.{Scored, first_of, query_damage, query_score, tree_scores, trees_damage}
-use Rattle.ii_prepared_term.specs.PreparedQueries.{PreparedQueryState, ScoresEnd, depth_under, prepared_query_score, scores_by}
+use Rattle.ii_prepared_term.specs.PreparedQueries.{PreparedQueryState, ScoresEnd, bound_under, depth_under, lists_under, prepared_query_bound, prepared_query_score, scores_by}
+use Rattle.ii_prepared_term.specs.QueryDocs.{docs_in, query_docs, trees_docs}
 
 -- No document from `TERMINATED` on has a score by a query.
 abbrev pub QueryEnds : PreparedQueryState → Type 0
@@ -53,6 +56,16 @@ prepares_next s index all left others q parts more part i is same end sound more
   fields = (and_parts (has_fields (length index.readers) q) (list_all (has_fields (length index.readers)) others) (rw is at i.fields)).1;
 }
 
+-- the lists of one query more
+pub lists_next : (index : OpenIndexState) (all left others : List Query) (q : Query) (parts more : List PreparedQueryState) (part : PreparedQueryState) → left ≡ q ∷ others → docs_in part.lists ≡ query_docs index q → more ≡ parts ++ part ∷ []
+    → docs_in (lists_under parts) ++ trees_docs index (trees_of left) ≡ trees_docs index (trees_of all) → docs_in (lists_under more) ++ trees_docs index (trees_of others) ≡ trees_docs index (trees_of all)
+lists_next index all left others q parts more part is docs more_is so_far =
+    ap (λ (ps : List PreparedQueryState). docs_in (lists_under ps) ++ trees_docs index (trees_of others)) more_is
+    ∙ ap (λ (ls : List BlockList). docs_in ls ++ trees_docs index (trees_of others)) (flat_map-append (λ (s : PreparedQueryState). s.lists) parts (part ∷ []) ∙ ap (λ (ls : List BlockList). lists_under parts ++ ls) (append-nil part.lists))
+    ∙ ap (λ (rows : List (List ℕ)). rows ++ trees_docs index (trees_of others)) (map-append (λ (l : BlockList). l.docs) (lists_under parts) part.lists ∙ ap (λ (rows : List (List ℕ)). docs_in (lists_under parts) ++ rows) docs)
+    ∙ append_assoc (docs_in (lists_under parts)) (query_docs index q) (trees_docs index (trees_of others))
+    ∙ ap (λ (qs : List Query). docs_in (lists_under parts) ++ trees_docs index (trees_of qs)) (sym is) ∙ so_far
+
 -- ---- scorers of parts
 -- each part is less deep
 pub part_inside : (ss : List PreparedQueryState) (i : ℕ) (x : PreparedQueryState) → i < length ss → x ≡ get_or ss i x → suc x.depth ≤ depth_under ss
@@ -60,16 +73,34 @@ part_inside [] i x inside is = absurd (omega (arith, inside))
 part_inside (s ∷ ss) zero x inside is = let deep = ap (λ (p : PreparedQueryState). p.depth) is in omega (arith, deep)
 part_inside (s ∷ ss) (suc i) x inside is = let later = part_inside ss i x (omega (arith, inside)) is in omega (arith, later)
 
--- one scorer more
-pub scores_more : (parts : List PreparedQueryState) (i : ℕ) (part : PreparedQueryState) (scorers more : List ScorerState) (scorer : ScorerState) → i < length parts → part ≡ get_or parts i part → ((doc : ℕ) → score_of scorer doc ≡ prepared_query_score part doc) → more ≡ scorers ++ scorer ∷ []
-    → ((doc : ℕ) → scores_at scorers doc ++ scores_by (drop i parts) doc ≡ scores_by parts doc) → (doc : ℕ) → scores_at more doc ++ scores_by (drop (i + 1) parts) doc ≡ scores_by parts doc
-scores_more parts i part scorers more scorer inside is same more_is all doc =
-    let later = scores_by (drop (i + 1) parts) doc in
-    ap (λ (ss : List ScorerState). scores_at ss doc ++ later) more_is
-    ∙ ap (λ (row : List (Option ℕ)). row ++ later) (map-append (λ (s : ScorerState). score_of s doc) scorers (scorer ∷ []))
-    ∙ append_assoc (scores_at scorers doc) (score_of scorer doc ∷ []) later
-    ∙ ap (λ (score : Option ℕ). scores_at scorers doc ++ score ∷ later) (same doc)
-    ∙ ap (λ (ps : List PreparedQueryState). scores_at scorers doc ++ scores_by ps doc) (sym at) ∙ all doc
+-- one more of each: what those give that were taken, with what the others give, is what all give
+pub rows_more : {X Y V : Type 0} → (f : X → V) (g : Y → V) (all : List Y) (i : ℕ) (other : Y) (taken more : List X) (one : X) → i < length all → other ≡ get_or all i other → f one ≡ g other → more ≡ taken ++ one ∷ []
+    → map f taken ++ map g (drop i all) ≡ map g all → map f more ++ map g (drop (i + 1) all) ≡ map g all
+rows_more {X} {Y} {V} f g all i other taken more one inside is same more_is known =
+    let later = map g (drop (i + 1) all) in
+    ap (λ (xs : List X). map f xs ++ later) more_is
+    ∙ ap (λ (row : List V). row ++ later) (map-append f taken (one ∷ []))
+    ∙ append_assoc (map f taken) (f one ∷ []) later
+    ∙ ap (λ (v : V). map f taken ++ v ∷ later) same
+    ∙ ap (λ (ys : List Y). map f taken ++ map g ys) (sym at) ∙ known
   where
-    at : drop i parts ≡ part ∷ drop (i + 1) parts
-    at = drop-cons parts i part inside ∙ rw (← is, add-one i) refl
+    at : drop i all ≡ other ∷ drop (i + 1) all
+    at = drop-cons all i other inside ∙ rw (← is, add-one i) refl
+
+-- ---- bounds of parts
+-- the sum of bounds, at most 2^64 - 1
+abbrev sum_row : List ℕ → ℕ
+sum_row [] = 0
+sum_row (b ∷ bs) = add b (sum_row bs)
+
+over_row : (ss : List ScorerState) (doc : ℕ) → bound_over ss doc ≡ sum_row (map (λ (s : ScorerState). bound_of s doc) ss)
+over_row [] doc = refl
+over_row (s ∷ ss) doc = ap (add (bound_of s doc)) (over_row ss doc)
+
+under_row : (ps : List PreparedQueryState) (doc : ℕ) → bound_under ps doc ≡ sum_row (map (λ (p : PreparedQueryState). prepared_query_bound p doc) ps)
+under_row [] doc = refl
+under_row (p ∷ ps) doc = ap (add (prepared_query_bound p doc)) (under_row ps doc)
+
+-- scorers with the bounds of queries have the same sum of them
+pub bounds_same : (ss : List ScorerState) (ps : List PreparedQueryState) (doc : ℕ) → map (λ (s : ScorerState). bound_of s doc) ss ≡ map (λ (p : PreparedQueryState). prepared_query_bound p doc) ps → bound_over ss doc ≡ bound_under ps doc
+bounds_same ss ps doc same = over_row ss doc ∙ ap sum_row same ∙ sym (under_row ps doc)

@@ -2,6 +2,8 @@ pub mod PreparedDepths
 pub mod PreparedLeaves
 pub mod PreparedParts
 pub mod PreparedQueries
+pub mod PreparedScorers
 pub mod PreparedSegments
 pub mod PreparedTerms
+pub mod QueryDocs
 pub mod ScoredLists

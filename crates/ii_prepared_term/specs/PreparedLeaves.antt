@@ -1,6 +1,6 @@
 -- What documents score by a part of a prepared query that isn't made of others.
 use Rattle.ii_scorer.specs.Scorers.{ScorerState}
-use Rattle.ii_prepared_term.specs.PreparedTerms.{prepared_state}
+use Rattle.ii_prepared_term.specs.PreparedScorers.{prepared_state}
 use Rattle.ii_prepared_term.specs.ScoredLists.{listed_state}
 use Rattle.ii_prepared_term.specs.declared.prepared_leaf.PreparedLeaf.{PreparedLeaf}
 use Rattle.ii_prepared_term.specs.declared.prepared_leaf.PreparedLeaf.TheVariants.{Term, Listed}

@@ -3,14 +3,17 @@
 //! little.
 #![tactic(auto)]
 
-mod prepared_leaf;
+pub mod prepared_leaf;
 pub mod prepared_query;
-mod prepared_scorer;
+pub mod prepared_scorer;
 pub mod prepared_segments;
 pub mod prepared_term;
 mod preparing;
-mod scored_list;
+pub mod scored_list;
 
+pub use prepared_leaf::PreparedLeaf;
 pub use prepared_query::PreparedQuery;
+pub use prepared_scorer::PreparedScorer;
 pub use prepared_segments::PreparedSegments;
 pub use prepared_term::PreparedTerm;
+pub use scored_list::ListedScorer;

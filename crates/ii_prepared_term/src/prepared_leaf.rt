@@ -7,9 +7,9 @@ use ii_base::DocId;
 use ii_bm25::Score;
 use ii_scorer::{ScoreBound, Scorer};
 
-// Gives what documents score by a prepared term, or by a list of documents with their scores.
+/// Gives what documents score by a prepared term, or by a list of documents with their scores.
 #[derive(Drop)]
-pub(crate) enum PreparedLeaf<'a> {
+pub enum PreparedLeaf<'a> {
     Term(PreparedScorer<'a>),
     Listed(ListedScorer<'a>),
 }

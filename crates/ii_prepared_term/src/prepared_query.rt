@@ -1,18 +1,20 @@
 //! A query that is searched many times.
-ghost use Rattle.std.specs.Prelude.{◌≡◌, ◌+◌, ◌<◌, ◌^◌, ◌++◌, ℕ, IfOk, List, None, OnOk, Some, if◌then◌else◌, min, nat_lt};
+ghost use Rattle.std.specs.Prelude.{◌≡◌, ◌+◌, ◌<◌, ◌^◌, ◌++◌, ◌∷◌, [], ℕ, IfOk, List, None, OnOk, Some, if◌then◌else◌, min, nat_lt};
 ghost use Rattle.std.specs.List.{AllByRecursion};
 ghost use Rattle.ii_io.specs.Faults.{OnlyMemory};
 ghost use Rattle.ii_alive.specs.Alive.{num_living};
 ghost use Rattle.ii_base.specs.declared.doc_id.TheConstants.{TERMINATED};
 ghost use Rattle.ii_bm25.specs.declared.bm25.TheConstants.{SCORE_ONE};
+ghost use Rattle.ii_scorer.specs.BlockLists.{BlockList};
 ghost use Rattle.ii_scorer.specs.Combinations.{any_of, each_of, unless};
-ghost use Rattle.ii_scorer.specs.Scorers.{score_of, scores_at};
+ghost use Rattle.ii_scorer.specs.Scorers.{bound_of, bound_over, lists_of, score_of, scores_at};
 ghost use Rattle.ii_scorer.specs.TopDocs.{AreBest, scored_docs};
 ghost use Rattle.ii_scorer.specs.TopNComputer.{KeepsBest};
 ghost use Rattle.ii_ranking.specs.Segments.{segment_scored};
-ghost use Rattle.ii_prepared_term.specs.PreparedParts.{score_by_parts};
-ghost use Rattle.ii_prepared_term.specs.PreparedQueries.{ScoresEnd, prepared_query_score, scores_by};
-ghost use Rattle.ii_prepared_term.specs.PreparedTerms.{prepared_score};
+ghost use Rattle.ii_prepared_term.specs.PreparedParts.{bound_by_parts, lists_by_parts, score_by_parts};
+ghost use Rattle.ii_prepared_term.specs.PreparedQueries.{ScoresEnd, bound_under, lists_under, prepared_query_bound, prepared_query_score, scores_by};
+ghost use Rattle.ii_prepared_term.specs.PreparedScorers.{AreUnread, term_list};
+ghost use Rattle.ii_prepared_term.specs.PreparedTerms.{prepared_bound, prepared_score};
 ghost use Rattle.ii_prepared_term.specs.ScoredLists.{listed_score};
 
 use crate::prepared_leaf::PreparedLeaf;
@@ -30,7 +32,7 @@ use std::marker::Model;
 /// and of each range were listed with their scores. It holds all that a search needs, so it is searched without the
 /// index, as often as wanted.
 ///
-/// Its model is what each document scores.
+/// Its model is what each document scores, a bound of that, and the lists of its terms.
 #[cycle(prepared_query)]
 #[derive(Drop)]
 pub struct PreparedQuery {
@@ -51,14 +53,14 @@ enum PreparedParts {
 
 impl Model for PreparedQuery {
     ghost use Rattle.ii_base.specs.declared.doc_id.TheConstants.{TERMINATED};
-    ghost use Rattle.ii_scorer.specs.Scorers.{scores_below};
+    ghost use Rattle.ii_scorer.specs.Scorers.{bounds_below, scores_below};
     ghost use Rattle.ii_prepared_term.specs.PreparedQueries.{PreparedQueryState};
 
     ghost Value = { PreparedQueryState };
 
-    ghost use Rattle.ii_prepared_term.specs.PreparedParts.{depth_of, score_by_parts};
+    ghost use Rattle.ii_prepared_term.specs.PreparedParts.{bound_by_parts, depth_of, lists_by_parts, score_by_parts};
 
-    ghost view = { λ s. record { scores = scores_below TERMINATED (score_by_parts s.parts); depth = depth_of s.parts } };
+    ghost view = { λ s. record { scores = scores_below TERMINATED (score_by_parts s.parts); bounds = bounds_below TERMINATED (bound_by_parts s.parts); depth = depth_of s.parts; lists = lists_by_parts s.parts } };
 
     ghost size = { λ s. s.depth };
 
@@ -72,6 +74,7 @@ impl PreparedQuery {
     // Returns a query that matches nothing.
     pub(crate) fn nothing() -> PreparedQuery
         ensures scores { (doc : ℕ) → prepared_query_score result doc ≡ None }
+        ensures lists { result.lists ≡ [] }
         ensures ends { ScoresEnd (prepared_query_score result) }
     {
         PreparedQuery {
@@ -82,6 +85,7 @@ impl PreparedQuery {
     // Returns one that matches all documents below `limit`, each of which scores 1.0.
     pub(crate) fn all(limit: DocId) -> PreparedQuery
         ensures scores { (doc : ℕ) → prepared_query_score result doc ≡ (if nat_lt doc (min limit TERMINATED) then Some SCORE_ONE else None) }
+        ensures lists { result.lists ≡ [] }
         ensures ends { ScoresEnd (prepared_query_score result) }
     {
         PreparedQuery {
@@ -93,6 +97,7 @@ impl PreparedQuery {
     pub(crate) fn of_term(term: PreparedTerm) -> PreparedQuery
         requires { ScoresEnd (prepared_score term) }
         ensures scores { (doc : ℕ) → prepared_query_score result doc ≡ prepared_score term doc }
+        ensures lists { result.lists ≡ term_list term ∷ [] }
         ensures ends { ScoresEnd (prepared_query_score result) }
     {
         PreparedQuery {
@@ -104,6 +109,7 @@ impl PreparedQuery {
     pub(crate) fn of_list(list: ScoredList) -> PreparedQuery
         requires { ScoresEnd (listed_score list) }
         ensures scores { (doc : ℕ) → prepared_query_score result doc ≡ listed_score list doc }
+        ensures lists { result.lists ≡ [] }
         ensures ends { ScoresEnd (prepared_query_score result) }
     {
         PreparedQuery {
@@ -115,6 +121,7 @@ impl PreparedQuery {
     pub(crate) fn each(parts: Vec<PreparedQuery>) -> PreparedQuery
         requires { AllByRecursion (λ s. ScoresEnd (prepared_query_score s)) parts.items }
         ensures scores { (doc : ℕ) → prepared_query_score result doc ≡ each_of (scores_by parts.items doc) }
+        ensures lists { result.lists ≡ lists_under parts.items }
         ensures ends { ScoresEnd (prepared_query_score result) }
     {
         PreparedQuery {
@@ -126,6 +133,7 @@ impl PreparedQuery {
     pub(crate) fn any(parts: Vec<PreparedQuery>) -> PreparedQuery
         requires { AllByRecursion (λ s. ScoresEnd (prepared_query_score s)) parts.items }
         ensures scores { (doc : ℕ) → prepared_query_score result doc ≡ any_of (scores_by parts.items doc) }
+        ensures lists { result.lists ≡ lists_under parts.items }
         ensures ends { ScoresEnd (prepared_query_score result) }
     {
         PreparedQuery {
@@ -141,6 +149,7 @@ impl PreparedQuery {
     ) -> Result<PreparedQuery, Fault>
         requires { ScoresEnd (prepared_query_score first) }
         ensures scores { IfOk result (λ query. (doc : ℕ) → prepared_query_score query doc ≡ unless (prepared_query_score first doc) (prepared_query_score other doc)) }
+        ensures lists { IfOk result (λ query. query.lists ≡ first.lists ++ other.lists) }
         ensures ends { IfOk result (λ query. ScoresEnd (prepared_query_score query)) }
         ensures only { OnlyMemory result }
     {
@@ -204,10 +213,14 @@ impl PreparedQuery {
         push_best(&mut scorer, &numbers, computer)
     }
 
-    // Returns a scorer of all documents that match the query. It recurses once for each level of nesting.
+    /// Returns a scorer of all documents that match the query, of whose lists no block was decoded but the first. Its
+    /// bounds are those of the query: of a term that of the document's run, of and and or the sum, at most `u64::MAX`. It
+    /// recurses once for each level of nesting. Fails only with `OutOfMemory`.
     #[cycle(scorer)]
-    fn scorer(&self, alloc: Global) -> Result<QueryScorer<PreparedLeaf<'_>>, Fault>
+    pub fn scorer(&self, alloc: Global) -> Result<QueryScorer<PreparedLeaf<'_>>, Fault>
         ensures scores { IfOk result (λ scorer. (doc : ℕ) → score_of scorer doc ≡ prepared_query_score self.now doc) }
+        ensures bounds { IfOk result (λ scorer. (doc : ℕ) → doc < TERMINATED → bound_of scorer doc ≡ prepared_query_bound self.now doc) }
+        ensures lists { IfOk result (λ scorer. AreUnread self.now.lists scorer.lists) }
         ensures only { OnlyMemory result }
     {
         let scorer = match scorer_of(alloc, &self.parts) {
@@ -224,10 +237,12 @@ impl PreparedQuery {
 #[cycle(scorer)]
 fn scorer_of(alloc: Global, parts: &PreparedParts) -> Result<QueryScorer<PreparedLeaf<'_>>, Fault>
     ensures scores { IfOk result (λ scorer. (doc : ℕ) → score_of scorer doc ≡ score_by_parts parts.now doc) }
+    ensures bounds { IfOk result (λ scorer. (doc : ℕ) → doc < TERMINATED → bound_of scorer doc ≡ bound_by_parts parts.now doc) }
+    ensures lists { IfOk result (λ scorer. AreUnread (lists_by_parts parts.now) scorer.lists) }
     ensures only { OnlyMemory result }
 {
     match parts {
-        PreparedParts::Nothing => Ok(QueryScorer::nothing()),
+        PreparedParts::Nothing => Ok(QueryScorer::each(Vec::new(alloc))),
         PreparedParts::All(limit) => Ok(QueryScorer::all(*limit)),
         PreparedParts::Term(term) => scorer_of_term(term),
         PreparedParts::Listed(list) => Ok(scorer_of_list(list)),
@@ -254,6 +269,8 @@ fn scorers_of(
     parts: &Vec<PreparedQuery>,
 ) -> Result<Vec<QueryScorer<PreparedLeaf<'_>>>, Fault>
     ensures scores { IfOk result (λ scorers. (doc : ℕ) → scores_at scorers.items doc ≡ scores_by parts.now.items doc) }
+    ensures bounds { IfOk result (λ scorers. (doc : ℕ) → doc < TERMINATED → bound_over scorers.items doc ≡ bound_under parts.now.items doc) }
+    ensures lists { IfOk result (λ scorers. AreUnread (lists_under parts.now.items) (lists_of scorers.items)) }
     ensures only { OnlyMemory result }
 {
     let mut scorers = Vec::new(alloc);
@@ -276,6 +293,8 @@ fn scorer_without<'a>(
     other: &'a PreparedQuery,
 ) -> Result<QueryScorer<PreparedLeaf<'a>>, Fault>
     ensures scores { IfOk result (λ scorer. (doc : ℕ) → score_of scorer doc ≡ unless (score_of first.entry doc) (prepared_query_score other.now doc)) }
+    ensures bounds { IfOk result (λ scorer. (doc : ℕ) → doc < TERMINATED → bound_of scorer doc ≡ bound_of first.entry doc) }
+    ensures lists { IfOk result (λ scorer. (all : List BlockList) → AreUnread all first.entry.lists → AreUnread (all ++ other.now.lists) scorer.lists) }
     ensures only { OnlyMemory result }
 {
     match other.scorer(alloc) {
@@ -290,6 +309,8 @@ fn scorer_without<'a>(
 // Returns the scorer of a prepared term.
 fn scorer_of_term(term: &PreparedTerm) -> Result<QueryScorer<PreparedLeaf<'_>>, Fault>
     ensures scores { IfOk result (λ scorer. (doc : ℕ) → score_of scorer doc ≡ prepared_score term.now doc) }
+    ensures bounds { IfOk result (λ scorer. (doc : ℕ) → doc < TERMINATED → bound_of scorer doc ≡ prepared_bound term.now doc) }
+    ensures lists { IfOk result (λ scorer. AreUnread (term_list term.now ∷ []) scorer.lists) }
     ensures only { OnlyMemory result }
 {
     let scorer = term.scorer()?;
@@ -298,7 +319,9 @@ fn scorer_of_term(term: &PreparedTerm) -> Result<QueryScorer<PreparedLeaf<'_>>, 
 
 // Returns the scorer of a list.
 fn scorer_of_list(list: &ScoredList) -> QueryScorer<PreparedLeaf<'_>>
-    ensures { (doc : ℕ) → score_of result doc ≡ listed_score list.now doc }
+    ensures scores { (doc : ℕ) → score_of result doc ≡ listed_score list.now doc }
+    ensures bounds { (doc : ℕ) → doc < TERMINATED → bound_of result doc ≡ list.now.most }
+    ensures lists { result.lists ≡ [] }
 {
     QueryScorer::one(PreparedLeaf::Listed(list.scorer()))
 }

@@ -1,10 +1,11 @@
 //! How queries are prepared.
-ghost use Rattle.std.specs.Prelude.{◌≡◌, ◌<◌, ℕ, IfErr, IfOk, None, OnOk, length, true};
+ghost use Rattle.std.specs.Prelude.{◌≡◌, ◌<◌, ◌++◌, ◌∷◌, [], ℕ, IfErr, IfOk, None, OnOk, length, true};
 ghost use Rattle.std.specs.List.{AllByRecursion, list_all};
 ghost use Rattle.ii_query_parser.specs.Queries.{has_fields, trees_of};
 ghost use Rattle.ii_ranking.specs.Scores.{IsScoreFault, query_damage, query_score, scored_in, term_damage, term_score, tree_scores, trees_damage};
 ghost use Rattle.ii_scorer.specs.Combinations.{unless};
-ghost use Rattle.ii_prepared_term.specs.PreparedQueries.{ScoresEnd, prepared_query_score, scores_by};
+ghost use Rattle.ii_prepared_term.specs.PreparedQueries.{ScoresEnd, lists_under, prepared_query_score, scores_by};
+ghost use Rattle.ii_prepared_term.specs.QueryDocs.{docs_in, query_docs, term_docs, trees_docs};
 
 use crate::prepared_query::PreparedQuery;
 use crate::prepared_term::PreparedTerm;
@@ -33,6 +34,7 @@ impl PreparedQuery {
     ) -> Result<PreparedQuery, Fault>
         requires fields { has_fields (length index.now.readers) query.now ≡ true }
         ensures scores { IfOk result (λ prepared. (doc : ℕ) → prepared_query_score prepared doc ≡ query_score (scored_in index.now (S.statistics statistics.now)) query.now doc) }
+        ensures lists { IfOk result (λ prepared. docs_in prepared.lists ≡ query_docs index.now query.now) }
         ensures sound { OnOk result (query_damage index.now query.now ≡ None) }
         ensures fault { IfErr result (IsScoreFault (query_damage index.now query.now)) }
     {
@@ -51,6 +53,7 @@ fn prepare<S: Bm25StatisticsProvider>(
 ) -> Result<PreparedQuery, Fault>
     requires fields { has_fields (length index.now.readers) query.now ≡ true }
     ensures scores { IfOk result (λ prepared. (doc : ℕ) → prepared_query_score prepared doc ≡ query_score (scored_in index.now (S.statistics statistics.now)) query.now doc) }
+    ensures lists { IfOk result (λ prepared. docs_in prepared.lists ≡ query_docs index.now query.now) }
     ensures ends { IfOk result (λ prepared. ScoresEnd (prepared_query_score prepared)) }
     ensures sound { OnOk result (query_damage index.now query.now ≡ None) }
     ensures fault { IfErr result (IsScoreFault (query_damage index.now query.now)) }
@@ -59,9 +62,9 @@ fn prepare<S: Bm25StatisticsProvider>(
         Query::Empty => Ok(PreparedQuery::nothing()),
         Query::All(limit) => Ok(PreparedQuery::all(*limit)),
         Query::Term(term) => prepare_term(alloc, index, statistics, term),
-        Query::Phrase(_, _, _) | Query::PhrasePrefix(_) | Query::Range(_) => {
-            prepare_list(alloc, index, statistics, query)
-        }
+        Query::Phrase(_, _, _) => prepare_list(alloc, index, statistics, query),
+        Query::PhrasePrefix(_) => prepare_list(alloc, index, statistics, query),
+        Query::Range(_) => prepare_list(alloc, index, statistics, query),
         Query::And(queries) => match prepare_each(alloc, index, statistics, queries) {
             Ok(parts) => Ok(PreparedQuery::each(parts)),
             Err(fault) => Err(fault),
@@ -88,6 +91,7 @@ fn prepare_each<S: Bm25StatisticsProvider>(
 ) -> Result<Vec<PreparedQuery>, Fault>
     requires fields { list_all (has_fields (length index.now.readers)) queries.now.items ≡ true }
     ensures scores { IfOk result (λ parts. (doc : ℕ) → scores_by parts.items doc ≡ tree_scores (scored_in index.now (S.statistics statistics.now)) (trees_of queries.now.items) doc) }
+    ensures lists { IfOk result (λ parts. docs_in (lists_under parts.items) ≡ trees_docs index.now (trees_of queries.now.items)) }
     ensures ends { IfOk result (λ parts. AllByRecursion (λ s. ScoresEnd (prepared_query_score s)) parts.items) }
     ensures sound { OnOk result (trees_damage index.now (trees_of queries.now.items) ≡ None) }
     ensures fault { IfErr result (IsScoreFault (trees_damage index.now (trees_of queries.now.items))) }
@@ -116,6 +120,7 @@ fn prepare_without<S: Bm25StatisticsProvider>(
     requires fields { has_fields (length index.now.readers) other.now ≡ true }
     requires ends { ScoresEnd (prepared_query_score first) }
     ensures scores { IfOk result (λ prepared. (doc : ℕ) → prepared_query_score prepared doc ≡ unless (prepared_query_score first doc) (query_score (scored_in index.now (S.statistics statistics.now)) other.now doc)) }
+    ensures lists { IfOk result (λ prepared. docs_in prepared.lists ≡ docs_in first.lists ++ query_docs index.now other.now) }
     ensures ends { IfOk result (λ prepared. ScoresEnd (prepared_query_score prepared)) }
     ensures sound { OnOk result (query_damage index.now other.now ≡ None) }
     ensures fault { IfErr result (IsScoreFault (query_damage index.now other.now)) }
@@ -139,6 +144,7 @@ fn prepare_term<S: Bm25StatisticsProvider>(
 ) -> Result<PreparedQuery, Fault>
     requires field { term.now.field < length index.now.readers }
     ensures scores { IfOk result (λ prepared. (doc : ℕ) → prepared_query_score prepared doc ≡ term_score (scored_in index.now (S.statistics statistics.now)) term.now doc) }
+    ensures lists { IfOk result (λ prepared. docs_in prepared.lists ≡ term_docs index.now term.now ∷ []) }
     ensures ends { IfOk result (λ prepared. ScoresEnd (prepared_query_score prepared)) }
     ensures sound { OnOk result (term_damage index.now term.now ≡ None) }
     ensures fault { IfErr result (IsScoreFault (term_damage index.now term.now)) }
@@ -159,6 +165,7 @@ fn prepare_list<S: Bm25StatisticsProvider>(
 ) -> Result<PreparedQuery, Fault>
     requires fields { has_fields (length index.now.readers) query.now ≡ true }
     ensures scores { IfOk result (λ prepared. (doc : ℕ) → prepared_query_score prepared doc ≡ query_score (scored_in index.now (S.statistics statistics.now)) query.now doc) }
+    ensures lists { IfOk result (λ prepared. prepared.lists ≡ []) }
     ensures ends { IfOk result (λ prepared. ScoresEnd (prepared_query_score prepared)) }
     ensures sound { OnOk result (query_damage index.now query.now ≡ None) }
     ensures fault { IfErr result (IsScoreFault (query_damage index.now query.now)) }

@@ -13,7 +13,7 @@ use ii_bm25::{Bm25StatisticsProvider, Score};
 use ii_query_parser::Query;
 use ii_ranking::list_scores;
 use ii_reader::OpenIndex;
-use ii_scorer::{Scorer, if_at_least};
+use ii_scorer::{ScoreBound, Scorer, if_at_least};
 use std::alloc::Global;
 use std::marker::Model;
 
@@ -78,9 +78,11 @@ fn greatest_of(docs: &Vec<(Score, DocId)>) -> Score
     most
 }
 
-// Gives the scores of a list.
+/// Gives the scores of documents that are listed with them.
+///
+/// Its model is the documents that weren't passed, and a score that none exceeds.
 #[derive(Drop)]
-pub(crate) struct ListedScorer<'a> {
+pub struct ListedScorer<'a> {
     docs: &'a Vec<(Score, DocId)>,
     // of the first document that wasn't passed
     place: usize,
@@ -126,6 +128,17 @@ impl<'a> Scorer for ListedScorer<'a> {
 
     fn skip_to_score(&mut self, target: DocId, _least: Score) -> DocId {
         self.go_to(target)
+    }
+
+    fn max_score_until(&mut self, _target: DocId) -> ScoreBound {
+        ScoreBound {
+            most: self.max_score(),
+            end: TERMINATED,
+        }
+    }
+
+    fn has_runs(&self) -> bool {
+        false
     }
 
     fn score_at(&mut self, doc: DocId, least: Score) -> Option<Score> {

@@ -11,4 +11,4 @@ returns c =
     let inside : c.args.block < length c.args.blocks.now = search rules in
     let run : BlockShare = get_or c.args.blocks.now c.args.block (record { end = 0; share = 0 }) in
     let is : run ≡ get_or c.args.blocks.now c.args.block run = search rules in
-    run_bounds c.args.blocks.now run c.args.block c.args.target c.args.weight.now.weight c.most_of_run.result c.min.result inside is c.requires.place (c.requires.ahead run inside is) c.requires.low (search rules) (search rules) c.most_of_run.ensures
+    run_bounds c.args.blocks.now run c.args.block c.args.target c.args.weight.now.weight c.most_of_run.result c.min.result inside is c.requires.place (c.requires.ahead run inside is) c.requires.low (search rules) c.most_of_run.ensures.value (search rules) c.most_of_run.ensures.bounds

@@ -2,7 +2,7 @@ use Rattle.std.proofs.Common.{◌≡◌, ◌<◌, ◌+◌, drop, get_or, length,
 use Rattle.ii_search.proofs.QueryLemmas.{and_deep, and_has_fields, or_deep, or_has_fields, query_at}
 use Rattle.ii_ranking.specs.Scores.{scored_in}
 use Rattle.ii_ranking.proofs.QueryScoreLemmas.{refused_next}
-use Rattle.ii_prepared_term.proofs.PreparedQueryLemmas.{prepares_next}
+use Rattle.ii_prepared_term.proofs.PreparedQueryLemmas.{lists_next, prepares_next}
 use Rattle.ii_prepared_term.proofs.preparing.+prepare.Goals as goal
 
 pub prepare_each-returns-in-Err-clause-fault : goal.prepare_each-returns-in-Err-clause-fault
@@ -32,4 +32,7 @@ prepare_each-loop-query-preserved g t c =
     let s = scored_in c.args.index.now (g.S.Bm25StatisticsProvider.statistics c.args.statistics.now) in
     let inside : l.query-index < length all = search rules in
     let is : c.query-item.result ≡ get_or all l.query-index c.query-item.result = search rules in
-    record { preparing = prepares_next s c.args.index.now all (drop l.query-index all) (drop (l.query-index + 1) all) c.query-item.result l.parts.items c.push.new.self.items c.in-Ok.part l.invariant.preparing (query_at all l.query-index c.query-item.result inside is) c.in-Ok.ensures.scores c.in-Ok.ensures.ends c.in-Ok.ensures.sound c.in_ok-push.ensures.items }
+    record {
+      preparing = prepares_next s c.args.index.now all (drop l.query-index all) (drop (l.query-index + 1) all) c.query-item.result l.parts.items c.push.new.self.items c.in-Ok.part l.invariant.preparing (query_at all l.query-index c.query-item.result inside is) c.in-Ok.ensures.scores c.in-Ok.ensures.ends c.in-Ok.ensures.sound c.in_ok-push.ensures.items;
+      lists = lists_next c.args.index.now all (drop l.query-index all) (drop (l.query-index + 1) all) c.query-item.result l.parts.items c.push.new.self.items c.in-Ok.part (query_at all l.query-index c.query-item.result inside is) c.in-Ok.ensures.lists c.in_ok-push.ensures.items l.invariant.lists;
+    }

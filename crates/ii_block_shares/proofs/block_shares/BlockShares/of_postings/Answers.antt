@@ -1,9 +1,10 @@
-use Rattle.std.proofs.Common.{◌-◌, arith, refl}
-use Rattle.ii_block_shares.proofs.RunLemmas.{all_taken, ends_with, next_each, next_past}
+use Rattle.std.proofs.Common.{◌∙◌, ◌-◌, ℕ, ap, arith, max, refl, sym}
+use Rattle.ii_block_shares.specs.BlockShares.{last_end}
+use Rattle.ii_block_shares.proofs.RunLemmas.{all_taken, ends_with, last_more, next_each, next_past}
 use Rattle.ii_block_shares.proofs.block_shares.BlockShares.of_postings.Goals as goal
 
 pub loop-doc-init : goal.loop-doc-init
-loop-doc-init c = rw c.new-blocks.ensures.items (record { doc_is = c.doc-doc.ensures.doc; sound = c.doc-doc.ensures.sound; ends = tt; left = λ d has. has; each = λ more left. left; past = λ d more low. refl })
+loop-doc-init c = rw c.new-blocks.ensures.items (record { doc_is = c.doc-doc.ensures.doc; end = refl; sound = c.doc-doc.ensures.sound; ends = tt; left = λ d has. has; each = λ more left. left; past = λ d more low. refl })
 
 pub loop-doc-preserved : goal.loop-doc-preserved
 loop-doc-preserved c =
@@ -13,6 +14,7 @@ loop-doc-preserved c =
     let next = c.doc-doc-in-loop-doc.ensures.doc in
     record {
       doc_is = next;
+      end = c.max-end.ensures ∙ ap (λ (n : ℕ). max n c.take_run-block.result.end) i.end ∙ sym (ap last_end c.in_ok-push.ensures.items ∙ last_more l.blocks.items c.take_run-block.result);
       sound = t.sound;
       ends = ends_with l.blocks.items c.push.new.self.items c.take_run-block.result c.args.cursor.now.rest c.in_ok-push.ensures.items i.ends (i.left (c.take_run-block.result.end - 1) t.last);
       left = λ d has. i.left d (t.left d has);

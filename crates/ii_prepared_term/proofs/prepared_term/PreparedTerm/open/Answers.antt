@@ -1,4 +1,4 @@
-use Rattle.std.proofs.Common.{◌∙◌, ℕ, ap}
+use Rattle.std.proofs.Common.{◌∙◌, ℕ, ap, refl}
 use Rattle.std.specs.Option.{option_map}
 use Rattle.ii_io.specs.Composite.{body_of}
 use Rattle.ii_fieldnorm.specs.Readers.{norms_of_ids}
@@ -7,7 +7,7 @@ use Rattle.ii_prepared_term.proofs.PreparedLemmas.{first_prepared, prepared_ends
 use Rattle.ii_prepared_term.proofs.prepared_term.PreparedTerm.open.Goals as goal
 
 pub invariant_of-result : goal.invariant_of-result
-invariant_of-result g c = first_prepared (state_of c.in_ok-weight.weight c.in_ok-norms.norms c.in_ok-shares.shares c.in_ok-cursor.cursor) c.in_ok-walked.walked c.in_ok-walked.ensures.same c.doc-first.ensures.sound c.in_ok-shares.ensures.bounds c.in_ok-shares.ensures.ends
+invariant_of-result g c = (first_prepared (state_of c.in_ok-weight.weight c.in_ok-norms.norms c.in_ok-shares.shares c.in_ok-cursor.cursor) c.in_ok-walked.walked c.in_ok-walked.ensures.same c.doc-first.ensures.sound c.in_ok-shares.ensures.bounds c.in_ok-shares.ensures.ends, c.in_ok-cursor.ensures.start)
 
 pub returns-clause-scores : goal.returns-clause-scores
 returns-clause-scores g c =
@@ -21,3 +21,6 @@ pub returns-clause-ends : goal.returns-clause-ends
 returns-clause-ends g c =
     let s = state_of c.in_ok-weight.weight c.in_ok-norms.norms c.in_ok-shares.shares c.in_ok-cursor.cursor in
     prepared_ends s (first_prepared s c.in_ok-walked.walked c.in_ok-walked.ensures.same c.doc-first.ensures.sound c.in_ok-shares.ensures.bounds c.in_ok-shares.ensures.ends)
+
+pub returns-clause-list : goal.returns-clause-list
+returns-clause-list g c = rw c.in_ok-cursor.ensures.listed refl

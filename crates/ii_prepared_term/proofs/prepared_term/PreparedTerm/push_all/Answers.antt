@@ -2,7 +2,8 @@ use Rattle.std.proofs.Common.{◌++◌, ℕ, List, OnOk, arith, subst}
 use Rattle.ii_scorer.specs.Scorers.{score_of}
 use Rattle.ii_scorer.specs.TopNComputer.{KeepsBest}
 use Rattle.ii_scorer.proofs.TopLemmas.{scored_alike}
-use Rattle.ii_prepared_term.specs.PreparedTerms.{prepared_score, prepared_state}
+use Rattle.ii_prepared_term.specs.PreparedScorers.{prepared_state}
+use Rattle.ii_prepared_term.specs.PreparedTerms.{prepared_score}
 use Rattle.ii_prepared_term.proofs.prepared_term.PreparedTerm.push_all.Goals as goal
 
 pub push_best-requires : goal.push_best-requires

@@ -7,7 +7,8 @@ use Rattle.ii_scorer.specs.TopNComputer.{KeepsBest}
 use Rattle.ii_scorer.proofs.TopLemmas.{scored_alike}
 use Rattle.ii_ranking.specs.Segments.{living_score}
 use Rattle.ii_ranking.proofs.SegmentLemmas.{rank_within}
-use Rattle.ii_prepared_term.specs.PreparedTerms.{prepared_score, prepared_state}
+use Rattle.ii_prepared_term.specs.PreparedScorers.{prepared_state}
+use Rattle.ii_prepared_term.specs.PreparedTerms.{prepared_score}
 use Rattle.ii_prepared_term.proofs.prepared_term.PreparedTerm.push_living.Goals as goal
 
 pub push_best-requires : goal.push_best-requires
