@@ -1,4 +1,4 @@
-use Rattle.std.proofs.Common.{◌≡◌, [], min, subst, sym}
+use Rattle.std.proofs.Common.{◌≡◌, [], ap, min, subst, sym}
 use Rattle.ii_definitions.specs.Postings.{doc_count}
 use Rattle.ii_definitions.specs.Tokens.{tokens_after}
 use Rattle.ii_indexing.specs.Indexer.{IndexerState, Stores}
