@@ -1,3 +1,4 @@
+mod DecodingLaws
 mod FitLaws
 pub mod FolderLaws
 pub mod MergingLaws

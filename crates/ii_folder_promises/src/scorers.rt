@@ -1,9 +1,11 @@
-//! Scorers of two parts, and the best documents of any scorer.
-ghost use Rattle.std.specs.Prelude.{◌≡◌, ◌+◌, ◌-◌, ◌^◌, ◌<◌, ◌≤◌, ◌⊎◌, ℕ, IfOk, IfSome, Some, filter, is_some, length, min};
-ghost use Rattle.std.specs.List.{All, Contains, range_with_len};
+//! Scorers of two parts, the best documents of any scorer, and which blocks are decoded for them.
+ghost use Rattle.std.specs.Prelude.{◌≡◌, ◌+◌, ◌-◌, ◌/◌, ◌^◌, ◌<◌, ◌≤◌, ◌⊎◌, ℕ, IfOk, IfSome, Some, filter, is_some, length, min, nat_le, nat_lt};
+ghost use Rattle.std.specs.List.{All, AllZip, Contains, count_by, range_with_len};
 ghost use Rattle.ii_io.specs.Faults.{OnlyMemory};
 ghost use Rattle.ii_base.specs.declared.doc_id.TheConstants.{TERMINATED};
-ghost use Rattle.ii_scorer.specs.Scorers.{score_of};
+ghost use Rattle.ii_scorer.specs.BlockLists.{BlockList};
+ghost use Rattle.ii_scorer.specs.Scorers.{bound_of, score_of};
+ghost use Rattle.ii_scorer.specs.TopDocs.{scored_docs};
 
 use ii_base::{DocId, Fault};
 use ii_bm25::Score;
@@ -83,6 +85,32 @@ pub fn the_best_of_a_scorer_are_kept<T: Scorer>(
     ensures scores { IfOk result (λ best. All (λ (b : ℕ × ℕ). (b.1 < num_docs) × (score_of (T.state scorer.old) b.1 ≡ Some b.0)) best.items) }
     ensures many { IfOk result (λ best. length best.items ≡ min limit (length (filter (λ (doc : ℕ). is_some (score_of (T.state scorer.old) doc)) (range_with_len 0 num_docs)))) }
     ensures greatest { IfOk result (λ best. (doc score : ℕ) → doc < num_docs → score_of (T.state scorer.old) doc ≡ Some score → Contains best.items (score, doc) ⊎ All (λ (b : ℕ × ℕ). score ≤ b.0) best.items) }
+    ensures only { OnlyMemory result }
+{
+    let docs = TopDocs::with_limit(limit);
+    let mut computer = docs.computer(alloc);
+    match push_best(scorer, &FirstDocs { num_docs }, &mut computer) {
+        Ok(()) => docs.best_of(computer),
+        Err(fault) => Err(fault),
+    }
+}
+
+/// A search by any scorer decodes a block of a list at most once, and only where that may pay: the block has the first
+/// document of the list from a document on, before which fewer than `limit` documents score as much as the bound of that
+/// one. This holds of the blocks of documents and of those of term frequencies, also where the search fails.
+pub fn blocks_are_decoded_where_that_may_pay<T: Scorer>(
+    alloc: Global,
+    scorer: &mut T,
+    num_docs: DocId,
+    limit: usize,
+) -> Result<Vec<(Score, DocId)>, Fault>
+    ensures documents { AllZip (λ (old new : BlockList). (block : ℕ) → Contains new.doc_blocks block → Contains old.doc_blocks block
+        ⊎ ((doc : ℕ) × (count_by (λ (d : ℕ). nat_lt d doc) old.docs < length old.docs) × (block ≡ count_by (λ (d : ℕ). nat_lt d doc) old.docs / 128)
+        × (count_by (λ (b : ℕ × ℕ). nat_le (bound_of (T.state scorer.old) doc) b.0) (scored_docs doc (score_of (T.state scorer.old))) < limit))) (T.state scorer.old).lists (T.state scorer.new).lists }
+    ensures frequencies { AllZip (λ (old new : BlockList). (block : ℕ) → Contains new.freq_blocks block → Contains old.freq_blocks block
+        ⊎ ((doc : ℕ) × (count_by (λ (d : ℕ). nat_lt d doc) old.docs < length old.docs) × (block ≡ count_by (λ (d : ℕ). nat_lt d doc) old.docs / 128)
+        × (count_by (λ (b : ℕ × ℕ). nat_le (bound_of (T.state scorer.old) doc) b.0) (scored_docs doc (score_of (T.state scorer.old))) < limit))) (T.state scorer.old).lists (T.state scorer.new).lists }
+    ensures once { AllZip (λ (old new : BlockList). (length new.doc_blocks + old.block ≤ length old.doc_blocks + new.block) × (length new.freq_blocks + old.block ≤ length old.freq_blocks + new.block)) (T.state scorer.old).lists (T.state scorer.new).lists }
     ensures only { OnlyMemory result }
 {
     let docs = TopDocs::with_limit(limit);
