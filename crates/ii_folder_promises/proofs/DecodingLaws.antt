@@ -1,6 +1,6 @@
 -- Which blocks a search decodes, in plain numbers.
 use Rattle.std.proofs.Common.{◌≡◌, ◌⊎◌, inl, inr, ℕ, ◌+◌, ◌<◌, ◌≤◌, ◌/◌, List, [], ◌∷◌, Option, arith, length, subst, sym, true}
-use Rattle.std.specs.List.{AllZip, Contains}
+use Rattle.std.specs.List.{AllByRecursion, AllZip, Contains}
 use Rattle.std.proofs.lemmas.List.Elements.{All-contains, All-from_recursion, Contains-append_cases}
 use Rattle.std.proofs.lemmas.List.{length-append}
 use Rattle.ii_check.specs.DecodedBlocks.{AscendWithin, DecodesAllowed, DecodesLater}
@@ -66,3 +66,11 @@ module _ (limit : ℕ) (bound : ℕ → ℕ) (score : ℕ → Option ℕ) where
     frequencies_pay [] (b ∷ ys) reads = elim reads [ ]
     frequencies_pay (a ∷ xs) [] reads = elim reads [ ]
     frequencies_pay (a ∷ xs) (b ∷ ys) reads = (pays a.docs a.block b.block a.freq_blocks b.freq_blocks reads.0.freq_blocks, frequencies_pay xs ys reads.1)
+
+-- ---- where nothing was read yet
+all_zero : (first : ℕ) (blocks : List ℕ) → AscendWithin first 0 blocks → AllByRecursion (λ (b : ℕ). b ≡ 0) blocks
+all_zero first [] up = tt
+all_zero first (b ∷ bs) up = (let within = up.1 in omega (arith, within), all_zero (b + 1) bs up.2)
+
+pub only_first : (blocks : List ℕ) → AscendWithin 0 0 blocks → (block : ℕ) → Contains blocks block → block ≡ 0
+only_first blocks up block has = All-contains (λ (b : ℕ). b ≡ 0) blocks block (All-from_recursion (λ (b : ℕ). b ≡ 0) blocks (all_zero 0 blocks up)) has

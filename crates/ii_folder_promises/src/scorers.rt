@@ -1,5 +1,5 @@
 //! Scorers of two parts, the best documents of any scorer, and which blocks are decoded for them.
-ghost use Rattle.std.specs.Prelude.{◌≡◌, ◌+◌, ◌-◌, ◌/◌, ◌^◌, ◌<◌, ◌≤◌, ◌⊎◌, ℕ, IfOk, IfSome, Some, filter, is_some, length, min, nat_le, nat_lt};
+ghost use Rattle.std.specs.Prelude.{◌≡◌, ◌+◌, ◌-◌, ◌/◌, ◌^◌, ◌<◌, ◌≤◌, ◌⊎◌, ℕ, IfOk, IfSome, Some, filter, get_or, is_some, length, min, nat_le, nat_lt};
 ghost use Rattle.std.specs.List.{All, AllZip, Contains, count_by, range_with_len};
 ghost use Rattle.ii_io.specs.Faults.{OnlyMemory};
 ghost use Rattle.ii_base.specs.declared.doc_id.TheConstants.{TERMINATED};
@@ -9,6 +9,7 @@ ghost use Rattle.ii_scorer.specs.TopDocs.{scored_docs};
 
 use ii_base::{DocId, Fault};
 use ii_bm25::Score;
+use ii_prepared_term::{PreparedLeaf, PreparedQuery};
 use ii_scorer::{DocNumbers, QueryScorer, Scorer, TopDocs, push_best};
 use std::alloc::Global;
 use std::marker::Model;
@@ -117,6 +118,23 @@ pub fn blocks_are_decoded_where_that_may_pay<T: Scorer>(
     let mut computer = docs.computer(alloc);
     match push_best(scorer, &FirstDocs { num_docs }, &mut computer) {
         Ok(()) => docs.best_of(computer),
+        Err(fault) => Err(fault),
+    }
+}
+
+/// A search by a prepared query starts with lists of which no block was decoded but the first, and with the bounds of the
+/// query.
+pub fn nothing_is_decoded_at_the_start<'a>(
+    alloc: Global,
+    query: &'a PreparedQuery,
+) -> Result<QueryScorer<PreparedLeaf<'a>>, Fault>
+    ensures documents { IfOk result (λ scorer. All (λ (list : BlockList). (block : ℕ) → Contains list.doc_blocks block → block ≡ 0) scorer.lists) }
+    ensures frequencies { IfOk result (λ scorer. All (λ (list : BlockList). (block : ℕ) → Contains list.freq_blocks block → block ≡ 0) scorer.lists) }
+    ensures bounds { IfOk result (λ scorer. (doc : ℕ) → doc < 2147483647 → get_or scorer.bounds doc 0 ≡ get_or query.now.bounds doc 0) }
+    ensures only { OnlyMemory result }
+{
+    match query.scorer(alloc) {
+        Ok(scorer) => Ok(scorer),
         Err(fault) => Err(fault),
     }
 }
