@@ -48,9 +48,6 @@ lists_in_order ss order same = IsPermutation-keeps ss (λ (ts : List ScorerState
 pub unread_none : AreUnread [] []
 unread_none = record { same = IsPermutation-refl []; unread = All-from_recursion IsUnread [] tt }
 
-pub unread_one : (list : BlockList) → IsUnread list → AreUnread (list ∷ []) (list ∷ [])
-unread_one list unread = record { same = IsPermutation-refl (list ∷ []); unread = All-from_recursion IsUnread (list ∷ []) (unread, tt) }
-
 pub unread_both : (all more lists others : List BlockList) → AreUnread all lists → AreUnread more others → AreUnread (all ++ more) (lists ++ others)
 unread_both all more lists others first second = record {
   same = IsPermutation-append all lists more others first.same second.same;

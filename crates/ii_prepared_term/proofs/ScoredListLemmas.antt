@@ -8,11 +8,11 @@ use Rattle.ii_base.specs.Entries.{Entry, counted}
 use Rattle.ii_base.specs.declared.doc_id.TheConstants.{TERMINATED}
 use Rattle.ii_docset.specs.Cursor.{IsAscending, doc_at, from_doc}
 use Rattle.ii_docset.proofs.CursorLemmas.{IsAscending_drop, advanced, from_doc_here, from_doc_step}
-use Rattle.ii_scorer.specs.Scorers.{IsBounded, IsUpTo, KeepsFrom, score_of}
+use Rattle.ii_scorer.specs.Scorers.{IsBounded, IsUpTo, KeepsFrom}
 use Rattle.ii_ranking.specs.Listing.{scored_below}
 use Rattle.ii_ranking.specs.Scores.{entry_at}
 use Rattle.ii_ranking.proofs.EntryLemmas.{entry_here, none_below}
-use Rattle.ii_ranking.proofs.LeafLemmas.{IsRow, entry_row, leaf_bounded, leaf_is, leaf_went, row_ends}
+use Rattle.ii_ranking.proofs.LeafLemmas.{IsRow, entry_row, leaf_bounded, leaf_went, row_ends}
 use Rattle.ii_ranking.proofs.ListingLemmas.{listed_ascends, listed_at}
 use Rattle.ii_prepared_term.specs.PreparedQueries.{ScoresEnd}
 use Rattle.ii_prepared_term.specs.ScoredLists.{IsScoredList, ScoredListState, entries_of, listed_state}
@@ -64,11 +64,7 @@ entry_up most doc (e ∷ es) all = by (nat_eq e.doc doc) refl (entry_up most doc
 pub listed_bounded : (docs : List (ℕ × ℕ)) (most place : ℕ) → IsScoredList docs most → IsBounded (listed_state (record { rest = drop place (entries_of docs); most = most }))
 listed_bounded docs most place is = leaf_bounded (score_by_entries (drop place (entries_of docs))) most is.fits (λ doc. entry_up most doc (drop place (entries_of docs)) (each_left most place (entries_of docs) (each_up most docs is.up_to)))
 
--- the scorer of a list
-pub listed_scores : (es : List Entry) (most : ℕ) → IsAscending es → (doc : ℕ) → score_of (listed_state (record { rest = es; most = most })) doc ≡ score_by_entries es doc
-listed_scores es most up = leaf_is (score_by_entries es) (score_by_entries es) most (λ doc. refl) (entries_end es up)
-
--- one that passed the documents below a target
+-- the scorer of a list that passed the documents below a target
 pub listed_went : (target : ℕ) (old new : ScoredListState) → new.rest ≡ from_doc target old.rest → new.most ≡ old.most → KeepsFrom target (listed_state old) (listed_state new)
 listed_went target old new is same =
     subst (λ (most : ℕ). KeepsFrom target (listed_state old) (listed_state (record { rest = new.rest; most = most }))) (sym same) (leaf_went score_by_entries list_row old.most target old.rest new.rest is)
@@ -119,6 +115,3 @@ none_place docs i doc d up low inside is other = sym (ap (option_map (λ (e : En
           | inl less ↦ omega (arith, at, less)
           | inr above ↦ absurd (other (omega (arith, at, low, above)))
         ]
-
-pub none_over : (docs : List (ℕ × ℕ)) (i doc : ℕ) → length docs ≤ i → None ≡ score_by_entries (drop i (entries_of docs)) doc
-none_over docs i doc over = sym (ap (λ (es : List Entry). score_by_entries es doc) (entries_over docs i over))
