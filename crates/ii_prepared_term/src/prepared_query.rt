@@ -242,7 +242,7 @@ fn scorer_of(alloc: Global, parts: &PreparedParts) -> Result<QueryScorer<Prepare
     ensures only { OnlyMemory result }
 {
     match parts {
-        PreparedParts::Nothing => Ok(QueryScorer::each(Vec::new(alloc))),
+        PreparedParts::Nothing => Ok(QueryScorer::nothing()),
         PreparedParts::All(limit) => Ok(QueryScorer::all(*limit)),
         PreparedParts::Term(term) => scorer_of_term(term),
         PreparedParts::Listed(list) => Ok(scorer_of_list(list)),

@@ -65,6 +65,7 @@ impl<T: Scorer> QueryScorer<T> {
     /// Returns a scorer of no documents.
     pub fn nothing() -> QueryScorer<T>
         ensures scores { (doc : ℕ) → score_of result doc ≡ None }
+        ensures bounds { (doc : ℕ) → doc < TERMINATED → bound_of result doc ≡ 0 }
         ensures lists { result.lists ≡ [] }
     {
         QueryScorer {
