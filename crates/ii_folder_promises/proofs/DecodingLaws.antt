@@ -6,7 +6,7 @@ use Rattle.std.proofs.lemmas.List.{length-append}
 use Rattle.ii_check.specs.DecodedBlocks.{AscendWithin, DecodesAllowed, DecodesLater}
 use Rattle.ii_scorer.specs.BlockLists.{BlockList, HasFirstFrom, ReadsOnly, num_below}
 use Rattle.ii_scorer.specs.BestDocs.{IsNeeded, Numbering, NumbersComeAfter}
-use Rattle.ii_scorer.specs.Scorers.{ScorerState, bound_of, score_of}
+use Rattle.ii_scorer.specs.Scorers.{ScorerState, doc_bound, score_of}
 use Rattle.ii_scorer.specs.TopDocs.{scored_docs}
 use Rattle.ii_scorer.specs.TopNComputer.{num_reaching}
 
@@ -40,7 +40,7 @@ pub of_none : (num_docs : ℕ) → NumbersComeAfter [] (all_docs num_docs)
 of_none num_docs = record { after = λ doc inside. All-from_recursion (λ (a : ℕ × ℕ). a.1 < doc) [] tt; apart = λ doc later up inside counts. up }
 
 -- where fewer than are wanted reach a bound, fewer than the limit do
-pub few_needed : (num_docs limit top : ℕ) (s : ScorerState) → top ≤ limit → (doc : ℕ) → IsNeeded [] (all_docs num_docs) s top doc → num_reaching (bound_of s doc) (scored_docs doc (score_of s)) < limit
+pub few_needed : (num_docs limit top : ℕ) (s : ScorerState) → top ≤ limit → (doc : ℕ) → IsNeeded [] (all_docs num_docs) s top doc → num_reaching (doc_bound s doc) (scored_docs doc (score_of s)) < limit
 few_needed num_docs limit top s few doc needed = omega (arith, few, needed)
 
 module _ (limit : ℕ) (bound : ℕ → ℕ) (score : ℕ → Option ℕ) where

@@ -4,7 +4,7 @@ ghost use Rattle.std.specs.List.{All, AllZip, Contains, count_by, range_with_len
 ghost use Rattle.ii_io.specs.Faults.{OnlyMemory};
 ghost use Rattle.ii_base.specs.declared.doc_id.TheConstants.{TERMINATED};
 ghost use Rattle.ii_scorer.specs.BlockLists.{BlockList};
-ghost use Rattle.ii_scorer.specs.Scorers.{bound_of, score_of};
+ghost use Rattle.ii_scorer.specs.Scorers.{doc_bound, score_of};
 ghost use Rattle.ii_scorer.specs.TopDocs.{scored_docs};
 
 use ii_base::{DocId, Fault};
@@ -107,10 +107,10 @@ pub fn blocks_are_decoded_where_that_may_pay<T: Scorer>(
 ) -> Result<Vec<(Score, DocId)>, Fault>
     ensures documents { AllZip (λ (old new : BlockList). (block : ℕ) → Contains new.doc_blocks block → Contains old.doc_blocks block
         ⊎ ((doc : ℕ) × (count_by (λ (d : ℕ). nat_lt d doc) old.docs < length old.docs) × (block ≡ count_by (λ (d : ℕ). nat_lt d doc) old.docs / 128)
-        × (count_by (λ (b : ℕ × ℕ). nat_le (bound_of (T.state scorer.old) doc) b.0) (scored_docs doc (score_of (T.state scorer.old))) < limit))) (T.state scorer.old).lists (T.state scorer.new).lists }
+        × (count_by (λ (b : ℕ × ℕ). nat_le (doc_bound (T.state scorer.old) doc) b.0) (scored_docs doc (score_of (T.state scorer.old))) < limit))) (T.state scorer.old).lists (T.state scorer.new).lists }
     ensures frequencies { AllZip (λ (old new : BlockList). (block : ℕ) → Contains new.freq_blocks block → Contains old.freq_blocks block
         ⊎ ((doc : ℕ) × (count_by (λ (d : ℕ). nat_lt d doc) old.docs < length old.docs) × (block ≡ count_by (λ (d : ℕ). nat_lt d doc) old.docs / 128)
-        × (count_by (λ (b : ℕ × ℕ). nat_le (bound_of (T.state scorer.old) doc) b.0) (scored_docs doc (score_of (T.state scorer.old))) < limit))) (T.state scorer.old).lists (T.state scorer.new).lists }
+        × (count_by (λ (b : ℕ × ℕ). nat_le (doc_bound (T.state scorer.old) doc) b.0) (scored_docs doc (score_of (T.state scorer.old))) < limit))) (T.state scorer.old).lists (T.state scorer.new).lists }
     ensures once { AllZip (λ (old new : BlockList). (length new.doc_blocks + old.block ≤ length old.doc_blocks + new.block) × (length new.freq_blocks + old.block ≤ length old.freq_blocks + new.block)) (T.state scorer.old).lists (T.state scorer.new).lists }
     ensures only { OnlyMemory result }
 {

@@ -16,7 +16,7 @@ use Rattle.ii_docset.proofs.CursorLemmas.{doc_below, from_doc_here}
 use Rattle.ii_docset.proofs.IntersectionLemmas.{doc_at-from_doc, has_doc-from_doc}
 use Rattle.ii_fieldnorm.specs.Readers.{Norms}
 use Rattle.ii_reader.specs.SegmentPostings.{SegmentPostingsState}
-use Rattle.ii_scorer.specs.Scorers.{IsBelow, IsBoundUntil, IsBounded, IsNext, IsPassed, IsUpTo, KeepsFrom, bound_of, if_at_least, score_of}
+use Rattle.ii_scorer.specs.Scorers.{IsBelow, IsBoundUntil, IsBounded, IsNext, IsPassed, IsUpTo, KeepsFrom, doc_bound, if_at_least, score_of}
 use Rattle.ii_scorer.specs.declared.scorer.ScoreBound.{ScoreBound}
 use Rattle.ii_scorer.proofs.BoundLemmas.{row_within}
 use Rattle.ii_scorer.proofs.PartsLemmas.{row_alike, row_end, row_holds, row_is, row_next, row_score}
@@ -28,7 +28,7 @@ use Rattle.ii_ranking.proofs.EntryLemmas.{count_here, entry_here, none_below}
 use Rattle.ii_ranking.proofs.LeafLemmas.{IsRow, entry_passed, entry_row, entry_up_to, row_ends}
 use Rattle.ii_ranking.proofs.ShareEntryLemmas.{entry_from}
 use Rattle.ii_ranking.proofs.SkipLemmas.{from_later}
-use Rattle.ii_prepared_term.specs.PreparedScorers.{PreparedScorerState, left_of, prepared_state}
+use Rattle.ii_prepared_term.specs.PreparedScorers.{PreparedScorerState, prepared_state, remaining_term}
 use Rattle.ii_prepared_term.specs.PreparedTerms.{EndAhead, GoesTo, GoesToScore, IsPrepared, PreparedTermState, prepared_bound, prepared_score}
 
 -- the state of a term, by its parts
@@ -274,31 +274,31 @@ pub prepared_ends : (s : PreparedTermState) → IsPrepared s → (doc : ℕ) →
 prepared_ends s is = row_ends _ (prepared_row s.by) s.cursor.rest is.sound.ascending
 
 -- what it scores is what a document scores by the term
-pub prepared_scores : (s : PreparedScorerState) → IsPrepared (left_of s) → (doc : ℕ) → score_of (prepared_state s) doc ≡ prepared_score (left_of s) doc
-prepared_scores s is = row_is (prepared_score (left_of s)) (prepared_score (left_of s)) (λ doc. refl) (prepared_ends (left_of s) is)
+pub prepared_scores : (s : PreparedScorerState) → IsPrepared (remaining_term s) → (doc : ℕ) → score_of (prepared_state s) doc ≡ prepared_score (remaining_term s) doc
+prepared_scores s is = row_is (prepared_score (remaining_term s)) (prepared_score (remaining_term s)) (λ doc. refl) (prepared_ends (remaining_term s) is)
 
 -- none scores more than the weight allows
 pub prepared_bounded : (s : PreparedScorerState) (most : ℕ) → most ≡ s.term.by.weight.weight * 2 ^ 16 → most < 2 ^ 64 → ((id count : ℕ) → bm25_score s.term.by.weight id count ≤ most) → IsBounded (prepared_state s)
 prepared_bounded s most is few up = record {
   fits = omega (arith, is, few);
-  ends = λ doc end. row_end TERMINATED (prepared_score (left_of s)) doc end;
-  each = λ doc. row_holds (IsUpTo (s.term.by.weight.weight * 2 ^ 16)) (prepared_score (left_of s)) doc tt
+  ends = λ doc end. row_end TERMINATED (prepared_score (remaining_term s)) doc end;
+  each = λ doc. row_holds (IsUpTo (s.term.by.weight.weight * 2 ^ 16)) (prepared_score (remaining_term s)) doc tt
       (entry_up_to (λ (count : ℕ). bm25_score s.term.by.weight (id_among s.term.by.norms doc) count) (s.term.by.weight.weight * 2 ^ 16) (entry_at s.cursor.rest doc) (λ count. let here = up (id_among s.term.by.norms doc) count in omega (arith, here, is)));
 }
 
 -- the documents from a target on before the next one score less
-pub passes_next : (s : PreparedScorerState) (target least next : ℕ) → IsPrepared (left_of s) → target ≤ next → next ≤ TERMINATED → ((d : ℕ) → target ≤ d → d < next → IsBelow least (prepared_score (left_of s) d)) → IsNext target least (score_of (prepared_state s)) next
-passes_next s target least next is low up_to passed = row_next target least next (prepared_score (left_of s)) (record { low = low; up_to = up_to; passed = λ doc from gone. by doc from gone })
+pub passes_next : (s : PreparedScorerState) (target least next : ℕ) → IsPrepared (remaining_term s) → target ≤ next → next ≤ TERMINATED → ((d : ℕ) → target ≤ d → d < next → IsBelow least (prepared_score (remaining_term s) d)) → IsNext target least (score_of (prepared_state s)) next
+passes_next s target least next is low up_to passed = row_next target least next (prepared_score (remaining_term s)) (record { low = low; up_to = up_to; passed = λ doc from gone. by doc from gone })
   where
-    by : (doc : ℕ) → target ≤ doc → IsPassed next doc → IsBelow least (prepared_score (left_of s) doc)
+    by : (doc : ℕ) → target ≤ doc → IsPassed next doc → IsBelow least (prepared_score (remaining_term s) doc)
     by doc from (inl before) = passed doc from before
     by doc from (inr end) = elim (cases_lt doc next) [
       | inl before ↦ passed doc from before
-      | inr above ↦ below_none least (prepared_score (left_of s) doc) (prepared_ends (left_of s) is doc (omega (arith, end, above)))
+      | inr above ↦ below_none least (prepared_score (remaining_term s) doc) (prepared_ends (remaining_term s) is doc (omega (arith, end, above)))
     ]
 
-pub goes_next : (s : PreparedScorerState) (target least next : ℕ) (new : List Entry) → IsPrepared (left_of s) → GoesTo target next s.cursor.rest new → IsNext target least (score_of (prepared_state s)) next
-goes_next s target least next new is g = passes_next s target least next is g.low g.up_to (λ d from before. below_none least (prepared_score (left_of s) d) (ap (score_by_entry s.term.by d) (g.passed d from before)))
+pub goes_next : (s : PreparedScorerState) (target least next : ℕ) (new : List Entry) → IsPrepared (remaining_term s) → GoesTo target next s.cursor.rest new → IsNext target least (score_of (prepared_state s)) next
+goes_next s target least next new is g = passes_next s target least next is g.low g.up_to (λ d from before. below_none least (prepared_score (remaining_term s) d) (ap (score_by_entry s.term.by d) (g.passed d from before)))
 
 -- the documents that are left score the same
 pub still_scores : (t : PreparedTermState) (old new : SegmentPostingsState) (dropped from : ℕ) → dropped ≤ from → new.rest ≡ from_doc dropped old.rest → KeepsFrom from (prepared_state (record { term = t; cursor = old })) (prepared_state (record { term = t; cursor = new }))
@@ -325,8 +325,8 @@ still_scores t old new dropped from kept rest = record {
 -- a document that the list doesn't have scores nothing
 pub scores_none : (s : PreparedScorerState) (doc least next : ℕ) (new : List Entry) → doc < TERMINATED → GoesTo doc next s.cursor.rest new → (next ≡ doc → ⊥) → None ≡ if_at_least least (score_of (prepared_state s) doc)
 scores_none s doc least next new inside g other =
-    let none : prepared_score (left_of s) doc ≡ None = ap (score_by_entry s.term.by doc) (g.passed doc (omega arith) (strict g.low)) in
-    row_score least doc None (prepared_score (left_of s)) inside (sym (ap (if_at_least least) none))
+    let none : prepared_score (remaining_term s) doc ≡ None = ap (score_by_entry s.term.by doc) (g.passed doc (omega arith) (strict g.low)) in
+    row_score least doc None (prepared_score (remaining_term s)) inside (sym (ap (if_at_least least) none))
   where
     strict : doc ≤ next → doc < next
     strict low = elim (cases_lt doc next) [
@@ -338,18 +338,18 @@ scores_none s doc least next new inside g other =
 pub scores_here : (s : PreparedScorerState) (doc least count score : ℕ) (new : List Entry) (given : Option ℕ) → doc < TERMINATED → GoesTo doc doc s.cursor.rest new → count ≡ term_freq_at false new → score ≡ bm25_score s.term.by.weight (id_among s.term.by.norms doc) count → given ≡ if_at_least least (Some score) → given ≡ if_at_least least (score_of (prepared_state s) doc)
 scores_here s doc least count score new given inside g counted score_is is =
     let here : score_by_entry s.term.by doc (entry_at new doc) ≡ Some (bm25_score s.term.by.weight (id_among s.term.by.norms doc) count) = count_here (bm25_score s.term.by.weight (id_among s.term.by.norms doc)) doc count new (g.current inside) inside counted in
-    let same : prepared_score (left_of s) doc ≡ Some score = sym (ap (score_by_entry s.term.by doc) (ap (λ (es : List Entry). entry_at es doc) g.rest ∙ entry_from g.dropped doc s.cursor.rest g.kept)) ∙ here ∙ ap (λ (n : ℕ). Some n) (sym score_is) in
-    row_score least doc given (prepared_score (left_of s)) inside (is ∙ ap (if_at_least least) (sym same))
+    let same : prepared_score (remaining_term s) doc ≡ Some score = sym (ap (score_by_entry s.term.by doc) (ap (λ (es : List Entry). entry_at es doc) g.rest ∙ entry_from g.dropped doc s.cursor.rest g.kept)) ∙ here ∙ ap (λ (n : ℕ). Some n) (sym score_is) in
+    row_score least doc given (prepared_score (remaining_term s)) inside (is ∙ ap (if_at_least least) (sym same))
 
 -- no document from a target on, up to the end of a run's bound, scores more
-pub run_bound : (s : PreparedScorerState) (target : ℕ) (run : RunBound) (bound : ScoreBound) → IsPrepared (left_of s) → IsRunBound s.term.shares s.term.by.weight.weight target run → bound.most ≡ run.most → bound.end ≡ run.end → IsBoundUntil target (score_of (prepared_state s)) bound
+pub run_bound : (s : PreparedScorerState) (target : ℕ) (run : RunBound) (bound : ScoreBound) → IsPrepared (remaining_term s) → IsRunBound s.term.shares s.term.by.weight.weight target run → bound.most ≡ run.most → bound.end ≡ run.end → IsBoundUntil target (score_of (prepared_state s)) bound
 run_bound s target run bound is b most_is end_is = record {
   ahead = let ahead = b.ahead in omega (arith, ahead, end_is);
   up_to = let up = b.up_to in omega (arith, up, end_is);
   fits = let few = b.fits in omega (arith, few, most_is);
   each = λ d from below.
-      row_holds (IsUpTo bound.most) (prepared_score (left_of s)) d tt
-      (subst (λ (n : ℕ). IsUpTo n (prepared_score (left_of s) d)) (sym most_is) (up_score s.term.by s.term.shares run.most d s.cursor.rest is.bounds (λ share within. b.each d share from (omega (arith, below, end_is)) within)));
+      row_holds (IsUpTo bound.most) (prepared_score (remaining_term s)) d tt
+      (subst (λ (n : ℕ). IsUpTo n (prepared_score (remaining_term s) d)) (sym most_is) (up_score s.term.by s.term.shares run.most d s.cursor.rest is.bounds (λ share within. b.each d share from (omega (arith, below, end_is)) within)));
 }
 
 -- a cursor over fewer documents
@@ -373,5 +373,5 @@ first_prepared s walked same sound bounds ends = record {
     ends_ahead (run ∷ runs) each = (λ ahead. each.0, ends_ahead runs each.1)
 
 -- ---- its bounds
-pub run_within : (s : PreparedScorerState) (target : ℕ) (run : RunBound) (bound : ScoreBound) → IsRunBound s.term.shares s.term.by.weight.weight target run → bound.most ≡ run.most → bound.end ≡ run.end → (doc : ℕ) → target ≤ doc → doc < bound.end → bound.most ≤ bound_of (prepared_state s) doc
+pub run_within : (s : PreparedScorerState) (target : ℕ) (run : RunBound) (bound : ScoreBound) → IsRunBound s.term.shares s.term.by.weight.weight target run → bound.most ≡ run.most → bound.end ≡ run.end → (doc : ℕ) → target ≤ doc → doc < bound.end → bound.most ≤ doc_bound (prepared_state s) doc
 run_within s target run bound b most_is end_is = row_within target bound.most bound.end (prepared_bound s.term) (let up = b.up_to in omega (arith, up, end_is)) (λ doc from below. subst (λ (n : ℕ). n ≤ prepared_bound s.term doc) (sym most_is) (b.exact doc from (omega (arith, below, end_is))))

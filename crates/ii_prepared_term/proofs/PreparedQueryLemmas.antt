@@ -11,11 +11,11 @@ use Rattle.ii_query_parser.specs.Queries.{has_fields, trees_of}
 use Rattle.ii_reader.specs.OpenIndex.{OpenIndexState}
 use Rattle.ii_scorer.specs.BlockLists.{BlockList}
 use Rattle.ii_scorer.specs.Combinations.{add, any_of, both, each_of, either}
-use Rattle.ii_scorer.specs.Scorers.{ScorerState, bound_of, bound_over}
+use Rattle.ii_scorer.specs.Scorers.{ScorerState, bound_over, doc_bound}
 use Rattle.ii_scorer.proofs.SumLemmas.{any_cons, both_never}
 use Rattle.ii_ranking.specs.Scores.{Scored, first_of, query_damage, query_score, tree_scores, trees_damage}
 use Rattle.ii_prepared_term.specs.PreparedQueries.{PreparedQueryState, ScoresEnd, bound_under, depth_under, lists_under, prepared_query_bound, prepared_query_score, scores_by}
-use Rattle.ii_prepared_term.specs.QueryDocs.{docs_in, query_docs, trees_docs}
+use Rattle.ii_prepared_term.specs.QueryDocs.{lists_docs, query_docs, trees_docs}
 
 -- No document from `TERMINATED` on has a score by a query.
 abbrev pub QueryEnds : PreparedQueryState → Type 0
@@ -57,14 +57,14 @@ prepares_next s index all left others q parts more part i is same end sound more
 }
 
 -- the lists of one query more
-pub lists_next : (index : OpenIndexState) (all left others : List Query) (q : Query) (parts more : List PreparedQueryState) (part : PreparedQueryState) → left ≡ q ∷ others → docs_in part.lists ≡ query_docs index q → more ≡ parts ++ part ∷ []
-    → docs_in (lists_under parts) ++ trees_docs index (trees_of left) ≡ trees_docs index (trees_of all) → docs_in (lists_under more) ++ trees_docs index (trees_of others) ≡ trees_docs index (trees_of all)
+pub lists_next : (index : OpenIndexState) (all left others : List Query) (q : Query) (parts more : List PreparedQueryState) (part : PreparedQueryState) → left ≡ q ∷ others → lists_docs part.lists ≡ query_docs index q → more ≡ parts ++ part ∷ []
+    → lists_docs (lists_under parts) ++ trees_docs index (trees_of left) ≡ trees_docs index (trees_of all) → lists_docs (lists_under more) ++ trees_docs index (trees_of others) ≡ trees_docs index (trees_of all)
 lists_next index all left others q parts more part is docs more_is so_far =
-    ap (λ (ps : List PreparedQueryState). docs_in (lists_under ps) ++ trees_docs index (trees_of others)) more_is
-    ∙ ap (λ (ls : List BlockList). docs_in ls ++ trees_docs index (trees_of others)) (flat_map-append (λ (s : PreparedQueryState). s.lists) parts (part ∷ []) ∙ ap (λ (ls : List BlockList). lists_under parts ++ ls) (append-nil part.lists))
-    ∙ ap (λ (rows : List (List ℕ)). rows ++ trees_docs index (trees_of others)) (map-append (λ (l : BlockList). l.docs) (lists_under parts) part.lists ∙ ap (λ (rows : List (List ℕ)). docs_in (lists_under parts) ++ rows) docs)
-    ∙ append_assoc (docs_in (lists_under parts)) (query_docs index q) (trees_docs index (trees_of others))
-    ∙ ap (λ (qs : List Query). docs_in (lists_under parts) ++ trees_docs index (trees_of qs)) (sym is) ∙ so_far
+    ap (λ (ps : List PreparedQueryState). lists_docs (lists_under ps) ++ trees_docs index (trees_of others)) more_is
+    ∙ ap (λ (ls : List BlockList). lists_docs ls ++ trees_docs index (trees_of others)) (flat_map-append (λ (s : PreparedQueryState). s.lists) parts (part ∷ []) ∙ ap (λ (ls : List BlockList). lists_under parts ++ ls) (append-nil part.lists))
+    ∙ ap (λ (rows : List (List ℕ)). rows ++ trees_docs index (trees_of others)) (map-append (λ (l : BlockList). l.docs) (lists_under parts) part.lists ∙ ap (λ (rows : List (List ℕ)). lists_docs (lists_under parts) ++ rows) docs)
+    ∙ append_assoc (lists_docs (lists_under parts)) (query_docs index q) (trees_docs index (trees_of others))
+    ∙ ap (λ (qs : List Query). lists_docs (lists_under parts) ++ trees_docs index (trees_of qs)) (sym is) ∙ so_far
 
 -- ---- scorers of parts
 -- each part is less deep
@@ -93,14 +93,14 @@ abbrev sum_row : List ℕ → ℕ
 sum_row [] = 0
 sum_row (b ∷ bs) = add b (sum_row bs)
 
-over_row : (ss : List ScorerState) (doc : ℕ) → bound_over ss doc ≡ sum_row (map (λ (s : ScorerState). bound_of s doc) ss)
+over_row : (ss : List ScorerState) (doc : ℕ) → bound_over ss doc ≡ sum_row (map (λ (s : ScorerState). doc_bound s doc) ss)
 over_row [] doc = refl
-over_row (s ∷ ss) doc = ap (add (bound_of s doc)) (over_row ss doc)
+over_row (s ∷ ss) doc = ap (add (doc_bound s doc)) (over_row ss doc)
 
 under_row : (ps : List PreparedQueryState) (doc : ℕ) → bound_under ps doc ≡ sum_row (map (λ (p : PreparedQueryState). prepared_query_bound p doc) ps)
 under_row [] doc = refl
 under_row (p ∷ ps) doc = ap (add (prepared_query_bound p doc)) (under_row ps doc)
 
 -- scorers with the bounds of queries have the same sum of them
-pub bounds_same : (ss : List ScorerState) (ps : List PreparedQueryState) (doc : ℕ) → map (λ (s : ScorerState). bound_of s doc) ss ≡ map (λ (p : PreparedQueryState). prepared_query_bound p doc) ps → bound_over ss doc ≡ bound_under ps doc
+pub bounds_same : (ss : List ScorerState) (ps : List PreparedQueryState) (doc : ℕ) → map (λ (s : ScorerState). doc_bound s doc) ss ≡ map (λ (p : PreparedQueryState). prepared_query_bound p doc) ps → bound_over ss doc ≡ bound_under ps doc
 bounds_same ss ps doc same = over_row ss doc ∙ ap sum_row same ∙ sym (under_row ps doc)

@@ -5,7 +5,7 @@ use Rattle.std.proofs.lemmas.Bool.{le-ltb, lt-ltb}
 use Rattle.std.proofs.lemmas.Bool.Decides.{leb_tells}
 use Rattle.std.proofs.lemmas.List.{length-map}
 use Rattle.std.proofs.lemmas.List.Sums.{sum_by-append, sum_by-cons}
-use Rattle.ii_base.specs.Entries.{Entry}
+use Rattle.ii_base.specs.Entries.{Entry, docs_of}
 use Rattle.ii_base.specs.declared.doc_id.TheConstants.{TERMINATED}
 use Rattle.ii_check.proofs.DecodedBlocksLaws.{all_append, allowed_last}
 use Rattle.ii_docset.specs.Cursor.{IsAscending, IsSound, doc_at, from_doc}
@@ -13,7 +13,7 @@ use Rattle.ii_docset.proofs.CursorLemmas.{from_doc_here}
 use Rattle.ii_docset.proofs.IntersectionLemmas.{doc_at-from_doc}
 use Rattle.ii_reader.specs.SegmentPostings.{DecodesOnce, SegmentPostingsState, StandsInBlock, WentLazily}
 use Rattle.ii_scorer.specs.BlockLists.{HasFirstFrom, ReadsWhere, num_below}
-use Rattle.ii_prepared_term.specs.PreparedScorers.{HasRest, IsAtStart, IsScorer, PreparedScorerState, ReadsRest, docs_of, left_of, list_with}
+use Rattle.ii_prepared_term.specs.PreparedScorers.{HasRest, IsAtStart, IsScorer, PreparedScorerState, ReadsRest, list_with, remaining_term}
 use Rattle.ii_prepared_term.specs.PreparedTerms.{IsPrepared, PreparedTermState}
 use Rattle.ii_prepared_term.proofs.PreparedLemmas.{first_up, still_prepared}
 use Rattle.ii_scorer.proofs.BlockListLaws.{reads_none, reads_on, reads_weaker}
@@ -149,7 +149,7 @@ rest_on P from old now new up is later end first second = record {
 -- a scorer whose cursor went on
 pub still_scorer : (s : PreparedScorerState) (dropped : ℕ) (cursor : SegmentPostingsState) → IsScorer s → dropped ≤ TERMINATED → cursor.rest ≡ from_doc dropped s.cursor.rest → IsSound cursor.rest → cursor.doc_freq ≡ s.cursor.doc_freq → IsScorer (record s { cursor = cursor })
 still_scorer s dropped cursor is end rest sound many = record {
-  prepared = still_prepared (left_of s) dropped cursor is.prepared end rest sound;
+  prepared = still_prepared (remaining_term s) dropped cursor is.prepared end rest sound;
   list = rest_later (docs_of s.term.cursor.rest) dropped s.cursor cursor is.list is.prepared.sound.ascending rest sound.ascending end many;
 }
 

@@ -2,7 +2,7 @@
 use Rattle.std.specs.Prelude.{◌≤◌, ◌+◌, List, [], ◌∷◌, max}
 use Rattle.std.proofs.Common.{arith}
 use denote.Param.Weighed.{most}
-use Rattle.ii_prepared_term.specs.PreparedParts.{depth_of}
+use Rattle.ii_prepared_term.specs.PreparedParts.{prepared_parts_depth}
 use Rattle.ii_prepared_term.specs.PreparedQueries.{PreparedQueryState, depth_under}
 use Rattle.ii_prepared_term.specs.declared.prepared_query.PreparedParts.{PreparedParts}
 use Rattle.ii_prepared_term.specs.declared.prepared_query.PreparedParts.TheVariants.{Nothing, All, Term, Listed, Each, Any, Without}
@@ -13,7 +13,7 @@ most_depth [] = omega arith
 most_depth (s ∷ ss) = omega (arith, most_depth ss)
 
 -- each part is less deep
-pub part_depth : (p : PreparedParts) → max (deep-PreparedParts p) 0 ≤ depth_of p
+pub part_depth : (p : PreparedParts) → max (deep-PreparedParts p) 0 ≤ prepared_parts_depth p
 part_depth Nothing = omega arith
 part_depth (All limit) = omega arith
 part_depth (Term term) = omega arith

@@ -1,8 +1,8 @@
 -- The scorer of a prepared term, and which blocks of its list it decodes.
-use Rattle.std.specs.Prelude.{◌≡◌, ℕ, ◌*◌, ◌^◌, ◌<◌, List, [], ◌∷◌, ◌++◌, length, map}
+use Rattle.std.specs.Prelude.{◌≡◌, ℕ, ◌*◌, ◌^◌, ◌<◌, List, [], ◌∷◌, ◌++◌, length}
 use Rattle.std.specs.List.{All, AllByRecursion}
 use Rattle.std.specs.List.Sorted.{IsPermutation}
-use Rattle.ii_base.specs.Entries.{Entry}
+use Rattle.ii_base.specs.Entries.{docs_of}
 use Rattle.ii_base.specs.declared.doc_id.TheConstants.{TERMINATED}
 use Rattle.ii_check.specs.DecodedBlocks.{AscendWithin}
 use Rattle.ii_docset.specs.Cursor.{doc_at}
@@ -17,20 +17,16 @@ pub record PreparedScorerState : Type 0 where
   pub cursor : SegmentPostingsState
 
 -- the term with the cursor of the scorer
-abbrev pub left_of : PreparedScorerState → PreparedTermState
-left_of s = record s.term { cursor = s.cursor }
-
--- the documents of entries
-abbrev pub docs_of : List Entry → List ℕ
-docs_of es = map (λ (e : Entry). e.doc) es
+abbrev pub remaining_term : PreparedScorerState → PreparedTermState
+remaining_term s = record s.term { cursor = s.cursor }
 
 -- a list of these documents, with the block of a cursor and the blocks that it decoded
 abbrev pub list_with : List ℕ → SegmentPostingsState → BlockList
 list_with docs cursor = record { docs = docs; block = cursor.block; doc_blocks = cursor.doc_blocks; freq_blocks = cursor.freq_blocks }
 
 -- the list of a prepared term
-abbrev pub term_list : PreparedTermState → BlockList
-term_list t = list_with (docs_of t.cursor.rest) t.cursor
+abbrev pub term_block_list : PreparedTermState → BlockList
+term_block_list t = list_with (docs_of t.cursor.rest) t.cursor
 
 -- the list of a scorer
 abbrev pub prepared_list : PreparedScorerState → BlockList
@@ -39,7 +35,7 @@ prepared_list s = list_with (docs_of s.term.cursor.rest) s.cursor
 -- what documents score by a scorer
 abbrev pub prepared_state : PreparedScorerState → ScorerState
 prepared_state s = record {
-  scores = scores_below TERMINATED (prepared_score (left_of s));
+  scores = scores_below TERMINATED (prepared_score (remaining_term s));
   most = s.term.by.weight.weight * 2 ^ 16;
   depth = 0;
   bounds = bounds_below TERMINATED (prepared_bound s.term);
@@ -60,7 +56,7 @@ pub record ReadsRest (IsAllowed : ℕ → Type 0) (old new : SegmentPostingsStat
 
 -- A scorer goes over the list of its term, whose bounds are those of the documents that are left.
 pub record IsScorer (s : PreparedScorerState) : Type 0 where
-  pub prepared : IsPrepared (left_of s)
+  pub prepared : IsPrepared (remaining_term s)
   pub list : HasRest (docs_of s.term.cursor.rest) s.cursor
 
 -- No block of a list was decoded but the first.

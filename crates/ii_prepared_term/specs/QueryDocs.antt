@@ -1,7 +1,7 @@
 -- The documents of the terms of a query, in the order of the query.
 use Rattle.std.specs.Prelude.{ℕ, List, [], ◌∷◌, ◌++◌, Result, Ok, Err, map}
 use Rattle.ii_io.specs.declared.faults.Part.{Part}
-use Rattle.ii_base.specs.Entries.{Entry}
+use Rattle.ii_base.specs.Entries.{Entry, docs_of}
 use Rattle.ii_base.specs.Terms.{TermState}
 use Rattle.ii_base.specs.declared.schema.index_record_option.IndexRecordOption.TheVariants.{WithFreqs}
 use Rattle.ii_query_parser.specs.declared.query.Query.{Query}
@@ -10,7 +10,6 @@ use Rattle.ii_query_parser.specs.Queries.{QueryTree, QueryTrees, tree_of}
 use Rattle.ii_reader.specs.OpenIndex.{OpenIndexState}
 use Rattle.ii_scorer.specs.BlockLists.{BlockList}
 use Rattle.ii_search.specs.Found.{docs_of_term}
-use Rattle.ii_prepared_term.specs.PreparedScorers.{docs_of}
 
 -- the documents of a list, none if a part of it is corrupt
 abbrev pub docs_or_none : Result (List Entry) Part → List ℕ
@@ -43,5 +42,5 @@ abbrev pub query_docs : OpenIndexState → Query → List (List ℕ)
 query_docs index query = tree_docs index (tree_of query)
 
 -- the documents of lists
-abbrev pub docs_in : List BlockList → List (List ℕ)
-docs_in lists = map (λ (l : BlockList). l.docs) lists
+abbrev pub lists_docs : List BlockList → List (List ℕ)
+lists_docs lists = map (λ (l : BlockList). l.docs) lists

@@ -7,13 +7,13 @@ ghost use Rattle.ii_base.specs.declared.doc_id.TheConstants.{TERMINATED};
 ghost use Rattle.ii_bm25.specs.declared.bm25.TheConstants.{SCORE_ONE};
 ghost use Rattle.ii_scorer.specs.BlockLists.{BlockList};
 ghost use Rattle.ii_scorer.specs.Combinations.{any_of, each_of, unless};
-ghost use Rattle.ii_scorer.specs.Scorers.{bound_of, bound_over, lists_of, score_of, scores_at};
+ghost use Rattle.ii_scorer.specs.Scorers.{bound_over, doc_bound, lists_of, score_of, scores_at};
 ghost use Rattle.ii_scorer.specs.TopDocs.{AreBest, scored_docs};
 ghost use Rattle.ii_scorer.specs.TopNComputer.{KeepsBest};
 ghost use Rattle.ii_ranking.specs.Segments.{segment_scored};
-ghost use Rattle.ii_prepared_term.specs.PreparedParts.{bound_by_parts, lists_by_parts, score_by_parts};
+ghost use Rattle.ii_prepared_term.specs.PreparedParts.{prepared_parts_bound, prepared_parts_lists, prepared_parts_score};
 ghost use Rattle.ii_prepared_term.specs.PreparedQueries.{ScoresEnd, bound_under, lists_under, prepared_query_bound, prepared_query_score, scores_by};
-ghost use Rattle.ii_prepared_term.specs.PreparedScorers.{AreUnread, term_list};
+ghost use Rattle.ii_prepared_term.specs.PreparedScorers.{AreUnread, term_block_list};
 ghost use Rattle.ii_prepared_term.specs.PreparedTerms.{prepared_bound, prepared_score};
 ghost use Rattle.ii_prepared_term.specs.ScoredLists.{listed_score};
 
@@ -58,9 +58,9 @@ impl Model for PreparedQuery {
 
     ghost Value = { PreparedQueryState };
 
-    ghost use Rattle.ii_prepared_term.specs.PreparedParts.{bound_by_parts, depth_of, lists_by_parts, score_by_parts};
+    ghost use Rattle.ii_prepared_term.specs.PreparedParts.{prepared_parts_bound, prepared_parts_depth, prepared_parts_lists, prepared_parts_score};
 
-    ghost view = { λ s. record { scores = scores_below TERMINATED (score_by_parts s.parts); bounds = bounds_below TERMINATED (bound_by_parts s.parts); depth = depth_of s.parts; lists = lists_by_parts s.parts } };
+    ghost view = { λ s. record { scores = scores_below TERMINATED (prepared_parts_score s.parts); bounds = bounds_below TERMINATED (prepared_parts_bound s.parts); depth = prepared_parts_depth s.parts; lists = prepared_parts_lists s.parts } };
 
     ghost size = { λ s. s.depth };
 
@@ -97,7 +97,7 @@ impl PreparedQuery {
     pub(crate) fn of_term(term: PreparedTerm) -> PreparedQuery
         requires { ScoresEnd (prepared_score term) }
         ensures scores { (doc : ℕ) → prepared_query_score result doc ≡ prepared_score term doc }
-        ensures lists { result.lists ≡ term_list term ∷ [] }
+        ensures lists { result.lists ≡ term_block_list term ∷ [] }
         ensures ends { ScoresEnd (prepared_query_score result) }
     {
         PreparedQuery {
@@ -219,7 +219,7 @@ impl PreparedQuery {
     #[cycle(scorer)]
     pub fn scorer(&self, alloc: Global) -> Result<QueryScorer<PreparedLeaf<'_>>, Fault>
         ensures scores { IfOk result (λ scorer. (doc : ℕ) → score_of scorer doc ≡ prepared_query_score self.now doc) }
-        ensures bounds { IfOk result (λ scorer. (doc : ℕ) → doc < TERMINATED → bound_of scorer doc ≡ prepared_query_bound self.now doc) }
+        ensures bounds { IfOk result (λ scorer. (doc : ℕ) → doc < TERMINATED → doc_bound scorer doc ≡ prepared_query_bound self.now doc) }
         ensures lists { IfOk result (λ scorer. AreUnread self.now.lists scorer.lists) }
         ensures only { OnlyMemory result }
     {
@@ -236,9 +236,9 @@ impl PreparedQuery {
 // Returns a scorer of the documents that match the parts of a query.
 #[cycle(scorer)]
 fn scorer_of(alloc: Global, parts: &PreparedParts) -> Result<QueryScorer<PreparedLeaf<'_>>, Fault>
-    ensures scores { IfOk result (λ scorer. (doc : ℕ) → score_of scorer doc ≡ score_by_parts parts.now doc) }
-    ensures bounds { IfOk result (λ scorer. (doc : ℕ) → doc < TERMINATED → bound_of scorer doc ≡ bound_by_parts parts.now doc) }
-    ensures lists { IfOk result (λ scorer. AreUnread (lists_by_parts parts.now) scorer.lists) }
+    ensures scores { IfOk result (λ scorer. (doc : ℕ) → score_of scorer doc ≡ prepared_parts_score parts.now doc) }
+    ensures bounds { IfOk result (λ scorer. (doc : ℕ) → doc < TERMINATED → doc_bound scorer doc ≡ prepared_parts_bound parts.now doc) }
+    ensures lists { IfOk result (λ scorer. AreUnread (prepared_parts_lists parts.now) scorer.lists) }
     ensures only { OnlyMemory result }
 {
     match parts {
@@ -293,7 +293,7 @@ fn scorer_without<'a>(
     other: &'a PreparedQuery,
 ) -> Result<QueryScorer<PreparedLeaf<'a>>, Fault>
     ensures scores { IfOk result (λ scorer. (doc : ℕ) → score_of scorer doc ≡ unless (score_of first.entry doc) (prepared_query_score other.now doc)) }
-    ensures bounds { IfOk result (λ scorer. (doc : ℕ) → doc < TERMINATED → bound_of scorer doc ≡ bound_of first.entry doc) }
+    ensures bounds { IfOk result (λ scorer. (doc : ℕ) → doc < TERMINATED → doc_bound scorer doc ≡ doc_bound first.entry doc) }
     ensures lists { IfOk result (λ scorer. (all : List BlockList) → AreUnread all first.entry.lists → AreUnread (all ++ other.now.lists) scorer.lists) }
     ensures only { OnlyMemory result }
 {
@@ -309,8 +309,8 @@ fn scorer_without<'a>(
 // Returns the scorer of a prepared term.
 fn scorer_of_term(term: &PreparedTerm) -> Result<QueryScorer<PreparedLeaf<'_>>, Fault>
     ensures scores { IfOk result (λ scorer. (doc : ℕ) → score_of scorer doc ≡ prepared_score term.now doc) }
-    ensures bounds { IfOk result (λ scorer. (doc : ℕ) → doc < TERMINATED → bound_of scorer doc ≡ prepared_bound term.now doc) }
-    ensures lists { IfOk result (λ scorer. AreUnread (term_list term.now ∷ []) scorer.lists) }
+    ensures bounds { IfOk result (λ scorer. (doc : ℕ) → doc < TERMINATED → doc_bound scorer doc ≡ prepared_bound term.now doc) }
+    ensures lists { IfOk result (λ scorer. AreUnread (term_block_list term.now ∷ []) scorer.lists) }
     ensures only { OnlyMemory result }
 {
     let scorer = term.scorer()?;
@@ -320,7 +320,7 @@ fn scorer_of_term(term: &PreparedTerm) -> Result<QueryScorer<PreparedLeaf<'_>>, 
 // Returns the scorer of a list.
 fn scorer_of_list(list: &ScoredList) -> QueryScorer<PreparedLeaf<'_>>
     ensures scores { (doc : ℕ) → score_of result doc ≡ listed_score list.now doc }
-    ensures bounds { (doc : ℕ) → doc < TERMINATED → bound_of result doc ≡ list.now.most }
+    ensures bounds { (doc : ℕ) → doc < TERMINATED → doc_bound result doc ≡ list.now.most }
     ensures lists { result.lists ≡ [] }
 {
     QueryScorer::one(PreparedLeaf::Listed(list.scorer()))

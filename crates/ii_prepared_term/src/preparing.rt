@@ -5,7 +5,7 @@ ghost use Rattle.ii_query_parser.specs.Queries.{has_fields, trees_of};
 ghost use Rattle.ii_ranking.specs.Scores.{IsScoreFault, query_damage, query_score, scored_in, term_damage, term_score, tree_scores, trees_damage};
 ghost use Rattle.ii_scorer.specs.Combinations.{unless};
 ghost use Rattle.ii_prepared_term.specs.PreparedQueries.{ScoresEnd, lists_under, prepared_query_score, scores_by};
-ghost use Rattle.ii_prepared_term.specs.QueryDocs.{docs_in, query_docs, term_docs, trees_docs};
+ghost use Rattle.ii_prepared_term.specs.QueryDocs.{lists_docs, query_docs, term_docs, trees_docs};
 
 use crate::prepared_query::PreparedQuery;
 use crate::prepared_term::PreparedTerm;
@@ -34,7 +34,7 @@ impl PreparedQuery {
     ) -> Result<PreparedQuery, Fault>
         requires fields { has_fields (length index.now.readers) query.now ≡ true }
         ensures scores { IfOk result (λ prepared. (doc : ℕ) → prepared_query_score prepared doc ≡ query_score (scored_in index.now (S.statistics statistics.now)) query.now doc) }
-        ensures lists { IfOk result (λ prepared. docs_in prepared.lists ≡ query_docs index.now query.now) }
+        ensures lists { IfOk result (λ prepared. lists_docs prepared.lists ≡ query_docs index.now query.now) }
         ensures sound { OnOk result (query_damage index.now query.now ≡ None) }
         ensures fault { IfErr result (IsScoreFault (query_damage index.now query.now)) }
     {
@@ -53,7 +53,7 @@ fn prepare<S: Bm25StatisticsProvider>(
 ) -> Result<PreparedQuery, Fault>
     requires fields { has_fields (length index.now.readers) query.now ≡ true }
     ensures scores { IfOk result (λ prepared. (doc : ℕ) → prepared_query_score prepared doc ≡ query_score (scored_in index.now (S.statistics statistics.now)) query.now doc) }
-    ensures lists { IfOk result (λ prepared. docs_in prepared.lists ≡ query_docs index.now query.now) }
+    ensures lists { IfOk result (λ prepared. lists_docs prepared.lists ≡ query_docs index.now query.now) }
     ensures ends { IfOk result (λ prepared. ScoresEnd (prepared_query_score prepared)) }
     ensures sound { OnOk result (query_damage index.now query.now ≡ None) }
     ensures fault { IfErr result (IsScoreFault (query_damage index.now query.now)) }
@@ -91,7 +91,7 @@ fn prepare_each<S: Bm25StatisticsProvider>(
 ) -> Result<Vec<PreparedQuery>, Fault>
     requires fields { list_all (has_fields (length index.now.readers)) queries.now.items ≡ true }
     ensures scores { IfOk result (λ parts. (doc : ℕ) → scores_by parts.items doc ≡ tree_scores (scored_in index.now (S.statistics statistics.now)) (trees_of queries.now.items) doc) }
-    ensures lists { IfOk result (λ parts. docs_in (lists_under parts.items) ≡ trees_docs index.now (trees_of queries.now.items)) }
+    ensures lists { IfOk result (λ parts. lists_docs (lists_under parts.items) ≡ trees_docs index.now (trees_of queries.now.items)) }
     ensures ends { IfOk result (λ parts. AllByRecursion (λ s. ScoresEnd (prepared_query_score s)) parts.items) }
     ensures sound { OnOk result (trees_damage index.now (trees_of queries.now.items) ≡ None) }
     ensures fault { IfErr result (IsScoreFault (trees_damage index.now (trees_of queries.now.items))) }
@@ -120,7 +120,7 @@ fn prepare_without<S: Bm25StatisticsProvider>(
     requires fields { has_fields (length index.now.readers) other.now ≡ true }
     requires ends { ScoresEnd (prepared_query_score first) }
     ensures scores { IfOk result (λ prepared. (doc : ℕ) → prepared_query_score prepared doc ≡ unless (prepared_query_score first doc) (query_score (scored_in index.now (S.statistics statistics.now)) other.now doc)) }
-    ensures lists { IfOk result (λ prepared. docs_in prepared.lists ≡ docs_in first.lists ++ query_docs index.now other.now) }
+    ensures lists { IfOk result (λ prepared. lists_docs prepared.lists ≡ lists_docs first.lists ++ query_docs index.now other.now) }
     ensures ends { IfOk result (λ prepared. ScoresEnd (prepared_query_score prepared)) }
     ensures sound { OnOk result (query_damage index.now other.now ≡ None) }
     ensures fault { IfErr result (IsScoreFault (query_damage index.now other.now)) }
@@ -144,7 +144,7 @@ fn prepare_term<S: Bm25StatisticsProvider>(
 ) -> Result<PreparedQuery, Fault>
     requires field { term.now.field < length index.now.readers }
     ensures scores { IfOk result (λ prepared. (doc : ℕ) → prepared_query_score prepared doc ≡ term_score (scored_in index.now (S.statistics statistics.now)) term.now doc) }
-    ensures lists { IfOk result (λ prepared. docs_in prepared.lists ≡ term_docs index.now term.now ∷ []) }
+    ensures lists { IfOk result (λ prepared. lists_docs prepared.lists ≡ term_docs index.now term.now ∷ []) }
     ensures ends { IfOk result (λ prepared. ScoresEnd (prepared_query_score prepared)) }
     ensures sound { OnOk result (term_damage index.now term.now ≡ None) }
     ensures fault { IfErr result (IsScoreFault (term_damage index.now term.now)) }

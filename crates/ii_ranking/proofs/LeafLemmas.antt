@@ -21,7 +21,7 @@ use Rattle.ii_docset.specs.Intersection.{has_doc}
 use Rattle.ii_docset.proofs.CursorLemmas.{doc_below, nothing_left}
 use Rattle.ii_docset.proofs.IntersectionLemmas.{doc_at-from_doc, has_doc-from_doc, has_doc_below}
 use Rattle.ii_fieldnorm.specs.Readers.{Norms, norms_of_ids}
-use Rattle.ii_scorer.specs.Scorers.{IsBelow, IsBounded, IsNext, IsPassed, IsUpTo, KeepsFrom, ScorerState, bound_of, if_at_least, score_of}
+use Rattle.ii_scorer.specs.Scorers.{IsBelow, IsBounded, IsNext, IsPassed, IsUpTo, KeepsFrom, ScorerState, doc_bound, if_at_least, score_of}
 use Rattle.ii_scorer.proofs.BoundLemmas.{row_reaches}
 use Rattle.ii_scorer.proofs.PartsLemmas.{row_alike, row_end, row_holds, row_is, row_next, row_score}
 use Rattle.ii_scorer.proofs.ScorerLemmas.{below_none}
@@ -160,7 +160,7 @@ leaf_here f row most doc least old new given score end is at same =
 pub leaf_bounded : (f : ℕ → Option ℕ) (most : ℕ) → most < 2 ^ 64 → ((doc : ℕ) → IsUpTo most (f doc)) → IsBounded (leaf_of f most)
 leaf_bounded f most few up = record { fits = few; ends = λ doc end. row_end TERMINATED f doc end; each = λ doc. row_holds (IsUpTo most) f doc tt (up doc) }
 
-pub leaf_within : (f : ℕ → Option ℕ) (most given doc : ℕ) → given ≡ most → doc < TERMINATED → given ≤ bound_of (leaf_of f most) doc
+pub leaf_within : (f : ℕ → Option ℕ) (most given doc : ℕ) → given ≡ most → doc < TERMINATED → given ≤ doc_bound (leaf_of f most) doc
 leaf_within f most given doc is low = row_reaches given doc (λ (d : ℕ). most) low (omega (arith, is))
 
 pub entry_up_to : (score : ℕ → ℕ) (most : ℕ) (found : Option Entry) → ((count : ℕ) → score count ≤ most) → IsUpTo most (option_map (λ (e : Entry). score e.term_freq) found)

@@ -9,7 +9,7 @@ use Rattle.std.proofs.lemmas.List.Sums.{sum_by-cons}
 use Rattle.ii_base.specs.declared.doc_id.TheConstants.{TERMINATED}
 use Rattle.ii_scorer.specs.BlockLists.{BlockList, ReadsOnly}
 use Rattle.ii_scorer.specs.Combinations.{add}
-use Rattle.ii_scorer.specs.Scorers.{KeepsFrom, MayScore, ScorerState, bound_of, bound_over, bounds_below, lists_of}
+use Rattle.ii_scorer.specs.Scorers.{KeepsFrom, MayScore, ScorerState, bound_over, bounds_below, doc_bound, lists_of}
 use Rattle.ii_scorer.proofs.BlockListLaws.{all_append, all_none, all_on, all_weaker}
 use Rattle.ii_scorer.proofs.SumLemmas.{add_grouped}
 
@@ -48,7 +48,7 @@ pub zip_bounds : (doc : ℕ) (olds news : List ScorerState) → AllZip (KeepsFro
 zip_bounds doc olds news z = λ j. λ (d : ℕ). zip_bound_at doc olds news d z j
 
 -- one scorer more
-pub bound_more : (ss : List ScorerState) (place doc : ℕ) (s : ScorerState) → slice_get ss place ≡ Some s → bound_over (take (place + 1) ss) doc ≡ add (bound_over (take place ss) doc) (bound_of s doc)
+pub bound_more : (ss : List ScorerState) (place doc : ℕ) (s : ScorerState) → slice_get ss place ≡ Some s → bound_over (take (place + 1) ss) doc ≡ add (bound_over (take place ss) doc) (doc_bound s doc)
 bound_more ss place doc s at =
     let more : place + 1 ≡ suc place = omega arith in
     ap (λ (n : ℕ). bound_over (take n ss) doc) more ∙ row ss place s at
@@ -56,19 +56,19 @@ bound_more ss place doc s at =
     some_injective : (a b : ScorerState) → Some a ≡ Some b → a ≡ b
     some_injective a b is = cc
 
-    row : (ts : List ScorerState) (i : ℕ) (t : ScorerState) → slice_get ts i ≡ Some t → bound_over (take (suc i) ts) doc ≡ add (bound_over (take i ts) doc) (bound_of t doc)
+    row : (ts : List ScorerState) (i : ℕ) (t : ScorerState) → slice_get ts i ≡ Some t → bound_over (take (suc i) ts) doc ≡ add (bound_over (take i ts) doc) (doc_bound t doc)
     row [] i t at = absurd (cc)
-    row (y ∷ ts) zero t at = let same = ap (λ (z : ScorerState). bound_of z doc) (some_injective y t at) in omega (arith, same)
-    row (y ∷ ts) (suc i) t at = ap (add (bound_of y doc)) (row ts i t at) ∙ sym (add_grouped (bound_of y doc) (bound_over (take i ts) doc) (bound_of t doc))
+    row (y ∷ ts) zero t at = let same = ap (λ (z : ScorerState). doc_bound z doc) (some_injective y t at) in omega (arith, same)
+    row (y ∷ ts) (suc i) t at = ap (add (doc_bound y doc)) (row ts i t at) ∙ sym (add_grouped (doc_bound y doc) (bound_over (take i ts) doc) (doc_bound t doc))
 
 -- their sum
-bound_summed : (ss : List ScorerState) (doc : ℕ) → bound_over ss doc ≡ min (2 ^ 64 - 1) (sum_by (λ (s : ScorerState). bound_of s doc) ss)
+bound_summed : (ss : List ScorerState) (doc : ℕ) → bound_over ss doc ≡ min (2 ^ 64 - 1) (sum_by (λ (s : ScorerState). doc_bound s doc) ss)
 bound_summed [] doc = omega arith
-bound_summed (s ∷ ss) doc = let later = bound_summed ss doc in let more = sum_by-cons (λ (t : ScorerState). bound_of t doc) s ss in omega (arith, later, more)
+bound_summed (s ∷ ss) doc = let later = bound_summed ss doc in let more = sum_by-cons (λ (t : ScorerState). doc_bound t doc) s ss in omega (arith, later, more)
 
 -- it doesn't depend on their order
 pub bound_in_order : (ss sorted : List ScorerState) (doc : ℕ) → IsPermutation ss sorted → bound_over sorted doc ≡ bound_over ss doc
-bound_in_order ss sorted doc same = bound_summed sorted doc ∙ ap (min (2 ^ 64 - 1)) (sum_by-IsPermutation (λ (s : ScorerState). bound_of s doc) ss sorted same) ∙ sym (bound_summed ss doc)
+bound_in_order ss sorted doc same = bound_summed sorted doc ∙ ap (min (2 ^ 64 - 1)) (sum_by-IsPermutation (λ (s : ScorerState). doc_bound s doc) ss sorted same) ∙ sym (bound_summed ss doc)
 
 -- ---- lists of some scorers
 -- one of them was read

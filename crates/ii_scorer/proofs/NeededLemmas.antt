@@ -6,7 +6,7 @@ use Rattle.std.proofs.lemmas.List.Elements.{All-append}
 use Rattle.std.proofs.lemmas.List.Sums.{sum_by-append, sum_by-cons}
 use Rattle.ii_scorer.specs.BestDocs.{IsNeeded, Numbering, NumbersComeAfter, counted_score, first_numbered}
 use Rattle.ii_scorer.specs.BlockLists.{BlockList, ReadsOnly}
-use Rattle.ii_scorer.specs.Scorers.{IsBelow, MayScore, ScorerState, bound_of, score_of}
+use Rattle.ii_scorer.specs.Scorers.{IsBelow, MayScore, ScorerState, doc_bound, score_of}
 use Rattle.ii_scorer.specs.TopDocs.{with_score}
 use Rattle.ii_scorer.specs.TopNComputer.{KeepsBest, TopNState, num_reaching}
 use Rattle.ii_scorer.proofs.BlockListLaws.{all_gone, all_on, all_unread, all_weaker}
@@ -84,26 +84,26 @@ least_needed n f scored s top_n doc number least is inside wanted after kept nee
 
 -- ---- what is read from a document on, up to the next one that may score enough
 module _ (n : Numbering) (s now : ScorerState) (scored : List (ℕ × ℕ)) (top_n doc least next : ℕ) (same : now.bounds ≡ s.bounds) (needed : (score : ℕ) → least ≤ score → num_reaching score (scored ++ first_numbered n doc (score_of s)) < top_n) (passed : (d : ℕ) → doc ≤ d → d < next → IsBelow least (score_of s d)) where
-  bound_now : (from : ℕ) → least ≤ bound_of now from → least ≤ bound_of s from
+  bound_now : (from : ℕ) → least ≤ doc_bound now from → least ≤ doc_bound s from
   bound_now from up = subst (λ (bounds : List ℕ). least ≤ get_or bounds from 0) same up
 
-  pub needed_at : (from : ℕ) → doc ≤ from → from ≤ next → least ≤ bound_of now from → IsNeeded scored n s top_n from
+  pub needed_at : (from : ℕ) → doc ≤ from → from ≤ next → least ≤ doc_bound now from → IsNeeded scored n s top_n from
   needed_at from low high up =
       let reaches = bound_now from up in
-      still_needed n (score_of s) scored least (bound_of s from) top_n doc from low reaches (λ d above inside. passed d above (omega (arith, inside, high))) (needed (bound_of s from) reaches)
+      still_needed n (score_of s) scored least (doc_bound s from) top_n doc from low reaches (λ d above inside. passed d above (omega (arith, inside, high))) (needed (doc_bound s from) reaches)
 
   -- up to the next one
-  pub skip_needed : (olds sought : List BlockList) → ReadsOnly (IsNeeded scored n s top_n) olds now.lists → ReadsOnly (MayScore doc least next (bound_of now)) now.lists sought → ReadsOnly (IsNeeded scored n s top_n) olds sought
+  pub skip_needed : (olds sought : List BlockList) → ReadsOnly (IsNeeded scored n s top_n) olds now.lists → ReadsOnly (MayScore doc least next (doc_bound now)) now.lists sought → ReadsOnly (IsNeeded scored n s top_n) olds sought
   skip_needed olds sought so_far skipped =
       all_on (IsNeeded scored n s top_n) olds now.lists sought so_far
-      (all_weaker (MayScore doc least next (bound_of now)) (IsNeeded scored n s top_n) (λ from may. needed_at from may.low may.up_to may.reaches) now.lists sought skipped)
+      (all_weaker (MayScore doc least next (doc_bound now)) (IsNeeded scored n s top_n) (λ from may. needed_at from may.low may.up_to may.reaches) now.lists sought skipped)
 
   -- and at that one
-  pub push_needed : (olds sought pushed : List BlockList) → doc ≤ next → (now.lists ≡ []) ⊎ (least ≤ bound_of now next) → ReadsOnly (IsNeeded scored n s top_n) olds now.lists → ReadsOnly (MayScore doc least next (bound_of now)) now.lists sought → ReadsOnly (λ (from : ℕ). from ≡ next) sought pushed
+  pub push_needed : (olds sought pushed : List BlockList) → doc ≤ next → (now.lists ≡ []) ⊎ (least ≤ doc_bound now next) → ReadsOnly (IsNeeded scored n s top_n) olds now.lists → ReadsOnly (MayScore doc least next (doc_bound now)) now.lists sought → ReadsOnly (λ (from : ℕ). from ≡ next) sought pushed
       → ReadsOnly (IsNeeded scored n s top_n) olds pushed
   push_needed olds sought pushed low reached so_far skipped here =
       all_on (IsNeeded scored n s top_n) olds sought pushed (skip_needed olds sought so_far skipped) (by reached)
     where
-      by : (now.lists ≡ []) ⊎ (least ≤ bound_of now next) → ReadsOnly (IsNeeded scored n s top_n) sought pushed
-      by (inl none) = all_unread (λ (from : ℕ). from ≡ next) (IsNeeded scored n s top_n) sought pushed (all_gone (MayScore doc least next (bound_of now)) now.lists sought none skipped) here
+      by : (now.lists ≡ []) ⊎ (least ≤ doc_bound now next) → ReadsOnly (IsNeeded scored n s top_n) sought pushed
+      by (inl none) = all_unread (λ (from : ℕ). from ≡ next) (IsNeeded scored n s top_n) sought pushed (all_gone (MayScore doc least next (doc_bound now)) now.lists sought none skipped) here
       by (inr up) = all_weaker (λ (from : ℕ). from ≡ next) (IsNeeded scored n s top_n) (λ from at. subst (IsNeeded scored n s top_n) (sym at) (needed_at next low (omega arith) up)) sought pushed here

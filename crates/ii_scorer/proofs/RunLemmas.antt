@@ -7,7 +7,7 @@ use Rattle.ii_base.specs.declared.doc_id.TheConstants.{TERMINATED}
 use Rattle.ii_scorer.specs.BlockLists.{BlockList, ReadsOnly}
 use Rattle.ii_scorer.specs.Combinations.{add, any_of, both, each_of, either}
 use Rattle.ii_scorer.specs.QueryScorers.{PartsAreBounded, score_by_parts}
-use Rattle.ii_scorer.specs.Scorers.{IsBelow, IsBoundUntil, IsNext, IsPassed, IsUpTo, KeepsFrom, MayScore, ScorerState, bound_of, bound_over, score_of, scores_at, scores_below}
+use Rattle.ii_scorer.specs.Scorers.{IsBelow, IsBoundUntil, IsNext, IsPassed, IsUpTo, KeepsFrom, MayScore, ScorerState, bound_over, doc_bound, score_of, scores_at, scores_below}
 use Rattle.ii_scorer.specs.declared.query_scorer.ScorerParts.{ScorerParts}
 use Rattle.ii_scorer.specs.declared.query_scorer.ScorerParts.TheVariants.{Nothing, One, All, Each, Any, Without}
 use Rattle.ii_scorer.specs.declared.scorer.ScoreBound.{ScoreBound}
@@ -58,7 +58,7 @@ any_more ss place doc s at =
 
 -- one scorer more
 pub bounds_next : (place target most end : ℕ) (olds news : List ScorerState) (x : ScorerState) (b : ScoreBound) (sum last : ℕ) → place < length news → x ≡ get_or news place x → AllZip (KeepsFrom target) olds news
-    → BoundsFirst place target most end olds → IsBoundUntil target (score_of x) b → ((doc : ℕ) → target ≤ doc → doc < b.end → b.most ≤ bound_of x doc) → sum ≡ add most b.most → last ≡ min end b.end → BoundsFirst (place + 1) target sum last olds
+    → BoundsFirst place target most end olds → IsBoundUntil target (score_of x) b → ((doc : ℕ) → target ≤ doc → doc < b.end → b.most ≤ doc_bound x doc) → sum ≡ add most b.most → last ≡ min end b.end → BoundsFirst (place + 1) target sum last olds
 bounds_next place target most end olds news x b sum last inside is kept so_far bound within sum_is last_is = by (zip_at target olds news place x inside is kept)
   where
     by : (o : ScorerState) × (slice_get olds place ≡ Some o) × KeepsFrom target o x → BoundsFirst (place + 1) target sum last olds
@@ -73,7 +73,7 @@ bounds_next place target most end olds news x b sum last inside is kept so_far b
           subst (λ (n : ℕ). IsUpTo n (any_of (scores_at (take (place + 1) olds) doc))) (sym sum_is) (subst (IsUpTo (add most b.most)) (sym (any_more olds place doc o at)) both);
       within = λ doc from below.
           let before = so_far.within doc from (omega (arith, below, last_is)) in
-          let part : b.most ≤ bound_of o doc = subst (λ (bounds : List ℕ). b.most ≤ get_or bounds doc 0) went.bounds (within doc from (omega (arith, below, last_is))) in
+          let part : b.most ≤ doc_bound o doc = subst (λ (bounds : List ℕ). b.most ≤ get_or bounds doc 0) went.bounds (within doc from (omega (arith, below, last_is))) in
           let more = bound_more olds place doc o at in
           omega (arith, before, part, more, sum_is);
     }

@@ -1,7 +1,7 @@
 -- The documents of a scorer by their numbers in an index.
 use Rattle.std.specs.Prelude.{◌≡◌, ℕ, ◌<◌, ◌≤◌, ◌^◌, Bool, List, ◌++◌, Option, None, if◌then◌else◌, true}
 use Rattle.std.specs.List.{All}
-use Rattle.ii_scorer.specs.Scorers.{ScorerState, bound_of, score_of}
+use Rattle.ii_scorer.specs.Scorers.{ScorerState, doc_bound, score_of}
 use Rattle.ii_scorer.specs.TopDocs.{scored_by_number}
 use Rattle.ii_scorer.specs.TopNComputer.{num_reaching}
 
@@ -35,4 +35,4 @@ pub record NumbersComeAfter (scored : List (ℕ × ℕ)) (n : Numbering) : Type 
 
 -- Of the documents before this one fewer than are wanted score at least its bound.
 abbrev pub IsNeeded : List (ℕ × ℕ) → Numbering → ScorerState → ℕ → ℕ → Type 0
-IsNeeded scored n s top_n doc = num_reaching (bound_of s doc) (scored ++ first_numbered n doc (score_of s)) < top_n
+IsNeeded scored n s top_n doc = num_reaching (doc_bound s doc) (scored ++ first_numbered n doc (score_of s)) < top_n

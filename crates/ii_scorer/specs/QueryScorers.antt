@@ -4,7 +4,7 @@ use Rattle.ii_base.specs.declared.doc_id.TheConstants.{TERMINATED}
 use Rattle.ii_bm25.specs.declared.bm25.TheConstants.{SCORE_ONE}
 use Rattle.ii_scorer.specs.BlockLists.{BlockList}
 use Rattle.ii_scorer.specs.Combinations.{any_of, each_of, unless}
-use Rattle.ii_scorer.specs.Scorers.{AreBounded, IsBounded, ScorerState, bound_of, bound_over, depth_over, lists_of, score_of, scores_at, sums_after}
+use Rattle.ii_scorer.specs.Scorers.{AreBounded, IsBounded, ScorerState, bound_over, depth_over, doc_bound, lists_of, score_of, scores_at, sums_after}
 use Rattle.ii_scorer.specs.declared.query_scorer.ScorerParts.{ScorerParts}
 use Rattle.ii_scorer.specs.declared.query_scorer.ScorerParts.TheVariants.{Nothing, One, All, Each, Any, Without}
 
@@ -20,11 +20,11 @@ score_by_parts state (Without first other) doc = unless (score_of first.value do
 -- its bound by them, of which none exceeds a number
 abbrev pub bound_by_parts : {T : Type 0} → (T → ScorerState) → ℕ → ScorerParts T → ℕ → ℕ
 bound_by_parts state most Nothing doc = most
-bound_by_parts state most (One scorer) doc = bound_of (state scorer) doc
+bound_by_parts state most (One scorer) doc = doc_bound (state scorer) doc
 bound_by_parts state most (All limit) doc = most
 bound_by_parts state most (Each parts) doc = bound_over parts.items doc
 bound_by_parts state most (Any parts sums) doc = bound_over parts.items doc
-bound_by_parts state most (Without first other) doc = bound_of first.value doc
+bound_by_parts state most (Without first other) doc = doc_bound first.value doc
 
 -- the lists that they read
 abbrev pub lists_by_parts : {T : Type 0} → (T → ScorerState) → ScorerParts T → List BlockList

@@ -20,8 +20,8 @@ abbrev pub score_of : ScorerState → ℕ → Option ℕ
 score_of s doc = get_or s.scores doc None
 
 -- the bound of a document
-abbrev pub bound_of : ScorerState → ℕ → ℕ
-bound_of s doc = get_or s.bounds doc 0
+abbrev pub doc_bound : ScorerState → ℕ → ℕ
+doc_bound s doc = get_or s.bounds doc 0
 
 -- what the documents below a number score
 unfoldable pub scores_below : ℕ → (ℕ → Option ℕ) → List (Option ℕ)
@@ -101,7 +101,7 @@ sums_after sum (s ∷ ss) = add sum s.most ∷ sums_after (add sum s.most) ss
 -- the sum of the bounds of a document by some scorers, at most 2^64 - 1
 abbrev pub bound_over : List ScorerState → ℕ → ℕ
 bound_over [] doc = 0
-bound_over (s ∷ ss) doc = add (bound_of s doc) (bound_over ss doc)
+bound_over (s ∷ ss) doc = add (doc_bound s doc) (bound_over ss doc)
 
 -- the lists of some scorers, one after the other
 abbrev pub lists_of : List ScorerState → List BlockList

@@ -7,7 +7,7 @@ ghost use Rattle.ii_bm25.specs.declared.bm25.TheConstants.{SCORE_ONE};
 ghost use Rattle.ii_scorer.specs.BlockLists.{ReadsOnly};
 ghost use Rattle.ii_scorer.specs.Combinations.{any_of, each_of, either, unless};
 ghost use Rattle.ii_scorer.specs.QueryScorers.{PartsAreBounded, bound_by_parts, depth_of, lists_by_parts, score_by_parts};
-ghost use Rattle.ii_scorer.specs.Scorers.{AreBounded, AreListsOf, IsBoundUntil, IsBounded, IsNext, IsUpTo, KeepsFrom, MayScore, bound_of, bound_over, if_at_least, lists_of, score_of, scores_at, sums_after};
+ghost use Rattle.ii_scorer.specs.Scorers.{AreBounded, AreListsOf, IsBoundUntil, IsBounded, IsNext, IsUpTo, KeepsFrom, MayScore, bound_over, doc_bound, if_at_least, lists_of, score_of, scores_at, sums_after};
 
 use crate::combination::{both, either, if_at_least};
 use crate::scorer::{ScoreBound, Scorer};
@@ -65,7 +65,7 @@ impl<T: Scorer> QueryScorer<T> {
     /// Returns a scorer of no documents.
     pub fn nothing() -> QueryScorer<T>
         ensures scores { (doc : ℕ) → score_of result doc ≡ None }
-        ensures bounds { (doc : ℕ) → doc < TERMINATED → bound_of result doc ≡ 0 }
+        ensures bounds { (doc : ℕ) → doc < TERMINATED → doc_bound result doc ≡ 0 }
         ensures lists { result.lists ≡ [] }
     {
         QueryScorer {
@@ -78,7 +78,7 @@ impl<T: Scorer> QueryScorer<T> {
     /// Returns a scorer of the documents of one scorer.
     pub fn one(scorer: T) -> QueryScorer<T>
         ensures scores { (doc : ℕ) → score_of result doc ≡ score_of (T.state scorer) doc }
-        ensures bounds { (doc : ℕ) → doc < TERMINATED → bound_of result doc ≡ bound_of (T.state scorer) doc }
+        ensures bounds { (doc : ℕ) → doc < TERMINATED → doc_bound result doc ≡ doc_bound (T.state scorer) doc }
         ensures lists { result.lists ≡ (T.state scorer).lists }
     {
         let most = scorer.max_score();
@@ -93,7 +93,7 @@ impl<T: Scorer> QueryScorer<T> {
     /// Returns a scorer of all documents below `limit`, each of which scores 1.0. No document is `TERMINATED` or above.
     pub fn all(limit: DocId) -> QueryScorer<T>
         ensures scores { (doc : ℕ) → score_of result doc ≡ (if nat_lt doc (min limit TERMINATED) then Some SCORE_ONE else None) }
-        ensures bounds { (doc : ℕ) → doc < TERMINATED → bound_of result doc ≡ SCORE_ONE }
+        ensures bounds { (doc : ℕ) → doc < TERMINATED → doc_bound result doc ≡ SCORE_ONE }
         ensures lists { result.lists ≡ [] }
     {
         QueryScorer {
@@ -107,7 +107,7 @@ impl<T: Scorer> QueryScorer<T> {
     /// without scorers.
     pub fn each(scorers: Vec<QueryScorer<T>>) -> QueryScorer<T>
         ensures scores { (doc : ℕ) → score_of result doc ≡ each_of (scores_at scorers.items doc) }
-        ensures bounds { (doc : ℕ) → doc < TERMINATED → bound_of result doc ≡ bound_over scorers.items doc }
+        ensures bounds { (doc : ℕ) → doc < TERMINATED → doc_bound result doc ≡ bound_over scorers.items doc }
         ensures lists { result.lists ≡ lists_of scorers.items }
     {
         let most = sum_of_most(&scorers);
@@ -123,7 +123,7 @@ impl<T: Scorer> QueryScorer<T> {
     /// that match. Fails only with `OutOfMemory`.
     pub fn any(alloc: Global, scorers: Vec<QueryScorer<T>>) -> Result<QueryScorer<T>, Fault>
         ensures scores { IfOk result (λ scorer. (doc : ℕ) → score_of scorer doc ≡ any_of (scores_at scorers.items doc)) }
-        ensures bounds { IfOk result (λ scorer. (doc : ℕ) → doc < TERMINATED → bound_of scorer doc ≡ bound_over scorers.items doc) }
+        ensures bounds { IfOk result (λ scorer. (doc : ℕ) → doc < TERMINATED → doc_bound scorer doc ≡ bound_over scorers.items doc) }
         ensures lists { IfOk result (λ scorer. AreListsOf scorers.items scorer.lists) }
         ensures only { OnlyMemory result }
     {
@@ -150,7 +150,7 @@ impl<T: Scorer> QueryScorer<T> {
         other: QueryScorer<T>,
     ) -> Result<QueryScorer<T>, Fault>
         ensures scores { IfOk result (λ scorer. (doc : ℕ) → score_of scorer doc ≡ unless (score_of first doc) (score_of other doc)) }
-        ensures bounds { IfOk result (λ scorer. (doc : ℕ) → doc < TERMINATED → bound_of scorer doc ≡ bound_of first doc) }
+        ensures bounds { IfOk result (λ scorer. (doc : ℕ) → doc < TERMINATED → doc_bound scorer doc ≡ doc_bound first doc) }
         ensures lists { IfOk result (λ scorer. scorer.lists ≡ first.lists ++ other.lists) }
         ensures only { OnlyMemory result }
     {
@@ -190,7 +190,7 @@ impl<T: Scorer> QueryScorer<T> {
         requires { target < TERMINATED }
         ensures bound { IsBoundUntil target (score_of self.old) result }
         ensures kept { KeepsFrom target self.old self.new }
-        ensures within { (doc : ℕ) → target ≤ doc → doc < result.end → result.most ≤ bound_of self.old doc }
+        ensures within { (doc : ℕ) → target ≤ doc → doc < result.end → result.most ≤ doc_bound self.old doc }
         ensures work { ReadsOnly (λ _. ⊥) self.old.lists self.new.lists }
     {
         bound_by(&mut self.parts, self.most, target)

@@ -1,7 +1,7 @@
 ghost use Rattle.std.specs.Prelude.{◌≡◌, ◌<◌, ◌≤◌, ◌⊎◌, ℕ, [], false};
 ghost use Rattle.ii_base.specs.declared.doc_id.TheConstants.{TERMINATED};
 ghost use Rattle.ii_scorer.specs.BlockLists.{ReadsOnly};
-ghost use Rattle.ii_scorer.specs.Scorers.{IsBoundUntil, IsBounded, IsNext, KeepsFrom, MayScore, ScorerState, bound_of, if_at_least, score_of};
+ghost use Rattle.ii_scorer.specs.Scorers.{IsBoundUntil, IsBounded, IsNext, KeepsFrom, MayScore, ScorerState, doc_bound, if_at_least, score_of};
 
 use ii_base::{DocId, TERMINATED};
 use ii_bm25::Score;
@@ -41,8 +41,8 @@ pub trait Scorer: Drop {
         requires { target ≤ TERMINATED }
         ensures next { IsNext target least (score_of (state self.old)) result }
         ensures kept { KeepsFrom result (state self.old) (state self.new) }
-        ensures reached { result < TERMINATED → ((state self.old).lists ≡ []) ⊎ (least ≤ bound_of (state self.old) result) }
-        ensures work { ReadsOnly (MayScore target least result (bound_of (state self.old))) (state self.old).lists (state self.new).lists };
+        ensures reached { result < TERMINATED → ((state self.old).lists ≡ []) ⊎ (least ≤ doc_bound (state self.old) result) }
+        ensures work { ReadsOnly (MayScore target least result (doc_bound (state self.old))) (state self.old).lists (state self.new).lists };
 
     /// Returns a score that no document from `target` on exceeds, up to the end that comes with it; nor does it exceed the
     /// bounds of these documents. Passes at most the documents below `target`, which must be below `TERMINATED`, and
@@ -51,7 +51,7 @@ pub trait Scorer: Drop {
         requires { target < TERMINATED }
         ensures bound { IsBoundUntil target (score_of (state self.old)) result }
         ensures kept { KeepsFrom target (state self.old) (state self.new) }
-        ensures within { (doc : ℕ) → target ≤ doc → doc < result.end → result.most ≤ bound_of (state self.old) doc }
+        ensures within { (doc : ℕ) → target ≤ doc → doc < result.end → result.most ≤ doc_bound (state self.old) doc }
         ensures work { ReadsOnly (λ _. ⊥) (state self.old).lists (state self.new).lists };
 
     /// Returns whether `max_score_until` may give runs that end before `TERMINATED`, so that it pays to ask for them. If

@@ -1,12 +1,12 @@
 use Rattle.std.proofs.Common.{ℕ, None, refl}
 use Rattle.ii_scorer.proofs.PartsLemmas.{row_end, row_is}
 use Rattle.ii_base.specs.declared.doc_id.TheConstants.{TERMINATED}
-use Rattle.ii_prepared_term.specs.PreparedParts.{score_by_parts}
+use Rattle.ii_prepared_term.specs.PreparedParts.{prepared_parts_score}
 use Rattle.ii_prepared_term.specs.declared.prepared_query.PreparedParts.TheVariants.{Nothing}
 use Rattle.ii_prepared_term.proofs.prepared_query.PreparedQuery.nothing.Goals as goal
 
 pub returns-clause-scores : goal.returns-clause-scores
-returns-clause-scores c = row_is (score_by_parts (Nothing)) (λ (d : ℕ). None) (λ d. refl) (λ d end. refl)
+returns-clause-scores c = row_is (prepared_parts_score (Nothing)) (λ (d : ℕ). None) (λ d. refl) (λ d end. refl)
 
 pub returns-clause-ends : goal.returns-clause-ends
-returns-clause-ends c = λ doc end. row_end TERMINATED (score_by_parts (Nothing)) doc end
+returns-clause-ends c = λ doc end. row_end TERMINATED (prepared_parts_score (Nothing)) doc end

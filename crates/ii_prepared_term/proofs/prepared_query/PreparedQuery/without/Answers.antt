@@ -2,7 +2,7 @@ use Rattle.std.proofs.Common.{◌≡◌, ℕ, rules}
 use Rattle.ii_base.specs.declared.doc_id.TheConstants.{TERMINATED}
 use Rattle.ii_scorer.specs.Combinations.{unless}
 use Rattle.ii_scorer.proofs.PartsLemmas.{row_end, row_is, unless_ends}
-use Rattle.ii_prepared_term.specs.PreparedParts.{score_by_parts}
+use Rattle.ii_prepared_term.specs.PreparedParts.{prepared_parts_score}
 use Rattle.ii_prepared_term.specs.PreparedQueries.{prepared_query_score}
 use Rattle.ii_prepared_term.specs.declared.prepared_query.PreparedParts.TheVariants.{Without}
 use Rattle.ii_prepared_term.proofs.prepared_query.PreparedQuery.without.Goals as goal
@@ -11,9 +11,9 @@ pub returns-clause-scores : goal.returns-clause-scores
 returns-clause-scores c =
     let first : c.in_ok-first.first.value ≡ c.args.first = search rules in
     let other : c.in_ok-other.other.value ≡ c.args.other = search rules in
-    row_is (score_by_parts (Without c.in_ok-first.first c.in_ok-other.other)) (λ (d : ℕ). unless (prepared_query_score c.args.first d) (prepared_query_score c.args.other d))
+    row_is (prepared_parts_score (Without c.in_ok-first.first c.in_ok-other.other)) (λ (d : ℕ). unless (prepared_query_score c.args.first d) (prepared_query_score c.args.other d))
     (λ d. (λ j. unless (prepared_query_score (first j) d) (prepared_query_score (other j) d)))
     (λ d end. unless_ends (prepared_query_score c.args.first d) (prepared_query_score c.args.other d) (c.requires d end))
 
 pub returns-clause-ends : goal.returns-clause-ends
-returns-clause-ends c = λ doc end. row_end TERMINATED (score_by_parts (Without c.in_ok-first.first c.in_ok-other.other)) doc end
+returns-clause-ends c = λ doc end. row_end TERMINATED (prepared_parts_score (Without c.in_ok-first.first c.in_ok-other.other)) doc end

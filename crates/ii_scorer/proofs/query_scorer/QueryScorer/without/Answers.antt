@@ -1,7 +1,7 @@
 use Rattle.std.proofs.Common.{◌≡◌, ◌∙◌, ◌++◌, ℕ, ap, rules}
 use Rattle.ii_scorer.specs.Combinations.{unless}
 use Rattle.ii_scorer.specs.QueryScorers.{score_by_parts}
-use Rattle.ii_scorer.specs.Scorers.{ScorerState, bound_of, score_of}
+use Rattle.ii_scorer.specs.Scorers.{ScorerState, doc_bound, score_of}
 use Rattle.ii_scorer.specs.declared.query_scorer.ScorerParts.TheVariants.{Without}
 use Rattle.ii_scorer.proofs.BoundLemmas.{row_bound_at}
 use Rattle.ii_scorer.proofs.PartsLemmas.{row_is, unless_ends}
@@ -18,7 +18,7 @@ returns-clause-scores g c =
 pub returns-clause-bounds : goal.returns-clause-bounds
 returns-clause-bounds g c = λ doc low.
     let first : c.in_ok-first.first.value ≡ c.args.first = search rules in
-    row_bound_at (bound_of c.in_ok-first.first.value) doc low ∙ ap (λ (s : ScorerState). bound_of s doc) first
+    row_bound_at (doc_bound c.in_ok-first.first.value) doc low ∙ ap (λ (s : ScorerState). doc_bound s doc) first
 
 pub returns-clause-lists : goal.returns-clause-lists
 returns-clause-lists g c =
