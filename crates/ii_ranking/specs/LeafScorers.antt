@@ -32,15 +32,19 @@ score_by_found s doc = if has_doc s.cursor.rest doc then Some SCORE_ONE else Non
 abbrev pub leaf_of : (ℕ → Option ℕ) → ℕ → ScorerState
 leaf_of f most = record { scores = scores_below TERMINATED f; most = most; depth = 0; bounds = bounds_below TERMINATED (λ (doc : ℕ). most); lists = [] }
 
+-- the scorer of a term: none scores more than the weight allows
 abbrev pub term_state : TermScorer → ScorerState
 term_state s = leaf_of (score_by_term s) (s.by.weight.weight * 2 ^ 16)
 
+-- the scorer of a phrase, with the same bound
 abbrev pub phrase_state : PhraseScorer → ScorerState
 phrase_state s = leaf_of (score_by_phrase s) (s.weight.weight * 2 ^ 16)
 
+-- the scorer of documents that score 1.0
 abbrev pub found_state : FoundScorer → ScorerState
 found_state s = leaf_of (score_by_found s) SCORE_ONE
 
+-- the scorer of a term, of a phrase or of documents that score 1.0
 abbrev pub leaf_state : LeafScorer → ScorerState
 leaf_state (Term s) = term_state s
 leaf_state (Phrase s) = phrase_state s
