@@ -9,7 +9,6 @@ numbers of tokens, and what queries find, as numbers, ids and a count. Norms hav
 import random
 import sys
 import tempfile
-import time
 
 sys.dont_write_bytecode = True
 import player
@@ -42,18 +41,12 @@ def one_session(task):
 
 def main():
     many, first = (int(sys.argv[1]), int(sys.argv[2])) if len(sys.argv) > 2 else (SESSIONS, 0)
-    program, begun = users.program_path(), time.time()
+    program = users.program_path()
     if program is None:
         print('tests/folder: the program was not built')
         return 1
-    runs = operations = compared = wrong = 0
-    for ran, played, times, why in player.side_by_side(one_session, [(program, seed) for seed in range(first, first + many)]):
-        runs, operations, compared = runs + ran, operations + played, compared + times
-        if why is not None:
-            wrong += 1
-            print(f'tests/folder: {why}', flush=True)
-    print(f'tests/folder: {many} sessions judged, {operations} operations, compared {compared} times, {runs} runs of nequllpa, in {time.time() - begun:.0f} s; {wrong} differ')
-    return 1 if wrong else 0
+    return player.run_all('tests/folder', one_session, [(program, seed) for seed in range(first, first + many)],
+                         lambda runs=0, operations=0, compared=0: f'{many} sessions judged, {operations} operations, compared {compared} times, {runs} runs of nequllpa')
 
 
 sys.exit(main())

@@ -9,6 +9,7 @@ import multiprocessing
 import os
 import subprocess
 import sys
+import time
 
 sys.path.insert(0, os.path.dirname(os.path.abspath(__file__)))
 from segments_meaning import FIELD, SCHEMA, Meaning, doc_tokens, without
@@ -49,6 +50,19 @@ def side_by_side(function, tasks):
     """Yields the results of a function for some tasks, in their order, of as many processes as the machine has processors."""
     with multiprocessing.Pool(len(os.sched_getaffinity(0))) as pool:
         yield from pool.imap(function, tasks)
+
+
+def run_all(tests, function, tasks, report):
+    """Runs a function for some tasks side by side. It returns counts, and at last what differs, or None. Prints what differs, and
+    a line that reports the sums of the counts. Returns the exit status."""
+    begun, sums, wrong = time.time(), [], 0
+    for *counts, why in side_by_side(function, tasks):
+        sums = [before + count for before, count in zip(sums or [0] * len(counts), counts)]
+        if why is not None:
+            wrong += 1
+            print(f'{tests}: {why}', flush=True)
+    print(f'{tests}: {report(*sums)}, in {time.time() - begun:.0f} s; {wrong} differ')
+    return 1 if wrong else 0
 
 
 def term_of(field, key):

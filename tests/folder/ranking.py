@@ -10,7 +10,6 @@ import json
 import random
 import sys
 import tempfile
-import time
 
 sys.dont_write_bytecode = True
 import player
@@ -100,18 +99,12 @@ def one_folder(task):
 
 def main():
     many, first = (int(sys.argv[1]), int(sys.argv[2])) if len(sys.argv) > 2 else (FOLDERS, 0)
-    program, begun = users.program_path(), time.time()
+    program = users.program_path()
     if program is None:
         print('tests/folder: the program was not built')
         return 1
-    asked = equal = runs = wrong = 0
-    for queries, same, ran, why in player.side_by_side(one_folder, [(program, seed, QUERIES) for seed in range(first, first + many)]):
-        asked, equal, runs = asked + queries, equal + same, runs + ran
-        if why is not None:
-            wrong += 1
-            print(f'tests/folder: {why}', flush=True)
-    print(f'tests/folder: {many} folders ranked by {asked} queries, of which {equal} have equal scores, {runs} runs of nequllpa, in {time.time() - begun:.0f} s; {wrong} differ')
-    return 1 if wrong else 0
+    return player.run_all('tests/folder', one_folder, [(program, seed, QUERIES) for seed in range(first, first + many)],
+                         lambda asked=0, equal=0, runs=0: f'{many} folders ranked by {asked} queries, of which {equal} have equal scores, {runs} runs of nequllpa')
 
 
 sys.exit(main())

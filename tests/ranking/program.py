@@ -10,7 +10,6 @@ import os
 import random
 import subprocess
 import sys
-import time
 
 sys.dont_write_bytecode = True
 TOP = os.path.dirname(os.path.dirname(os.path.dirname(os.path.abspath(__file__))))
@@ -86,20 +85,14 @@ def one_session(task):
 
 def main():
     many, first = (int(sys.argv[1]), int(sys.argv[2])) if len(sys.argv) > 2 else (SESSIONS, 0)
-    program, begun = [programs.program_of(PROGRAM)], time.time()
+    program = [programs.program_of(PROGRAM)]
     if 'RANKING' in os.environ:
         program = os.environ['RANKING'].split()
     elif not programs.build(PROGRAM):
         print('tests/ranking: the program was not built')
         return 1
-    asked = wrong = 0
-    for queries, why in player.side_by_side(one_session, [(program, seed, QUERIES) for seed in range(first, first + many)]):
-        asked += queries
-        if why is not None:
-            wrong += 1
-            print(f'tests/ranking: {why}', flush=True)
-    print(f'tests/ranking: {many} sessions with {asked} queries, each ranked in four ways, in {time.time() - begun:.0f} s; {wrong} differ')
-    return 1 if wrong else 0
+    return player.run_all('tests/ranking', one_session, [(program, seed, QUERIES) for seed in range(first, first + many)],
+                         lambda asked=0: f'{many} sessions with {asked} queries, each ranked in four ways')
 
 
 sys.exit(main())
