@@ -1,1 +1,2 @@
+pub mod ExactRunLemmas
 pub mod RunLemmas

@@ -1,6 +1,6 @@
 -- The greatest shares of runs of documents, by which documents are passed that score too little.
-use Rattle.std.specs.Prelude.{◌≡◌, ℕ, ◌+◌, ◌-◌, ◌*◌, ◌/◌, ◌^◌, ◌<◌, ◌≤◌, List, [], ◌∷◌, Option, None, Some, drop, if◌then◌else◌, max, nat_lt, true}
-use Rattle.std.specs.List.{AllByRecursion}
+use Rattle.std.specs.Prelude.{◌≡◌, ℕ, ◌+◌, ◌-◌, ◌*◌, ◌/◌, ◌^◌, ◌<◌, ◌≤◌, List, [], ◌∷◌, Option, None, Some, drop, if◌then◌else◌, length, map, max, nat_lt, take, true}
+use Rattle.std.specs.List.{AllByRecursion, range_with_len}
 use Rattle.ii_base.specs.Entries.{Entry}
 use Rattle.ii_bm25.specs.Bm25.{Bm25State, bm25_share}
 use Rattle.ii_docset.specs.Cursor.{IsSound, doc_at}
@@ -28,6 +28,32 @@ IsWithin (Some bound) share = share ≤ bound
 -- the share of an entry, by its count and the norm of its document
 abbrev pub share_of : Bm25State → Option Norms → Entry → ℕ
 share_of w norms e = bm25_share w (id_among norms e.doc) e.term_freq
+
+-- the greatest share of some entries, 0 if there are none
+abbrev pub greatest_share : (Entry → ℕ) → List Entry → ℕ
+greatest_share share [] = 0
+greatest_share share (e ∷ es) = max (share e) (greatest_share share es)
+
+-- the byte that stands for a share, rounded up
+abbrev pub share_byte : ℕ → ℕ
+share_byte share = (max 1 share - 1) / 2 ^ 20
+
+-- the document after the last of some entries
+abbrev pub end_of_run : List Entry → ℕ
+end_of_run [] = 0
+end_of_run (e ∷ es) = max (e.doc + 1) (end_of_run es)
+
+-- the run of some entries
+abbrev pub run_of : (Entry → ℕ) → List Entry → BlockShare
+run_of share es = record { end = end_of_run es; share = share_byte (greatest_share share es) }
+
+-- the first runs of a list, of 128 entries each; the last of a list may have fewer
+abbrev pub first_runs : (Entry → ℕ) → ℕ → List Entry → List BlockShare
+first_runs share n es = map (λ (i : ℕ). run_of share (take 128 (drop (128 * i) es))) (range_with_len 0 n)
+
+-- the runs of a list
+unfoldable pub runs_of : (Entry → ℕ) → List Entry → List BlockShare
+runs_of share es = first_runs share ((length es + 128 - 1) / 128) es
 
 -- No document of a list has a greater share than the bound of its run.
 abbrev pub AreBounds : Bm25State → Option Norms → List BlockShare → List Entry → Type 0
@@ -71,6 +97,8 @@ pub record IsRunBound (blocks : List BlockShare) (weight target : ℕ) (bound : 
 
 -- A cursor went over a run of documents, none of which has a greater share than the run's.
 pub record TakesRun (w : Bm25State) (norms : Option Norms) (old new : List Entry) (b : BlockShare) : Type 0 where
+  pub is : b ≡ run_of (share_of w norms) (take 128 old)
+  pub rest : new ≡ drop 128 old
   pub ahead : doc_at old < b.end
   pub up_to : b.end ≤ doc_at new
   pub sound : IsSound new

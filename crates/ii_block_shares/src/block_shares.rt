@@ -1,7 +1,7 @@
 //! The greatest share of a term's score in each run of its list.
 ghost use Rattle.std.specs.Prelude.{◌≡◌, IfOk, List};
 ghost use Rattle.ii_io.specs.Faults.{OnlyMemory};
-ghost use Rattle.ii_block_shares.specs.BlockShares.{AreBounds, EndWithDocs, last_end};
+ghost use Rattle.ii_block_shares.specs.BlockShares.{AreBounds, EndWithDocs, last_end, runs_of, share_of};
 
 use crate::runs::take_run;
 use ii_base::{DocId, Fault, TERMINATED};
@@ -45,14 +45,15 @@ impl Model for BlockShares {
 
 impl BlockShares {
     /// Returns bounds for the remaining documents of a cursor, by their counts, the norms of their field and the length
-    /// parts of a weight. Each run ends after one of them. The cursor is at its end afterwards. Fails only with
-    /// `OutOfMemory`.
+    /// parts of a weight. Each run has 128 of them, the last one what is left, and its byte is that of their greatest
+    /// share. The cursor is at its end afterwards. Fails only with `OutOfMemory`.
     pub fn of_postings(
         alloc: Global,
         cursor: &mut SegmentPostings,
         norms: &Option<FieldNormReader>,
         weight: &Bm25Weight,
     ) -> Result<BlockShares, Fault>
+        ensures runs { IfOk result (λ shares. shares ≡ runs_of (share_of weight.now norms.now) cursor.old.rest) }
         ensures bounds { IfOk result (λ shares. AreBounds weight.now norms.now shares cursor.old.rest) }
         ensures ends { IfOk result (λ shares. EndWithDocs shares cursor.old.rest) }
         ensures only { OnlyMemory result }

@@ -2,7 +2,7 @@
 ghost use Rattle.std.specs.Prelude.{◌≡◌, ◌+◌, ◌*◌, ◌<◌, ◌≤◌, ◌^◌, ◌∷◌, ℕ, List};
 ghost use Rattle.ii_base.specs.Entries.{Entry};
 ghost use Rattle.ii_docset.specs.Cursor.{IsCurrent};
-ghost use Rattle.ii_block_shares.specs.BlockShares.{TakesRun, share_bound, share_of};
+ghost use Rattle.ii_block_shares.specs.BlockShares.{TakesRun, share_bound, share_byte, share_of};
 
 use crate::block_shares::BlockShare;
 use crate::norm_ids::norm_id;
@@ -52,7 +52,8 @@ fn share_here(cursor: &SegmentPostings, norms: &Option<FieldNormReader>, weight:
 // Returns the byte of a share, rounded up.
 fn rounded_up(share: u64) -> u8
     requires { share < 2 ^ 28 }
-    ensures { share ≤ share_bound result }
+    ensures value { result ≡ share_byte share }
+    ensures covers { share ≤ share_bound result }
 {
     (share.max(1) - 1 >> 20) as u8
 }

@@ -1,9 +1,12 @@
-use Rattle.std.proofs.Common.{◌<◌, ◌≡◌, ℕ, arith, subst, true}
+use Rattle.std.proofs.Common.{◌<◌, ◌≤◌, ◌≡◌, ◌⊎◌, ◌+◌, ◌-◌, ℕ, arith, inl, inr, refl, subst, true}
+use Rattle.ii_base.specs.declared.doc_id.TheConstants.{TERMINATED}
 use Rattle.ii_docset.specs.Cursor.{doc_at}
 use Rattle.ii_docset.specs.Intersection.{has_doc}
-use Rattle.ii_block_shares.specs.BlockShares.{share_bound}
+use Rattle.ii_block_shares.specs.BlockShares.{share_bound, share_of}
+use Rattle.ii_block_shares.proofs.ExactRunLemmas.{run_is, takes_all, takes_more}
 use Rattle.ii_block_shares.proofs.RunLemmas.{ascends, has_first, has_later, less_one, takes_one}
 use Rattle.ii_block_shares.proofs.runs.take_run.Goals as goal
+use Rattle.ii_block_shares.proofs.runs.take_run.Goals.{else-loop-left-test, then-loop-left-test+else-doc-lt-TERMINATED}
 
 pub loop-left-init : goal.loop-left-init
 loop-left-init c =
@@ -20,6 +23,9 @@ loop-left-init c =
       ahead = omega (arith, at);
       up_to = omega (arith, at, next, later);
       few = c.share_here-greatest.ensures.below;
+      within = omega arith;
+      takes = takes_more (share_of c.args.weight.now c.args.norms.now) 0 0 0 old old (record { greatest_is = refl; end_is = refl; rest_is = refl }) low (omega arith)
+          1 c.share_here-greatest.result (c.doc-end.result + 1) c.share_here-greatest.result new (omega arith) rest c.share_here-greatest.ensures.value (omega arith) (omega (arith, at));
       last = subst (λ (d : ℕ). has_doc old d ≡ true) (less_one c.doc-end.result) (has_first c.doc-end.result old at (omega (arith, at, low)));
       left = λ d has. has_later d old new rest has;
       each = λ bound blocks enough here more.
@@ -45,6 +51,12 @@ loop-left-preserved c =
       up_to = omega (arith, at, next, later);
       last = subst (λ (d : ℕ). has_doc c.args.cursor.now.rest d ≡ true) (less_one l.doc) (i.left l.doc (has_first l.doc l.cursor.rest at low));
       left = λ d has. i.left d (has_later d l.cursor.rest c.advance-doc-in-loop-left.new.self.rest rest has);
+      within = let within = i.within in omega (arith, within);
+      takes =
+          let within = i.within in
+          let more = c.loop-left-test.true in
+          takes_more (share_of c.args.weight.now c.args.norms.now) (128 - l.left) l.greatest l.end c.args.cursor.now.rest l.cursor.rest i.takes (omega (arith, at, low)) (omega (arith, at, up_to))
+          (128 - (l.left - 1)) c.max-greatest.result (l.doc + 1) c.share_here.result c.advance-doc-in-loop-left.new.self.rest (omega (arith, within, more)) rest c.share_here.ensures.value most (omega (arith, at));
       few = let few = i.few in let below = c.share_here.ensures.below in omega (arith, few, below, most);
       each = λ bound blocks enough here left.
           i.each bound blocks (omega (arith, most, enough)) (λ d from before. here d from (omega (arith, before, up_to)))
@@ -53,7 +65,10 @@ loop-left-preserved c =
 
 pub returns : goal.returns
 returns c =
-    let i = c.loop-left.invariant in
+    let l = c.loop-left in
+    let i = l.invariant in
+    let over : (128 ≤ 128 - l.left) ⊎ (TERMINATED ≤ doc_at l.cursor.rest) = elim c.loop-left-test.branch [ then-loop-left-test+else-doc-lt-TERMINATED w ↦ inr (omega (arith, i.doc_is, w.if-doc-lt-TERMINATED.false)) | else-loop-left-test w ↦ inl (omega (arith, w.loop-left-test.false)) ] in
+    let all = takes_all (128 - l.left) c.args.cursor.now.rest l.cursor.rest (omega arith) i.takes.rest_is i.sound.ascending over in
     let at = i.doc_is in
     let up_to = i.up_to in
     record {
@@ -62,5 +77,7 @@ returns c =
       sound = i.sound;
       last = i.last;
       left = i.left;
-      each = λ blocks here left. i.each (share_bound c.rounded_up.result) blocks c.rounded_up.ensures here left;
+      is = run_is (share_of c.args.weight.now c.args.norms.now) (128 - l.left) l.greatest l.end c.rounded_up.result c.args.cursor.now.rest l.cursor.rest i.takes c.rounded_up.ensures.value all.0;
+      rest = all.1;
+      each = λ blocks here left. i.each (share_bound c.rounded_up.result) blocks c.rounded_up.ensures.covers here left;
     }
