@@ -1,3 +1,4 @@
+pub mod BoundLemmas
 mod ListOrderLemmas
 pub mod PreparedLemmas
 pub mod PreparedQueryLemmas

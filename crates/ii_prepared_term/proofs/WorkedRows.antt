@@ -1,10 +1,10 @@
 -- Rows that compute the definitions of a prepared term.
-use Rattle.std.proofs.Common.{◌≡◌, ℕ, List, [], ◌∷◌, Option, None, Some, Ok, Err, if◌then◌else◌, nat_eq, refl, arith}
+use Rattle.std.proofs.Common.{◌≡◌, ℕ, ◌+◌, ◌*◌, ◌^◌, List, [], ◌∷◌, Option, None, Some, Ok, Err, if◌then◌else◌, nat_eq, refl, arith}
 use Rattle.ii_io.specs.declared.faults.Part.TheVariants.{Range}
 use Rattle.ii_base.specs.Entries.{Entry, counted}
 use Rattle.ii_bm25.specs.Bm25.{Bm25State}
 use Rattle.ii_base.specs.declared.schema.index_record_option.IndexRecordOption.TheVariants.{Basic}
-use Rattle.ii_block_shares.specs.BlockShares.{last_end}
+use Rattle.ii_block_shares.specs.BlockShares.{last_end, runs_of, share_byte}
 use Rattle.ii_block_shares.specs.declared.block_shares.BlockShare.{BlockShare}
 use Rattle.ii_reader.specs.SegmentPostings.{postings_of_none}
 use Rattle.ii_ranking.specs.Listing.{scored_below}
@@ -13,6 +13,7 @@ use Rattle.ii_ranking.specs.TermWeights.{score_by_entry}
 use Rattle.ii_prepared_term.specs.PreparedQueries.{PreparedQueryState, bound_under, prepared_query_bound, prepared_query_score}
 use Rattle.ii_prepared_term.specs.PreparedScorers.{HasRest}
 use Rattle.ii_prepared_term.specs.PreparedTerms.{EndAhead, PreparedTermState, prepared_bound}
+use Rattle.ii_prepared_term.specs.QueryBounds.{greatest_listed}
 use Rattle.ii_prepared_term.specs.QueryDocs.{docs_or_none}
 use Rattle.ii_prepared_term.specs.ScoredLists.{entries_of, listed_score}
 
@@ -96,3 +97,15 @@ row_docs = refl
 
 row_no_docs : docs_or_none (Err Range) ≡ []
 row_no_docs = refl
+
+-- a list of two documents has one run, which ends after the second; a share of 3 * 2^20 is that of the byte 2
+row_runs : runs_of (λ (e : Entry). e.term_freq * 2 ^ 20) list ≡ record { end = 10; share = 2 } ∷ []
+unfolding runs_of
+row_runs = refl
+
+-- a share between two bytes is rounded up
+row_rounded_up : share_byte (2 ^ 20 + 1) ≡ 1
+row_rounded_up = refl
+
+row_greatest : greatest_listed ((3, 1) ∷ (5, 4) ∷ (4, 9) ∷ []) ≡ 5
+row_greatest = refl

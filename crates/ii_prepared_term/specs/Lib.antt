@@ -5,5 +5,6 @@ pub mod PreparedQueries
 pub mod PreparedScorers
 pub mod PreparedSegments
 pub mod PreparedTerms
+pub mod QueryBounds
 pub mod QueryDocs
 pub mod ScoredLists

@@ -74,6 +74,7 @@ impl PreparedQuery {
     // Returns a query that matches nothing.
     pub(crate) fn nothing() -> PreparedQuery
         ensures scores { (doc : ℕ) → prepared_query_score result doc ≡ None }
+        ensures bounds { (doc : ℕ) → doc < TERMINATED → prepared_query_bound result doc ≡ 0 }
         ensures lists { result.lists ≡ [] }
         ensures ends { ScoresEnd (prepared_query_score result) }
     {
@@ -85,6 +86,7 @@ impl PreparedQuery {
     // Returns one that matches all documents below `limit`, each of which scores 1.0.
     pub(crate) fn all(limit: DocId) -> PreparedQuery
         ensures scores { (doc : ℕ) → prepared_query_score result doc ≡ (if nat_lt doc (min limit TERMINATED) then Some SCORE_ONE else None) }
+        ensures bounds { (doc : ℕ) → doc < TERMINATED → prepared_query_bound result doc ≡ SCORE_ONE }
         ensures lists { result.lists ≡ [] }
         ensures ends { ScoresEnd (prepared_query_score result) }
     {
@@ -97,6 +99,7 @@ impl PreparedQuery {
     pub(crate) fn of_term(term: PreparedTerm) -> PreparedQuery
         requires { ScoresEnd (prepared_score term) }
         ensures scores { (doc : ℕ) → prepared_query_score result doc ≡ prepared_score term doc }
+        ensures bounds { (doc : ℕ) → doc < TERMINATED → prepared_query_bound result doc ≡ prepared_bound term doc }
         ensures lists { result.lists ≡ term_block_list term ∷ [] }
         ensures ends { ScoresEnd (prepared_query_score result) }
     {
@@ -109,6 +112,7 @@ impl PreparedQuery {
     pub(crate) fn of_list(list: ScoredList) -> PreparedQuery
         requires { ScoresEnd (listed_score list) }
         ensures scores { (doc : ℕ) → prepared_query_score result doc ≡ listed_score list doc }
+        ensures bounds { (doc : ℕ) → doc < TERMINATED → prepared_query_bound result doc ≡ list.most }
         ensures lists { result.lists ≡ [] }
         ensures ends { ScoresEnd (prepared_query_score result) }
     {
@@ -121,6 +125,7 @@ impl PreparedQuery {
     pub(crate) fn each(parts: Vec<PreparedQuery>) -> PreparedQuery
         requires { AllByRecursion (λ s. ScoresEnd (prepared_query_score s)) parts.items }
         ensures scores { (doc : ℕ) → prepared_query_score result doc ≡ each_of (scores_by parts.items doc) }
+        ensures bounds { (doc : ℕ) → doc < TERMINATED → prepared_query_bound result doc ≡ bound_under parts.items doc }
         ensures lists { result.lists ≡ lists_under parts.items }
         ensures ends { ScoresEnd (prepared_query_score result) }
     {
@@ -133,6 +138,7 @@ impl PreparedQuery {
     pub(crate) fn any(parts: Vec<PreparedQuery>) -> PreparedQuery
         requires { AllByRecursion (λ s. ScoresEnd (prepared_query_score s)) parts.items }
         ensures scores { (doc : ℕ) → prepared_query_score result doc ≡ any_of (scores_by parts.items doc) }
+        ensures bounds { (doc : ℕ) → doc < TERMINATED → prepared_query_bound result doc ≡ bound_under parts.items doc }
         ensures lists { result.lists ≡ lists_under parts.items }
         ensures ends { ScoresEnd (prepared_query_score result) }
     {
@@ -149,6 +155,7 @@ impl PreparedQuery {
     ) -> Result<PreparedQuery, Fault>
         requires { ScoresEnd (prepared_query_score first) }
         ensures scores { IfOk result (λ query. (doc : ℕ) → prepared_query_score query doc ≡ unless (prepared_query_score first doc) (prepared_query_score other doc)) }
+        ensures bounds { IfOk result (λ query. (doc : ℕ) → doc < TERMINATED → prepared_query_bound query doc ≡ prepared_query_bound first doc) }
         ensures lists { IfOk result (λ query. query.lists ≡ first.lists ++ other.lists) }
         ensures ends { IfOk result (λ query. ScoresEnd (prepared_query_score query)) }
         ensures only { OnlyMemory result }

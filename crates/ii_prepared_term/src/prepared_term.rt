@@ -15,7 +15,8 @@ ghost use Rattle.ii_ranking.specs.Scores.{IsScoreFault, scored_in, term_damage, 
 ghost use Rattle.ii_ranking.specs.Segments.{segment_scored};
 ghost use Rattle.ii_prepared_term.specs.PreparedQueries.{ScoresEnd};
 ghost use Rattle.ii_prepared_term.specs.PreparedScorers.{IsAtStart, IsUnread, prepared_list, prepared_state, term_block_list};
-ghost use Rattle.ii_prepared_term.specs.PreparedTerms.{prepared_score};
+ghost use Rattle.ii_prepared_term.specs.PreparedTerms.{prepared_bound, prepared_score};
+ghost use Rattle.ii_prepared_term.specs.QueryBounds.{term_bound};
 ghost use Rattle.ii_prepared_term.specs.QueryDocs.{term_docs};
 
 use crate::prepared_scorer::PreparedScorer;
@@ -71,6 +72,7 @@ impl PreparedTerm {
     ) -> Result<PreparedTerm, Fault>
         requires field { term.now.field < length index.now.readers }
         ensures scores { IfOk result (λ prepared. (doc : ℕ) → prepared_score prepared doc ≡ term_score (scored_in index.now (S.statistics statistics.now)) term.now doc) }
+        ensures bounds { IfOk result (λ prepared. (doc : ℕ) → prepared_bound prepared doc ≡ term_bound (scored_in index.now (S.statistics statistics.now)) term.now doc) }
         ensures list { IfOk result (λ prepared. (term_block_list prepared).docs ≡ term_docs index.now term.now) }
         ensures ends { IfOk result (λ prepared. ScoresEnd (prepared_score prepared)) }
         ensures sound { OnOk result (term_damage index.now term.now ≡ None) }

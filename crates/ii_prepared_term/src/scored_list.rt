@@ -6,6 +6,7 @@ ghost use Rattle.ii_docset.specs.Cursor.{IsAscending, doc_at, from_doc};
 ghost use Rattle.ii_query_parser.specs.Queries.{has_fields};
 ghost use Rattle.ii_ranking.specs.Scores.{IsScoreFault, entry_at, query_damage, query_score, scored_in};
 ghost use Rattle.ii_prepared_term.specs.PreparedQueries.{ScoresEnd};
+ghost use Rattle.ii_prepared_term.specs.QueryBounds.{greatest_listed, greatest_score};
 ghost use Rattle.ii_prepared_term.specs.ScoredLists.{entries_of, listed_score, listed_state};
 
 use ii_base::{DocId, Fault, TERMINATED};
@@ -45,6 +46,7 @@ impl ScoredList {
     ) -> Result<ScoredList, Fault>
         requires fields { has_fields (length index.now.readers) query.now ≡ true }
         ensures scores { IfOk result (λ list. (doc : ℕ) → listed_score list doc ≡ query_score (scored_in index.now (S.statistics statistics.now)) query.now doc) }
+        ensures most { IfOk result (λ list. list.most ≡ greatest_score (query_score (scored_in index.now (S.statistics statistics.now)) query.now)) }
         ensures ends { IfOk result (λ list. ScoresEnd (listed_score list)) }
         ensures sound { OnOk result (query_damage index.now query.now ≡ None) }
         ensures fault { IfErr result (IsScoreFault (query_damage index.now query.now)) }
@@ -69,7 +71,7 @@ impl ScoredList {
 
 // Returns the greatest score of some documents, or 0 if there are none.
 fn greatest_of(docs: &Vec<(Score, DocId)>) -> Score
-    ensures { (k : ℕ) → k < length docs.now.items → (get_or docs.now.items k (0, 0)).0 ≤ result }
+    ensures { result ≡ greatest_listed docs.now.items }
 {
     let mut most: Score = 0;
     for place in 0..docs.len() {

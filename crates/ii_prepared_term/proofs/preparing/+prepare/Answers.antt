@@ -1,7 +1,9 @@
-use Rattle.std.proofs.Common.{◌≡◌, ◌<◌, ◌+◌, drop, get_or, length, rules}
+use Rattle.std.proofs.Common.{◌≡◌, ◌<◌, ◌≤◌, ◌+◌, drop, get_or, length, rules}
+use Rattle.std.proofs.lemmas.List.{drop_all}
 use Rattle.ii_search.proofs.QueryLemmas.{and_deep, and_has_fields, or_deep, or_has_fields, query_at}
 use Rattle.ii_ranking.specs.Scores.{scored_in}
 use Rattle.ii_ranking.proofs.QueryScoreLemmas.{refused_next}
+use Rattle.ii_prepared_term.proofs.BoundLemmas.{bounds_all, bounds_first, bounds_next}
 use Rattle.ii_prepared_term.proofs.PreparedQueryLemmas.{lists_next, prepares_next}
 use Rattle.ii_prepared_term.proofs.preparing.+prepare.Goals as goal
 
@@ -34,5 +36,20 @@ prepare_each-loop-query-preserved g t c =
     let is : c.query-item.result ≡ get_or all l.query-index c.query-item.result = search rules in
     record {
       preparing = prepares_next s c.args.index.now all (drop l.query-index all) (drop (l.query-index + 1) all) c.query-item.result l.parts.items c.push.new.self.items c.in-Ok.part l.invariant.preparing (query_at all l.query-index c.query-item.result inside is) c.in-Ok.ensures.scores c.in-Ok.ensures.ends c.in-Ok.ensures.sound c.in_ok-push.ensures.items;
+      bounds = λ doc low. bounds_next s all (drop l.query-index all) (drop (l.query-index + 1) all) c.query-item.result l.parts.items c.push.new.self.items c.in-Ok.part doc (query_at all l.query-index c.query-item.result inside is) (c.in-Ok.ensures.bounds doc low) c.in_ok-push.ensures.items (l.invariant.bounds doc low);
       lists = lists_next c.args.index.now all (drop l.query-index all) (drop (l.query-index + 1) all) c.query-item.result l.parts.items c.push.new.self.items c.in-Ok.part (query_at all l.query-index c.query-item.result inside is) c.in-Ok.ensures.lists c.in_ok-push.ensures.items l.invariant.lists;
     }
+
+pub prepare_each-loop-query-init : goal.prepare_each-loop-query-init
+prepare_each-loop-query-init g t c =
+    let all = c.args.queries.now.items in
+    let s = scored_in c.args.index.now (g.S.Bm25StatisticsProvider.statistics c.args.statistics.now) in
+    record { preparing = search rules; bounds = λ doc low. bounds_first s all c.new-parts.result.items doc c.new-parts.ensures.items; lists = search rules }
+
+pub prepare_each-returns-clause-bounds : goal.prepare_each-returns-clause-bounds
+prepare_each-returns-clause-bounds g t c = λ doc low.
+    let l = c.loop-query in
+    let all = c.args.queries.now.items in
+    let s = scored_in c.args.index.now (g.S.Bm25StatisticsProvider.statistics c.args.statistics.now) in
+    let end : length all ≤ l.query-index = search rules in
+    bounds_all s all (drop l.query-index all) l.parts.items doc (drop_all l.query-index all end) (l.invariant.bounds doc low)

@@ -1,8 +1,9 @@
 use Rattle.std.proofs.Common.{ℕ, refl}
 use Rattle.ii_scorer.specs.Combinations.{each_of}
+use Rattle.ii_scorer.proofs.BoundLemmas.{row_bound_at}
 use Rattle.ii_scorer.proofs.PartsLemmas.{row_end, row_is}
 use Rattle.ii_base.specs.declared.doc_id.TheConstants.{TERMINATED}
-use Rattle.ii_prepared_term.specs.PreparedParts.{prepared_parts_score}
+use Rattle.ii_prepared_term.specs.PreparedParts.{prepared_parts_bound, prepared_parts_score}
 use Rattle.ii_prepared_term.specs.PreparedQueries.{scores_by}
 use Rattle.ii_prepared_term.specs.declared.prepared_query.PreparedParts.TheVariants.{Each}
 use Rattle.ii_prepared_term.proofs.PreparedQueryLemmas.{each_end}
@@ -10,6 +11,9 @@ use Rattle.ii_prepared_term.proofs.prepared_query.PreparedQuery.each.Goals as go
 
 pub returns-clause-scores : goal.returns-clause-scores
 returns-clause-scores c = row_is (prepared_parts_score (Each c.args.parts)) (λ (d : ℕ). each_of (scores_by c.args.parts.items d)) (λ d. refl) (each_end c.args.parts.items c.requires)
+
+pub returns-clause-bounds : goal.returns-clause-bounds
+returns-clause-bounds c = λ doc low. row_bound_at (prepared_parts_bound (Each c.args.parts)) doc low
 
 pub returns-clause-ends : goal.returns-clause-ends
 returns-clause-ends c = λ doc end. row_end TERMINATED (prepared_parts_score (Each c.args.parts)) doc end

@@ -1,12 +1,16 @@
 use Rattle.std.proofs.Common.{ℕ, None, refl}
+use Rattle.ii_scorer.proofs.BoundLemmas.{row_bound_at}
 use Rattle.ii_scorer.proofs.PartsLemmas.{row_end, row_is}
 use Rattle.ii_base.specs.declared.doc_id.TheConstants.{TERMINATED}
-use Rattle.ii_prepared_term.specs.PreparedParts.{prepared_parts_score}
+use Rattle.ii_prepared_term.specs.PreparedParts.{prepared_parts_bound, prepared_parts_score}
 use Rattle.ii_prepared_term.specs.declared.prepared_query.PreparedParts.TheVariants.{Nothing}
 use Rattle.ii_prepared_term.proofs.prepared_query.PreparedQuery.nothing.Goals as goal
 
 pub returns-clause-scores : goal.returns-clause-scores
 returns-clause-scores c = row_is (prepared_parts_score (Nothing)) (λ (d : ℕ). None) (λ d. refl) (λ d end. refl)
+
+pub returns-clause-bounds : goal.returns-clause-bounds
+returns-clause-bounds c = λ doc low. row_bound_at (prepared_parts_bound Nothing) doc low
 
 pub returns-clause-ends : goal.returns-clause-ends
 returns-clause-ends c = λ doc end. row_end TERMINATED (prepared_parts_score (Nothing)) doc end
