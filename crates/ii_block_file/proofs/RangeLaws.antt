@@ -1,12 +1,8 @@
 -- Ranges of files, read in whole blocks.
-use Rattle.std.proofs.Common.{◌≡◌, ℕ, ◌+◌, ◌-◌, ◌*◌, ◌/◌, ◌%◌, ◌<◌, ◌≤◌, min, Bool, true, false, List, map, length, take, drop, slice_get, Some, None, Option, IfSome, get_or, [], ◌∷◌, true≢false, refl, sym, ap, ◌∙◌, arith, inl, inr, subst}
-use Rattle.std.specs.List.{range_with_len}
+use Rattle.std.proofs.Common.{◌≡◌, ℕ, ◌+◌, ◌-◌, ◌*◌, ◌/◌, ◌%◌, ◌<◌, ◌≤◌, min, true, false, List, length, take, drop, Some, None, Option, IfSome, true≢false, refl, sym, ap, ◌∙◌, arith, inl, inr, subst}
 use Rattle.std.proofs.lemmas.Bool.{cases_lt}
-use Rattle.std.proofs.lemmas.List.FromFn.{get_or-map-range_with_len}
-use Rattle.std.proofs.lemmas.Bool.Decides.{nat_tests}
 use Rattle.std.proofs.lemmas.List.{drop-drop, drop-take, length-drop, length-take-le, take_all, take_at}
 use Rattle.std.proofs.Math.Seq.{take-add}
-use Rattle.ii_store.specs.FileDigest.{block_checksum}
 use Rattle.ii_block_file.specs.BlockTable.{AreListed, BlockTableState, IsRange, IsReadFault, file_block, lists_checksum, num_file_blocks, block_table_of}
 use Rattle.ii_block_file.proofs.TableLaws.{own_block}
 use Rattle.ii_block_file.specs.declared.faults.ReadFault.{ReadFault}

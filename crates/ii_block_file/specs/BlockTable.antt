@@ -1,6 +1,7 @@
 -- The checksums of a file's blocks, and ranges of files that were compared with them.
 use Rattle.std.specs.Prelude.{◌≡◌, ℕ, ◌+◌, ◌-◌, ◌*◌, ◌/◌, ◌%◌, ◌<◌, ◌==◌, ◌&&◌, ⊤, Bool, true, false, List, Option, IfSome, bytes_eq, drop, length, take}
 use Rattle.std.specs.Int.{w64, to_le_bytes}
+use Rattle.std.specs.declared.io.ErrorKind.TheVariants.{UnexpectedEof}
 use Rattle.sha2.specs.Sha256.{sha256}
 use Rattle.ii_store.specs.FileDigest.{block_checksum, blocks, checksum_bytes}
 use Rattle.ii_store.specs.declared.file_digest.FileDigest.{FileDigest}
@@ -56,3 +57,10 @@ IsReadFault t file from len faults.OutOfMemory = ⊤
 IsReadFault t file from len faults.Range = t.len < from + len
 IsReadFault t file from len (faults.Refused kind) = IfSome file (λ (bytes : List ℕ). length bytes < t.len)
 IsReadFault t file from len (faults.Damaged k) = (k < num_file_blocks t.len) × IfSome file (λ (bytes : List ℕ). length bytes ≡ t.len → lists_checksum t k (file_block k bytes) ≡ false)
+
+-- Why the table of so many bytes of a file can't be read. If the file's bytes are known, and there are enough, only an allocation fails.
+abbrev pub IsTableFault : Option (List ℕ) → ℕ → ReadFault → Type 0
+IsTableFault file len faults.OutOfMemory = ⊤
+IsTableFault file len faults.Range = ⊥
+IsTableFault file len (faults.Refused kind) = IfSome file (λ (bytes : List ℕ). (length bytes < len) × (kind ≡ UnexpectedEof))
+IsTableFault file len (faults.Damaged k) = ⊥

@@ -1,12 +1,21 @@
 //! The checksums of a file's blocks, in a table that has the file's digest.
-ghost use Rattle.std.specs.Prelude.{◌≡◌, ◌<◌, ◌≤◌, ◌+◌, ◌-◌, ◌*◌, IfOk, IfSome, None, false, length, true};
-ghost use Rattle.ii_block_file.specs.BlockTable.{AreListed, file_block, lists_checksum, is_table, num_file_blocks, block_table_of};
+ghost use Rattle.std.specs.Prelude.{◌≡◌, ◌<◌, ◌≤◌, ◌+◌, ◌-◌, ◌*◌, ◌++◌, IfErr, IfOk, IfSome, List, None, OnOk, Some, drop, false, length, take, true, ℕ};
+ghost use Rattle.sha2.specs.Sha256.{sha256};
+ghost use Rattle.ii_store.specs.FileDigest.{blocks, checksum_bytes};
+ghost use Rattle.ii_store.specs.IndexMeta.{file_meta};
+ghost use Rattle.ii_block_file.specs.BlockTable.{AreListed, IsTableFault, file_block, lists_checksum, is_table, num_file_blocks, block_table_of};
+ghost use Rattle.ii_block_file.specs.declared.faults.ReadFault.TheVariants as faults;
 
-use ii_store::FileDigest;
+use crate::faults::ReadFault;
+use ii_directory::{ReadAt, SegmentComponent};
 use ii_store::file_digest::{BLOCK_LEN, checksum_of};
+use ii_store::{FileDigest, FileMeta};
 use sha2::{Digest, Sha256};
 use std::alloc::{AllocError, Global};
 use std::marker::Model;
+
+// How many bytes of a file are read at a time, to make its table: 64 blocks.
+const READ_LEN: usize = 262_144;
 
 /// The length of a file, and the checksum of each of its blocks of `BLOCK_LEN` bytes, the last of which may be shorter.
 #[derive(Drop)]
@@ -32,14 +41,37 @@ impl BlockTable {
         ensures { IfOk result (λ t. t ≡ block_table_of file.now) }
     {
         let mut bytes = Vec::new(alloc);
-        for place in 0..file.len().div_ceil(BLOCK_LEN) {
-            let checksum = checksum_of(file_block(file, place)).to_le_bytes();
-            bytes.extend_from_slice(&checksum)?;
-        }
+        push_checksums(&mut bytes, file)?;
         Ok(BlockTable {
             len: file.len() as u64,
             bytes,
         })
+    }
+
+    /// Returns the table of a file of `len` bytes. Reads them once, in order, 256 KiB at a time, and holds no more than
+    /// that in memory, besides the table.
+    ///
+    /// # Errors
+    ///
+    /// `Refused` if the source refuses to read, with `UnexpectedEof` if the file is shorter; `OutOfMemory`.
+    pub fn read<R: ReadAt>(alloc: Global, file: &R, len: u64) -> Result<BlockTable, ReadFault>
+        ensures exact { (bytes : List ℕ) → R.bytes file.now ≡ Some bytes → length bytes ≡ len → IfOk result (λ t. t ≡ block_table_of bytes) }
+        ensures len { IfOk result (λ t. t.len ≡ len) }
+        ensures within { (bytes : List ℕ) → R.bytes file.now ≡ Some bytes → OnOk result (len ≤ length bytes) }
+        ensures sound { (bytes : List ℕ) → R.bytes file.now ≡ Some bytes → len ≤ length bytes → IfErr result (λ e. e ≡ faults.OutOfMemory) }
+        ensures fault { IfErr result (IsTableFault (R.bytes file.now) len) }
+    {
+        let mut buffer = Vec::new(alloc);
+        let mut bytes = Vec::new(alloc);
+        for place in 0..len.div_ceil(READ_LEN as u64) {
+            let from = place * READ_LEN as u64;
+            let part = (len - from).min(READ_LEN as u64) as usize;
+            match read_checksums(file, from, part, &mut buffer, &mut bytes) {
+                Ok(()) => {}
+                Err(fault) => return Err(fault),
+            }
+        }
+        Ok(BlockTable { len, bytes })
     }
 
     /// Takes the table of a file, given the file's length and its digest in `meta`. Returns `None` if these bytes aren't
@@ -68,6 +100,18 @@ impl BlockTable {
         ensures { result.now ≡ self.now.bytes }
     {
         self.bytes.as_slice()
+    }
+
+    /// Returns what `meta` says of the file, as this component of a segment.
+    pub fn file_meta(&self, component: SegmentComponent) -> FileMeta
+        ensures value { result ≡ record { component = component; len = self.now.len; digest = FileDigest.Blocks (sha256 self.now.bytes) } }
+        ensures file { (bytes : List ℕ) → self.now ≡ block_table_of bytes → result ≡ file_meta component bytes }
+    {
+        FileMeta {
+            component,
+            len: self.len(),
+            digest: FileDigest::Blocks(Sha256::digest(self.as_bytes())),
+        }
     }
 
     // Returns the first block, of these from one on, that has another checksum than the table lists.
@@ -111,6 +155,39 @@ fn is_table(len: u64, digest: &FileDigest, bytes: &[u8]) -> bool
         FileDigest::Sha256(_) | FileDigest::LongBlocks(_) => false,
         FileDigest::Blocks(digest) => digest.as_slice() == Sha256::digest(bytes).as_slice(),
     }
+}
+
+// Reads `len` bytes of a file, from `from` on, and appends the checksums of their blocks. `buffer` is for the bytes.
+fn read_checksums<R: ReadAt>(
+    file: &R,
+    from: u64,
+    len: usize,
+    buffer: &mut Vec<u8>,
+    checksums: &mut Vec<u8>,
+) -> Result<(), ReadFault>
+    ensures count { OnOk result (length checksums.new.items ≡ length checksums.old.items + 8 * num_file_blocks len) }
+    ensures within { (bytes : List ℕ) → R.bytes file.now ≡ Some bytes → OnOk result (from + len ≤ length bytes) }
+    ensures exact { (bytes : List ℕ) → R.bytes file.now ≡ Some bytes → OnOk result (checksums.new.items ≡ checksums.old.items ++ checksum_bytes (blocks 4096 (take len (drop from bytes)))) }
+    ensures fault { IfErr result (IsTableFault (R.bytes file.now) (from + len)) }
+{
+    buffer.resize(len, 0u8)?;
+    match file.read_exact_at(buffer.as_mut_slice(), from) {
+        Ok(()) => {}
+        Err(kind) => return Err(ReadFault::Refused(kind)),
+    }
+    push_checksums(checksums, buffer.as_slice())?;
+    Ok(())
+}
+
+// Appends the checksums of the blocks of a part of a file.
+fn push_checksums(checksums: &mut Vec<u8>, part: &[u8]) -> Result<(), AllocError>
+    ensures { OnOk result (checksums.new.items ≡ checksums.old.items ++ checksum_bytes (blocks 4096 part.now)) }
+{
+    for place in 0..part.len().div_ceil(BLOCK_LEN) {
+        let checksum = checksum_of(file_block(part, place)).to_le_bytes();
+        checksums.extend_from_slice(&checksum)?;
+    }
+    Ok(())
 }
 
 // Returns a block of a file.

@@ -1,4 +1,3 @@
-use Rattle.std.proofs.Common.{rules, ◌≡◌, ◌<◌, ◌≤◌, ◌+◌, ◌-◌, ◌*◌, ◌++◌, ◌∷◌, [], length, true, false, ℕ, sym, ap, ◌∙◌, arith}
 use Rattle.ii_block_file.proofs.TableLaws.{block_is}
 use Rattle.ii_block_file.proofs.block_table.file_block.Goals as goal
 

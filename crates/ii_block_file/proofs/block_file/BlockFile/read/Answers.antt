@@ -1,5 +1,4 @@
-use Rattle.std.proofs.Common.{rules, ◌≡◌, ◌<◌, ◌≤◌, ◌+◌, ◌-◌, ◌*◌, ◌/◌, ◌++◌, ◌∷◌, [], length, take, drop, true, false, Bool, ℕ, List, Option, Some, None, refl, sym, ap, ◌∙◌, arith, min}
-use Rattle.ii_block_file.specs.BlockTable.{IsRange}
+use Rattle.std.proofs.Common.{rules, length}
 use Rattle.ii_block_file.proofs.RangeLaws.{enough, range_is, range_of_file, sound_file}
 use Rattle.ii_block_file.proofs.block_file.BlockFile.read.Goals as goal
 

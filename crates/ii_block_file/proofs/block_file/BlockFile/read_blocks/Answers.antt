@@ -1,4 +1,4 @@
-use Rattle.std.proofs.Common.{rules, ◌≡◌, ◌<◌, ◌≤◌, ◌+◌, ◌-◌, ◌*◌, ◌/◌, ◌++◌, ◌∷◌, [], length, take, drop, true, false, Bool, ℕ, List, Option, Some, None, refl, sym, ap, ◌∙◌, arith, min, subst}
+use Rattle.std.proofs.Common.{◌≡◌, ◌<◌, ◌+◌, ◌-◌, ◌*◌, length, take, drop, false, ℕ, List, Some, sym, ap, ◌∙◌, arith, min, subst}
 use Rattle.ii_block_file.specs.BlockTable.{file_block, lists_checksum, num_file_blocks}
 use Rattle.ii_block_file.proofs.RangeLaws.{is_damaged}
 use Rattle.ii_block_file.proofs.block_file.BlockFile.read_blocks.Goals as goal
