@@ -1,2 +1,3 @@
 pub mod MergeLemmas
 pub mod ReadLemmas
+pub mod WriterLemmas

@@ -1,5 +1,5 @@
 -- The living documents of several stores.
-use Rattle.std.proofs.Common.{◌≡◌, ℕ, zero, suc, ◌+◌, ◌<◌, ◌≤◌, Bool, true, false, List, [], ◌∷◌, ◌++◌, append_assoc, append-nil, filter, get_or, length, length-append, map, slice_get, take, Option, None, Some, Result, Ok, Err, refl, sym, ap, subst, ◌∙◌, arith}
+use Rattle.std.proofs.Common.{◌≡◌, ℕ, zero, suc, ◌+◌, ◌<◌, ◌≤◌, Bool, true, false, List, [], ◌∷◌, ◌++◌, append_assoc, append-nil, filter, get_or, length, length-append, map, slice_get, take, Option, None, Some, Result, Ok, Err, refl, sym, ap, subst, ◌∙◌, arith, inl, inr, ⊎_elim}
 use Rattle.std.specs.Io.KnownBytes.{Appends}
 use Rattle.std.specs.List.{AllByRecursion, AllZip, flat_map, range_with_len}
 use Rattle.std.proofs.lemmas.Grind.{flat_map-append}
@@ -17,7 +17,7 @@ use Rattle.ii_segments.proofs.CountLaws.{living_length, living_within}
 use Rattle.ii_doc_store_merger.specs.declared.faults.StoreMergeFault.{StoreMergeFault}
 use Rattle.ii_doc_store_merger.specs.declared.faults.StoreMergeFault.TheVariants.{Damaged, DocumentLen, NumDocs, Output}
 use Rattle.ii_doc_store_merger.specs.declared.store_source.StoreSource.{StoreSource}
-use Rattle.ii_doc_store_merger.specs.StoreSources.{FitsFlags, IsMergedStore, IsSound, IsSourceFault, IsStoreDamage, IsStoreMergeFault, SegmentDocuments, SourceHolds, StoreSourceState, StoresAll, StoresLiving, all_read, documents_of_segments, documents_of_source, living_documents, num_living_of, opened_store}
+use Rattle.ii_doc_store_merger.specs.StoreSources.{FitsFlags, IsMergedStore, IsSound, IsSourceFault, IsStoreDamage, IsStoreMergeFault, OrWriterFailed, SegmentDocuments, SourceHolds, StoreSourceState, StoresAll, StoresLiving, WroteMergedStore, all_read, documents_of_segments, documents_of_source, living_documents, num_living_of, opened_store}
 
 abbrev Reads : StoreSourceState → List (List ℕ) → Type 0
 Reads s ds = documents_of_source s ≡ Ok ds
@@ -86,13 +86,18 @@ living_to [] i s found = absurd (cc)
 living_to (t ∷ ss) zero s found = let same : t ≡ s = cc in let many = ap (λ (u : StoreSourceState). num_living u.alive) same in omega (arith, many)
 living_to (t ∷ ss) (suc i) s found = let rest = living_to ss i s found in omega (arith, rest)
 
-pub source_fault : (ss : List StoreSourceState) (i : ℕ) (s : StoreSourceState) (old now : StoreWriterState) (fault : StoreMergeFault) → slice_get ss i ≡ Some s → (all : StoresAll (take i ss) old now) → IsSourceFault (length ([] ++ all.documents)) i s fault
+source_fault : (ss : List StoreSourceState) (i : ℕ) (s : StoreSourceState) (old now : StoreWriterState) (fault : StoreMergeFault) → slice_get ss i ≡ Some s → (all : StoresAll (take i ss) old now) → IsSourceFault (length ([] ++ all.documents)) i s fault
     → IsStoreMergeFault ss fault
 source_fault ss i s old now (Output fault) found all cause = cause
 source_fault ss i s old now (Damaged p damage) found all cause =
     rw cause.0 (record { store = s; found = found; damaged = cause.1; before = all_sound (take i ss) all.are.each all.are.read })
 source_fault ss i s old now (DocumentLen p) found all cause = rw (cause.0, found) cause.1
 source_fault ss i s old now NumDocs found all cause = let many = all.count in let within = living_to ss i s found in omega (arith, many, within, cause)
+
+-- why they can't be stored through a writer
+pub source_fault_or : (ss : List StoreSourceState) (i : ℕ) (s : StoreSourceState) (old now : StoreWriterState) (fault : StoreMergeFault) → slice_get ss i ≡ Some s → (all : StoresAll (take i ss) old now) → OrWriterFailed (IsSourceFault (length ([] ++ all.documents)) i s) fault
+    → OrWriterFailed (IsStoreMergeFault ss) fault
+source_fault_or ss i s old now fault found all cause = ⊎_elim (λ write. inl write) (λ known. inr (source_fault ss i s old now fault found all known)) cause
 
 -- ---- stores that hold documents
 all_given : (D : ℕ → Result (List ℕ) StoreDamage) (f : ℕ → List ℕ) (p : ℕ → Bool) (docs : List ℕ) → ((doc : ℕ) → p doc ≡ true → D doc ≡ Ok (f doc)) → all_read (map D (filter p docs)) ≡ Ok (map f (filter p docs))
@@ -142,17 +147,25 @@ undamaged ss ds NumDocs fit hold cause damage = damage
 pub all_of : (ss : List StoreSourceState) (n : ℕ) (old new : StoreWriterState) → length ss ≤ n → StoresAll (take n ss) old new → StoresAll ss old new
 all_of ss n old new many all = subst (λ (us : List StoreSourceState). StoresAll us old new) (take_all n ss many) all
 
-whole_file : (bytes items : List ℕ) (now : Option (List ℕ)) → Some items ≡ now → Appends (Some []) now bytes → items ≡ bytes
-whole_file bytes items None is h = absurd (cc)
-whole_file bytes items (Some xs) is h = inside (is ∙ ap (λ (ys : List ℕ). Some ys) h)
-  where
-    inside : Some items ≡ Some bytes → items ≡ bytes
-    inside e = cc
+-- the file of a writer to memory
+pub whole_file : (bytes items : List ℕ) (start now : Option (List ℕ)) → start ≡ Some [] → Some items ≡ now → Appends start now bytes → bytes ≡ items
+whole_file bytes items None now empty is h = absurd (cc)
+whole_file bytes items (Some xs) None empty is h = absurd (cc)
+whole_file bytes items (Some xs) (Some ys) empty is h = let none : xs ≡ [] = cc in let same : ys ≡ items = cc in sym (rw none at h) ∙ same
 
-pub is_merged : (ss : List StoreSourceState) (initial new : CountingWriterState) (old now : StoreWriterState) (items : List ℕ) → initial.contents ≡ Some [] → (all : StoresAll ss old now) → WroteStore initial new all.documents → Some items ≡ new.contents → IsMergedStore ss items
-is_merged ss initial new old now items empty all wrote contents =
-    let is = whole_file (store_bytes all.documents) items new.contents contents (subst (λ (o : Option (List ℕ)). Appends o new.contents (store_bytes all.documents)) empty wrote.wrote.appends) in
-    record { documents = all.documents; are = all.are; is = is; holds = subst (λ (b : List ℕ). HoldsDocuments b all.documents) (sym is) wrote.holds }
-
+-- a merged store holds the living documents
 pub holds_given : (ss : List StoreSourceState) (ds : List SegmentDocuments) (items : List ℕ) → AllByRecursion FitsFlags ss → AllZip SourceHolds ss ds → IsMergedStore ss items → HoldsDocuments items (documents_of_segments ds)
 holds_given ss ds items fit hold h = subst (HoldsDocuments items) (h.are.joined ∙ merged_held ss ds h.are.each fit hold h.are.read) h.holds
+
+-- the store that was written of the living documents of stores
+pub wrote_merged : (ss : List StoreSourceState) (initial new : CountingWriterState) (old now : StoreWriterState) → AllByRecursion FitsFlags ss → (all : StoresAll ss old now) → WroteStore initial new all.documents → WroteMergedStore ss initial new
+wrote_merged ss initial new old now fit all wrote =
+    let merged : IsMergedStore ss (store_bytes all.documents) = record { documents = all.documents; are = all.are; is = refl; holds = wrote.holds } in
+    record { bytes = store_bytes all.documents; wrote = wrote.wrote; is = merged; holds = λ ds hold. holds_given ss ds (store_bytes all.documents) fit hold merged }
+
+-- stores that hold documents have no damage
+pub undamaged_or : (ss : List StoreSourceState) (ds : List SegmentDocuments) (fault : StoreMergeFault) → AllByRecursion FitsFlags ss → AllZip SourceHolds ss ds → OrWriterFailed (IsStoreMergeFault ss) fault → IsStoreDamage fault → ⊥
+undamaged_or ss ds (Output fault) fit hold cause damage = damage
+undamaged_or ss ds (Damaged place d) fit hold cause damage = ⊎_elim (λ write. absurd (cc)) (λ known. undamaged ss ds (Damaged place d) fit hold known damage) cause
+undamaged_or ss ds (DocumentLen place) fit hold cause damage = damage
+undamaged_or ss ds NumDocs fit hold cause damage = damage

@@ -1,5 +1,5 @@
 -- The living documents of a store, read one after the other.
-use Rattle.std.proofs.Common.{◌≡◌, ℕ, suc, ◌+◌, ◌-◌, ◌<◌, true, false, List, [], ◌∷◌, ◌++◌, append_assoc, append-nil, filter, length, length-append, map, Result, Ok, Err, refl, sym, ap, subst, ◌∙◌, arith}
+use Rattle.std.proofs.Common.{◌≡◌, ℕ, suc, ◌+◌, ◌-◌, ◌<◌, true, false, List, [], ◌∷◌, ◌++◌, append_assoc, append-nil, filter, length, length-append, map, Result, Ok, Err, refl, sym, ap, subst, ◌∙◌, arith, inl, inr, ⊎_elim}
 use Rattle.std.specs.List.{range_with_len}
 use Rattle.std.proofs.lemmas.List.{take_all}
 use Rattle.ii_io.specs.CountingWriter.{CountingWriterState}
@@ -12,7 +12,7 @@ use Rattle.ii_doc_store.specs.StoreWriter.{AddsDocument, HasStored, StoreWriterS
 use Rattle.ii_segments.specs.Segments.{is_living}
 use Rattle.ii_doc_store_merger.specs.declared.faults.StoreMergeFault.{StoreMergeFault}
 use Rattle.ii_doc_store_merger.specs.declared.faults.StoreMergeFault.TheVariants.{Damaged, DocumentLen, NumDocs, Output}
-use Rattle.ii_doc_store_merger.specs.StoreSources.{IsDocumentFault, IsSourceFault, StoreSourceState, StoresDocuments, StoresLiving, all_read, documents_of_source, with_first}
+use Rattle.ii_doc_store_merger.specs.StoreSources.{IsDocumentFault, IsSourceFault, OrWriterFailed, StoreSourceState, StoresDocuments, StoresLiving, all_read, documents_of_source, with_first}
 
 -- documents before others that may not be read
 abbrev pub after : List (List ℕ) → Result (List (List ℕ)) StoreDamage → Result (List (List ℕ)) StoreDamage
@@ -83,7 +83,7 @@ module _ (s : StoreSourceState) (doc : ℕ) (low : doc < length s.alive) where
   pub first_damage : (old now : StoreWriterState) (damage : StoreDamage) → is_living s.alive doc ≡ true → document_of s.store.bytes s.store.checkpoints doc ≡ Err damage → HasStoredTo s doc old now → documents_of_source s ≡ Err damage
   first_damage old now damage living found h = sym h.left ∙ ap (after h.documents) (from_living living ∙ ap (λ (r : Result (List ℕ) StoreDamage). with_first r (documents_from s (doc + 1))) found)
 
-  pub document_fault : (initial : CountingWriterState) (before : List (List ℕ)) (old now : StoreWriterState) (place : ℕ) (fault : StoreMergeFault) → is_living s.alive doc ≡ true → HasStored initial old before → HasStoredTo s doc old now
+  document_fault : (initial : CountingWriterState) (before : List (List ℕ)) (old now : StoreWriterState) (place : ℕ) (fault : StoreMergeFault) → is_living s.alive doc ≡ true → HasStored initial old before → HasStoredTo s doc old now
       → IsDocumentFault now.num_docs place (document_of s.store.bytes s.store.checkpoints doc) fault → IsSourceFault (length before) place s fault
   document_fault initial before old now place (Output fault) living stored h cause = cause
   document_fault initial before old now place (Damaged p damage) living stored h cause = (cause.0, first_damage old now damage living cause.1 h)
@@ -94,6 +94,11 @@ module _ (s : StoreSourceState) (doc : ℕ) (low : doc < length s.alive) where
       let is = h.count in
       let below = rank_below s.alive doc living in
       omega (arith, many, more, is, below, cause)
+
+  -- why it can't be stored through a writer
+  pub document_fault_or : (initial : CountingWriterState) (before : List (List ℕ)) (old now : StoreWriterState) (place : ℕ) (fault : StoreMergeFault) → is_living s.alive doc ≡ true → HasStored initial old before → HasStoredTo s doc old now
+      → OrWriterFailed (IsDocumentFault now.num_docs place (document_of s.store.bytes s.store.checkpoints doc)) fault → OrWriterFailed (IsSourceFault (length before) place s) fault
+  document_fault_or initial before old now place fault living stored h cause = ⊎_elim (λ write. inl write) (λ known. inr (document_fault initial before old now place fault living stored h known)) cause
 
 pub all_stored : (s : StoreSourceState) (old new : StoreWriterState) → HasStoredTo s (length s.alive) old new → StoresLiving s old new
 all_stored s old new h =

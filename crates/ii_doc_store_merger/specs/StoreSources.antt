@@ -1,10 +1,11 @@
 -- Stores of documents that are merged: the living documents of each, one store after the other.
-use Rattle.std.specs.Prelude.{◌≡◌, ℕ, ◌+◌, ◌-◌, ◌^◌, ◌≤◌, ◌⊎◌, ⊤, Bool, true, IsSomeAnd, List, [], ◌∷◌, ◌++◌, get_or, length, map, slice_get, take, Some, Result, Ok, Err}
+use Rattle.std.specs.Prelude.{◌≡◌, ℕ, ◌+◌, ◌-◌, ◌^◌, ◌≤◌, ◌⊎◌, ⊤, Bool, true, IfErr, IsErrOf, IsSomeAnd, IsTrue, List, [], ◌∷◌, ◌++◌, get_or, length, map, slice_get, take, Some, Result, Ok, Err}
 use Rattle.std.specs.List.{AllByRecursion, AllZip, flat_map}
 use Rattle.ii_io.specs.declared.faults.Fault.{Fault}
-use Rattle.ii_io.specs.declared.faults.Fault.TheVariants.{Limit, OutOfMemory}
+use Rattle.ii_io.specs.declared.faults.Fault.TheVariants.{Limit, OutOfMemory, Write}
 use Rattle.ii_io.specs.declared.faults.LimitName.TheVariants.{Offset}
-use Rattle.ii_io.specs.CountingWriter.{CountingWriterState}
+use Rattle.ii_io.specs.Faults.{memory_fault}
+use Rattle.ii_io.specs.CountingWriter.{CountingWriterState, Grows, Wrote}
 use Rattle.ii_alive.specs.Alive.{num_living}
 use Rattle.ii_doc_store.specs.declared.faults.StoreDamage.{StoreDamage}
 use Rattle.ii_doc_store.specs.StoreFormat.{store_bytes}
@@ -83,6 +84,13 @@ pub record IsMergedStore (ss : List StoreSourceState) (bytes : List ℕ) : Type 
   pub is : bytes ≡ store_bytes documents
   pub holds : HoldsDocuments bytes documents
 
+-- The store of the living documents of stores was written. If these hold documents, it holds the living ones.
+pub record WroteMergedStore (ss : List StoreSourceState) (old new : CountingWriterState) : Type 0 where
+  pub bytes : List ℕ
+  pub wrote : Wrote old new bytes
+  pub is : IsMergedStore ss bytes
+  pub holds : (ds : List SegmentDocuments) → AllZip SourceHolds ss ds → HoldsDocuments bytes (documents_of_segments ds)
+
 -- ---- faults
 
 -- how many documents of stores are alive
@@ -109,12 +117,23 @@ pub record HasLongDocument (s : StoreSourceState) : Type 0 where
 abbrev pub IsOutputFault : Fault → Type 0
 IsOutputFault fault = (fault ≡ OutOfMemory) ⊎ (fault ≡ Limit Offset)
 
--- Why stores aren't merged.
+-- Why stores aren't merged in memory.
 abbrev pub IsStoreMergeFault : List StoreSourceState → StoreMergeFault → Type 0
 IsStoreMergeFault ss (Output fault) = IsOutputFault fault
 IsStoreMergeFault ss (Damaged place damage) = IsFirstDamagedStore ss place damage
 IsStoreMergeFault ss (DocumentLen place) = IsSomeAnd (slice_get ss place) HasLongDocument
 IsStoreMergeFault ss NumDocs = 2 ^ 31 ≤ num_living_of ss
+
+-- The writer failed, or there is another cause.
+abbrev pub OrWriterFailed : (StoreMergeFault → Type 0) → StoreMergeFault → Type 0
+OrWriterFailed Cause fault = (fault ≡ Output Write) ⊎ Cause fault
+
+-- the fault of a writer to memory, which fails only when an allocation fails
+abbrev pub memory_merge_fault : StoreMergeFault → StoreMergeFault
+memory_merge_fault (Output fault) = Output (memory_fault fault)
+memory_merge_fault (Damaged place damage) = Damaged place damage
+memory_merge_fault (DocumentLen place) = DocumentLen place
+memory_merge_fault NumDocs = NumDocs
 
 -- A fault is damage of a store.
 abbrev pub IsStoreDamage : StoreMergeFault → Type 0
@@ -124,6 +143,13 @@ IsStoreDamage (DocumentLen place) = ⊥
 IsStoreDamage NumDocs = ⊥
 
 -- ---- what calls store
+
+-- How a call that stores documents ends. If the writer fails, that is counted once. A fault closes the store, but for damage of a source.
+pub record StoresMore (old new : StoreWriterState) (result : Result (Unit {0}) StoreMergeFault) : Type 0 where
+  pub grows : Grows old.writer new.writer
+  pub by_one : IsErrOf result (Output Write) → new.writer.failed_calls ≡ old.writer.failed_calls + 1
+  pub no_other : ¬ IsErrOf result (Output Write) → new.writer.failed_calls ≡ old.writer.failed_calls
+  pub closed : IfErr result (λ e. ¬ IsStoreDamage e → IsTrue new.closed)
 
 -- Documents were stored after all others.
 abbrev pub StoresDocuments : List (List ℕ) → StoreWriterState → StoreWriterState → Type 0

@@ -1,3 +1,6 @@
+ghost use Rattle.std.specs.Prelude.{◌≡◌};
+ghost use Rattle.ii_doc_store_merger.specs.StoreSources.{memory_merge_fault};
+
 use ii_base::Fault;
 use ii_doc_store::StoreDamage;
 use thiserror::Error;
@@ -5,7 +8,7 @@ use thiserror::Error;
 /// Why stores can't be merged.
 #[derive(Clone, Copy, Debug, PartialEq, Eq, Error)]
 pub enum StoreMergeFault {
-    /// An allocation failed, or the merged store would have 2^64 bytes or more.
+    /// An allocation or the writer failed, or the merged store would have 2^64 bytes or more.
     #[error("{0}")]
     Output(Fault),
     /// A block of the store at this place, from 0, is damaged.
@@ -17,4 +20,16 @@ pub enum StoreMergeFault {
     /// More than `MAX_DOCS` documents are alive.
     #[error("limit passed: number of documents")]
     NumDocs,
+}
+
+impl StoreMergeFault {
+    // Maps a failed writer to a failed allocation, and any other fault to itself.
+    pub(crate) fn in_memory(self) -> StoreMergeFault
+        ensures { result ≡ memory_merge_fault self }
+    {
+        match self {
+            StoreMergeFault::Output(fault) => StoreMergeFault::Output(fault.in_memory()),
+            fault => fault,
+        }
+    }
 }

@@ -7,5 +7,5 @@ mod source;
 pub mod store_source;
 
 pub use faults::StoreMergeFault;
-pub use merged_store::merge_stores;
+pub use merged_store::{merge_stores, merge_stores_to};
 pub use store_source::StoreSource;

@@ -1,10 +1,11 @@
 //! Writes the living documents of stores as one store.
-ghost use Rattle.std.specs.Prelude.{◌≡◌, IfErr, IfOk, [], List, OnOk, false, map};
+ghost use Rattle.std.specs.Prelude.{◌≡◌, ◌+◌, IfErr, IfOk, IsErrAnd, IsErrOf, [], List, OnOk, false, map};
 ghost use Rattle.std.specs.List.{AllByRecursion, AllZip};
-ghost use Rattle.ii_io.specs.CountingWriter.{CountingWriterState};
+ghost use Rattle.ii_io.specs.declared.faults.Fault.TheVariants as faults;
+ghost use Rattle.ii_io.specs.CountingWriter.{CountingWriterState, Grows};
 ghost use Rattle.ii_doc_store.specs.StoreReader.{HoldsDocuments};
 ghost use Rattle.ii_doc_store.specs.StoreWriter.{HasStored};
-ghost use Rattle.ii_doc_store_merger.specs.StoreSources.{FitsFlags, IsMergedStore, IsStoreDamage, IsStoreMergeFault, SegmentDocuments, SourceHolds, StoresAll, documents_of_segments, opened_store};
+ghost use Rattle.ii_doc_store_merger.specs.StoreSources.{FitsFlags, IsMergedStore, IsStoreDamage, IsStoreMergeFault, OrWriterFailed, SegmentDocuments, SourceHolds, StoresAll, StoresMore, WroteMergedStore, documents_of_segments, opened_store};
 
 use crate::faults::StoreMergeFault;
 use crate::source::store_source;
@@ -34,16 +35,53 @@ pub fn merge_stores(alloc: Global, sources: &[StoreSource<'_>]) -> Result<Vec<u8
     ensures fault { IfErr result (IsStoreMergeFault (map opened_store sources.now)) }
     ensures undamaged { (ds : List SegmentDocuments) → AllZip SourceHolds (map opened_store sources.now) ds → IfErr result (λ e. ¬ IsStoreDamage e) }
 {
-    let mut writer = StoreWriter::new(alloc, CountingWriter::wrap(Vec::new(alloc)));
-    let stored = store_all(&mut writer, sources);
-    let (writer, finished) = writer.finish();
+    let writer = CountingWriter::wrap(Vec::new(alloc));
+    let (writer, merged) = merge_stores_to(alloc, sources, writer);
+    match merged {
+        Ok(()) => Ok(writer.finish()),
+        Err(fault) => Err(fault.in_memory()),
+    }
+}
+
+/// Writes a store of the living documents of several stores, one store after the other, flushes it, and returns the
+/// writer. Each store must have as many documents as flags. Reads each block with living documents once, and keeps in
+/// memory what `StoreWriter` does: one block, and 44 bytes for each written block.
+///
+/// # Errors
+///
+/// * `Damaged`, `DocumentLen` and `NumDocs` as `merge_stores` does.
+/// * `Output(Write)` if the writer fails, `Output(OutOfMemory)` if an allocation fails, `Output(Limit(Offset))` if a
+///   count of the writer would exceed `u64::MAX`.
+///
+/// After an error the output may have been partially appended: the start of a store, or a complete store of the
+/// documents before the error. After `Damaged` the end of that store is written too, by a call that may fail.
+pub fn merge_stores_to<W: Write>(
+    alloc: Global,
+    sources: &[StoreSource<'_>],
+    writer: CountingWriter<W>,
+) -> (CountingWriter<W>, Result<(), StoreMergeFault>)
+    requires fits { AllByRecursion FitsFlags (map opened_store sources.now) }
+    ensures merged { OnOk result.1 (WroteMergedStore (map opened_store sources.now) writer result.0) }
+
+    // What is written, and which calls failed, also after an error.
+    ensures grow { Grows writer result.0 }
+    ensures by_one { IsErrOf result.1 (StoreMergeFault.Output faults.Write) → result.0.failed_calls ≡ writer.failed_calls + 1 }
+    ensures no_other { ¬ IsErrOf result.1 (StoreMergeFault.Output faults.Write) → ¬ IsErrAnd result.1 IsStoreDamage → result.0.failed_calls ≡ writer.failed_calls }
+
+    // Which errors it returns, and when.
+    ensures fault { IfErr result.1 (OrWriterFailed (IsStoreMergeFault (map opened_store sources.now))) }
+    ensures undamaged { (ds : List SegmentDocuments) → AllZip SourceHolds (map opened_store sources.now) ds → IfErr result.1 (λ e. ¬ IsStoreDamage e) }
+{
+    let mut store = StoreWriter::new(alloc, writer);
+    let stored = store_all(&mut store, sources);
+    let (writer, finished) = store.finish();
     match stored {
         Ok(()) => {}
-        Err(fault) => return Err(fault),
+        Err(fault) => return (writer, Err(fault)),
     }
     match finished {
-        Ok(()) => Ok(writer.finish()),
-        Err(fault) => Err(StoreMergeFault::Output(fault.in_memory())),
+        Ok(()) => (writer, Ok(())),
+        Err(fault) => (writer, Err(StoreMergeFault::Output(fault))),
     }
 }
 
@@ -56,7 +94,8 @@ fn store_all<W: Write>(
     requires fits { AllByRecursion FitsFlags (map opened_store sources.now) }
     ensures stored { OnOk result (StoresAll (map opened_store sources.now) writer.old writer.new) }
     ensures open { OnOk result (writer.new.closed ≡ false) }
-    ensures fault { (initial : CountingWriterState) → HasStored initial writer.old [] → IfErr result (IsStoreMergeFault (map opened_store sources.now)) }
+    ensures more { StoresMore writer.old writer.new result }
+    ensures fault { (initial : CountingWriterState) → HasStored initial writer.old [] → IfErr result (OrWriterFailed (IsStoreMergeFault (map opened_store sources.now))) }
 {
     for place in 0..sources.len() {
         if let Err(fault) = store_source(writer, place, &sources[place]) {

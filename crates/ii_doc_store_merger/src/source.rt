@@ -3,7 +3,7 @@ ghost use Rattle.std.specs.Prelude.{◌≡◌, ◌<◌, ◌≤◌, IfErr, IfOk, 
 ghost use Rattle.ii_io.specs.CountingWriter.{CountingWriterState};
 ghost use Rattle.ii_doc_store.specs.StoreReader.{IsBlockOf, document_of, document_of_read, num_docs};
 ghost use Rattle.ii_doc_store.specs.StoreWriter.{AddsDocument, HasStored};
-ghost use Rattle.ii_doc_store_merger.specs.StoreSources.{FitsFlags, IsDocumentFault, IsSourceFault, StoresLiving, opened_store};
+ghost use Rattle.ii_doc_store_merger.specs.StoreSources.{FitsFlags, IsDocumentFault, IsSourceFault, OrWriterFailed, StoresLiving, StoresMore, opened_store};
 
 use crate::faults::StoreMergeFault;
 use crate::store_source::StoreSource;
@@ -21,7 +21,8 @@ pub(crate) fn store_source<W: Write>(
     requires fits { FitsFlags (opened_store source.now) }
     ensures stored { OnOk result (StoresLiving (opened_store source.now) writer.old writer.new) }
     ensures open { OnOk result (writer.new.closed ≡ false) }
-    ensures fault { (initial : CountingWriterState) (before : List (List ℕ)) → HasStored initial writer.old before → IfErr result (IsSourceFault (length before) place (opened_store source.now)) }
+    ensures more { StoresMore writer.old writer.new result }
+    ensures fault { (initial : CountingWriterState) (before : List (List ℕ)) → HasStored initial writer.old before → IfErr result (OrWriterFailed (IsSourceFault (length before) place (opened_store source.now))) }
 {
     let mut kept = None;
     for doc in 0..source.alive.num_docs() {
@@ -73,7 +74,8 @@ fn store_from<W: Write>(
     requires here { (block.now.first_doc ≤ doc) × (doc < block.now.doc_end) }
     ensures stored { OnOk result ((document : List ℕ) × (document_of_read block.now doc ≡ Ok document) × AddsDocument writer.old writer.new document) }
     ensures open { OnOk result (writer.new.closed ≡ false) }
-    ensures fault { IfErr result (IsDocumentFault writer.old.num_docs place (document_of_read block.now doc)) }
+    ensures more { StoresMore writer.old writer.new result }
+    ensures fault { IfErr result (OrWriterFailed (IsDocumentFault writer.old.num_docs place (document_of_read block.now doc))) }
 {
     let document = match block.get(doc) {
         Ok(document) => document,
@@ -81,7 +83,7 @@ fn store_from<W: Write>(
     };
     match writer.store(document) {
         Ok(()) => Ok(()),
-        Err(StoreWriteFault::Output(fault)) => Err(StoreMergeFault::Output(fault.in_memory())),
+        Err(StoreWriteFault::Output(fault)) => Err(StoreMergeFault::Output(fault)),
         Err(StoreWriteFault::DocumentLen) => Err(StoreMergeFault::DocumentLen(place)),
         Err(StoreWriteFault::NumDocs) => Err(StoreMergeFault::NumDocs),
     }
