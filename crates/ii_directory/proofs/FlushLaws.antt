@@ -2,7 +2,7 @@
 use Rattle.std.proofs.Common.{◌≡◌, ◌⊎◌, inl, inr, ⊎_elim, ℕ, List, Bool, true, false, Option, None, Some, refl, sym, ap, ◌∙◌, subst}
 use Rattle.std.specs.Prelude.{IsSome, IsTrue, ◌↔◌}
 use Rattle.ii_directory.specs.declared.name.Name.{Name}
-use Rattle.ii_directory.specs.Directory.{Elsewhere, Files, IsOther, IsPut, IsRenamed, MayBeRenamed, Same}
+use Rattle.ii_directory.specs.Directory.{Elsewhere, Files, IsFinished, IsOther, IsPut, IsRenamed, MayBeRenamed, Same}
 use Rattle.ii_directory.specs.FileSystem.{IsFlushed, IsMoved, IsUnflushed, LeavesOnly, MayBeLeft, MayBeMoved, MayBeRemoved}
 use Rattle.ii_directory.specs.Names.{same_name}
 use Rattle.ii_directory.proofs.ListingLaws.{split}
@@ -99,6 +99,9 @@ put_kept name bytes old mid new put same = record {
   there = same name ∙ put.there;
   elsewhere = λ other differ. same other ∙ put.elsewhere other differ;
 }
+
+pub finished_kept : (name : Name) (contents : Option (List ℕ)) (old mid new : Files) → IsFinished name contents old mid → Same mid new → IsFinished name contents old new
+finished_kept name contents old mid new finished same = record { bytes = finished.bytes; put = put_kept name (Some finished.bytes) old mid new finished.put same; known = finished.known }
 
 pub renamed_kept : (from to : Name) (old mid new : Files) → IsRenamed from to old mid → Same mid new → IsRenamed from to old new
 renamed_kept from to old mid new renamed same = record {

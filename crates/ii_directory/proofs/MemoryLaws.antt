@@ -8,7 +8,7 @@ use Rattle.std.specs.declared.alloc.Global.{Global}
 use Rattle.ii_directory.specs.declared.memory_files.Change.{Change}
 use Rattle.ii_directory.specs.declared.memory_files.Change.TheVariants.{Flushed, FlushedNames, Put, Removed, Renamed}
 use Rattle.ii_directory.specs.declared.name.Name.{Name}
-use Rattle.ii_directory.specs.Directory.{Elapses, Files, IsOther, IsPut, IsRenamed, Same, found_bytes}
+use Rattle.ii_directory.specs.Directory.{Elapses, Files, IsFinished, IsOther, IsPut, IsRenamed, Same, found_bytes}
 use Rattle.ii_directory.specs.FileSystem.{HasFlushedNames, IsFlushed, IsMoved, IsUnflushed, MayBeLeft, MayBeMoved, MayBeRemoved}
 use Rattle.ii_directory.specs.MemoryFiles.{MayBePut, WereSince, after, all_taken, changed, counts_now, files_after, left_after, left_by, left_of, seen_left}
 use Rattle.ii_directory.proofs.Elapsing.{at_ok}
@@ -179,6 +179,9 @@ removed_made name old new made = rw made (is_removed name old)
 module _ {T E : Type 0} (result : Result T E) (old new : List Change) where
   pub put_at_ok : (name : Name) (bytes : Vec ℕ Global) → OnOk result (new ≡ old ++ Put name bytes ∷ []) → OnOk result (IsPut name (Some bytes.items) (files_after old) (files_after new))
   put_at_ok name bytes ok = at_ok (new ≡ old ++ Put name bytes ∷ []) (IsPut name (Some bytes.items) (files_after old) (files_after new)) result (λ made. rw made (is_put name bytes old)) ok
+
+  pub finished_at_ok : (name : Name) (bytes : Vec ℕ Global) → OnOk result (new ≡ old ++ Put name bytes ∷ []) → OnOk result (IsFinished name (Some bytes.items) (files_after old) (files_after new))
+  finished_at_ok name bytes ok = at_ok (new ≡ old ++ Put name bytes ∷ []) (IsFinished name (Some bytes.items) (files_after old) (files_after new)) result (λ made. rw made (record { bytes = bytes.items; put = is_put name bytes old; known = refl })) ok
 
   pub renamed_at_ok : (from to : Name) → OnOk result (new ≡ old ++ Renamed from to ∷ []) → OnOk result (IsMoved from to (files_after old) (files_after new))
   renamed_at_ok from to ok = at_ok (new ≡ old ++ Renamed from to ∷ []) (IsMoved from to (files_after old) (files_after new)) result (λ made. rw made (is_renamed from to old)) ok

@@ -1,5 +1,5 @@
 -- The files of a folder, the effect of each call, and what a stop may leave.
-use Rattle.std.specs.Prelude.{◌≡◌, ◌⊎◌, ℕ, ◌≤◌, List, Option, None, Some, IsSome, Vec, Result, IfErr, ⊤}
+use Rattle.std.specs.Prelude.{◌≡◌, ◌⊎◌, ℕ, ◌≤◌, List, Option, None, Some, IfSome, IsSome, Vec, Result, IfErr, ⊤}
 use Rattle.std.specs.List.{Contains, IsDistinct}
 use Rattle.std.specs.declared.alloc.Global.{Global}
 use Rattle.ii_directory.specs.declared.faults.DirectoryFault.{DirectoryFault}
@@ -43,6 +43,12 @@ Elsewhere name old new = (other : Name) → IsOther name other → new other ≡
 pub record IsPut (name : Name) (bytes : Option (List ℕ)) (old new : Files) : Type 0 where
   pub there : new name ≡ bytes
   pub elsewhere : Elsewhere name old new
+
+-- A file got its name; its bytes are those that it is known to have. All other files are unchanged.
+pub record IsFinished (name : Name) (contents : Option (List ℕ)) (old new : Files) : Type 0 where
+  pub bytes : List ℕ
+  pub put : IsPut name (Some bytes) old new
+  pub known : IfSome contents (λ known. bytes ≡ known)
 
 -- a file was renamed; all other files are unchanged
 pub record IsRenamed (from to : Name) (old new : Files) : Type 0 where

@@ -1,13 +1,14 @@
 //! The directory of an index: its files, and what may be left if the program stops.
-ghost use Rattle.std.specs.Prelude.{◌≡◌, ◌≤◌, ℕ, IfOk, IsSome, None, OnOk, Some};
-ghost use Rattle.ii_directory.specs.Directory.{Elapses, Elsewhere, Files, IsListing, IsOpened, IsPut, IsRefusal, IsRenamed, MayBeRenamed, Obeys, Same, found_bytes, is_obeyed};
+ghost use Rattle.std.specs.Prelude.{◌≡◌, ◌≤◌, [], ℕ, IfOk, IsSome, None, OnOk, Some};
+ghost use Rattle.ii_directory.specs.Directory.{Elapses, Elsewhere, Files, IsFinished, IsListing, IsOpened, IsPut, IsRefusal, IsRenamed, MayBeRenamed, Obeys, Same, found_bytes, is_obeyed};
 
 use crate::faults::DirectoryFault;
 use crate::name::Name;
 use crate::read_at::ReadAt;
 use std::alloc::Global;
+use std::io::Write;
 
-/// Reads, writes, renames and removes complete files.
+/// Reads, writes, renames and removes complete files, and writes files piece by piece.
 ///
 /// The clauses hold for directories that behave as documented (`is_known`). Of a folder this is proved if its
 /// file system does (`Folder`).
@@ -17,6 +18,9 @@ use std::alloc::Global;
 pub trait Directory {
     /// A file that was opened.
     type File: ReadAt + Drop;
+
+    /// A file that is being written. It has no name yet.
+    type NewFile: Write + Drop;
 
     // The directory behaves as documented, and no call failed.
     ghost is_known: { Self → Type 0 };
@@ -56,6 +60,24 @@ pub trait Directory {
         ensures known { is_known self.old → OnOk result (is_known self.new) }
         ensures obeys { Obeys IsRefusal (may_refuse self.old) (may_refuse self.new) result }
         ensures written { is_known self.old → OnOk result (IsPut name (Some bytes.now) (seen self.old) (seen self.new)) }
+        ensures time { is_known self.old → Elapses (moment self.old) (moment self.new) (left_since self.old) (left_since self.new) (Elsewhere name (seen self.old)) };
+
+    /// Creates an empty file without a name, which is written piece by piece. What is left in a folder of one that isn't
+    /// finished is removed when the folder is locked again (`FolderLock`).
+    fn create(&self, alloc: Global) -> Result<Self::NewFile, DirectoryFault>
+        ensures created { is_known self.now → IfOk result (λ file. Self.NewFile.contents file ≡ Some []) }
+        ensures obeys { is_obeyed IsRefusal (may_refuse self.now) result };
+
+    /// Returns why a write to a file that was created failed last.
+    fn write_fault(&self, file: &Self::NewFile) -> DirectoryFault
+        ensures obeys { IsRefusal result → may_refuse self.now };
+
+    /// Gives a file that was created its name, replacing any old file of that name, and flushes it. A stop may leave any
+    /// bytes in the file of that name.
+    fn finish(&mut self, name: Name, file: Self::NewFile) -> Result<(), DirectoryFault>
+        ensures known { is_known self.old → OnOk result (is_known self.new) }
+        ensures obeys { Obeys IsRefusal (may_refuse self.old) (may_refuse self.new) result }
+        ensures finished { is_known self.old → OnOk result (IsFinished name (Self.NewFile.contents file) (seen self.old) (seen self.new)) }
         ensures time { is_known self.old → Elapses (moment self.old) (moment self.new) (left_since self.old) (left_since self.new) (Elsewhere name (seen self.old)) };
 
     /// Atomically renames a file, replacing any file of that name. A stop leaves the state before or after.

@@ -1,12 +1,13 @@
 //! The calls of a file system on the files of one folder, whose changes are durable only once they are flushed.
-ghost use Rattle.std.specs.Prelude.{◌≡◌, ◌≤◌, ◌↔◌, ℕ, IfOk, IsSome, IsTrue, None, OnOk, Some};
-ghost use Rattle.ii_directory.specs.Directory.{Elapses, Files, IsListing, IsOpened, IsPut, IsRefusal, Obeys, Same, found_bytes, is_obeyed};
+ghost use Rattle.std.specs.Prelude.{◌≡◌, ◌≤◌, ◌↔◌, [], ℕ, IfOk, IsSome, IsTrue, None, OnOk, Some};
+ghost use Rattle.ii_directory.specs.Directory.{Elapses, Files, IsFinished, IsListing, IsOpened, IsPut, IsRefusal, Obeys, Same, found_bytes, is_obeyed};
 ghost use Rattle.ii_directory.specs.FileSystem.{HasFlushedNames, IsFlushed, IsMoved, IsUnflushed, MayBeMoved, MayBeRemoved};
 
 use crate::faults::DirectoryFault;
 use crate::name::Name;
 use crate::read_at::ReadAt;
 use std::alloc::Global;
+use std::io::Write;
 
 /// Reads and changes the files of one folder. If the power fails, a change that isn't flushed may be lost, in
 /// whole or in part: the bytes of a file before `sync_file`, and its name, a renaming or a removal before
@@ -17,6 +18,9 @@ use std::alloc::Global;
 pub trait FileSystem {
     /// A file that was opened.
     type File: ReadAt + Drop;
+
+    /// A file that is being written. It has no name yet.
+    type NewFile: Write + Drop;
 
     // The system behaves as documented, and no call failed.
     ghost is_known: { Self → Type 0 };
@@ -55,6 +59,24 @@ pub trait FileSystem {
         ensures known { is_known self.old → OnOk result (is_known self.new) }
         ensures obeys { Obeys IsRefusal (may_refuse self.old) (may_refuse self.new) result }
         ensures written { is_known self.old → OnOk result (IsPut name (Some bytes.now) (seen self.old) (seen self.new)) }
+        ensures left { is_known self.old → OnOk result ((c : Files) → left_since self.new (moment self.new) c → IsUnflushed name (left_since self.old (moment self.old)) c) }
+        ensures time { is_known self.old → Elapses (moment self.old) (moment self.new) (left_since self.old) (left_since self.new) (IsUnflushed name (left_since self.old (moment self.old))) };
+
+    /// Creates an empty file without a name.
+    fn create(&self, alloc: Global) -> Result<Self::NewFile, DirectoryFault>
+        ensures created { is_known self.now → IfOk result (λ file. Self.NewFile.contents file ≡ Some []) }
+        ensures obeys { is_obeyed IsRefusal (may_refuse self.now) result };
+
+    /// Returns why a write to a file that was created failed last.
+    fn write_fault(&self, file: &Self::NewFile) -> DirectoryFault
+        ensures obeys { IsRefusal result → may_refuse self.now };
+
+    /// Gives a file that was created its name, replacing any old file of that name, and flushes neither its bytes nor its
+    /// name.
+    fn put_new(&mut self, name: Name, file: Self::NewFile) -> Result<(), DirectoryFault>
+        ensures known { is_known self.old → OnOk result (is_known self.new) }
+        ensures obeys { Obeys IsRefusal (may_refuse self.old) (may_refuse self.new) result }
+        ensures finished { is_known self.old → OnOk result (IsFinished name (Self.NewFile.contents file) (seen self.old) (seen self.new)) }
         ensures left { is_known self.old → OnOk result ((c : Files) → left_since self.new (moment self.new) c → IsUnflushed name (left_since self.old (moment self.old)) c) }
         ensures time { is_known self.old → Elapses (moment self.old) (moment self.new) (left_since self.old) (left_since self.new) (IsUnflushed name (left_since self.old (moment self.old))) };
 

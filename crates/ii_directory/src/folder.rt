@@ -1,5 +1,7 @@
 //! A folder, which flushes each change before the call that makes it returns.
-ghost use Rattle.std.specs.Prelude.{◌≡◌, [], None, Some};
+ghost use Rattle.std.specs.Prelude.{◌≡◌, [], None, OnOk, Some};
+ghost use Rattle.ii_directory.specs.Directory.{Elapses, Files, IsRefusal, Obeys, Same};
+ghost use Rattle.ii_directory.specs.FileSystem.{HasFlushedNames, IsFlushed};
 
 use crate::directory::Directory;
 use crate::faults::DirectoryFault;
@@ -96,8 +98,22 @@ impl FlushedDirectory<MemoryFiles> {
     }
 }
 
+// Flushes the bytes of a file, then all names.
+fn flush<S: FileSystem>(files: &mut S, name: Name) -> Result<(), DirectoryFault>
+    ensures known { S.is_known files.old → OnOk result (S.is_known files.new) }
+    ensures obeys { Obeys IsRefusal (S.may_refuse files.old) (S.may_refuse files.new) result }
+    ensures same { S.is_known files.old → OnOk result (Same (S.seen files.old) (S.seen files.new)) }
+    ensures left { S.is_known files.old → OnOk result ((c : Files) → S.left_since files.new (S.moment files.new) c → HasFlushedNames (S.seen files.old) (IsFlushed name (S.seen files.old) (S.left_since files.old (S.moment files.old))) c) }
+    ensures time { S.is_known files.old → Elapses (S.moment files.old) (S.moment files.new) (S.left_since files.old) (S.left_since files.new) (S.left_since files.old (S.moment files.old)) }
+{
+    files.sync_file(name)?;
+    files.sync_names()
+}
+
 impl<S: FileSystem> Directory for FlushedDirectory<S> {
     type File = S::File;
+
+    type NewFile = S::NewFile;
 
     ghost use Rattle.ii_directory.specs.FileSystem.{LeavesOnly};
 
@@ -129,8 +145,20 @@ impl<S: FileSystem> Directory for FlushedDirectory<S> {
 
     fn write(&mut self, name: Name, bytes: &[u8]) -> Result<(), DirectoryFault> {
         self.files.put(name, bytes)?;
-        self.files.sync_file(name)?;
-        self.files.sync_names()
+        flush(&mut self.files, name)
+    }
+
+    fn create(&self, alloc: Global) -> Result<S::NewFile, DirectoryFault> {
+        self.files.create(alloc)
+    }
+
+    fn write_fault(&self, file: &S::NewFile) -> DirectoryFault {
+        self.files.write_fault(file)
+    }
+
+    fn finish(&mut self, name: Name, file: S::NewFile) -> Result<(), DirectoryFault> {
+        self.files.put_new(name, file)?;
+        flush(&mut self.files, name)
     }
 
     fn rename(&mut self, from: Name, to: Name) -> Result<(), DirectoryFault> {

@@ -8,6 +8,7 @@ pub mod folder;
 pub mod lock;
 pub mod memory_files;
 pub mod name;
+pub mod new_file;
 pub mod read_at;
 pub mod system_files;
 
@@ -18,5 +19,6 @@ pub use folder::{FlushedDirectory, Folder, MemoryDirectory};
 pub use lock::FolderLock;
 pub use memory_files::MemoryFiles;
 pub use name::{Generation, Kind, Name, SegmentComponent, SegmentId, Slot};
+pub use new_file::{NewSystemFile, remove_unfinished};
 pub use read_at::{MemoryFile, ReadAt, SystemFile};
 pub use system_files::SystemFiles;

@@ -1,5 +1,6 @@
 //! The lock of a folder, which allows one writing program at a time.
 use crate::faults::DirectoryFault;
+use crate::new_file::remove_unfinished;
 use std::fs::{File, Files, OpenOptions, TryLockError};
 use std::io;
 
@@ -16,12 +17,12 @@ pub struct FolderLock {
 }
 
 impl FolderLock {
-    /// Locks the folder at a path, which must exist. Returns `None` without waiting if another program
-    /// holds the lock.
+    /// Locks the folder at a path, which must exist, and removes the files in it that an earlier program created and
+    /// didn't finish. Returns `None` without waiting if another program holds the lock.
     ///
     /// # Errors
     ///
-    /// `Refused` if the system can't create or lock the lock file; `OutOfMemory`.
+    /// `Refused` if the system can't create or lock the lock file, or can't list or remove such files; `OutOfMemory`.
     pub fn try_lock<R: Files<File = File> + AllocGlobal>(
         rt: &R,
         folder: &str,
@@ -36,7 +37,10 @@ impl FolderLock {
             Err(error) => return Err(DirectoryFault::Refused(error.kind())),
         };
         match file.try_lock() {
-            Ok(()) => Ok(Some(FolderLock { _file: file })),
+            Ok(()) => {
+                remove_unfinished(rt, folder)?;
+                Ok(Some(FolderLock { _file: file }))
+            }
             Err(TryLockError::WouldBlock) => Ok(None),
             Err(TryLockError::Error(error)) => Err(DirectoryFault::Refused(error.kind())),
         }

@@ -203,6 +203,8 @@ fn bytes_after(
 impl FileSystem for MemoryFiles {
     type File = MemoryFile;
 
+    type NewFile = Vec<u8>;
+
     ghost use Rattle.std.specs.Prelude.{⊤, IsSome};
     ghost use Rattle.ii_directory.specs.MemoryFiles.{WereSince, counts_now, files_after};
 
@@ -234,11 +236,23 @@ impl FileSystem for MemoryFiles {
     }
 
     fn put(&mut self, name: Name, bytes: &[u8]) -> Result<(), DirectoryFault> {
-        if let Some(0) = self.calls_left {
-            return Err(self.stop_in_put(name, bytes));
-        }
         let copy = bytes.to_vec(self.alloc)?;
-        self.change(Change::Put(name, copy))
+        self.put_new(name, copy)
+    }
+
+    fn create(&self, alloc: Global) -> Result<Vec<u8>, DirectoryFault> {
+        Ok(Vec::new(alloc))
+    }
+
+    fn write_fault(&self, file: &Vec<u8>) -> DirectoryFault {
+        DirectoryFault::OutOfMemory
+    }
+
+    fn put_new(&mut self, name: Name, file: Vec<u8>) -> Result<(), DirectoryFault> {
+        if let Some(0) = self.calls_left {
+            return Err(self.stop_in_put(name, file.as_slice()));
+        }
+        self.change(Change::Put(name, file))
     }
 
     fn sync_file(&mut self, name: Name) -> Result<(), DirectoryFault> {

@@ -2,6 +2,7 @@
 use crate::faults::DirectoryFault;
 use crate::file_system::FileSystem;
 use crate::name::Name;
+use crate::new_file::NewSystemFile;
 use crate::read_at::SystemFile;
 use std::alloc::Global;
 use std::fs::{self, File, Files, OpenFile};
@@ -11,7 +12,7 @@ use std::io::{self, Write};
 ///
 /// No clause can describe the contents of real files, so none does. That the system behaves as `FileSystem`
 /// documents is trusted. `put` replaces the bytes of a file in place, so an open file keeps its bytes only if it isn't
-/// written again. No file of a segment is.
+/// written again. No file of a segment is. A file that is created has a name that no `Name` is until it is put under one.
 #[derive(Drop)]
 pub struct SystemFiles<'a, R: Files + AllocGlobal> {
     rt: &'a R,
@@ -53,7 +54,7 @@ fn sync<R: Files>(rt: &R, path: &str) -> io::Result<()> {
 }
 
 // Converts an I/O error to a `DirectoryFault`.
-fn told<T>(answer: io::Result<T>) -> Result<T, DirectoryFault> {
+pub(crate) fn told<T>(answer: io::Result<T>) -> Result<T, DirectoryFault> {
     match answer {
         Ok(value) => Ok(value),
         Err(e) => Err(DirectoryFault::Refused(e.kind())),
@@ -62,6 +63,8 @@ fn told<T>(answer: io::Result<T>) -> Result<T, DirectoryFault> {
 
 impl<R: Files<File = File> + AllocGlobal> FileSystem for SystemFiles<'_, R> {
     type File = SystemFile<File>;
+
+    type NewFile = NewSystemFile;
 
     ghost use Rattle.std.specs.Prelude.{None, ⊤};
 
@@ -117,6 +120,19 @@ impl<R: Files<File = File> + AllocGlobal> FileSystem for SystemFiles<'_, R> {
     fn put(&mut self, name: Name, bytes: &[u8]) -> Result<(), DirectoryFault> {
         let path = self.path_of(name)?;
         told(write_file(self.rt, path.as_str(), bytes))
+    }
+
+    fn create(&self, alloc: Global) -> Result<NewSystemFile, DirectoryFault> {
+        NewSystemFile::create(self.rt, alloc, self.path)
+    }
+
+    fn write_fault(&self, file: &NewSystemFile) -> DirectoryFault {
+        DirectoryFault::Refused(file.kind_of_fault())
+    }
+
+    fn put_new(&mut self, name: Name, file: NewSystemFile) -> Result<(), DirectoryFault> {
+        let path = self.path_of(name)?;
+        told(file.rename_to(self.rt, path.as_str()))
     }
 
     fn sync_file(&mut self, name: Name) -> Result<(), DirectoryFault> {
