@@ -12,3 +12,4 @@ mod WorkedRows
 pub mod ChangeLaws
 pub mod ListLaws
 pub mod JoinLaws
+mod NewLaws

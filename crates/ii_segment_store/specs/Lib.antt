@@ -7,3 +7,4 @@ pub mod OpenFiles
 pub mod OpenSegments
 pub mod WantedFiles
 pub mod Pending
+pub mod NewSegments

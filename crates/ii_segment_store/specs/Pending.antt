@@ -4,7 +4,7 @@ use Rattle.ii_store.specs.declared.faults.IndexFault.{IndexFault}
 use Rattle.ii_directory.specs.Directory.{Files}
 use Rattle.ii_directory.specs.declared.name.Name.TheVariants.{Meta}
 use Rattle.ii_store.specs.Index.{Fails}
-use Rattle.ii_store.specs.IndexMeta.{IsValidMeta, MetaState}
+use Rattle.ii_store.specs.IndexMeta.{IsValidMeta, MetaState, SegmentState}
 use Rattle.ii_store.specs.Segments.{list_in}
 use Rattle.ii_segment_store.specs.declared.faults.CommitFault.{CommitFault}
 use Rattle.ii_segment_store.specs.declared.faults.CommitFault.TheVariants as faults
@@ -16,14 +16,18 @@ use Rattle.ii_segment_store.specs.Contents.{SegmentContents}
 abbrev pub begun : MetaState → MetaState
 begun m = record { generation = m.generation + 1; next_segment_id = m.next_segment_id; schema = m.schema; segments = m.segments }
 
--- a list with one segment more under the next id, of the same generation
-abbrev pub with_next : MetaState → SegmentContents → MetaState
-with_next m s = record {
+-- a list with one segment more, of the same generation
+abbrev pub with_listed : MetaState → SegmentState → MetaState
+with_listed m listed = record {
   generation = m.generation;
   next_segment_id = m.next_segment_id + 1;
   schema = m.schema;
-  segments = m.segments ++ listed_segment m.next_segment_id s ∷ [];
+  segments = m.segments ++ listed ∷ [];
 }
+
+-- the same with the files of a segment, under the next id
+abbrev pub with_next : MetaState → SegmentContents → MetaState
+with_next m s = with_listed m (listed_segment m.next_segment_id s)
 
 -- The next id of a list is above those of its segments, and no segment of the directory's list has it or a greater one.
 pub record IsPending (m : MetaState) (files : Files) : Type 0 where

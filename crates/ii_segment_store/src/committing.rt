@@ -9,8 +9,10 @@ ghost use Rattle.ii_store.specs.Segments.{list_in};
 ghost use Rattle.ii_segment_store.specs.Commits.{HasFileIf, HasList, HasSegment, HaveIdsBelow, HoldsOldOr, IsCommitFault, IsFresh, IsRefusedCommit, KeepsButSegment, LeavesOneIndex, listed_if, listed_segment, next_list};
 ghost use Rattle.ii_segment_store.specs.BlockTables.{segment_tables};
 ghost use Rattle.ii_segment_store.specs.Contents.{index_contents, list_contents, files_contents, with_segment};
+ghost use Rattle.ii_segment_store.specs.NewSegments.{IsWritten, new_contents};
 
 use crate::faults::CommitFault;
+use crate::new_segment::NewSegment;
 use crate::pending::PendingSegments;
 use crate::stored_segments::SegmentFiles;
 use ii_store::segments::load_meta;
@@ -139,6 +141,30 @@ pub(crate) fn commit_segment<D: Directory>(
         Err(fault) => return Err(fault),
     };
     match pending.add(alloc, directory, segment) {
+        Ok(pending) => pending.commit(alloc, directory),
+        Err(fault) => Err(fault),
+    }
+}
+
+// The same for a segment whose files have no names yet.
+pub(crate) fn commit_new<D: Directory>(
+    alloc: Global,
+    directory: &mut D,
+    list: IndexMeta,
+    segment: NewSegment<D::NewFile>,
+) -> Result<(), CommitFault>
+    requires written { D.is_known directory.old → IsWritten segment }
+    ensures known { D.is_known directory.old → OnOk result (D.is_known directory.new) }
+    ensures obeys { D.is_known directory.old → Obeys IsRefusedCommit (D.may_refuse directory.old) (D.may_refuse directory.new) result }
+    ensures committed { D.is_known directory.old → HaveIdsBelow list.next_segment_id (meta_view list).segments → OnOk result (index_contents (D.seen directory.new) ≡ with_segment (new_contents segment) (list_contents (meta_view list) (D.seen directory.old))) }
+    ensures time { D.is_known directory.old → IsFresh list.next_segment_id (D.seen directory.old) → HaveIdsBelow list.next_segment_id (meta_view list).segments → Elapses (D.moment directory.old) (D.moment directory.new) (D.left_since directory.old) (D.left_since directory.new) (HoldsOldOr (with_segment (new_contents segment) (list_contents (meta_view list) (D.seen directory.old))) (D.seen directory.old)) }
+    ensures fault { D.is_known directory.old → IfErr result (λ e. IsCommitFault e (Ok (meta_view list)) (new_contents segment)) }
+{
+    let pending = match PendingSegments::of_list(list) {
+        Ok(pending) => pending,
+        Err(fault) => return Err(fault),
+    };
+    match pending.add_new(alloc, directory, segment) {
         Ok(pending) => pending.commit(alloc, directory),
         Err(fault) => Err(fault),
     }

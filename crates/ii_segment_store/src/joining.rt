@@ -5,13 +5,15 @@ ghost use Rattle.ii_store.specs.Faults.{IsRefused};
 ghost use Rattle.ii_store.specs.Index.{AnswersFromFiles};
 ghost use Rattle.ii_store.specs.IndexMeta.{meta_view};
 ghost use Rattle.ii_segment_store.specs.Commits.{IsCommitFault, IsRefusedCommit, LeavesOneIndex};
-ghost use Rattle.ii_segment_store.specs.Contents.{all_contents, files_contents, index_contents, segment_contents, with_segment};
+ghost use Rattle.ii_segment_store.specs.Contents.{all_contents, index_contents, segment_contents, with_segment};
 ghost use Rattle.ii_segment_store.specs.Joins.{first_contents, first_list, first_listed};
+ghost use Rattle.ii_segment_store.specs.NewSegments.{IsWritten, new_contents};
 
-use crate::committing::commit_segment;
+use crate::committing::commit_new;
 use crate::faults::CommitFault;
 use crate::loading::load_each;
-use crate::stored_segments::{SegmentFiles, StoredSegment};
+use crate::new_segment::NewSegment;
+use crate::stored_segments::StoredSegment;
 use ii_store::segments::load_meta;
 use ii_store::{Directory, IndexMeta, StoreFault};
 use std::alloc::Global;
@@ -35,7 +37,7 @@ pub fn load_last<D: Directory>(
     }
 }
 
-/// Puts a segment in the place of those of an index of version 2 or 3 from a place on: writes its files under an id
+/// Puts a segment in the place of those of an index of version 2 or 3 from a place on: gives its files names of an id
 /// that no segment had, and atomically replaces `meta`.
 ///
 /// After a stop or an error the directory holds the old index or the one with the new segment. After an error,
@@ -45,25 +47,26 @@ pub fn load_last<D: Directory>(
 /// # Errors
 ///
 /// The errors of `load_meta`, `OtherVersion` for an index of version 1 (see `upgrade`); `TooMany` if no `meta` can
-/// hold the new index. Nothing is written then.
+/// hold the new index.
 pub fn replace_last<D: Directory>(
     alloc: Global,
     directory: &mut D,
     first: usize,
-    segment: &SegmentFiles,
+    segment: NewSegment<D::NewFile>,
 ) -> Result<(), CommitFault>
+    requires written { D.is_known directory.old → IsWritten segment }
     ensures known { D.is_known directory.old → OnOk result (D.is_known directory.new) }
     ensures obeys { D.is_known directory.old → Obeys IsRefusedCommit (D.may_refuse directory.old) (D.may_refuse directory.new) result }
-    ensures replaced { D.is_known directory.old → OnOk result (index_contents (D.seen directory.new) ≡ with_segment (files_contents segment.now) (first_contents first (D.seen directory.old))) }
-    ensures leaves_one { D.is_known directory.old → LeavesOneIndex D.moment D.left_since D.seen directory.old directory.new (with_segment (files_contents segment.now) (first_contents first (D.seen directory.old))) }
-    ensures fault { D.is_known directory.old → IfErr result (λ e. IsCommitFault e (first_list first (D.seen directory.old)) (files_contents segment.now)) }
+    ensures replaced { D.is_known directory.old → OnOk result (index_contents (D.seen directory.new) ≡ with_segment (new_contents segment) (first_contents first (D.seen directory.old))) }
+    ensures leaves_one { D.is_known directory.old → LeavesOneIndex D.moment D.left_since D.seen directory.old directory.new (with_segment (new_contents segment) (first_contents first (D.seen directory.old))) }
+    ensures fault { D.is_known directory.old → IfErr result (λ e. IsCommitFault e (first_list first (D.seen directory.old)) (new_contents segment)) }
 {
     let list = match load_meta(alloc, directory) {
         Ok(list) => list,
         Err(fault) => return Err(CommitFault::Store(fault)),
     };
     let list = first_listed(list, first);
-    commit_segment(alloc, directory, list, segment)
+    commit_new(alloc, directory, list, segment)
 }
 
 // Returns a list with its first segments alone.

@@ -2,24 +2,25 @@
 ghost use Rattle.std.specs.Prelude.{◌≡◌, ◌+◌, ◌≤◌, ◌^◌, IfErr, IfOk, Ok, OnOk, map};
 ghost use Rattle.ii_directory.specs.declared.name.Name.TheVariants.{Meta};
 ghost use Rattle.ii_directory.specs.Directory.{Obeys, is_obeyed};
-ghost use Rattle.ii_store.specs.IndexMeta.{IsValidMeta, MetaState, meta_view};
+ghost use Rattle.ii_store.specs.IndexMeta.{IsValidMeta, MetaState, meta_view, segment_view};
 ghost use Rattle.ii_store.specs.Segments.{KeepsOtherFiles, list_in};
-ghost use Rattle.ii_segment_store.specs.BlockTables.{segment_tables};
 ghost use Rattle.ii_segment_store.specs.Changes.{IsFlaggedList, index_without};
 ghost use Rattle.ii_segment_store.specs.Commits.{HasSegment, HaveIdsBelow, IsRefusedCommit, KeepsButSegment, LeavesOneIndex, emptied};
 ghost use Rattle.ii_segment_store.specs.Contents.{files_contents, index_contents, list_contents, with_segment};
-ghost use Rattle.ii_segment_store.specs.Pending.{FollowsFlags, IsBeginFault, IsFlaggingFault, IsPending, IsPendingFault, begun, with_next};
+ghost use Rattle.ii_segment_store.specs.NewSegments.{IsWritten, new_contents};
+ghost use Rattle.ii_segment_store.specs.Pending.{FollowsFlags, IsBeginFault, IsFlaggingFault, IsPending, IsPendingFault, begun, with_listed, with_next};
 
 use crate::block_tables::segment_tables;
 use crate::committing::{listed_segment, write_segment};
 use crate::deleting::{first_uncounted, write_deletes};
 use crate::faults::CommitFault;
+use crate::new_segment::{NewSegment, finish_segment};
 use crate::replacing::empty_list;
 use crate::stored_segments::SegmentFiles;
 use ii_base::DocId;
 use ii_store::commit_check::is_valid;
 use ii_store::segments::{load_meta, replace_list};
-use ii_store::{Directory, IndexMeta};
+use ii_store::{Directory, IndexMeta, SegmentMeta};
 use std::alloc::Global;
 use std::marker::Model;
 
@@ -134,13 +135,44 @@ impl PendingSegments {
     {
         let id = self.list.next_segment_id;
         let tables = segment_tables(alloc, segment)?;
-        let list = match with_next(alloc, self.list, segment, tables.as_slice()) {
+        let listed = listed_segment(alloc, id, segment, tables.as_slice())?;
+        let list = match with_listed(self.list, listed) {
             Ok(list) => list,
             Err(fault) => return Err(fault),
         };
         match write_segment(directory, id, segment, tables.as_slice()) {
             Ok(()) => Ok(PendingSegments { list }),
             Err(fault) => Err(CommitFault::from(fault)),
+        }
+    }
+
+    /// The same for a segment whose files have no names yet. Each file is read once it has its name, to list its checksums.
+    ///
+    /// # Errors
+    ///
+    /// `TooMany` as `add` returns it, but the files have their names then.
+    pub fn add_new<D: Directory>(
+        self,
+        alloc: Global,
+        directory: &mut D,
+        segment: NewSegment<D::NewFile>,
+    ) -> Result<PendingSegments, CommitFault>
+        requires written { D.is_known directory.old → IsWritten segment }
+        ensures known { D.is_known directory.old → OnOk result (D.is_known directory.new) }
+        ensures obeys { D.is_known directory.old → Obeys IsRefusedCommit (D.may_refuse directory.old) (D.may_refuse directory.new) result }
+        ensures list { D.is_known directory.old → IfOk result (λ p. p ≡ with_next self (new_contents segment)) }
+        ensures holds { D.is_known directory.old → HaveIdsBelow self.next_segment_id self.segments → IfOk result (λ p. list_contents p (D.seen directory.new) ≡ with_segment (new_contents segment) (list_contents self (D.seen directory.old))) }
+        ensures same { D.is_known directory.old → IsPending self (D.seen directory.old) → OnOk result (index_contents (D.seen directory.new) ≡ index_contents (D.seen directory.old)) }
+        ensures leaves_same { D.is_known directory.old → IsPending self (D.seen directory.old) → LeavesOneIndex D.moment D.left_since D.seen directory.old directory.new (index_contents (D.seen directory.old)) }
+        ensures fault { D.is_known directory.old → IfErr result (λ e. IsPendingFault e (with_next self (new_contents segment))) }
+    {
+        let listed = match finish_segment(alloc, directory, self.list.next_segment_id, segment) {
+            Ok(listed) => listed,
+            Err(fault) => return Err(CommitFault::from(fault)),
+        };
+        match with_listed(self.list, listed) {
+            Ok(list) => Ok(PendingSegments { list }),
+            Err(fault) => Err(fault),
         }
     }
 
@@ -209,24 +241,17 @@ impl PendingSegments {
     }
 }
 
-// Returns a list with one segment more, with the tables of its files, or `TooMany` if no `meta` can hold it.
-fn with_next(
-    alloc: Global,
-    list: IndexMeta,
-    segment: &SegmentFiles,
-    tables: &[u8],
-) -> Result<IndexMeta, CommitFault>
-    requires { tables.now ≡ segment_tables (files_contents segment.now) }
-    ensures next { IfOk result (λ m. meta_view m ≡ with_next (meta_view list) (files_contents segment.now)) }
+// Returns a list with one segment more, or `TooMany` if no `meta` can hold it.
+fn with_listed(list: IndexMeta, listed: SegmentMeta) -> Result<IndexMeta, CommitFault>
+    ensures next { IfOk result (λ m. meta_view m ≡ with_listed (meta_view list) (segment_view listed)) }
     ensures valid { IfOk result (λ m. IsValidMeta (meta_view m)) }
-    ensures fault { IfErr result (λ e. IsPendingFault e (with_next (meta_view list) (files_contents segment.now))) }
+    ensures fault { IfErr result (λ e. IsPendingFault e (with_listed (meta_view list) (segment_view listed))) }
     ensures memory { is_obeyed IsRefusedCommit ⊥ result }
 {
     let mut next = list;
     if next.next_segment_id == u64::MAX {
         return Err(CommitFault::TooMany);
     }
-    let listed = listed_segment(alloc, next.next_segment_id, segment, tables)?;
     next.segments.push(listed)?;
     next.next_segment_id += 1;
     if !is_valid(&next) {
