@@ -1,7 +1,7 @@
 #!/usr/bin/env python3
 """Indexes and adds lines with little memory, so that they become several segments. The answers must be those of a plain
 reading of the lines, the segments must end where FOLDER says, and a refused input must leave the folder as it was. Of a
-large input it measures the peak memory, which must stay within what FOLDER says.
+large input, and of a merge, it measures the peak memory, which must stay within what FOLDER says.
 
     memory.py          as the gate runs it
     memory.py SMALL    without the large input, for an unproved program"""
@@ -144,7 +144,7 @@ def settled(user):
 
 
 def bounded(user, dice):
-    """Indexes and adds a large input, and measures the memory."""
+    """Indexes, adds and merges a large input, and measures the memory."""
     words = [''.join(dice.choice('abcdefghijklmnop') for _ in range(dice.randrange(2, 10))) for _ in range(50_000)]
     block, size = [], 0
     while size < LARGE // 10:
@@ -154,18 +154,26 @@ def bounded(user, dice):
         for _ in range(10):
             file.writelines(block)
     many = 10 * len(block)
-    peaks = []
-    for command in (['index', 'large', '--schema', 'schema.toml'], ['add', 'large']):
-        run = subprocess.Popen([user.program, *command, '--memory', f'{LARGE_SIZE // 1_000_000}MB', 'large.jsonl'], cwd=user.room, stdout=subprocess.DEVNULL, stderr=subprocess.DEVNULL)
-        _, status, usage = os.wait4(run.pid, 0)
-        run.returncode = os.waitstatus_to_exitcode(status)
-        if run.returncode != 0:
-            raise Failed(f'{command}: status {run.returncode}')
-        peaks.append(usage.ru_maxrss << 10)
+    options = ['--memory', f'{LARGE_SIZE // 1_000_000}MB', 'large.jsonl']
+    peaks = [peak(user, ['index', 'large', '--schema', 'schema.toml', *options]), peak(user, ['add', 'large', *options])]
     if max(peaks) > LARGE_SIZE + SPARE:
         raise Failed(f'{LARGE} bytes of lines took {peaks} bytes of memory; --memory said {LARGE_SIZE}')
+    size = sum(map(len, user.files('large').values()))
+    merged = peak(user, ['merge', 'large'])
+    if merged > size + SPARE:
+        raise Failed(f'merging an index of {size} bytes took {merged} bytes of memory')
     user.wants(['search', 'large', '*', '--count'], f'{2 * many}\n')
-    return max(peaks)
+    return max(peaks), merged / size
+
+
+def peak(user, command):
+    """Runs the program, and returns the most memory that it took."""
+    run = subprocess.Popen([user.program, *command], cwd=user.room, stdout=subprocess.DEVNULL, stderr=subprocess.DEVNULL)
+    _, status, usage = os.wait4(run.pid, 0)
+    run.returncode = os.waitstatus_to_exitcode(status)
+    if run.returncode != 0:
+        raise Failed(f'{command}: status {run.returncode}')
+    return usage.ru_maxrss << 10
 
 
 def little_memory(user):
@@ -179,7 +187,8 @@ def little_memory(user):
         session(user, dice, size)
     if small:
         return 'lines with little memory'
-    return f'lines with little memory; {LARGE / 1e6:.0f} MB of them took {bounded(user, dice) / 1e6:.0f} MB'
+    lines, merged = bounded(user, dice)
+    return f'lines with little memory; {LARGE / 1e6:.0f} MB of them took {lines / 1e6:.0f} MB, a merge {merged:.2f} bytes for each byte of the index'
 
 
 sys.exit(users.judged(little_memory, User, 300))

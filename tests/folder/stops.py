@@ -202,7 +202,7 @@ def merges_everywhere(folder, version=3):
         # an add removes the files of a stopped run
         folder.wants(folder.run('add', 'index', '--no-merge', 'old.jsonl')[0], 0, '1 documents added')
         folder.holds(left + 1)
-        named = [name for name in os.listdir(folder.path('index')) if name.split('.')[-1] in ('term', 'alive', 'new')]
+        named = [name for name in os.listdir(folder.path('index')) if name.split('.')[-1] in ('term', 'alive', 'new') or name.startswith('unfinished')]
         if sorted(name.split('.')[-1] for name in named) != ['term', 'term']:
             raise Failed(f'after a merge that was stopped at {stop}: {sorted(os.listdir(folder.path("index")))}')
         if done.returncode == 0:
@@ -210,6 +210,27 @@ def merges_everywhere(folder, version=3):
             return calls
         folder.stops += 1
     raise Failed('the program makes no end of calls')
+
+
+def no_room(folder):
+    """Merges segments whose merged files are longer than the system allows. The command must say so, and leave the index as it
+    was, and no other file."""
+    shutil.rmtree(folder.path('index'), ignore_errors=True)
+    for letter in 'vw':
+        with open(folder.path(f'{letter}.jsonl'), 'w', encoding='utf-8') as file:
+            file.writelines(json.dumps({'body': f'{letter}{number}'}) + '\n' for number in range(20_000))
+    folder.wants(folder.index('v.jsonl')[0], 0, '20000 documents indexed')
+    folder.wants(folder.run('add', 'index', '--no-merge', 'w.jsonl')[0], 0, '20000 documents added')
+    before = sorted(os.listdir(folder.path('index')))
+    longest = max(os.path.getsize(folder.path(f'index/{name}')) for name in before)
+    command = f'ulimit -f {longest // 1024 + 1}; trap "" XFSZ; exec "$0" merge index'
+    done = subprocess.run(['bash', '-c', command, folder.program], capture_output=True, text=True, cwd=folder.room, timeout=60)
+    folder.wants(done, 2, 'the folder refused: FileTooLarge')
+    folder.holds(40_000)
+    if sorted(os.listdir(folder.path('index'))) != before:
+        raise Failed(f'after a merge without room: {sorted(os.listdir(folder.path("index")))}; before {before}')
+    folder.wants(folder.run('merge', 'index')[0], 0, '2 segments merged, 40000 documents')
+    folder.holds(40_000)
 
 
 def settles_everywhere(folder):
@@ -290,6 +311,14 @@ def in_order(calls):
             continue
         if not made.startswith('ss'):
             raise Failed(f'the calls {calls}: each file is flushed when it is written, and the folder after it')
+
+
+def in_order_of_merge(calls):
+    """Checks the order of a merge's calls: each file is created, written, renamed and flushed, and then the folder; the last
+    renaming is that of the list, with the folder flushed after it."""
+    parts = calls.split('r')
+    if len(parts) < 6 or any(not part.startswith('ss') for part in parts[1:-1]) or not parts[-1].startswith('s'):
+        raise Failed(f'the calls {calls}: each file that is renamed is flushed, and the folder after it')
 
 
 def two_writers(folder, count):
@@ -387,8 +416,9 @@ def main():
             adds_everywhere(folder, ['old.jsonl', 'old.jsonl'])
             deletes_everywhere(folder)
             replaced(folder)
-            in_order(merges_everywhere(folder))
+            in_order_of_merge(merges_everywhere(folder))
             merges_everywhere(folder, 1)
+            no_room(folder)
             replaces_everywhere(folder)
             settles_everywhere(folder)
         except Failed as why:

@@ -41,6 +41,8 @@ impl<'a, R: Files<File = File> + AllocGlobal> Locked<Folder<'a, R>> {
 impl<D: Directory + Drop> Directory for Locked<D> {
     type File = D::File;
 
+    type NewFile = D::NewFile;
+
     ghost is_known = { λ d. D.is_known d.directory };
 
     ghost may_refuse = { λ d. D.may_refuse d.directory };
@@ -69,6 +71,18 @@ impl<D: Directory + Drop> Directory for Locked<D> {
 
     fn write(&mut self, name: Name, bytes: &[u8]) -> Result<(), DirectoryFault> {
         self.directory.write(name, bytes)
+    }
+
+    fn create(&self, alloc: Global) -> Result<D::NewFile, DirectoryFault> {
+        self.directory.create(alloc)
+    }
+
+    fn write_fault(&self, file: &D::NewFile) -> DirectoryFault {
+        self.directory.write_fault(file)
+    }
+
+    fn finish(&mut self, name: Name, file: D::NewFile) -> Result<(), DirectoryFault> {
+        self.directory.finish(name, file)
     }
 
     fn rename(&mut self, from: Name, to: Name) -> Result<(), DirectoryFault> {

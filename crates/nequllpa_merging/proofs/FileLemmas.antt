@@ -1,6 +1,7 @@
--- Files that were written to memory, as those of a segment.
-use Rattle.std.proofs.Common.{◌≡◌, ◌∙◌, ℕ, List, [], Option, Some, None, ap, subst, sym}
+-- New files that were written, as those of a segment.
+use Rattle.std.proofs.Common.{◌≡◌, ◌∙◌, ℕ, List, [], length, Option, Some, None, ap, arith, subst, sym}
 use Rattle.std.specs.Io.KnownBytes.{Appends}
+use Rattle.ii_io.specs.CountingWriter.{CountingWriterState, Wrote}
 use Rattle.ii_base.specs.Schema.{SchemaEntry}
 use Rattle.ii_definitions.specs.Fields.{option_of}
 use Rattle.ii_definitions.specs.Files.{HoldTokens}
@@ -8,22 +9,32 @@ use Rattle.ii_definitions.specs.Norms.{HoldNorms}
 use Rattle.ii_definitions.specs.Tokens.{IndexToken}
 use Rattle.ii_indexing.specs.IndexFiles.{WroteIndex}
 use Rattle.ii_indexing.specs.declared.index_writers.IndexWriters.{IndexWriters}
-use Rattle.ii_indexing.specs.RamFiles.{empty_files}
+use Rattle.ii_indexing.specs.RamFiles.{empty_file, empty_files}
+use Rattle.ii_segment_store.specs.NewSegments.{IsCounted, bytes_or_none, new_file}
 
 -- what was appended to an empty file is all of it
-pub whole_file : (bytes items : List ℕ) (now : Option (List ℕ)) → Some items ≡ now → Appends (Some []) now bytes → bytes ≡ items
-whole_file bytes items None is h = absurd (cc)
-whole_file bytes items (Some xs) is h = inside (sym (ap (λ (ys : List ℕ). Some ys) h) ∙ sym is)
-  where
-    inside : Some bytes ≡ Some items → bytes ≡ items
-    inside e = cc
+whole : (bytes : List ℕ) (now : Option (List ℕ)) → Appends (Some []) now bytes → now ≡ Some bytes
+whole bytes None h = absurd h
+whole bytes (Some xs) h = ap (λ (ys : List ℕ). Some ys) h
+
+-- the bytes of a file that was written are all of it, and were counted
+
+module _ (new : CountingWriterState) (bytes : List ℕ) (w : Wrote empty_file new bytes) where
+  pub file_is : bytes ≡ new_file new
+  file_is = sym (ap bytes_or_none (whole bytes new.contents w.appends))
+
+  pub is_counted : IsCounted new
+  is_counted = record {
+    known = whole bytes new.contents w.appends ∙ ap (λ (ys : List ℕ). Some ys) file_is;
+    counted = let same : length bytes ≡ length (new_file new) = ap length file_is in omega (arith, w.written_bytes, same);
+  }
 
 module _ {W : Type 0} (entries : List SchemaEntry) (n : ℕ) (new : IndexWriters W) (ts : List IndexToken) (w : WroteIndex entries n empty_files new ts) where
-  pub lists_hold : (terms postings positions : List ℕ) → Some terms ≡ new.terms.contents → Some postings ≡ new.postings.contents → Some positions ≡ new.positions.contents → HoldTokens (option_of entries) terms postings positions ts
-  lists_hold terms postings positions in_terms in_postings in_positions =
-      subst (λ (x : List ℕ). HoldTokens (option_of entries) x postings positions ts) (whole_file w.terms.terms terms new.terms.contents in_terms w.terms.wrote_terms.appends)
-      (subst (λ (x : List ℕ). HoldTokens (option_of entries) w.terms.terms x positions ts) (whole_file w.terms.postings postings new.postings.contents in_postings w.terms.wrote_postings.appends)
-      (subst (λ (x : List ℕ). HoldTokens (option_of entries) w.terms.terms w.terms.postings x ts) (whole_file w.terms.positions positions new.positions.contents in_positions w.terms.wrote_positions.appends) w.terms.hold))
+  pub lists_hold : HoldTokens (option_of entries) (new_file new.terms) (new_file new.postings) (new_file new.positions) ts
+  lists_hold =
+      subst (λ (x : List ℕ). HoldTokens (option_of entries) x (new_file new.postings) (new_file new.positions) ts) (file_is new.terms w.terms.terms w.terms.wrote_terms)
+      (subst (λ (x : List ℕ). HoldTokens (option_of entries) w.terms.terms x (new_file new.positions) ts) (file_is new.postings w.terms.postings w.terms.wrote_postings)
+      (subst (λ (x : List ℕ). HoldTokens (option_of entries) w.terms.terms w.terms.postings x ts) (file_is new.positions w.terms.positions w.terms.wrote_positions) w.terms.hold))
 
-  pub norms_hold : (fieldnorms : List ℕ) → Some fieldnorms ≡ new.fieldnorms.contents → HoldNorms entries n fieldnorms ts
-  norms_hold fieldnorms in_norms = subst (λ (x : List ℕ). HoldNorms entries n x ts) (whole_file w.norms.fieldnorms fieldnorms new.fieldnorms.contents in_norms w.norms.wrote.appends) w.norms.hold
+  pub norms_hold : HoldNorms entries n (new_file new.fieldnorms) ts
+  norms_hold = subst (λ (x : List ℕ). HoldNorms entries n x ts) (file_is new.fieldnorms w.norms.fieldnorms w.norms.wrote) w.norms.hold

@@ -24,7 +24,9 @@ use Rattle.ii_merger.specs.MergedIndex.{MergeSourceState, MergeSourcesHold, Merg
 use Rattle.ii_segment_store.specs.Contents.{SegmentContents}
 use Rattle.ii_segments.specs.SegmentLaws.{CountsOfSegments}
 use Rattle.ii_segments.specs.Segments.{AreSegmentTokens, Segment, index_tokens, living_counts, num_docs_of}
-use Rattle.nequllpa_merging.specs.Faults.{IsDamage, IsPartDamage}
+use Rattle.nequllpa_merging.specs.Faults.{IsDamage, IsPartDamage, OfFault}
+use Rattle.nequllpa_merging.specs.declared.faults.FilesFault.{FilesFault}
+use Rattle.nequllpa_merging.specs.declared.faults.FilesFault.TheVariants as files
 use Rattle.nequllpa_merging.specs.HeldSegments.{HoldSegments, IsOpenedFor, OpenedHold}
 use Rattle.nequllpa_merging.specs.MergedSegments.{IsCountsFault, IsOpeningFault, counts_source, counts_source_if, counts_sources, merge_source, total_of, totals_of, with_first}
 use Rattle.nequllpa_merging.specs.OpenedSegments.{OpenedSegmentState}
@@ -122,6 +124,11 @@ no_damage faults.IndexerFailed none damage = damage
 no_damage (faults.UnsupportedLeaf kind) none damage = damage
 no_damage faults.DecreasingPosition none damage = damage
 no_damage (faults.Limit name) none damage = damage
+
+-- a fault of files, by what it implies
+pub of_fault : (P Q : Fault → Type 0) (fault : FilesFault) → ((e : Fault) → P e → Q e) → OfFault P fault → OfFault Q fault
+of_fault P Q (files.Directory fault) implies holds = tt
+of_fault P Q (files.Fault fault) implies holds = implies fault holds
 
 -- ---- the merged segment
 pub docs_held : (entries : List SchemaEntry) (os : List OpenedSegmentState) (ss : List Segment) → OpenedHold entries os ss → all_living (map merge_source os) ≡ num_docs_of ss

@@ -11,10 +11,12 @@ use Rattle.ii_merger.specs.MergedIndex.{all_living}
 use Rattle.ii_segment_store.specs.Contents.{SegmentContents, segment_contents}
 use Rattle.ii_segment_store.specs.declared.stored_segments.StoredSegment.{StoredSegment}
 use Rattle.ii_segments.specs.Segments.{Segment, merged, num_docs_of}
-use Rattle.nequllpa_merging.specs.Faults.{IsDamage, IsPartDamage}
+use Rattle.nequllpa_merging.specs.Faults.{IsDamage, IsPartDamage, OfMerge}
+use Rattle.nequllpa_merging.specs.declared.faults.JoinFault.{JoinFault}
+use Rattle.nequllpa_merging.specs.declared.faults.JoinFault.TheVariants as joins
 use Rattle.nequllpa_merging.specs.HeldSegments.{HoldSegments, HoldsSegment}
-use Rattle.nequllpa_merging.specs.MergedSegments.{AreMergedFiles, merge_source}
-use Rattle.nequllpa_merging.specs.OpenedSegments.{OpenedSegmentState, opened_view}
+use Rattle.nequllpa_merging.specs.MergedSegments.{merge_source}
+use Rattle.nequllpa_merging.specs.OpenedSegments.{opened_view}
 use Rattle.nequllpa_merging.specs.StoredDocuments.{HasMergedStore, HoldsSomeDocuments, HoldsStored, IsStoresFault, StoredFile, merged_documents, stored_file, stored_view}
 use Rattle.nequllpa_merging.specs.declared.faults.MergeFault.{MergeFault}
 use Rattle.nequllpa_merging.specs.declared.faults.MergeFault.TheVariants as merges
@@ -67,6 +69,13 @@ documents_with xs fs ds n store same docs hold is =
       alive = ap (λ (k : ℕ). replicate k true) many;
       count = sym (length-replicate (length (documents_of_segments ds)) true);
     }
+
+-- a fault of a merge, by what it implies
+pub of_merge : (P Q : MergeFault → Type 0) (fault : JoinFault) → ((e : MergeFault) → P e → Q e) → OfMerge P fault → OfMerge Q fault
+of_merge P Q (joins.Store fault) implies holds = holds
+of_merge P Q (joins.Merge fault) implies holds = implies fault holds
+of_merge P Q (joins.Write fault) implies holds = tt
+of_merge P Q (joins.Commit fault) implies holds = holds
 
 -- stored documents aren't called damaged
 pub stored_undamaged : (entries : List SchemaEntry) (cs : List SegmentContents) (ss : List Segment) (fault : MergeFault) → HoldSegments entries cs ss → IsStoresFault (map stored_file cs) fault → IsDamage fault → ⊥

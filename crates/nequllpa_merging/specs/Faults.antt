@@ -1,7 +1,12 @@
--- Faults that are damage.
+-- Faults that are damage, and refusals of a directory.
 use Rattle.std.specs.Prelude.{⊤}
+use Rattle.ii_directory.specs.Directory.{IsRefusal}
 use Rattle.ii_io.specs.declared.faults.Fault.{Fault}
 use Rattle.ii_io.specs.declared.faults.Fault.TheVariants as faults
+use Rattle.nequllpa_merging.specs.declared.faults.FilesFault.{FilesFault}
+use Rattle.nequllpa_merging.specs.declared.faults.FilesFault.TheVariants as files
+use Rattle.nequllpa_merging.specs.declared.faults.JoinFault.{JoinFault}
+use Rattle.nequllpa_merging.specs.declared.faults.JoinFault.TheVariants as joins
 use Rattle.nequllpa_merging.specs.declared.faults.MergeFault.{MergeFault}
 use Rattle.nequllpa_merging.specs.declared.faults.MergeFault.TheVariants.{LongDocument, Merge, Segment, Store, TooManyDocuments, TooManyFields}
 
@@ -24,3 +29,20 @@ IsDamage (LongDocument place) = ⊥
 IsDamage TooManyDocuments = ⊥
 IsDamage TooManyFields = ⊥
 IsDamage (Merge fault) = IsPartDamage fault
+
+-- Why files aren't merged, where the directory takes them.
+abbrev pub OfFault : (Fault → Type 0) → FilesFault → Type 0
+OfFault P (files.Directory fault) = ⊤
+OfFault P (files.Fault fault) = P fault
+
+-- The directory refused a file.
+abbrev pub IsRefusedFiles : FilesFault → Type 0
+IsRefusedFiles (files.Directory fault) = IsRefusal fault
+IsRefusedFiles (files.Fault fault) = ⊥
+
+-- Why segments aren't merged, where the directory takes the files.
+abbrev pub OfMerge : (MergeFault → Type 0) → JoinFault → Type 0
+OfMerge P (joins.Store fault) = ⊥
+OfMerge P (joins.Merge fault) = P fault
+OfMerge P (joins.Write fault) = ⊤
+OfMerge P (joins.Commit fault) = ⊥

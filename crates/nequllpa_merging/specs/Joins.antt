@@ -1,7 +1,7 @@
 -- What an index in a folder holds once its last segments are merged.
-use Rattle.std.specs.Prelude.{◌≡◌, ℕ, List, Ok}
+use Rattle.std.specs.Prelude.{◌≡◌, ℕ, List, Ok, ⊤}
 use Rattle.ii_base.specs.Schema.{SchemaEntry}
-use Rattle.ii_directory.specs.Directory.{Files}
+use Rattle.ii_directory.specs.Directory.{Files, IsRefusal}
 use Rattle.ii_store.specs.Faults.{IsRefused}
 use Rattle.ii_store.specs.Index.{Fails}
 use Rattle.ii_segment_store.specs.Commits.{IsCommitFault, IsRefusedCommit}
@@ -38,10 +38,12 @@ pub record IsJoined (entries : List SchemaEntry) (first : ℕ) (old new : Files)
 abbrev pub IsJoinFault : JoinFault → List SchemaEntry → ℕ → Files → Type 0
 IsJoinFault (faults.Store fault) entries first files = Fails fault (last_contents first files)
 IsJoinFault (faults.Merge fault) entries first files = (last : List SegmentContents) × (last_contents first files ≡ Ok last) × IsMergingFault entries last fault
+IsJoinFault (faults.Write fault) entries first files = ⊤
 IsJoinFault (faults.Commit fault) entries first files = (last : List SegmentContents) × (segment : SegmentContents) × (last_contents first files ≡ Ok last) × IsMergedFrom entries last segment × IsCommitFault fault (first_list first files) segment
 
 -- the system refused a call
 abbrev pub IsRefusedJoin : JoinFault → Type 0
 IsRefusedJoin (faults.Store fault) = IsRefused fault
 IsRefusedJoin (faults.Merge fault) = ⊥
+IsRefusedJoin (faults.Write fault) = IsRefusal fault
 IsRefusedJoin (faults.Commit fault) = IsRefusedCommit fault

@@ -8,6 +8,8 @@ use Rattle.ii_doc_store.specs.declared.faults.StoreDamage.{StoreDamage}
 use Rattle.ii_doc_store.specs.declared.faults.StoreDamage.TheVariants.{Index}
 use Rattle.ii_doc_store.specs.StoreReader.{HoldsDocuments, index_of, num_docs}
 use Rattle.ii_doc_store_merger.specs.StoreSources.{HasLongDocument, IsFirstDamagedStore, IsMergedStore, IsOutputFault, SegmentDocuments, StoreSourceState, documents_of_segments, num_living_of}
+use Rattle.ii_doc_store_merger.specs.declared.faults.StoreMergeFault.{StoreMergeFault}
+use Rattle.ii_doc_store_merger.specs.declared.faults.StoreMergeFault.TheVariants as stores
 use Rattle.ii_segment_store.specs.Contents.{SegmentContents}
 use Rattle.nequllpa_merging.specs.declared.faults.MergeFault.{MergeFault}
 use Rattle.nequllpa_merging.specs.declared.faults.MergeFault.TheVariants.{LongDocument, Merge, Segment, Store, TooManyDocuments, TooManyFields}
@@ -81,6 +83,13 @@ IsStoresFault fs (LongDocument place) = AllStoresOpen fs (λ ss. IsSomeAnd (slic
 IsStoresFault fs TooManyDocuments = AllStoresOpen fs (λ ss. 2 ^ 31 ≤ num_living_of ss)
 IsStoresFault fs TooManyFields = ⊥
 IsStoresFault fs (Merge fault) = IsOutputFault fault
+
+-- why segments aren't merged, by why their stores aren't
+abbrev pub stores_fault : StoreMergeFault → MergeFault
+stores_fault (stores.Output fault) = Merge fault
+stores_fault (stores.Damaged place damage) = Store place damage
+stores_fault (stores.DocumentLen place) = LongDocument place
+stores_fault stores.NumDocs = TooManyDocuments
 
 -- A file, if there is one, is a store of as many documents as there are flags.
 abbrev pub HoldsSomeDocuments : Option (List ℕ) → ℕ → Type 0

@@ -6,7 +6,7 @@ ghost use Rattle.nequllpa_merging.specs.declared.faults.MergeFault.TheVariants a
 use ii_base::{Fault, Part};
 use ii_doc_store::StoreDamage;
 use ii_segment_store::CommitFault;
-use ii_store::StoreFault;
+use ii_store::{DirectoryFault, StoreFault};
 use std::alloc::{AllocError, AllocFailed};
 use thiserror::Error;
 
@@ -44,9 +44,21 @@ pub enum JoinFault {
     /// The last segments can't be merged.
     #[error("{0}")]
     Merge(MergeFault),
+    /// The files of the merged segment can't be written.
+    #[error("{0}")]
+    Write(DirectoryFault),
     /// The merged segment can't be put in the place of the last ones.
     #[error("{0}")]
     Commit(CommitFault),
+}
+
+// Why files of segments aren't merged.
+#[derive(Clone, Copy, Debug, PartialEq, Eq)]
+pub(crate) enum FilesFault {
+    // The merged files can't be written.
+    Directory(DirectoryFault),
+    // What is merged is damaged or passes a limit, or an allocation failed.
+    Fault(Fault),
 }
 
 impl MergeFault {

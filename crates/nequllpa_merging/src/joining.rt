@@ -23,7 +23,7 @@ use std::alloc::Global;
 /// # Errors
 ///
 /// * `Store` if the list of segments, or one of the last segments, can't be loaded.
-/// * `Merge` if these can't be merged (`merge_segments`).
+/// * `Merge` if these can't be merged, and `Write` if the directory refuses a file of them (`merge_segments`).
 /// * `Commit` if the merged one can't be put in their place (`replace_last`).
 pub fn merge_last<D: Directory>(
     alloc: Global,
@@ -49,11 +49,11 @@ pub fn merge_last<D: Directory>(
         Ok(last) => last,
         Err(fault) => return Err(JoinFault::Store(fault)),
     };
-    let segment = match merge_segments(alloc, schema, last) {
+    let segment = match merge_segments(alloc, directory, schema, last) {
         Ok(segment) => segment,
-        Err(fault) => return Err(JoinFault::Merge(fault)),
+        Err(fault) => return Err(fault),
     };
-    match replace_last(alloc, directory, first, &segment) {
+    match replace_last(alloc, directory, first, segment) {
         Ok(()) => Ok(()),
         Err(fault) => Err(JoinFault::Commit(fault)),
     }

@@ -5,6 +5,7 @@ pub mod faults;
 pub mod joining;
 pub mod merge_policy;
 pub mod merging;
+mod new_files;
 mod opening;
 mod sources;
 mod stores;

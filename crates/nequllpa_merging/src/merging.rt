@@ -8,15 +8,19 @@ ghost use Rattle.ii_merger.specs.MergedFiles.{WroteMerged};
 ghost use Rattle.ii_merger.specs.MergedIndex.{all_living};
 ghost use Rattle.ii_indexing.specs.IndexFiles.{WroteIndex};
 ghost use Rattle.ii_indexing.specs.RamFiles.{empty_files};
-ghost use Rattle.ii_segment_store.specs.Contents.{files_contents, segment_contents};
+ghost use Rattle.ii_directory.specs.Directory.{is_obeyed};
+ghost use Rattle.ii_segment_store.specs.Contents.{segment_contents};
+ghost use Rattle.ii_segment_store.specs.NewSegments.{IsWritten, new_contents};
 ghost use Rattle.ii_segments.specs.Segments.{Segment, index_tokens, merged, num_docs_of};
-ghost use Rattle.nequllpa_merging.specs.Faults.{IsDamage, IsPartDamage};
+ghost use Rattle.nequllpa_merging.specs.Faults.{IsDamage, IsPartDamage, IsRefusedFiles, OfFault, OfMerge};
+ghost use Rattle.nequllpa_merging.specs.Joins.{IsRefusedJoin};
 ghost use Rattle.nequllpa_merging.specs.HeldSegments.{HasCountsOf, HoldSegments, HoldsSegment, IsOpenedFor, OpenedHold};
 ghost use Rattle.nequllpa_merging.specs.MergedSegments.{AreMergedFiles, HasMergedCounts, HasTooManyTokens, IsCountsFault, IsListsFault, IsMergedFrom, IsMergingFault, IsOpenMergeFault, IsOpenedFault, counts_sources, merge_source, merging};
 ghost use Rattle.nequllpa_merging.specs.OpenedSegments.{opened_view};
 ghost use Rattle.nequllpa_merging.specs.StoredDocuments.{HoldsStored, merged_documents, stored_file};
 
-use crate::faults::MergeFault;
+use crate::faults::{FilesFault, JoinFault, MergeFault};
+use crate::new_files::{files_fault, index_writers, write_if_some};
 use crate::opening::{OpenedSegment, open_segments};
 use crate::sources::{counts_sources, merge_sources};
 use crate::stores::{merge_all_stores, with_store};
@@ -24,15 +28,18 @@ use crate::totals::{all_totals, num_living};
 use ii_base::{DocId, Fault, LimitName, Schema};
 use ii_counts_merger::{MergedCounts, merge_counts};
 use ii_merger::{IndexWriters, merge};
-use ii_segment_store::{SegmentFiles, StoredSegment};
+use ii_segment_store::{NewSegment, StoredSegment};
 use ii_segments::{counts_of_segments, merged_is_segment};
+use ii_store::Directory;
 use std::alloc::Global;
 
-/// Returns the files of one segment of the living documents of several segments, numbered one segment after the
-/// other. It has a file of counts if each of the segments has one, and stored documents if each has some.
+/// Writes the files of one segment of the living documents of several segments, numbered one segment after the other, to
+/// the directory. They have no names yet. It has a file of counts if each of the segments has one, and stored documents if
+/// each has some.
 ///
 /// # Errors
 ///
+/// `Write` if the directory refuses a file, and `Merge` with one of these:
 /// * `Segment` with the place of the first segment whose files don't open, and its first damaged part.
 /// * `TooManyFields` if the schema has 2^32 - 1 fields, `TooManyDocuments` if 2^31 documents are alive or more.
 /// * `Merge` with `Damaged` for the first list that no index has (`merge` of `ii_merger`), with a limit of the
@@ -40,82 +47,96 @@ use std::alloc::Global;
 /// * Where all else can be merged: `Store` with the place of the first segment whose index of stored documents is
 ///   damaged or, if none is, of the first one with a damaged block that has living documents, and the first such
 ///   block; `LongDocument` with the place of a segment that has a stored document of 2^31 bytes or more.
-pub fn merge_segments(
+pub fn merge_segments<D: Directory>(
     alloc: Global,
+    directory: &D,
     schema: &Schema,
     segments: Vec<StoredSegment>,
-) -> Result<SegmentFiles, MergeFault>
-    ensures merged { IfOk result (λ f. IsMergedFrom schema.now (map segment_contents segments.items) (files_contents f)) }
-    ensures holds { (ss : List Segment) → HoldSegments schema.now (map segment_contents segments.items) ss → IfOk result (λ f. HoldsSegment schema.now (files_contents f) (merged ss)) }
-    ensures documents { (ds : List SegmentDocuments) → AllZip HoldsStored (map stored_file (map segment_contents segments.items)) ds → IfOk result (λ f. HoldsStored (stored_file (files_contents f)) (merged_documents ds)) }
+) -> Result<NewSegment<D::NewFile>, JoinFault>
+    ensures written { D.is_known directory.now → IfOk result IsWritten }
+    ensures merged { D.is_known directory.now → IfOk result (λ s. IsMergedFrom schema.now (map segment_contents segments.items) (new_contents s)) }
+    ensures holds { D.is_known directory.now → (ss : List Segment) → HoldSegments schema.now (map segment_contents segments.items) ss → IfOk result (λ s. HoldsSegment schema.now (new_contents s) (merged ss)) }
+    ensures documents { D.is_known directory.now → (ds : List SegmentDocuments) → AllZip HoldsStored (map stored_file (map segment_contents segments.items)) ds → IfOk result (λ s. HoldsStored (stored_file (new_contents s)) (merged_documents ds)) }
 
     // Which errors it returns, and when.
-    ensures fault { IfErr result (IsMergingFault schema.now (map segment_contents segments.items)) }
-    ensures undamaged { (ss : List Segment) → HoldSegments schema.now (map segment_contents segments.items) ss → IfErr result (λ e. ¬ IsDamage e) }
+    ensures fault { D.is_known directory.now → IfErr result (OfMerge (IsMergingFault schema.now (map segment_contents segments.items))) }
+    ensures undamaged { (ss : List Segment) → HoldSegments schema.now (map segment_contents segments.items) ss → IfErr result (OfMerge (λ e. ¬ IsDamage e)) }
+    ensures obeyed { is_obeyed IsRefusedJoin (D.may_refuse directory.now) result }
 {
     let opened = match open_segments(alloc, schema, segments) {
         Ok(opened) => opened,
+        Err(fault) => return Err(JoinFault::Merge(fault)),
+    };
+    let segment = match merge_opened(alloc, directory, schema, opened.as_slice()) {
+        Ok(segment) => segment,
         Err(fault) => return Err(fault),
     };
-    let files = match merge_opened(alloc, schema, opened.as_slice()) {
-        Ok(files) => files,
-        Err(fault) => return Err(fault),
-    };
-    match merge_all_stores(alloc, opened.as_slice()) {
-        Ok(store) => Ok(with_store(files, store)),
+    match merge_all_stores(alloc, directory, opened.as_slice()) {
+        Ok(store) => Ok(with_store(segment, store)),
         Err(fault) => Err(fault),
     }
 }
 
 // Merges open segments, but for their stored documents.
-fn merge_opened(
+fn merge_opened<D: Directory>(
     alloc: Global,
+    directory: &D,
     schema: &Schema,
     segments: &[OpenedSegment],
-) -> Result<SegmentFiles, MergeFault>
+) -> Result<NewSegment<D::NewFile>, JoinFault>
     requires opened { AllByRecursion (IsOpenedFor schema.now) (map opened_view segments.now) }
-    ensures merged { IfOk result (λ f. AreMergedFiles schema.now (map opened_view segments.now) (files_contents f)) }
-    ensures holds { (ss : List Segment) → OpenedHold schema.now (map opened_view segments.now) ss → IfOk result (λ f. HoldsSegment schema.now (files_contents f) (merged ss)) }
-    ensures fault { IfErr result (λ e. IsOpenedFault e schema.now (map opened_view segments.now)) }
-    ensures undamaged { (ss : List Segment) → OpenedHold schema.now (map opened_view segments.now) ss → IfErr result (λ e. ¬ IsDamage e) }
+    ensures written { D.is_known directory.now → IfOk result IsWritten }
+    ensures merged { D.is_known directory.now → IfOk result (λ s. AreMergedFiles schema.now (map opened_view segments.now) (new_contents s)) }
+    ensures holds { D.is_known directory.now → (ss : List Segment) → OpenedHold schema.now (map opened_view segments.now) ss → IfOk result (λ s. HoldsSegment schema.now (new_contents s) (merged ss)) }
+    ensures fault { D.is_known directory.now → IfErr result (OfMerge (λ e. IsOpenedFault e schema.now (map opened_view segments.now))) }
+    ensures undamaged { (ss : List Segment) → OpenedHold schema.now (map opened_view segments.now) ss → IfErr result (OfMerge (λ e. ¬ IsDamage e)) }
+    ensures obeyed { is_obeyed IsRefusedJoin (D.may_refuse directory.now) result }
 {
     if schema.num_fields() >= u32::MAX as usize {
-        return Err(MergeFault::TooManyFields);
+        return Err(JoinFault::Merge(MergeFault::TooManyFields));
     }
     let num_docs = match num_living(segments) {
         Ok(num_docs) => num_docs,
-        Err(fault) => return Err(fault),
+        Err(fault) => return Err(JoinFault::Merge(fault)),
     };
-    match merge_files(alloc, schema, segments, num_docs) {
-        Ok(files) => Ok(files),
-        Err(fault) => Err(MergeFault::Merge(fault)),
+    match merge_files(alloc, directory, schema, segments, num_docs) {
+        Ok(segment) => Ok(segment),
+        Err(FilesFault::Directory(fault)) => Err(JoinFault::Write(fault)),
+        Err(FilesFault::Fault(fault)) => Err(JoinFault::Merge(MergeFault::Merge(fault))),
     }
 }
 
 // Merges all files of open segments, but for those of stored documents.
-fn merge_files(
+fn merge_files<D: Directory>(
     alloc: Global,
+    directory: &D,
     schema: &Schema,
     segments: &[OpenedSegment],
     num_docs: DocId,
-) -> Result<SegmentFiles, Fault>
+) -> Result<NewSegment<D::NewFile>, FilesFault>
     requires opened { AllByRecursion (IsOpenedFor schema.now) (map opened_view segments.now) }
     requires many { length schema.now < 2 ^ 32 - 1 }
     requires docs { num_docs ≡ all_living (map merge_source (map opened_view segments.now)) }
     requires few { num_docs ≤ TERMINATED }
-    ensures merged { IfOk result (λ f. AreMergedFiles schema.now (map opened_view segments.now) (files_contents f)) }
-    ensures holds { (ss : List Segment) → OpenedHold schema.now (map opened_view segments.now) ss → IfOk result (λ f. HoldsSegment schema.now (files_contents f) (merged ss)) }
-    ensures fault { IfErr result (IsOpenMergeFault schema.now (map opened_view segments.now)) }
-    ensures undamaged { (ss : List Segment) → OpenedHold schema.now (map opened_view segments.now) ss → IfErr result (λ e. ¬ IsPartDamage e) }
+    ensures written { D.is_known directory.now → IfOk result IsWritten }
+    ensures merged { D.is_known directory.now → IfOk result (λ s. AreMergedFiles schema.now (map opened_view segments.now) (new_contents s)) }
+    ensures holds { D.is_known directory.now → (ss : List Segment) → OpenedHold schema.now (map opened_view segments.now) ss → IfOk result (λ s. HoldsSegment schema.now (new_contents s) (merged ss)) }
+    ensures fault { D.is_known directory.now → IfErr result (OfFault (IsOpenMergeFault schema.now (map opened_view segments.now))) }
+    ensures undamaged { (ss : List Segment) → OpenedHold schema.now (map opened_view segments.now) ss → IfErr result (OfFault (λ e. ¬ IsPartDamage e)) }
+    ensures obeyed { is_obeyed IsRefusedFiles (D.may_refuse directory.now) result }
 {
     merged_is_segment();
     let counts = match merge_all_counts(alloc, schema, segments, num_docs) {
         Ok(counts) => counts,
-        Err(fault) => return Err(fault),
+        Err(fault) => return Err(FilesFault::Fault(fault)),
     };
-    let files = match merge_lists(alloc, schema, segments) {
+    let files = match merge_lists(alloc, directory, schema, segments) {
         Ok(files) => files,
         Err(fault) => return Err(fault),
+    };
+    let counts = match write_if_some(alloc, directory, counts) {
+        Ok(counts) => counts,
+        Err(fault) => return Err(FilesFault::Directory(fault)),
     };
     let IndexWriters {
         terms,
@@ -123,12 +144,12 @@ fn merge_files(
         positions,
         fieldnorms,
     } = files;
-    Ok(SegmentFiles {
+    Ok(NewSegment {
         num_docs,
-        terms: terms.finish(),
-        postings: postings.finish(),
-        positions: positions.finish(),
-        fieldnorms: fieldnorms.finish(),
+        terms,
+        postings,
+        positions,
+        fieldnorms,
         counts,
         store: None,
     })
@@ -170,29 +191,34 @@ fn bytes_of(merged: MergedCounts) -> Vec<u8>
 }
 
 // Merges the files of terms, postings, positions and field norms.
-fn merge_lists(
+fn merge_lists<D: Directory>(
     alloc: Global,
+    directory: &D,
     schema: &Schema,
     segments: &[OpenedSegment],
-) -> Result<IndexWriters<Vec<u8>>, Fault>
+) -> Result<IndexWriters<D::NewFile>, FilesFault>
     requires opened { AllByRecursion (IsOpenedFor schema.now) (map opened_view segments.now) }
     requires many { length schema.now < 2 ^ 32 - 1 }
     requires few { all_living (map merge_source (map opened_view segments.now)) ≤ TERMINATED }
-    ensures wrote { IfOk result (λ files. WroteMerged (merging schema.now (map opened_view segments.now)) empty_files files) }
-    ensures holds { (ss : List Segment) → OpenedHold schema.now (map opened_view segments.now) ss → IfOk result (λ files. WroteIndex schema.now (num_docs_of ss) empty_files files (index_tokens ss)) }
-    ensures fault { IfErr result (λ e. (e ≡ Fault.OutOfMemory) ⊎ ((e ≡ Fault.Limit LimitName.Tokens) × HasTooManyTokens schema.now (map opened_view segments.now)) ⊎ IsListsFault schema.now (map opened_view segments.now) e) }
-    ensures undamaged { (ss : List Segment) → OpenedHold schema.now (map opened_view segments.now) ss → IfErr result (λ e. ¬ IsPartDamage e) }
+    ensures wrote { D.is_known directory.now → IfOk result (λ files. WroteMerged (merging schema.now (map opened_view segments.now)) empty_files files) }
+    ensures holds { D.is_known directory.now → (ss : List Segment) → OpenedHold schema.now (map opened_view segments.now) ss → IfOk result (λ files. WroteIndex schema.now (num_docs_of ss) empty_files files (index_tokens ss)) }
+    ensures fault { D.is_known directory.now → IfErr result (OfFault (λ e. (e ≡ Fault.OutOfMemory) ⊎ ((e ≡ Fault.Limit LimitName.Tokens) × HasTooManyTokens schema.now (map opened_view segments.now)) ⊎ IsListsFault schema.now (map opened_view segments.now) e)) }
+    ensures undamaged { (ss : List Segment) → OpenedHold schema.now (map opened_view segments.now) ss → IfErr result (OfFault (λ e. ¬ IsPartDamage e)) }
+    ensures obeyed { is_obeyed IsRefusedFiles (D.may_refuse directory.now) result }
 {
     counts_of_segments();
     let num_tokens = match all_totals(alloc, schema, segments) {
         Ok(num_tokens) => num_tokens,
-        Err(fault) => return Err(fault),
+        Err(fault) => return Err(FilesFault::Fault(fault)),
     };
     let sources = match merge_sources(alloc, segments) {
         Ok(sources) => sources,
-        Err(fault) => return Err(fault),
+        Err(fault) => return Err(FilesFault::Fault(fault)),
     };
-    let writers = IndexWriters::in_memory(alloc);
+    let writers = match index_writers(alloc, directory) {
+        Ok(writers) => writers,
+        Err(fault) => return Err(FilesFault::Directory(fault)),
+    };
     let (files, merged) = merge(
         alloc,
         schema,
@@ -202,6 +228,6 @@ fn merge_lists(
     );
     match merged {
         Ok(()) => Ok(files),
-        Err(fault) => Err(fault.in_memory()),
+        Err(fault) => Err(files_fault(directory, files, fault)),
     }
 }

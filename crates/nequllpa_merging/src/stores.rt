@@ -1,37 +1,63 @@
 //! Merges the stored documents of segments.
-ghost use Rattle.std.specs.Prelude.{◌≡◌, Err, IfErr, IfOk, IsErrOf, Ok, Some, map};
+ghost use Rattle.std.specs.Prelude.{◌≡◌, Err, IfErr, IfOk, IfSome, IsErrOf, Ok, Some, map};
 ghost use Rattle.std.specs.Option.{option_map};
 ghost use Rattle.ii_doc_store_merger.specs.StoreSources.{opened_store};
-ghost use Rattle.ii_segment_store.specs.Contents.{files_contents};
-ghost use Rattle.nequllpa_merging.specs.StoredDocuments.{AreOpenStores, HasMergedStore, IsOpenStoresFault, IsStoresFault, store_in, stored_view};
+ghost use Rattle.ii_directory.specs.Directory.{is_obeyed};
+ghost use Rattle.ii_segment_store.specs.NewSegments.{IsCounted, IsWritten, new_contents, new_file_if};
+ghost use Rattle.nequllpa_merging.specs.Faults.{OfMerge};
+ghost use Rattle.nequllpa_merging.specs.Joins.{IsRefusedJoin};
+ghost use Rattle.nequllpa_merging.specs.StoredDocuments.{AreOpenStores, HasMergedStore, IsOpenStoresFault, IsStoresFault, store_in, stored_view, stores_fault};
 
-use crate::faults::MergeFault;
+use crate::faults::{JoinFault, MergeFault};
+use crate::new_files::new_writer;
 use crate::opening::OpenedSegment;
-use ii_base::Fault;
+use ii_base::{CountingWriter, Fault};
 use ii_doc_store::{StoreDamage, StoreOpenFault, StoreReader};
-use ii_doc_store_merger::{StoreMergeFault, StoreSource, merge_stores};
-use ii_segment_store::SegmentFiles;
+use ii_doc_store_merger::{StoreMergeFault, StoreSource, merge_stores_to};
+use ii_segment_store::NewSegment;
+use ii_store::Directory;
 use std::alloc::Global;
+use std::io::Write;
 
 // Merges the stored documents, if each segment has some.
-pub(crate) fn merge_all_stores(
+pub(crate) fn merge_all_stores<D: Directory>(
     alloc: Global,
+    directory: &D,
     segments: &[OpenedSegment],
-) -> Result<Option<Vec<u8>>, MergeFault>
-    ensures merged { IfOk result (λ store. HasMergedStore (map stored_view segments.now) (option_map (λ v. v.items) store)) }
-    ensures fault { IfErr result (IsStoresFault (map stored_view segments.now)) }
+) -> Result<Option<CountingWriter<D::NewFile>>, JoinFault>
+    ensures written { D.is_known directory.now → IfOk result (λ store. IfSome store IsCounted) }
+    ensures merged { D.is_known directory.now → IfOk result (λ store. HasMergedStore (map stored_view segments.now) (new_file_if store)) }
+    ensures fault { IfErr result (OfMerge (IsStoresFault (map stored_view segments.now))) }
+    ensures obeyed { is_obeyed IsRefusedJoin (D.may_refuse directory.now) result }
 {
     let sources = match open_stores(alloc, segments) {
         Ok(Some(sources)) => sources,
         Ok(None) => return Ok(None),
-        Err(fault) => return Err(fault),
+        Err(fault) => return Err(JoinFault::Merge(fault)),
     };
-    match merge_stores(alloc, sources.as_slice()) {
-        Ok(bytes) => Ok(Some(bytes)),
-        Err(StoreMergeFault::Output(fault)) => Err(MergeFault::Merge(fault)),
-        Err(StoreMergeFault::Damaged(place, damage)) => Err(MergeFault::Store(place, damage)),
-        Err(StoreMergeFault::DocumentLen(place)) => Err(MergeFault::LongDocument(place)),
-        Err(StoreMergeFault::NumDocs) => Err(MergeFault::TooManyDocuments),
+    let writer = match new_writer(alloc, directory) {
+        Ok(writer) => writer,
+        Err(fault) => return Err(JoinFault::Write(fault)),
+    };
+    let (file, merged) = merge_stores_to(alloc, sources.as_slice(), writer);
+    match merged {
+        Ok(()) => Ok(Some(file)),
+        Err(StoreMergeFault::Output(Fault::Write)) => {
+            Err(JoinFault::Write(directory.write_fault(&file.finish())))
+        }
+        Err(fault) => Err(JoinFault::Merge(stores_fault(fault))),
+    }
+}
+
+// Returns why stores aren't merged, where they can be written.
+fn stores_fault(fault: StoreMergeFault) -> MergeFault
+    ensures { result ≡ stores_fault fault }
+{
+    match fault {
+        StoreMergeFault::Output(fault) => MergeFault::Merge(fault),
+        StoreMergeFault::Damaged(place, damage) => MergeFault::Store(place, damage),
+        StoreMergeFault::DocumentLen(place) => MergeFault::LongDocument(place),
+        StoreMergeFault::NumDocs => MergeFault::TooManyDocuments,
     }
 }
 
@@ -87,11 +113,15 @@ fn store_fault(place: usize, fault: StoreOpenFault) -> MergeFault
     }
 }
 
-// Returns the files with stored documents.
-pub(crate) fn with_store(files: SegmentFiles, store: Option<Vec<u8>>) -> SegmentFiles
-    ensures { files_contents result ≡ record (files_contents files) { store = option_map (λ v. v.items) store } }
+// Returns a segment with stored documents.
+pub(crate) fn with_store<W: Write + Drop>(
+    segment: NewSegment<W>,
+    store: Option<CountingWriter<W>>,
+) -> NewSegment<W>
+    ensures contents { new_contents result ≡ record (new_contents segment) { store = new_file_if store } }
+    ensures written { IsWritten segment → IfSome store IsCounted → IsWritten result }
 {
-    let SegmentFiles {
+    let NewSegment {
         num_docs,
         terms,
         postings,
@@ -99,8 +129,8 @@ pub(crate) fn with_store(files: SegmentFiles, store: Option<Vec<u8>>) -> Segment
         fieldnorms,
         counts,
         store: _,
-    } = files;
-    SegmentFiles {
+    } = segment;
+    NewSegment {
         num_docs,
         terms,
         postings,

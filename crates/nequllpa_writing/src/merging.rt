@@ -4,6 +4,7 @@ use crate::memory::Budget;
 use crate::messages::{NO, PROGRAM, loaded_at, refuse_commit, refuse_path, tell_no_index};
 use crate::schemas::text_schema_of;
 use clap::ArgMatches;
+use ii_directory::remove_unfinished;
 use ii_segment_store::loading::file_of;
 use ii_segment_store::{StoredSegments, WantedFiles};
 use ii_store::collect::collect;
@@ -125,6 +126,7 @@ fn merge_from(
     };
     let mut folder = Folder::new(rt, path);
     if let Err(fault) = merge_last(rt.alloc(), &mut folder, schema.schema(), first) {
+        let _ = remove_unfinished(rt, path);
         return Ok(Err(refuse_join(rt, path, fault)?));
     }
     match collect(rt.alloc(), &mut folder) {
@@ -138,6 +140,7 @@ fn refuse_join(rt: &HostRuntime, path: &str, fault: JoinFault) -> anyhow::Result
     match fault {
         JoinFault::Store(fault) => refuse_store(rt, path, fault),
         JoinFault::Merge(fault) => refuse_merge(rt, path, fault),
+        JoinFault::Write(fault) => refuse_path(rt, path, fault),
         JoinFault::Commit(fault) => refuse_commit(rt, path, fault),
     }
 }
@@ -188,7 +191,11 @@ fn settled(rt: &HostRuntime, path: &str, budget: Budget) -> anyhow::Result<()> {
         return Ok(());
     }
     let schema = text_schema_of(rt.alloc(), list.schema.as_slice())?;
-    merge_last(rt.alloc(), &mut folder, schema.schema(), first)?;
+    let merged = merge_last(rt.alloc(), &mut folder, schema.schema(), first);
+    if merged.is_err() {
+        let _ = remove_unfinished(rt, path);
+    }
+    merged?;
     collect(rt.alloc(), &mut folder)?;
     Ok(())
 }
