@@ -40,8 +40,12 @@ PLACES = {
     'ii_segment_store/src/faults.rt': {
         'from',
         'memory_fault', 'flags_fault'},  # a call that fails for nothing else was refused
+    'ii_segment_store/src/new_segment.rt': {'read_table'},  # reading a table was refused memory
     'ii_directory/src/faults.rt': {'from'},
-    'ii_directory/src/memory_files.rt': {'stop_in_put'},  # a copy of the bytes was refused
+    'ii_directory/src/memory_files.rt': {
+        'stop_in_put',  # a copy of the bytes was refused
+        'write_fault'},  # a vector that is written fails only if it can't grow
+    'ii_directory/src/new_file.rt': {'over'},  # the buffer of a writer was refused
     'ii_term_text/src/terms.rt': {'bytes_term', 'is_memory'},  # the kit's `hex` couldn't grow
     'ii_folder_promises/src/stored_lines.rt': {'stored_lines_come_back', 'merged_lines_come_back', 'line_of', 'copied'},  # a store, or a copy of a line
     'ii_folder_promises/src/stored_fields.rt': {'stored_fields_come_back'},  # a store couldn't be shared

@@ -160,7 +160,7 @@ def bounded(user, dice):
         raise Failed(f'{LARGE} bytes of lines took {peaks} bytes of memory; --memory said {LARGE_SIZE}')
     size = sum(map(len, user.files('large').values()))
     merged = peak(user, ['merge', 'large'])
-    if merged > size + SPARE:
+    if merged > size + size // 2 + SPARE:
         raise Failed(f'merging an index of {size} bytes took {merged} bytes of memory')
     user.wants(['search', 'large', '*', '--count'], f'{2 * many}\n')
     return max(peaks), merged / size

@@ -1,5 +1,5 @@
 // An index in a directory: what is saved is loaded.
-ghost use Rattle.std.specs.Prelude.{◌≡◌, ◌⊎◌, Ok, IfErr, IfOk, None, OnOk};
+ghost use Rattle.std.specs.Prelude.{◌≡◌, ◌++◌, ◌⊎◌, Ok, IfErr, IfOk, None, OnOk, Some};
 ghost use Rattle.ii_directory.specs.declared.faults.DirectoryFault.TheVariants.{OutOfMemory};
 ghost use Rattle.ii_directory.specs.declared.name.Kind.{Kind};
 ghost use Rattle.ii_directory.specs.declared.name.Name.TheVariants.{File, Meta, NewMeta};
@@ -10,11 +10,12 @@ ghost use Rattle.ii_store.specs.Faults.{of_directory};
 ghost use Rattle.ii_store.specs.Index.{index_of, used_slot, view};
 ghost use Rattle.ii_store.specs.SalvagedIndex.{salvaged_view, sound_index};
 
-use ii_directory::{FileSystem, FlushedDirectory};
+use ii_directory::{FileSystem, FlushedDirectory, Name};
 use ii_store::salvaged_index::salvage_of_sound;
 use ii_store::save::{remove_unused, save};
 use ii_store::{Directory, DirectoryFault, SalvagedIndex, StoreFault, StoredIndex, load, salvage};
 use std::alloc::Global;
+use std::io::Write;
 
 /// What is saved is loaded, whatever the directory had before.
 pub fn what_is_saved_is_loaded<D: Directory>(
@@ -99,4 +100,25 @@ pub fn removing_keeps_the_index<D: Directory>(
         → index_of files ≡ index_of (D.seen directory.old) }
 {
     remove_unused(alloc, directory)
+}
+
+/// A file that is written in two pieces has both of them once it is finished, and a stop leaves all other files as they
+/// were. Only a directory that may refuse calls refuses one.
+pub fn pieces_become_a_file<D: Directory>(
+    alloc: Global,
+    directory: &mut D,
+    name: Name,
+    first: &[u8],
+    second: &[u8],
+) -> Result<(), DirectoryFault>
+    requires { D.is_known directory.old }
+    ensures whole { OnOk result (D.seen directory.new name ≡ Some (first.now ++ second.now)) }
+    ensures stopped { (files : Files) → D.left_since directory.new (D.moment directory.old) files → (other : Name) → (other ≡ name → ⊥) → files other ≡ D.seen directory.old other }
+    ensures obeys { (D.may_refuse directory.old → ⊥) → IfErr result (λ e. e ≡ OutOfMemory) }
+{
+    let mut file = directory.create(alloc)?;
+    if file.write_all(first).is_err() || file.write_all(second).is_err() {
+        return Err(directory.write_fault(&file));
+    }
+    directory.finish(name, file)
 }

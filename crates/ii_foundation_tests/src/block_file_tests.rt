@@ -1,10 +1,11 @@
 // Ranges of files that are checked block by block.
 use bytes::Bytes;
 use ii_block_file::{BlockFile, BlockTable, MemoryFile, ReadAt, ReadFault, SystemFile};
+use ii_directory::{FolderLock, remove_unfinished};
 use ii_store::{Directory, FileDigest, Folder, MemoryDirectory, Name, SegmentComponent};
 use std::alloc::{AllocError, Global};
 use std::fs;
-use std::io::ErrorKind;
+use std::io::{ErrorKind, Write};
 use std::test::Fail;
 
 // Returns 16,000 bytes, which are four blocks.
@@ -150,5 +151,58 @@ fn an_open_file_stays_as_it_was(rt: HostRuntime) -> Result<(), Fail> {
     let found = opened(rt.alloc(), &mut Folder::new(&rt, path))?;
     fs::remove_dir_all(&rt, path)?;
     assert!(rt; found == ([1, 2, 3], false));
+    Ok(())
+}
+
+// Returns the bytes of a file that was written in two pieces, and the number of files. Another file wasn't finished.
+fn in_pieces<D: Directory>(alloc: Global, directory: &mut D) -> Result<(Vec<u8>, usize), Fail> {
+    let name = Name::Segment(4, SegmentComponent::Store);
+    let mut file = directory.create(alloc).ok().ok_or("refused")?;
+    let unfinished = directory.create(alloc).ok().ok_or("refused")?;
+    file.write_all(&[1, 2])?;
+    file.write_all(&[3])?;
+    drop(unfinished);
+    directory.finish(name, file).ok().ok_or("not finished")?;
+    let found = directory.read(alloc, name).ok().ok_or("not read")?;
+    let names = directory.list(alloc).ok().ok_or("not listed")?;
+    Ok((found.ok_or("not there")?, names.as_slice().len()))
+}
+
+#[test]
+fn files_are_written_in_pieces(rt: HostRuntime) -> Result<(), Fail> {
+    let mut memory = MemoryDirectory::create(rt.alloc());
+    let (bytes, count) = in_pieces(rt.alloc(), &mut memory)?;
+    assert!(rt; bytes.as_slice() == [1, 2, 3].as_slice() && count == 1);
+    let path = "/tmp/ii_foundation_tests_pieces";
+    let _ = fs::remove_dir_all(&rt, path);
+    fs::create_dir(&rt, path)?;
+    let (bytes, count) = in_pieces(rt.alloc(), &mut Folder::new(&rt, path))?;
+    let removed = remove_unfinished(&rt, path).is_ok();
+    let mut files = 0u64;
+    for entry in fs::read_dir(&rt, path)? {
+        let _ = entry?;
+        files = files.saturating_add(1);
+    }
+    fs::remove_dir_all(&rt, path)?;
+    assert!(rt; bytes.as_slice() == [1, 2, 3].as_slice() && count == 1);
+    assert!(rt; removed && files == 1);
+    Ok(())
+}
+
+#[test]
+fn a_lock_removes_unfinished_files(rt: HostRuntime) -> Result<(), Fail> {
+    let path = "/tmp/ii_foundation_tests_unfinished";
+    let left = "/tmp/ii_foundation_tests_unfinished/unfinished.12";
+    let foreign = "/tmp/ii_foundation_tests_unfinished/unfinished.txt";
+    let _ = fs::remove_dir_all(&rt, path);
+    fs::create_dir(&rt, path)?;
+    fs::write(&rt, left, "left")?;
+    fs::write(&rt, foreign, "mine")?;
+    let lock = FolderLock::try_lock(&rt, path);
+    let is_left = fs::exists(&rt, left)?;
+    let is_kept = fs::exists(&rt, foreign)?;
+    fs::remove_dir_all(&rt, path)?;
+    assert!(rt; matches!(lock, Ok(Some(_))));
+    assert!(rt; !is_left && is_kept);
     Ok(())
 }
