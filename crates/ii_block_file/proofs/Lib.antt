@@ -1,3 +1,4 @@
+pub mod ListedLaws
 pub mod RangeLaws
 pub mod TableLaws
 mod WorkedRows

@@ -1,1 +1,2 @@
 pub mod BlockTable
+pub mod ListedFile

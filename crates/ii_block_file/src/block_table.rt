@@ -3,7 +3,7 @@ ghost use Rattle.std.specs.Prelude.{◌≡◌, ◌<◌, ◌≤◌, ◌+◌, ◌-
 ghost use Rattle.sha2.specs.Sha256.{sha256};
 ghost use Rattle.ii_store.specs.FileDigest.{blocks, checksum_bytes};
 ghost use Rattle.ii_store.specs.IndexMeta.{file_meta};
-ghost use Rattle.ii_block_file.specs.BlockTable.{AreListed, IsTableFault, file_block, lists_checksum, is_table, num_file_blocks, block_table_of};
+ghost use Rattle.ii_block_file.specs.BlockTable.{AreListed, IsTableFault, file_block, is_digest_of, lists_checksum, is_table, num_file_blocks, block_table_of};
 ghost use Rattle.ii_block_file.specs.declared.faults.ReadFault.TheVariants as faults;
 
 use crate::faults::ReadFault;
@@ -151,6 +151,13 @@ fn is_table(len: u64, digest: &FileDigest, bytes: &[u8]) -> bool
     {
         return false;
     }
+    is_digest_of(digest, bytes)
+}
+
+// Returns whether a digest is that of the blocks of a file with this table.
+pub(crate) fn is_digest_of(digest: &FileDigest, bytes: &[u8]) -> bool
+    ensures { result ≡ is_digest_of digest.now bytes.now }
+{
     match digest {
         FileDigest::Sha256(_) | FileDigest::LongBlocks(_) => false,
         FileDigest::Blocks(digest) => digest.as_slice() == Sha256::digest(bytes).as_slice(),

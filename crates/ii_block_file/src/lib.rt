@@ -4,8 +4,10 @@
 pub mod block_file;
 pub mod block_table;
 pub mod faults;
+pub mod listed_file;
 
 pub use block_file::BlockFile;
 pub use block_table::BlockTable;
 pub use faults::ReadFault;
 pub use ii_directory::{MemoryFile, ReadAt, SystemFile};
+pub use listed_file::open_listed;
