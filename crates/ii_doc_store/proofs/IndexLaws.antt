@@ -1,18 +1,24 @@
 -- The checkpoints of an index, as the reader walks them.
-use Rattle.std.proofs.Common.{◌≡◌, ℕ, zero, suc, ◌+◌, ◌-◌, ◌*◌, ◌<◌, ◌≤◌, Bool, true, false, List, [], ◌∷◌, ◌++◌, length, take, drop, get_or, refl, sym, subst, ap, ◌∙◌, append_assoc, arith, ⊎_elim}
+use Rattle.std.proofs.Common.{◌≡◌, ℕ, zero, suc, ◌+◌, ◌-◌, ◌*◌, ◌<◌, ◌≤◌, Bool, true, false, Vec, Global, List, [], ◌∷◌, ◌++◌, length, length-drop, take, drop, get_or, refl, sym, subst, ap, ◌∙◌, append_assoc, arith, ⊎_elim}
 use Rattle.std.specs.Prelude.{Some, Result, Ok, Err, IfErr, IfOk, IsErrOf, MatchResult, OnOk, bytes_eq, slice_get, slice_range, nat_le, nat_lt, ◌&&◌, not, if◌then◌else◌}
 use Rattle.std.specs.Borrow.{Bor}
 use Rattle.std.specs.List.Sorted.{IsNonDecreasingBy}
 use Rattle.sha2.specs.Sha256.{sha256}
-use Rattle.std.proofs.Math.Bool.{and-false}
-use Rattle.std.proofs.lemmas.Bool.{leb-true, leb-false, lt-ltb, ltb-false, ltb-true, le-ltb, eqb-true, cases_lt}
+use Rattle.std.proofs.lemmas.Bool.{leb-true, leb-false, le-leb, lt-leb, lt-ltb, ltb-false, ltb-true, le-ltb, eqb-true, cases_lt}
+use Rattle.std.proofs.lemmas.List.{take_all}
 use Rattle.std.proofs.lemmas.Option.{get_or_from_slice_get}
+use Rattle.ii_block_file.specs.declared.faults.ReadFault.{ReadFault}
+use Rattle.ii_block_file.specs.declared.faults.ReadFault.TheVariants as reads
 use Rattle.ii_doc_store.specs.declared.checkpoint.BlockPlace.{BlockPlace}
 use Rattle.ii_doc_store.specs.declared.checkpoint.Checkpoint.{Checkpoint}
 use Rattle.ii_doc_store.specs.declared.faults.StoreDamage.{StoreDamage}
 use Rattle.ii_doc_store.specs.declared.faults.StoreDamage.TheVariants.{Block, Footer, Index}
-use Rattle.ii_doc_store.specs.declared.faults.StoreOpenFault.TheVariants.{Damaged}
-use Rattle.ii_doc_store.specs.StoreReader.{HoldsBlock, HoldsDocuments, IsBlockOf, StoreBlockState, are_in_order, block_with, block_with_from, blocks_end, bytes_of_block, checkpoint_in, checkpoints_in, checkpoints_of, document_in, document_of, document_of_block, ends_before_from, footer_of, has_footer, has_index, index_of, index_part, num_blocks_of, num_docs, num_docs_from, or_damaged}
+use Rattle.ii_doc_store.specs.declared.faults.StoreFileFault.{StoreFileFault}
+use Rattle.ii_doc_store.specs.declared.faults.StoreFileFault.TheVariants as file
+use Rattle.ii_doc_store.specs.declared.faults.StoreOpenFault.{StoreOpenFault}
+use Rattle.ii_doc_store.specs.declared.faults.StoreOpenFault.TheVariants.{Damaged, OutOfMemory}
+use Rattle.ii_doc_store.specs.StoreFile.{store_file_fault}
+use Rattle.ii_doc_store.specs.StoreReader.{HoldsBlock, HoldsDocuments, IsBlockOf, StoreBlockState, are_in_order, block_with, block_with_from, blocks_end, blocks_in_footer, bytes_of_block, checkpoint_in, checkpoints_in, checkpoints_of, document_in, document_of, document_of_block, ends_before_from, footer_of, has_footer, has_index, index_of, is_footer, is_index, num_blocks_of, num_docs, num_docs_from, or_damaged}
 
 both : (a b : Bool) → (a && b) ≡ true → (a ≡ true) × (b ≡ true)
 both true true is = (refl, refl)
@@ -123,16 +129,18 @@ ordered : (bytes : List ℕ) → has_index bytes ≡ true → are_in_order 0 0 (
 unfolding has_index
 ordered bytes is = (both _ _ is).1
 
-indexed : (bytes : List ℕ) → bytes_eq (take 32 (drop 8 (footer_of bytes))) (sha256 (index_part bytes)) ≡ true → are_in_order 0 0 (blocks_end bytes) (checkpoints_of bytes) ≡ true → has_index bytes ≡ true
-unfolding has_index
-indexed bytes digest order = rw (digest, order) refl
-
 -- an index is in order
 pub order_of_index : (bytes : List ℕ) (cs : List Checkpoint) → index_of bytes ≡ Ok cs → are_in_order 0 0 (blocks_end bytes) cs ≡ true
 unfolding index_of
 order_of_index bytes cs is =
     let parts = decides (has_footer bytes) (has_index bytes) (checkpoints_of bytes) cs is in
     ap (are_in_order 0 0 (blocks_end bytes)) (sym parts.2) ∙ ordered bytes parts.1
+
+pub ordered_docs : (end : ℕ) (cs : List Checkpoint) → are_in_order 0 0 end cs ≡ true → IsNonDecreasingBy (λ (c : Checkpoint). c.doc_end) cs
+ordered_docs end cs order = non_decreasing_from 0 0 end cs order
+
+pub ordered_range : (end : ℕ) (cs : List Checkpoint) (doc : ℕ) (b : BlockPlace) → are_in_order 0 0 end cs ≡ true → block_with cs doc ≡ Some b → (b.start ≤ b.end) × (b.end ≤ end)
+ordered_range end cs doc b order found = range_from 0 0 0 end cs doc b order found
 
 pub non_decreasing : (bytes : List ℕ) (cs : List Checkpoint) → index_of bytes ≡ Ok cs → IsNonDecreasingBy (λ (c : Checkpoint). c.doc_end) cs
 non_decreasing bytes cs is = non_decreasing_from 0 0 (blocks_end bytes) cs (order_of_index bytes cs is)
@@ -160,21 +168,73 @@ pub no_index : (bytes : List ℕ) → has_footer bytes ≡ true → has_index by
 unfolding index_of
 no_index bytes footer none = rw (footer, none) refl
 
-pub other_digest : (bytes : List ℕ) (n : ℕ) → n ≡ num_blocks_of bytes → bytes_eq (take 32 (drop 8 (footer_of bytes))) (sha256 (slice_range bytes (length bytes - 48 - 44 * n) (length bytes - 48))) ≡ false → has_index bytes ≡ false
+pub index_with : (bytes : List ℕ) (n : ℕ) (t : Bool) → n ≡ num_blocks_of bytes → is_index n (length bytes - 48 - 44 * n) (footer_of bytes) (slice_range bytes (length bytes - 48 - 44 * n) (length bytes - 48)) ≡ t → has_index bytes ≡ t
 unfolding has_index
-other_digest bytes n count other = let is = rw count at other in rw is refl
+index_with bytes n t count is = rw count at is
 
-pub other_order : (bytes : List ℕ) (n : ℕ) → n ≡ num_blocks_of bytes → are_in_order 0 0 (length bytes - 48 - 44 * n) (checkpoints_in n (slice_range bytes (length bytes - 48 - 44 * n) (length bytes - 48))) ≡ false → has_index bytes ≡ false
-unfolding has_index
-other_order bytes n count other = let is = rw count at other in rw is (and-false _)
-
-pub sound_index : (bytes : List ℕ) (n : ℕ) → has_footer bytes ≡ true → n ≡ num_blocks_of bytes → bytes_eq (take 32 (drop 8 (footer_of bytes))) (sha256 (slice_range bytes (length bytes - 48 - 44 * n) (length bytes - 48))) ≡ true
-    → are_in_order 0 0 (length bytes - 48 - 44 * n) (checkpoints_in n (slice_range bytes (length bytes - 48 - 44 * n) (length bytes - 48))) ≡ true
+pub sound_index : (bytes : List ℕ) (n : ℕ) → has_footer bytes ≡ true → n ≡ num_blocks_of bytes → is_index n (length bytes - 48 - 44 * n) (footer_of bytes) (slice_range bytes (length bytes - 48 - 44 * n) (length bytes - 48)) ≡ true
     → index_of bytes ≡ Ok (checkpoints_in n (slice_range bytes (length bytes - 48 - 44 * n) (length bytes - 48)))
 unfolding index_of
-sound_index bytes n footer count digest order =
-    let has : has_index bytes ≡ true = indexed bytes (rw count at digest) (rw count at order) in
+sound_index bytes n footer count sound =
+    let has : has_index bytes ≡ true = index_with bytes n true count sound in
     rw (footer, has, count) refl
+
+-- ---- an index that is read by ranges
+footer_end : (bytes : List ℕ) → 48 ≤ length bytes → take 48 (drop (length bytes - 48) bytes) ≡ footer_of bytes
+footer_end bytes long = take_all 48 (drop (length bytes - 48) bytes) (omega (arith, long, length-drop (length bytes - 48) bytes))
+
+unfooted : (bytes : List ℕ) (t : Bool) → 48 ≤ length bytes → is_footer (length bytes) (footer_of bytes) ≡ t → has_footer bytes ≡ t
+unfolding has_footer
+unfooted bytes t long is = rw (le-leb 48 (length bytes) long) is
+
+pub short_footer : (bytes : List ℕ) → length bytes < 48 → has_footer bytes ≡ false
+unfolding has_footer
+short_footer bytes short = rw (lt-leb 48 (length bytes) short) refl
+
+module _ (bytes : List ℕ) (len : ℕ) (same : len ≡ length bytes) (long : 48 ≤ len) where
+  enough_long : 48 ≤ length bytes
+  enough_long = omega (arith, same, long)
+
+  footer_is : (footer : List ℕ) → footer ≡ take 48 (drop (len - 48) bytes) → footer ≡ footer_of bytes
+  footer_is footer is = rw same at is ∙ footer_end bytes enough_long
+
+  pub range_no_footer : (footer : List ℕ) → footer ≡ take 48 (drop (len - 48) bytes) → is_footer len footer ≡ false → index_of bytes ≡ Err Footer
+  range_no_footer footer is none = no_footer bytes (unfooted bytes false enough_long (rw (same, footer_is footer is) at none))
+
+  module _ (n : ℕ) (footer index : List ℕ) (is : footer ≡ take 48 (drop (len - 48) bytes)) (count : n ≡ blocks_in_footer footer) (enough : 48 + 44 * n ≤ len) (there : is_footer len footer ≡ true)
+      (read : index ≡ take (44 * n) (drop (len - 48 - 44 * n) bytes)) where
+    has : has_footer bytes ≡ true
+    has = unfooted bytes true enough_long (rw (same, footer_is footer is) at there)
+
+    count_is : n ≡ num_blocks_of bytes
+    count_is = rw (footer_is footer is) at count
+
+    part : index ≡ slice_range bytes (length bytes - 48 - 44 * n) (length bytes - 48)
+    part = let size : length bytes - 48 - (length bytes - 48 - 44 * n) ≡ 44 * n = omega (arith, same, enough) in rw same at read ∙ rw size refl
+
+    pub range_no_index : is_index n (len - 48 - 44 * n) footer index ≡ false → index_of bytes ≡ Err Index
+    range_no_index none = no_index bytes has (index_with bytes n false count_is (rw (same, footer_is footer is, part) at none))
+
+    pub range_index : is_index n (len - 48 - 44 * n) footer index ≡ true → index_of bytes ≡ Ok (checkpoints_in n index)
+    range_index sound = rw part (sound_index bytes n has count_is (rw (same, footer_is footer is, part) at sound))
+
+-- why the checkpoints of an index in a file aren't read
+pub damaged_file : {A B X : Type 0} (fault : StoreOpenFault) (f : StoreFileFault) (damage : StoreDamage) → f ≡ store_file_fault fault → IsErrOf {T = A} (Err f) (file.Damaged damage) → ((d : StoreDamage) → IsErrOf {T = B} (Err fault) (Damaged d) → (d ≡ Index) × X) → (damage ≡ Index) × X
+damaged_file OutOfMemory f damage same is cause = absurd (cc)
+damaged_file (Damaged d) f damage same is cause = let here : d ≡ damage = cc in let h = cause d refl in (sym here ∙ h.0, h.1)
+
+-- a range isn't read for want of memory
+pub memory_file : {A : Type 0} (e fault : ReadFault) → e ≡ reads.OutOfMemory → IsErrOf {T = A} (Err (file.Read e)) (file.Read fault) → fault ≡ reads.OutOfMemory
+memory_file e fault memory is = let here : e ≡ fault = cc in sym here ∙ memory
+
+pub parts_index : (bytes : List ℕ) (n : ℕ) (r : Result (Vec Checkpoint Global) StoreOpenFault) → has_footer bytes ≡ true → n ≡ num_blocks_of bytes
+    → IfOk r (λ v. v.items ≡ checkpoints_in n (slice_range bytes (length bytes - 48 - 44 * n) (length bytes - 48))) → OnOk r (is_index n (length bytes - 48 - 44 * n) (footer_of bytes) (slice_range bytes (length bytes - 48 - 44 * n) (length bytes - 48)) ≡ true)
+    → IfOk r (λ v. index_of bytes ≡ Ok v.items)
+parts_index bytes n (Ok v) footer count read sound = rw read (sound_index bytes n footer count sound)
+parts_index bytes n (Err e) footer count read sound = tt
+
+pub named_file : {A : Type 0} (found damage : StoreDamage) (bytes : List ℕ) → index_of bytes ≡ Err found → IsErrOf {T = A} (Err (file.Damaged found)) (file.Damaged damage) → index_of bytes ≡ Err damage
+named_file found damage bytes law is = cc
 
 pub named : {A : Type 0} (found damage : StoreDamage) (bytes : List ℕ) → index_of bytes ≡ Err found → IsErrOf {T = A} (Err (Damaged found)) (Damaged damage) → index_of bytes ≡ Err damage
 named found damage bytes law is = cc
@@ -243,8 +303,11 @@ same_block number doc byte end (c ∷ cs) i j b order past is above below =
         rw skipped h.1
 
 -- the block of a document, as the index has it
+pub ordered_around : (end : ℕ) (cs : List Checkpoint) (doc : ℕ) (b : BlockPlace) → are_in_order 0 0 end cs ≡ true → block_with cs doc ≡ Some b → (b.first_doc ≤ doc) × (doc < b.doc_end)
+ordered_around end cs doc b order found = let h = around 0 0 0 end cs doc b order (omega arith) found in (h.first, h.after)
+
 pub around_doc : (bytes : List ℕ) (cs : List Checkpoint) (doc : ℕ) (b : BlockPlace) → index_of bytes ≡ Ok cs → block_with cs doc ≡ Some b → (b.first_doc ≤ doc) × (doc < b.doc_end)
-around_doc bytes cs doc b is found = let h = around 0 0 0 (blocks_end bytes) cs doc b (order_of_index bytes cs is) (omega arith) found in (h.first, h.after)
+around_doc bytes cs doc b is found = ordered_around (blocks_end bytes) cs doc b (order_of_index bytes cs is) found
 
 read_same : (bytes : List ℕ) (b : BlockPlace) (j : ℕ) → bytes_eq b.digest (sha256 (bytes_of_block bytes b)) ≡ true → document_of_block bytes b j ≡ or_damaged b.number (document_in (j - b.first_doc) (bytes_of_block bytes b))
 unfolding document_of_block
@@ -270,7 +333,7 @@ abbrev read_state : List ℕ → BlockPlace → StoreBlockState
 read_state bytes b = record { number = b.number; first_doc = b.first_doc; doc_end = b.doc_end; bytes = bytes_of_block bytes b }
 
 -- what is told of a block, by the answer
-pub block_gives : (bytes : List ℕ) (cs : List Checkpoint) (doc : ℕ) (b : BlockPlace) (r : Result StoreBlockState StoreDamage) → index_of bytes ≡ Ok cs → block_with cs doc ≡ Some b
+pub block_gives : {E : Type 0} (bytes : List ℕ) (cs : List Checkpoint) (doc : ℕ) (b : BlockPlace) (r : Result StoreBlockState E) → index_of bytes ≡ Ok cs → block_with cs doc ≡ Some b
     → OnOk r (bytes_eq b.digest (sha256 (bytes_of_block bytes b)) ≡ true) → IfOk r (λ x. x ≡ read_state bytes b) → IfOk r (IsBlockOf bytes cs)
 block_gives bytes cs doc b (Ok x) is found sound value = subst (IsBlockOf bytes cs) (sym value) (is_block bytes cs doc b is found sound)
 block_gives bytes cs doc b (Err e) is found sound value = tt
@@ -280,24 +343,38 @@ pub block_here : (bytes : List ℕ) (cs : List Checkpoint) (doc : ℕ) (b : Bloc
 block_here bytes cs doc b (Ok x) is found value = subst (λ (y : StoreBlockState). (y.first_doc ≤ doc) × (doc < y.doc_end)) (sym value) (around_doc bytes cs doc b is found)
 block_here bytes cs doc b (Err e) is found value = tt
 
+-- the same where the bytes of the file aren't known
+pub block_around : {E : Type 0} (end : ℕ) (cs : List Checkpoint) (doc : ℕ) (b : BlockPlace) (r : Result StoreBlockState E) → are_in_order 0 0 end cs ≡ true → block_with cs doc ≡ Some b
+    → IfOk r (λ x. (x.first_doc ≡ b.first_doc) × (x.doc_end ≡ b.doc_end)) → IfOk r (λ x. (x.first_doc ≤ doc) × (doc < x.doc_end))
+block_around end cs doc b (Ok x) order found same = let h = ordered_around end cs doc b order found in (omega (arith, h.0, same.0), omega (arith, h.1, same.1))
+block_around end cs doc b (Err e) order found same = tt
+
 pub block_other : (bytes : List ℕ) (cs : List Checkpoint) (doc : ℕ) (b : BlockPlace) (r : Result StoreBlockState StoreDamage) → block_with cs doc ≡ Some b
     → IfErr r (λ damage. (damage ≡ Block b.number) × (bytes_eq b.digest (sha256 (bytes_of_block bytes b)) ≡ false)) → IfErr r (λ damage. document_of bytes cs doc ≡ Err damage)
 block_other bytes cs doc b (Ok x) found told = tt
 block_other bytes cs doc b (Err e) found told = other_block bytes cs doc b e found told.0 told.1
 
 -- a block of a store of these documents
-pub block_held : (bytes : List ℕ) (cs : List Checkpoint) (doc : ℕ) (documents : List (List ℕ)) (r : Result StoreBlockState StoreDamage) → index_of bytes ≡ Ok cs → doc < num_docs cs → HoldsDocuments bytes documents
-    → IfOk r (IsBlockOf bytes cs) → IfErr r (λ damage. document_of bytes cs doc ≡ Err damage) → MatchResult r (HoldsBlock documents) (λ _. ⊥)
-block_held bytes cs doc documents (Ok x) is inside held value damaged =
+pub block_kept : {E : Type 0} (bytes : List ℕ) (cs : List Checkpoint) (documents : List (List ℕ)) (r : Result StoreBlockState E) → index_of bytes ≡ Ok cs → HoldsDocuments bytes documents → IfOk r (IsBlockOf bytes cs) → IfOk r (HoldsBlock documents)
+block_kept bytes cs documents (Ok x) is held value =
     let known : held.checkpoints ≡ cs = let first = held.index in cc in
     let count = held_count bytes cs documents is held in
     let docs = value.docs in
     record { docs = omega arith; each = λ j above below. value.each j above below ∙ rw known at (held.each j (omega arith)) }
-block_held bytes cs doc documents (Err e) is inside held value damaged =
+block_kept bytes cs documents (Err e) is held value = tt
+
+-- none is damaged
+pub never_damaged : (bytes : List ℕ) (cs : List Checkpoint) (doc : ℕ) (documents : List (List ℕ)) (damage : StoreDamage) → index_of bytes ≡ Ok cs → doc < num_docs cs → HoldsDocuments bytes documents → document_of bytes cs doc ≡ Err damage → ⊥
+never_damaged bytes cs doc documents damage is inside held damaged =
     let known : held.checkpoints ≡ cs = let first = held.index in cc in
     let count = held_count bytes cs documents is held in
     let found : document_of bytes cs doc ≡ Ok (get_or documents doc []) = rw known at (held.each doc (omega arith)) in
     cc
+
+pub block_held : (bytes : List ℕ) (cs : List Checkpoint) (doc : ℕ) (documents : List (List ℕ)) (r : Result StoreBlockState StoreDamage) → index_of bytes ≡ Ok cs → doc < num_docs cs → HoldsDocuments bytes documents
+    → IfOk r (IsBlockOf bytes cs) → IfErr r (λ damage. document_of bytes cs doc ≡ Err damage) → MatchResult r (HoldsBlock documents) (λ _. ⊥)
+block_held bytes cs doc documents (Ok x) is inside held value damaged = block_kept {E = StoreDamage} bytes cs documents (Ok x) is held value
+block_held bytes cs doc documents (Err e) is inside held value damaged = never_damaged bytes cs doc documents e is inside held damaged
 
 -- a document that was found where it must be
 pub got : (found : Result (List ℕ) StoreDamage) (d : List ℕ) (r : Result (Bor (List ℕ)) StoreDamage) → found ≡ Ok d → MatchResult r (λ (x : Bor (List ℕ)). found ≡ Ok x.now) (λ e. found ≡ Err e)

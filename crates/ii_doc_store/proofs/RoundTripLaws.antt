@@ -132,7 +132,7 @@ unfolding has_footer
 has_footer_by bytes footer n long is ends count enough =
     let form : bytes_eq (drop 40 (footer_of bytes)) format ≡ true = ap (λ (f : List ℕ). bytes_eq (drop 40 f) format) is ∙ ap (λ (f : List ℕ). bytes_eq f format) ends ∙ nat_list_eq_equiv.refl format in
     let room : nat_le (44 * num_blocks_of bytes) (length bytes - 48) ≡ true = ap (λ (m : ℕ). nat_le (44 * m) (length bytes - 48)) count ∙ le-leb (44 * n) (length bytes - 48) enough in
-    both_true (both_true (le-leb 48 (length bytes) long) form) room
+    both_true (le-leb 48 (length bytes) long) (both_true form room)
 
 has_index_by : (bytes footer index : List ℕ) (end : ℕ) (cs : List Checkpoint) → footer_of bytes ≡ footer → take 32 (drop 8 footer) ≡ sha256 index → index_part bytes ≡ index → blocks_end bytes ≡ end → checkpoints_of bytes ≡ cs
     → are_in_order 0 0 end cs ≡ true → has_index bytes ≡ true

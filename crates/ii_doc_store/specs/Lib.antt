@@ -1,4 +1,5 @@
 pub mod RoundTrip
+pub mod StoreFile
 pub mod StoreFormat
 pub mod StoreReader
 pub mod StoreWriter

@@ -17,13 +17,21 @@ pub record StoreReaderState : Type 0 where
 abbrev pub footer_of : List ℕ → List ℕ
 footer_of bytes = drop (length bytes - 48) bytes
 
--- the number of blocks that the footer tells
+-- the number of blocks that a footer tells
+abbrev pub blocks_in_footer : List ℕ → ℕ
+blocks_in_footer footer = from_le_bytes w64 (take 8 footer)
+
+-- the number of blocks that the footer of a store tells
 abbrev pub num_blocks_of : List ℕ → ℕ
-num_blocks_of bytes = from_le_bytes w64 (take 8 (footer_of bytes))
+num_blocks_of bytes = blocks_in_footer (footer_of bytes)
+
+-- whether 48 bytes are the footer of a store of so many bytes, which are enough for the index
+abbrev pub is_footer : ℕ → List ℕ → Bool
+is_footer len footer = bytes_eq (drop 40 footer) format && nat_le (44 * blocks_in_footer footer) (len - 48)
 
 -- whether bytes end with a footer, and are enough for the index
 unfoldable pub has_footer : List ℕ → Bool
-has_footer bytes = nat_le 48 (length bytes) && bytes_eq (drop 40 (footer_of bytes)) format && nat_le (44 * num_blocks_of bytes) (length bytes - 48)
+has_footer bytes = nat_le 48 (length bytes) && is_footer (length bytes) (footer_of bytes)
 
 -- where the blocks end and the index begins
 abbrev pub blocks_end : List ℕ → ℕ
@@ -51,9 +59,13 @@ abbrev pub are_in_order : ℕ → ℕ → ℕ → List Checkpoint → Bool
 are_in_order doc byte end [] = nat_eq byte end
 are_in_order doc byte end (c ∷ cs) = nat_le doc c.doc_end && nat_le byte c.byte_end && are_in_order c.doc_end c.byte_end end cs
 
+-- whether a footer has the SHA-256 of an index of so many checkpoints, and these are in order up to where the blocks end
+abbrev pub is_index : ℕ → ℕ → List ℕ → List ℕ → Bool
+is_index count end footer index = bytes_eq (take 32 (drop 8 footer)) (sha256 index) && are_in_order 0 0 end (checkpoints_in count index)
+
 -- whether the index is the one of which the footer has the SHA-256, and is in order
 unfoldable pub has_index : List ℕ → Bool
-has_index bytes = bytes_eq (take 32 (drop 8 (footer_of bytes))) (sha256 (index_part bytes)) && are_in_order 0 0 (blocks_end bytes) (checkpoints_of bytes)
+has_index bytes = is_index (num_blocks_of bytes) (blocks_end bytes) (footer_of bytes) (index_part bytes)
 
 -- the index of a store, or the part that is damaged
 unfoldable pub index_of : List ℕ → Result (List Checkpoint) StoreDamage

@@ -5,6 +5,7 @@ ghost use Rattle.ii_doc_store.specs.StoreReader.{document_of_read};
 use crate::checkpoint::BlockPlace;
 use crate::faults::StoreDamage;
 use crate::reader::document_at;
+use bytes::Bytes;
 use ii_base::DocId;
 use std::marker::Model;
 
@@ -56,6 +57,49 @@ impl<'a> StoreBlock<'a> {
         match document_at(self.bytes, doc.saturating_sub(self.first_doc)) {
             Some(document) => Ok(document),
             None => Err(StoreDamage::Block(number)),
+        }
+    }
+}
+
+/// A block of documents whose SHA-256 is the one of the index, with its bytes.
+#[derive(Drop)]
+pub struct FileBlock {
+    number: u64,
+    first_doc: DocId,
+    doc_end: DocId,
+    bytes: Bytes,
+}
+
+impl Model for FileBlock {
+    ghost use Rattle.ii_doc_store.specs.StoreReader.{StoreBlockState};
+
+    ghost Value = { StoreBlockState };
+
+    ghost view = { λ s. record { number = s.number; first_doc = s.first_doc; doc_end = s.doc_end; bytes = s.bytes } };
+}
+
+impl FileBlock {
+    // Creates a block of these bytes.
+    pub(crate) fn with_bytes(place: &BlockPlace, bytes: Bytes) -> FileBlock
+        ensures { result ≡ record { number = place.now.number; first_doc = place.now.first_doc; doc_end = place.now.doc_end; bytes = bytes } }
+    {
+        FileBlock {
+            number: place.number,
+            first_doc: place.first_doc,
+            doc_end: place.doc_end,
+            bytes,
+        }
+    }
+
+    /// Returns the block over its bytes.
+    pub fn as_block(&self) -> StoreBlock<'_>
+        ensures { result ≡ self.now }
+    {
+        StoreBlock {
+            number: self.number,
+            first_doc: self.first_doc,
+            doc_end: self.doc_end,
+            bytes: self.bytes.as_slice(),
         }
     }
 }

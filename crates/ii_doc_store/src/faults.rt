@@ -1,3 +1,7 @@
+ghost use Rattle.std.specs.Prelude.{◌≡◌};
+ghost use Rattle.ii_doc_store.specs.StoreFile.{store_file_fault};
+
+use ii_file_slice::ReadFault;
 use ii_io::Fault;
 use std::alloc::{AllocError, AllocFailed};
 use thiserror::Error;
@@ -61,5 +65,28 @@ impl<T: Drop> From<AllocFailed<T>> for StoreOpenFault {
 
     fn from(_e: AllocFailed<T>) -> StoreOpenFault {
         StoreOpenFault::OutOfMemory
+    }
+}
+
+/// Why a store, or a block of one, can't be read from its file.
+#[derive(Clone, Copy, Debug, PartialEq, Eq, Error)]
+pub enum StoreFileFault {
+    /// A part of the store is damaged.
+    #[error("{0}")]
+    Damaged(StoreDamage),
+    /// A range of the file can't be read, or an allocation failed.
+    #[error("{0}")]
+    Read(ReadFault),
+}
+
+impl StoreOpenFault {
+    // Returns the fault of a store in a file.
+    pub(crate) fn in_file(self) -> StoreFileFault
+        ensures { result ≡ store_file_fault self }
+    {
+        match self {
+            StoreOpenFault::OutOfMemory => StoreFileFault::Read(ReadFault::OutOfMemory),
+            StoreOpenFault::Damaged(damage) => StoreFileFault::Damaged(damage),
+        }
     }
 }

@@ -1,4 +1,5 @@
-//! A store of documents: they are written in blocks, and read back by their numbers.
+//! A store of documents: they are written in blocks, and read back by their numbers, from bytes in memory or from ranges
+//! of a file.
 #![tactic(auto)]
 
 pub mod block;
@@ -6,12 +7,14 @@ pub mod checkpoint;
 pub mod faults;
 pub mod reader;
 pub mod round_trip;
+pub mod store_file;
 pub mod writer;
 
-pub use block::StoreBlock;
+pub use block::{FileBlock, StoreBlock};
 pub use checkpoint::Checkpoint;
-pub use faults::{StoreDamage, StoreOpenFault, StoreWriteFault};
+pub use faults::{StoreDamage, StoreFileFault, StoreOpenFault, StoreWriteFault};
 pub use reader::StoreReader;
+pub use store_file::StoreFile;
 pub use writer::StoreWriter;
 
 /// A block ends with the first document that brings it to this number of bytes or more.

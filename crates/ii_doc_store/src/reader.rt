@@ -2,7 +2,7 @@
 ghost use Rattle.std.specs.Prelude.{◌≡◌, ◌+◌, ◌-◌, ◌*◌, ◌<◌, ◌≤◌, ℕ, List, [], length, get_or, drop, nat_le, bytes_eq, true, false, Some, None, Ok, Err, IfErr, IfOk, IsErrOf, OnOk, MatchOption, MatchResult};
 ghost use Rattle.std.specs.List.Sorted.{IsNonDecreasingBy};
 ghost use Rattle.sha2.specs.Sha256.{sha256};
-ghost use Rattle.ii_doc_store.specs.StoreReader.{HoldsBlock, HoldsDocuments, IsBlockOf, after_record, are_in_order, block_with, bytes_of_block, checkpoints_in, document_in, document_of, document_of_block, ends_before_from, has_footer, has_record, index_of, num_blocks_of, num_docs, record_of};
+ghost use Rattle.ii_doc_store.specs.StoreReader.{HoldsBlock, HoldsDocuments, IsBlockOf, after_record, are_in_order, block_with, blocks_in_footer, bytes_of_block, checkpoints_in, document_in, document_of, document_of_block, ends_before_from, has_footer, has_record, index_of, is_footer, is_index, num_blocks_of, num_docs, record_of};
 
 use crate::FORMAT;
 use crate::block::StoreBlock;
@@ -105,19 +105,17 @@ fn read_index(alloc: Global, bytes: &[u8]) -> Result<Vec<Checkpoint>, StoreOpenF
     let index_end = bytes.len() - FOOTER_LEN;
     let end = index_end - CHECKPOINT_LEN * num_blocks;
     let (_, footer) = bytes.split_at(index_end);
-    let index = &bytes[end..index_end];
-    if !is_digest(&footer[8..40], index) {
-        return Err(StoreOpenFault::Damaged(StoreDamage::Index));
-    }
-    let checkpoints = read_checkpoints(alloc, num_blocks, index)?;
-    if !are_ordered(end as u64, checkpoints.as_slice()) {
-        return Err(StoreOpenFault::Damaged(StoreDamage::Index));
-    }
-    Ok(checkpoints)
+    read_parts(
+        alloc,
+        num_blocks,
+        end as u64,
+        footer,
+        &bytes[end..index_end],
+    )
 }
 
 // Returns the number of blocks, if there is a footer, and enough bytes for the index.
-#[tactic(auto, unfolding(crate::specs::StoreReader::has_footer, crate::specs::StoreFormat::format))]
+#[tactic(auto, unfolding(crate::specs::StoreReader::has_footer))]
 fn read_footer(bytes: &[u8]) -> Option<usize>
     ensures { MatchOption result (has_footer bytes.now ≡ false) (λ count. (has_footer bytes.now ≡ true) × (count ≡ num_blocks_of bytes.now)
         × (48 + 44 * count ≤ length bytes.now)) }
@@ -125,20 +123,58 @@ fn read_footer(bytes: &[u8]) -> Option<usize>
     if bytes.len() < FOOTER_LEN {
         return None;
     }
-    let (front, footer) = bytes.split_at(bytes.len() - FOOTER_LEN);
+    let (_, footer) = bytes.split_at(bytes.len() - FOOTER_LEN);
+    match blocks_in_footer(bytes.len() as u64, footer) {
+        Some(count) => Some(count as usize),
+        None => None,
+    }
+}
+
+// Returns the number of blocks that a footer tells, if the store, which has `len` bytes, has enough for the index.
+#[tactic(auto, unfolding(crate::specs::StoreFormat::format))]
+pub(crate) fn blocks_in_footer(len: u64, footer: &[u8]) -> Option<u64>
+    requires long { 48 ≤ len }
+    requires footer { length footer.now ≡ 48 }
+    ensures { MatchOption result (is_footer len footer.now ≡ false) (λ count. (is_footer len footer.now ≡ true) × (count ≡ blocks_in_footer footer.now)
+        × (48 + 44 * count ≤ len)) }
+{
     let (_, format) = footer.split_at(40);
     if format != FORMAT {
         return None;
     }
     let count = read_u64(footer);
-    if count > (front.len() / CHECKPOINT_LEN) as u64 {
+    if count > (len - FOOTER_LEN as u64) / CHECKPOINT_LEN as u64 {
         return None;
     }
-    Some(count as usize)
+    Some(count)
+}
+
+// Reads the checkpoints of an index, whose SHA-256 must be that of the footer. The blocks end at `end`.
+pub(crate) fn read_parts(
+    alloc: Global,
+    count: usize,
+    end: u64,
+    footer: &[u8],
+    index: &[u8],
+) -> Result<Vec<Checkpoint>, StoreOpenFault>
+    requires footer { length footer.now ≡ 48 }
+    requires index { length index.now ≡ 44 * count }
+    ensures checkpoints { IfOk result (λ checkpoints. checkpoints.items ≡ checkpoints_in count index.now) }
+    ensures sound { OnOk result (is_index count end footer.now index.now ≡ true) }
+    ensures damaged { (damage : StoreDamage) → IsErrOf result (StoreOpenFault.Damaged damage) → (damage ≡ StoreDamage.Index) × (is_index count end footer.now index.now ≡ false) }
+{
+    if !is_digest(&footer[8..40], index) {
+        return Err(StoreOpenFault::Damaged(StoreDamage::Index));
+    }
+    let checkpoints = read_checkpoints(alloc, count, index)?;
+    if !are_ordered(end, checkpoints.as_slice()) {
+        return Err(StoreOpenFault::Damaged(StoreDamage::Index));
+    }
+    Ok(checkpoints)
 }
 
 // Returns whether this is the SHA-256 of bytes.
-fn is_digest(digest: &[u8], bytes: &[u8]) -> bool
+pub(crate) fn is_digest(digest: &[u8], bytes: &[u8]) -> bool
     ensures { result ≡ bytes_eq digest.now (sha256 bytes.now) }
 {
     digest == Sha256::digest(bytes).as_slice()
@@ -183,7 +219,7 @@ fn are_ordered(end: u64, checkpoints: &[Checkpoint]) -> bool
 }
 
 // Returns the block of a document.
-fn block_of(checkpoints: &[Checkpoint], doc: DocId) -> BlockPlace
+pub(crate) fn block_of(checkpoints: &[Checkpoint], doc: DocId) -> BlockPlace
     requires order { IsNonDecreasingBy (λ c. c.doc_end) checkpoints.now }
     requires found { doc < num_docs checkpoints.now }
     ensures { block_with checkpoints.now doc ≡ Some result }
