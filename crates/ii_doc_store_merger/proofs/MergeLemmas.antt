@@ -1,5 +1,6 @@
 -- The living documents of several stores.
 use Rattle.std.proofs.Common.{◌≡◌, ℕ, zero, suc, ◌+◌, ◌<◌, ◌≤◌, Bool, true, false, List, [], ◌∷◌, ◌++◌, append_assoc, append-nil, filter, get_or, length, length-append, map, slice_get, take, Option, None, Some, Result, Ok, Err, refl, sym, ap, subst, ◌∙◌, arith, inl, inr, ⊎_elim}
+use Rattle.std.specs.Prelude.{⊤}
 use Rattle.std.specs.Io.KnownBytes.{Appends}
 use Rattle.std.specs.List.{AllByRecursion, AllZip, flat_map, range_with_len}
 use Rattle.std.proofs.lemmas.Grind.{flat_map-append}
@@ -15,9 +16,9 @@ use Rattle.ii_doc_store.specs.StoreWriter.{HasStored, StoreWriterState, WroteSto
 use Rattle.ii_segments.specs.Segments.{is_living, living_docs}
 use Rattle.ii_segments.proofs.CountLaws.{living_length, living_within}
 use Rattle.ii_doc_store_merger.specs.declared.faults.StoreMergeFault.{StoreMergeFault}
-use Rattle.ii_doc_store_merger.specs.declared.faults.StoreMergeFault.TheVariants.{Damaged, DocumentLen, NumDocs, Output}
+use Rattle.ii_doc_store_merger.specs.declared.faults.StoreMergeFault.TheVariants.{Damaged, DocumentLen, NumDocs, Output, Read}
 use Rattle.ii_doc_store_merger.specs.declared.store_source.StoreSource.{StoreSource}
-use Rattle.ii_doc_store_merger.specs.StoreSources.{FitsFlags, IsMergedStore, IsSound, IsSourceFault, IsStoreDamage, IsStoreMergeFault, OrWriterFailed, SegmentDocuments, SourceHolds, StoreSourceState, StoresAll, StoresLiving, WroteMergedStore, all_read, documents_of_segments, documents_of_source, living_documents, num_living_of, opened_store}
+use Rattle.ii_doc_store_merger.specs.StoreSources.{FitsFlags, IsMergedStore, IsReadable, IsSound, IsSourceFault, IsStoreDamage, IsStoreMergeFault, OrWriterFailed, SegmentDocuments, SourceHolds, StoreSourceState, StoresAll, StoresLiving, WroteMergedStore, all_read, documents_of_segments, documents_of_source, living_documents, num_living_of}
 
 abbrev Reads : StoreSourceState → List (List ℕ) → Type 0
 Reads s ds = documents_of_source s ≡ Ok ds
@@ -53,23 +54,23 @@ one_more ss s old now new all one = record {
       subst (HasStored initial new) (append_assoc before all.documents one.documents) (one.stored initial (before ++ all.documents) (all.stored initial before stored));
 }
 
-module _ (xs : List StoreSource) (i : ℕ) (x : StoreSource) (inside : i < length xs) (is : x ≡ get_or xs i x) where
-  source_is : get_or (map opened_store xs) i (opened_store x) ≡ opened_store x
-  source_is = get_or-map opened_store xs i x (opened_store x) inside ∙ ap opened_store (sym is)
+module _ {X : Type 0} (view : X → StoreSourceState) (xs : List X) (i : ℕ) (x : X) (inside : i < length xs) (is : x ≡ get_or xs i x) where
+  source_is : get_or (map view xs) i (view x) ≡ view x
+  source_is = get_or-map view xs i x (view x) inside ∙ ap view (sym is)
 
-  few : i < length (map opened_store xs)
-  few = omega (arith, inside, length-map xs opened_store)
+  few : i < length (map view xs)
+  few = omega (arith, inside, length-map xs view)
 
-  pub stored_more : (old now new : StoreWriterState) → StoresAll (take i (map opened_store xs)) old now → StoresLiving (opened_store x) now new → StoresAll (take (i + 1) (map opened_store xs)) old new
+  pub stored_more : (old now new : StoreWriterState) → StoresAll (take i (map view xs)) old now → StoresLiving (view x) now new → StoresAll (take (i + 1) (map view xs)) old new
   stored_more old now new all one =
-      let next : take (i + 1) (map opened_store xs) ≡ take i (map opened_store xs) ++ opened_store x ∷ [] =
-      take_more (map opened_store xs) i (opened_store x) few ∙ ap (λ (s : StoreSourceState). take i (map opened_store xs) ++ s ∷ []) source_is in
-      subst (λ (ss : List StoreSourceState). StoresAll ss old new) (sym next) (one_more (take i (map opened_store xs)) (opened_store x) old now new all one)
+      let next : take (i + 1) (map view xs) ≡ take i (map view xs) ++ view x ∷ [] =
+      take_more (map view xs) i (view x) few ∙ ap (λ (s : StoreSourceState). take i (map view xs) ++ s ∷ []) source_is in
+      subst (λ (ss : List StoreSourceState). StoresAll ss old new) (sym next) (one_more (take i (map view xs)) (view x) old now new all one)
 
-  pub source_found : slice_get (map opened_store xs) i ≡ Some (opened_store x)
-  source_found = slice_get-get_or (map opened_store xs) i (opened_store x) few ∙ ap (λ (s : StoreSourceState). Some s) source_is
+  pub source_found : slice_get (map view xs) i ≡ Some (view x)
+  source_found = slice_get-get_or (map view xs) i (view x) few ∙ ap (λ (s : StoreSourceState). Some s) source_is
 
-pub one_of : (P : StoreSourceState → Type 0) (ss : List StoreSourceState) (i : ℕ) (s : StoreSourceState) → slice_get ss i ≡ Some s → AllByRecursion P ss → P s
+pub one_of : {X : Type 0} (P : X → Type 0) (ss : List X) (i : ℕ) (s : X) → slice_get ss i ≡ Some s → AllByRecursion P ss → P s
 one_of P [] i s found all = absurd (cc)
 one_of P (t ∷ ss) zero s found all = let same : t ≡ s = cc in subst P same all.0
 one_of P (t ∷ ss) (suc i) s found all = one_of P ss i s found all.1
@@ -89,6 +90,7 @@ living_to (t ∷ ss) (suc i) s found = let rest = living_to ss i s found in omeg
 source_fault : (ss : List StoreSourceState) (i : ℕ) (s : StoreSourceState) (old now : StoreWriterState) (fault : StoreMergeFault) → slice_get ss i ≡ Some s → (all : StoresAll (take i ss) old now) → IsSourceFault (length ([] ++ all.documents)) i s fault
     → IsStoreMergeFault ss fault
 source_fault ss i s old now (Output fault) found all cause = cause
+source_fault ss i s old now (Read p fault) found all cause = cause.1
 source_fault ss i s old now (Damaged p damage) found all cause =
     rw cause.0 (record { store = s; found = found; damaged = cause.1; before = all_sound (take i ss) all.are.each all.are.read })
 source_fault ss i s old now (DocumentLen p) found all cause = rw (cause.0, found) cause.1
@@ -139,9 +141,15 @@ none_damaged (t ∷ ss) (d ∷ ds) (suc i) s damage fit hold found failed = none
 
 pub undamaged : (ss : List StoreSourceState) (ds : List SegmentDocuments) (fault : StoreMergeFault) → AllByRecursion FitsFlags ss → AllZip SourceHolds ss ds → IsStoreMergeFault ss fault → IsStoreDamage fault → ⊥
 undamaged ss ds (Output fault) fit hold cause damage = damage
+undamaged ss ds (Read place fault) fit hold cause damage = damage
 undamaged ss ds (Damaged place d) fit hold cause damage = none_damaged ss ds place cause.store d fit hold cause.found cause.damaged
 undamaged ss ds (DocumentLen place) fit hold cause damage = damage
 undamaged ss ds NumDocs fit hold cause damage = damage
+
+-- stores in memory can be read
+pub all_readable : (xs : List (StoreSource (List ℕ))) → AllByRecursion (IsReadable (λ (bytes : List ℕ). Some bytes) (λ (bytes : List ℕ). ⊤)) xs
+all_readable [] = tt
+all_readable (x ∷ xs) = (record { known = refl; sound = tt }, all_readable xs)
 
 -- ---- the file
 pub all_of : (ss : List StoreSourceState) (n : ℕ) (old new : StoreWriterState) → length ss ≤ n → StoresAll (take n ss) old new → StoresAll ss old new
@@ -166,6 +174,7 @@ wrote_merged ss initial new old now fit all wrote =
 -- stores that hold documents have no damage
 pub undamaged_or : (ss : List StoreSourceState) (ds : List SegmentDocuments) (fault : StoreMergeFault) → AllByRecursion FitsFlags ss → AllZip SourceHolds ss ds → OrWriterFailed (IsStoreMergeFault ss) fault → IsStoreDamage fault → ⊥
 undamaged_or ss ds (Output fault) fit hold cause damage = damage
+undamaged_or ss ds (Read place fault) fit hold cause damage = damage
 undamaged_or ss ds (Damaged place d) fit hold cause damage = ⊎_elim (λ write. absurd (cc)) (λ known. undamaged ss ds (Damaged place d) fit hold known damage) cause
 undamaged_or ss ds (DocumentLen place) fit hold cause damage = damage
 undamaged_or ss ds NumDocs fit hold cause damage = damage

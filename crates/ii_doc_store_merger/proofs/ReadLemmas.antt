@@ -6,13 +6,17 @@ use Rattle.ii_io.specs.CountingWriter.{CountingWriterState}
 use Rattle.ii_alive.specs.Alive.{num_living, rank}
 use Rattle.ii_alive.proofs.RankLemmas.{rank_below}
 use Rattle.ii_alive.proofs.StateLemmas.{rank_next}
+use Rattle.ii_block_file.specs.declared.faults.ReadFault.{ReadFault}
+use Rattle.ii_block_file.specs.declared.faults.ReadFault.TheVariants.{OutOfMemory}
 use Rattle.ii_doc_store.specs.declared.faults.StoreDamage.{StoreDamage}
+use Rattle.ii_doc_store.specs.declared.faults.StoreFileFault.{StoreFileFault}
+use Rattle.ii_doc_store.specs.declared.faults.StoreFileFault.TheVariants as blocks
 use Rattle.ii_doc_store.specs.StoreReader.{document_of}
 use Rattle.ii_doc_store.specs.StoreWriter.{AddsDocument, HasStored, StoreWriterState}
 use Rattle.ii_segments.specs.Segments.{is_living}
 use Rattle.ii_doc_store_merger.specs.declared.faults.StoreMergeFault.{StoreMergeFault}
-use Rattle.ii_doc_store_merger.specs.declared.faults.StoreMergeFault.TheVariants.{Damaged, DocumentLen, NumDocs, Output}
-use Rattle.ii_doc_store_merger.specs.StoreSources.{IsDocumentFault, IsSourceFault, OrWriterFailed, StoreSourceState, StoresDocuments, StoresLiving, all_read, documents_of_source, with_first}
+use Rattle.ii_doc_store_merger.specs.declared.faults.StoreMergeFault.TheVariants.{Damaged, DocumentLen, NumDocs, Output, Read}
+use Rattle.ii_doc_store_merger.specs.StoreSources.{IsDocumentFault, IsSourceFault, OrWriterFailed, StoreSourceState, StoresDocuments, StoresLiving, all_read, block_fault, documents_of_source, with_first}
 
 -- documents before others that may not be read
 abbrev pub after : List (List ℕ) → Result (List (List ℕ)) StoreDamage → Result (List (List ℕ)) StoreDamage
@@ -86,6 +90,7 @@ module _ (s : StoreSourceState) (doc : ℕ) (low : doc < length s.alive) where
   document_fault : (initial : CountingWriterState) (before : List (List ℕ)) (old now : StoreWriterState) (place : ℕ) (fault : StoreMergeFault) → is_living s.alive doc ≡ true → HasStored initial old before → HasStoredTo s doc old now
       → IsDocumentFault now.num_docs place (document_of s.store.bytes s.store.checkpoints doc) fault → IsSourceFault (length before) place s fault
   document_fault initial before old now place (Output fault) living stored h cause = cause
+  document_fault initial before old now place (Read p fault) living stored h cause = absurd cause
   document_fault initial before old now place (Damaged p damage) living stored h cause = (cause.0, first_damage old now damage living cause.1 h)
   document_fault initial before old now place (DocumentLen p) living stored h cause = (cause.0, record { doc = doc; document = cause.1; living = living; found = cause.2; long = cause.3 })
   document_fault initial before old now place NumDocs living stored h cause =
@@ -99,6 +104,12 @@ module _ (s : StoreSourceState) (doc : ℕ) (low : doc < length s.alive) where
   pub document_fault_or : (initial : CountingWriterState) (before : List (List ℕ)) (old now : StoreWriterState) (place : ℕ) (fault : StoreMergeFault) → is_living s.alive doc ≡ true → HasStored initial old before → HasStoredTo s doc old now
       → OrWriterFailed (IsDocumentFault now.num_docs place (document_of s.store.bytes s.store.checkpoints doc)) fault → OrWriterFailed (IsSourceFault (length before) place s) fault
   document_fault_or initial before old now place fault living stored h cause = ⊎_elim (λ write. inl write) (λ known. inr (document_fault initial before old now place fault living stored h known)) cause
+
+  -- why its block isn't read
+  pub block_source_fault : (old now : StoreWriterState) (count place : ℕ) (e : StoreFileFault) → is_living s.alive doc ≡ true → HasStoredTo s doc old now
+      → ((damage : StoreDamage) → e ≡ blocks.Damaged damage → document_of s.store.bytes s.store.checkpoints doc ≡ Err damage) → ((fault : ReadFault) → e ≡ blocks.Read fault → fault ≡ OutOfMemory) → IsSourceFault count place s (block_fault place e)
+  block_source_fault old now count place (blocks.Damaged damage) living h damaged memory = (refl, first_damage old now damage living (damaged damage refl) h)
+  block_source_fault old now count place (blocks.Read fault) living h damaged memory = (refl, memory fault refl)
 
 pub all_stored : (s : StoreSourceState) (old new : StoreWriterState) → HasStoredTo s (length s.alive) old new → StoresLiving s old new
 all_stored s old new h =

@@ -7,12 +7,14 @@ use Rattle.ii_io.specs.declared.faults.Fault.TheVariants as faults
 use Rattle.ii_io.specs.Faults.{memory_fault}
 use Rattle.ii_io.specs.CountingWriter.{CountingWriterState, Grows, WritesInMemory}
 use Rattle.ii_io.proofs.WriteSteps.{Grows-trans, grows_not, prefix_grows, writes_grows}
+use Rattle.ii_doc_store.specs.declared.faults.StoreFileFault.{StoreFileFault}
+use Rattle.ii_doc_store.specs.declared.faults.StoreFileFault.TheVariants as blocks
 use Rattle.ii_doc_store.specs.declared.faults.StoreWriteFault.{StoreWriteFault}
 use Rattle.ii_doc_store.specs.declared.faults.StoreWriteFault.TheVariants as stores
 use Rattle.ii_doc_store.specs.StoreWriter.{OfOutput, StoreWriterState}
 use Rattle.ii_doc_store_merger.specs.declared.faults.StoreMergeFault.{StoreMergeFault}
-use Rattle.ii_doc_store_merger.specs.declared.faults.StoreMergeFault.TheVariants.{Damaged, DocumentLen, NumDocs, Output}
-use Rattle.ii_doc_store_merger.specs.StoreSources.{IsOutputFault, IsStoreDamage, IsStoreMergeFault, OrWriterFailed, StoreSourceState, StoresMore, memory_merge_fault}
+use Rattle.ii_doc_store_merger.specs.declared.faults.StoreMergeFault.TheVariants.{Damaged, DocumentLen, NumDocs, Output, Read}
+use Rattle.ii_doc_store_merger.specs.StoreSources.{IsInputFault, IsOutputFault, IsStoreMergeFault, OrWriterFailed, StoreSourceState, StoresMore, block_fault, memory_merge_fault}
 
 is_memory : (fault : Fault) → IsErrOf {T = Unit {0}} (Err fault) faults.OutOfMemory ⊎ ¬ IsErrOf {T = Unit {0}} (Err fault) faults.OutOfMemory
 is_memory faults.OutOfMemory = inl refl
@@ -86,13 +88,18 @@ module _ (old new : StoreWriterState) where
     closed = λ sound. closed;
   }
 
-  pub stores_nothing : (fault : StoreMergeFault) → new.writer ≡ old.writer → ¬ IsErrOf {T = Unit {0}} (Err fault) (Output faults.Write) → (¬ IsStoreDamage fault → IsTrue new.closed) → StoresMore old new (Err fault)
+  pub stores_nothing : (fault : StoreMergeFault) → new.writer ≡ old.writer → ¬ IsErrOf {T = Unit {0}} (Err fault) (Output faults.Write) → (¬ IsInputFault fault → IsTrue new.closed) → StoresMore old new (Err fault)
   stores_nothing fault same other closes = record {
     grows = grows_not old.writer new.writer same;
     by_one = λ e. absurd (other e);
     no_other = λ _. ap (λ (w : CountingWriterState). w.failed_calls) same;
     closed = closes;
   }
+
+-- how a call ends that can't read a block
+pub reads_nothing : (w : StoreWriterState) (place : ℕ) (e : StoreFileFault) → StoresMore w w (Err (block_fault place e))
+reads_nothing w place (blocks.Damaged damage) = stores_nothing w w (Damaged place damage) refl (λ e. absurd (cc)) (λ sound. absurd (sound tt))
+reads_nothing w place (blocks.Read fault) = stores_nothing w w (Read place fault) refl (λ e. absurd (cc)) (λ sound. absurd (sound tt))
 
 -- how a call ends that stores a document
 module _ (old new : StoreWriterState) (bytes : List ℕ) (stored : Result (Unit {0}) StoreWriteFault) (opened : old.closed ≡ false) (written : OfOutput stored (WritesInMemory old.closed old.writer new.writer bytes)) where
@@ -127,16 +134,16 @@ module _ (initial final : CountingWriterState) (old new : StoreWriterState) (byt
   all_grows result more = subst (λ (w : CountingWriterState). Grows w final) begun (Grows-trans old.writer new.writer final more.grows (call_grows new.writer final bytes new.closed ended end))
 
   -- nothing is written after a fault that closed the store
-  refused_after : (fault : StoreMergeFault) → StoresMore old new (Err fault) → ¬ IsStoreDamage fault → final.failed_calls ≡ new.writer.failed_calls
+  refused_after : (fault : StoreMergeFault) → StoresMore old new (Err fault) → ¬ IsInputFault fault → final.failed_calls ≡ new.writer.failed_calls
   refused_after fault more sound = ap (λ (w : CountingWriterState). w.failed_calls) (end.refused (more.closed sound)).1
 
   pub counted_before : (fault : StoreMergeFault) → StoresMore old new (Err fault) → IsErrOf {T = Unit {0}} (Err fault) (Output faults.Write) → final.failed_calls ≡ initial.failed_calls + 1
-  counted_before fault more e = refused_after fault more (λ damage. subst IsStoreDamage (inside e) damage) ∙ more.by_one e ∙ ap (λ (w : CountingWriterState). w.failed_calls + 1) begun
+  counted_before fault more e = refused_after fault more (λ damage. subst IsInputFault (inside e) damage) ∙ more.by_one e ∙ ap (λ (w : CountingWriterState). w.failed_calls + 1) begun
     where
       inside : IsErrOf {T = Unit {0}} (Err fault) (Output faults.Write) → fault ≡ Output faults.Write
       inside e = cc
 
-  pub uncounted_before : (fault : StoreMergeFault) → StoresMore old new (Err fault) → ¬ IsErrOf {T = Unit {0}} (Err fault) (Output faults.Write) → ¬ IsStoreDamage fault → final.failed_calls ≡ initial.failed_calls
+  pub uncounted_before : (fault : StoreMergeFault) → StoresMore old new (Err fault) → ¬ IsErrOf {T = Unit {0}} (Err fault) (Output faults.Write) → ¬ IsInputFault fault → final.failed_calls ≡ initial.failed_calls
   uncounted_before fault more other sound = refused_after fault more sound ∙ more.no_other other ∙ ap (λ (w : CountingWriterState). w.failed_calls) begun
 
 -- the call that ends the store fails
@@ -150,6 +157,10 @@ module _ (initial final : CountingWriterState) (old new : StoreWriterState) (byt
   pub uncounted_at_end : ¬ IsErrOf {T = Unit {0}} (Err (Output fault)) (Output faults.Write) → final.failed_calls ≡ initial.failed_calls
   uncounted_at_end other = call_uncounted new.writer final bytes fault end (λ write. other (ap (λ (f : Fault). Err (Output f)) write)) ∙ before
 
+-- the call that ends the store succeeds
+pub ended_uncounted : (initial final : CountingWriterState) (old new : StoreWriterState) (bytes : List ℕ) → old.writer ≡ initial → StoresMore old new (Ok tt) → WritesInMemory false new.writer final bytes (Ok tt) → final.failed_calls ≡ initial.failed_calls
+ended_uncounted initial final old new bytes begun more end = (end.writes refl (λ e. absurd (cc))).ok.failed_calls ∙ more.no_other (λ e. absurd (cc)) ∙ ap (λ (w : CountingWriterState). w.failed_calls) begun
+
 -- ---- a writer to memory
 
 output_same : (fault : Fault) → IsOutputFault fault → memory_fault fault ≡ fault
@@ -161,6 +172,7 @@ fault_in_memory ss (Output fault) cause = ⊎_elim (λ write. rw (inside write) 
   where
     inside : Output fault ≡ Output faults.Write → fault ≡ faults.Write
     inside e = cc
+fault_in_memory ss (Read place fault) cause = ⊎_elim (λ write. absurd (cc)) (λ known. known) cause
 fault_in_memory ss (Damaged place damage) cause = ⊎_elim (λ write. absurd (cc)) (λ known. known) cause
 fault_in_memory ss (DocumentLen place) cause = ⊎_elim (λ write. absurd (cc)) (λ known. known) cause
 fault_in_memory ss NumDocs cause = ⊎_elim (λ write. absurd (cc)) (λ known. known) cause

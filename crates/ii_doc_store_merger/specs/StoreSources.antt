@@ -1,5 +1,5 @@
 -- Stores of documents that are merged: the living documents of each, one store after the other.
-use Rattle.std.specs.Prelude.{◌≡◌, ℕ, ◌+◌, ◌-◌, ◌^◌, ◌≤◌, ◌⊎◌, ⊤, Bool, true, IfErr, IsErrOf, IsSomeAnd, IsTrue, List, [], ◌∷◌, ◌++◌, get_or, length, map, slice_get, take, Some, Result, Ok, Err}
+use Rattle.std.specs.Prelude.{◌≡◌, ℕ, ◌+◌, ◌-◌, ◌^◌, ◌≤◌, ◌⊎◌, ⊤, Bool, true, IfErr, IsErrOf, IsSomeAnd, IsTrue, List, [], ◌∷◌, ◌++◌, get_or, length, map, slice_get, take, Option, Some, Result, Ok, Err}
 use Rattle.std.specs.List.{AllByRecursion, AllZip, flat_map}
 use Rattle.ii_io.specs.declared.faults.Fault.{Fault}
 use Rattle.ii_io.specs.declared.faults.Fault.TheVariants.{Limit, OutOfMemory, Write}
@@ -7,13 +7,17 @@ use Rattle.ii_io.specs.declared.faults.LimitName.TheVariants.{Offset}
 use Rattle.ii_io.specs.Faults.{memory_fault}
 use Rattle.ii_io.specs.CountingWriter.{CountingWriterState, Grows, Wrote}
 use Rattle.ii_alive.specs.Alive.{num_living}
+use Rattle.ii_block_file.specs.ListedFile.{bytes_or_none}
+use Rattle.ii_block_file.specs.declared.faults.ReadFault.TheVariants as reading
 use Rattle.ii_doc_store.specs.declared.faults.StoreDamage.{StoreDamage}
+use Rattle.ii_doc_store.specs.declared.faults.StoreFileFault.{StoreFileFault}
+use Rattle.ii_doc_store.specs.declared.faults.StoreFileFault.TheVariants as blocks
 use Rattle.ii_doc_store.specs.StoreFormat.{store_bytes}
 use Rattle.ii_doc_store.specs.StoreReader.{HoldsDocuments, StoreReaderState, document_of, index_of, num_docs}
 use Rattle.ii_doc_store.specs.StoreWriter.{HasStored, StoreWriterState}
 use Rattle.ii_segments.specs.Segments.{is_living, living_docs}
 use Rattle.ii_doc_store_merger.specs.declared.faults.StoreMergeFault.{StoreMergeFault}
-use Rattle.ii_doc_store_merger.specs.declared.faults.StoreMergeFault.TheVariants.{Damaged, DocumentLen, NumDocs, Output}
+use Rattle.ii_doc_store_merger.specs.declared.faults.StoreMergeFault.TheVariants.{Damaged, DocumentLen, NumDocs, Output, Read}
 use Rattle.ii_doc_store_merger.specs.declared.store_source.StoreSource.{StoreSource}
 
 -- ---- documents
@@ -38,9 +42,18 @@ pub record StoreSourceState : Type 0 where
   pub store : StoreReaderState
   pub alive : List Bool
 
--- the model of a store that is merged
-abbrev pub opened_store : StoreSource → StoreSourceState
-opened_store s = record { store = s.store; alive = s.alive.now }
+-- the model of a store that is merged, without bytes if those of its file aren't known
+abbrev pub opened_store : {H : Type 0} → (H → Option (List ℕ)) → StoreSource H → StoreSourceState
+opened_store bytes s = record { store = record { bytes = bytes_or_none (bytes s.store.file); checkpoints = s.store.checkpoints }; alive = s.alive.now }
+
+-- the model of a store in memory that is merged
+abbrev pub memory_store : StoreSource (List ℕ) → StoreSourceState
+memory_store s = opened_store (λ (bytes : List ℕ). Some bytes) s
+
+-- The bytes of a store's file are known, and can always be read.
+pub record IsReadable {H : Type 0} (bytes : H → Option (List ℕ)) (is_sound : H → Type 0) (s : StoreSource H) : Type 0 where
+  pub known : bytes s.store.file ≡ Some (bytes_or_none (bytes s.store.file))
+  pub sound : is_sound s.store.file
 
 -- A store has a document for each flag.
 abbrev pub FitsFlags : StoreSourceState → Type 0
@@ -117,9 +130,10 @@ pub record HasLongDocument (s : StoreSourceState) : Type 0 where
 abbrev pub IsOutputFault : Fault → Type 0
 IsOutputFault fault = (fault ≡ OutOfMemory) ⊎ (fault ≡ Limit Offset)
 
--- Why stores aren't merged in memory.
+-- Why stores whose files can be read aren't merged in memory.
 abbrev pub IsStoreMergeFault : List StoreSourceState → StoreMergeFault → Type 0
 IsStoreMergeFault ss (Output fault) = IsOutputFault fault
+IsStoreMergeFault ss (Read place fault) = fault ≡ reading.OutOfMemory
 IsStoreMergeFault ss (Damaged place damage) = IsFirstDamagedStore ss place damage
 IsStoreMergeFault ss (DocumentLen place) = IsSomeAnd (slice_get ss place) HasLongDocument
 IsStoreMergeFault ss NumDocs = 2 ^ 31 ≤ num_living_of ss
@@ -131,6 +145,7 @@ OrWriterFailed Cause fault = (fault ≡ Output Write) ⊎ Cause fault
 -- the fault of a writer to memory, which fails only when an allocation fails
 abbrev pub memory_merge_fault : StoreMergeFault → StoreMergeFault
 memory_merge_fault (Output fault) = Output (memory_fault fault)
+memory_merge_fault (Read place fault) = Read place fault
 memory_merge_fault (Damaged place damage) = Damaged place damage
 memory_merge_fault (DocumentLen place) = DocumentLen place
 memory_merge_fault NumDocs = NumDocs
@@ -138,18 +153,32 @@ memory_merge_fault NumDocs = NumDocs
 -- A fault is damage of a store.
 abbrev pub IsStoreDamage : StoreMergeFault → Type 0
 IsStoreDamage (Output fault) = ⊥
+IsStoreDamage (Read place fault) = ⊥
 IsStoreDamage (Damaged place damage) = ⊤
 IsStoreDamage (DocumentLen place) = ⊥
 IsStoreDamage NumDocs = ⊥
 
+-- A store is damaged, or can't be read.
+abbrev pub IsInputFault : StoreMergeFault → Type 0
+IsInputFault (Output fault) = ⊥
+IsInputFault (Read place fault) = ⊤
+IsInputFault (Damaged place damage) = ⊤
+IsInputFault (DocumentLen place) = ⊥
+IsInputFault NumDocs = ⊥
+
+-- why stores aren't merged, by why a block of the one at a place isn't read
+abbrev pub block_fault : ℕ → StoreFileFault → StoreMergeFault
+block_fault place (blocks.Damaged damage) = Damaged place damage
+block_fault place (blocks.Read fault) = Read place fault
+
 -- ---- what calls store
 
--- How a call that stores documents ends. If the writer fails, that is counted once. A fault closes the store, but for damage of a source.
+-- How a call that stores documents ends. If the writer fails, that is counted once. A fault closes the store, unless a source is damaged or can't be read.
 pub record StoresMore (old new : StoreWriterState) (result : Result (Unit {0}) StoreMergeFault) : Type 0 where
   pub grows : Grows old.writer new.writer
   pub by_one : IsErrOf result (Output Write) → new.writer.failed_calls ≡ old.writer.failed_calls + 1
   pub no_other : ¬ IsErrOf result (Output Write) → new.writer.failed_calls ≡ old.writer.failed_calls
-  pub closed : IfErr result (λ e. ¬ IsStoreDamage e → IsTrue new.closed)
+  pub closed : IfErr result (λ e. ¬ IsInputFault e → IsTrue new.closed)
 
 -- Documents were stored after all others.
 abbrev pub StoresDocuments : List (List ℕ) → StoreWriterState → StoreWriterState → Type 0
@@ -172,13 +201,15 @@ pub record StoresAll (ss : List StoreSourceState) (old new : StoreWriterState) :
 -- Why a document of a block can't be stored where there are so many documents.
 abbrev pub IsDocumentFault : ℕ → ℕ → Result (List ℕ) StoreDamage → StoreMergeFault → Type 0
 IsDocumentFault count place found (Output fault) = IsOutputFault fault
+IsDocumentFault count place found (Read p fault) = ⊥
 IsDocumentFault count place found (Damaged p damage) = (p ≡ place) × (found ≡ Err damage)
 IsDocumentFault count place found (DocumentLen p) = (p ≡ place) × (document : List ℕ) × (found ≡ Ok document) × (2 ^ 31 ≤ length document)
 IsDocumentFault count place found NumDocs = 2 ^ 31 - 1 ≤ count
 
--- Why the documents of a store at a place can't be stored where there are so many documents.
+-- Why the documents of a store at a place, whose file can be read, can't be stored where there are so many documents.
 abbrev pub IsSourceFault : ℕ → ℕ → StoreSourceState → StoreMergeFault → Type 0
 IsSourceFault count place s (Output fault) = IsOutputFault fault
+IsSourceFault count place s (Read p fault) = (p ≡ place) × (fault ≡ reading.OutOfMemory)
 IsSourceFault count place s (Damaged p damage) = (p ≡ place) × (documents_of_source s ≡ Err damage)
 IsSourceFault count place s (DocumentLen p) = (p ≡ place) × HasLongDocument s
 IsSourceFault count place s NumDocs = 2 ^ 31 ≤ count + num_living s.alive

@@ -3,7 +3,7 @@ ghost use Rattle.ii_doc_store.specs.StoreReader.{num_docs};
 
 use bytes::Bytes;
 use ii_alive::AliveBits;
-use ii_doc_store::{StoreDamage, StoreOpenFault, StoreReader};
+use ii_doc_store::{StoreDamage, StoreFile, StoreFileFault};
 use ii_doc_store_merger::{StoreMergeFault, StoreSource, merge_stores};
 use std::alloc::Global;
 
@@ -30,7 +30,7 @@ static FIVE: [u8; 118] = [
 #[derive(Clone, Copy, Debug, PartialEq, Eq)]
 enum MergeTestFault {
     OutOfMemory,
-    Unopened(StoreDamage),
+    Unopened(StoreFileFault),
     OtherNumDocs,
     Merge(StoreMergeFault),
 }
@@ -46,8 +46,8 @@ fn flags(alloc: Global, dead: u32) -> Result<AliveBits, MergeTestFault> {
     Ok(alive)
 }
 
-// Opens `THREE`, with one byte changed if it has it.
-fn opened(alloc: Global, changed: usize) -> Result<StoreReader, MergeTestFault> {
+// Returns `THREE`, with one byte changed if it has it.
+fn three(alloc: Global, changed: usize) -> Result<Bytes, MergeTestFault> {
     let Ok(mut bytes) = Vec::from_slice(alloc, &THREE) else {
         return Err(MergeTestFault::OutOfMemory);
     };
@@ -57,18 +57,21 @@ fn opened(alloc: Global, changed: usize) -> Result<StoreReader, MergeTestFault> 
     let Ok(bytes) = Bytes::from_vec(bytes) else {
         return Err(MergeTestFault::OutOfMemory);
     };
-    match StoreReader::open(alloc, bytes) {
-        Ok(store) => Ok(store),
-        Err(StoreOpenFault::OutOfMemory) => Err(MergeTestFault::OutOfMemory),
-        Err(StoreOpenFault::Damaged(damage)) => Err(MergeTestFault::Unopened(damage)),
-    }
+    Ok(bytes)
 }
 
-// Opens `THREE`, with one byte changed if it has it, for flags of as many documents.
-fn fitting(alloc: Global, changed: usize, alive: &AliveBits) -> Result<StoreReader, MergeTestFault>
+// Opens a store for flags of as many documents.
+fn fitting<'a>(
+    alloc: Global,
+    bytes: &'a Bytes,
+    alive: &AliveBits,
+) -> Result<StoreFile<'a, Bytes>, MergeTestFault>
     ensures { IfOk result (λ store. num_docs store.checkpoints ≡ length alive.now) }
 {
-    let store = opened(alloc, changed)?;
+    let store = match StoreFile::open(alloc, bytes) {
+        Ok(store) => store,
+        Err(fault) => return Err(MergeTestFault::Unopened(fault)),
+    };
     if store.num_docs() != alive.num_docs() {
         return Err(MergeTestFault::OtherNumDocs);
     }
@@ -79,13 +82,15 @@ fn fitting(alloc: Global, changed: usize, alive: &AliveBits) -> Result<StoreRead
 fn merged(alloc: Global, dead: u32, changed: usize) -> Result<Vec<u8>, MergeTestFault> {
     let first = flags(alloc, dead)?;
     let second = flags(alloc, 3)?;
+    let sound = three(alloc, THREE.len())?;
+    let other = three(alloc, changed)?;
     let sources = [
         StoreSource {
-            store: fitting(alloc, THREE.len(), &first)?,
+            store: fitting(alloc, &sound, &first)?,
             alive: &first,
         },
         StoreSource {
-            store: fitting(alloc, changed, &second)?,
+            store: fitting(alloc, &other, &second)?,
             alive: &second,
         },
     ];
