@@ -62,22 +62,23 @@ under_few : (ps : List PreparedQueryState) (doc : ℕ) → add (bound_under ps d
 under_few [] doc = omega arith
 under_few (p ∷ ps) doc = omega arith
 
--- no query yet
-pub bounds_first : (s : Scored) (all : List Query) (parts : List PreparedQueryState) (doc : ℕ) → parts ≡ [] → add (bound_under parts doc) (trees_bound s (trees_of all) doc) ≡ trees_bound s (trees_of all) doc
-bounds_first s all parts doc none = ap (λ (ps : List PreparedQueryState). add (bound_under ps doc) (trees_bound s (trees_of all) doc)) none ∙ few all
-  where
-    few : (qs : List Query) → add 0 (trees_bound s (trees_of qs) doc) ≡ trees_bound s (trees_of qs) doc
-    few [] = omega arith
-    few (q ∷ qs) = omega arith
+module _ (s : Scored) (all : List Query) (doc : ℕ) where
+  -- no query yet
+  pub bounds_first : (parts : List PreparedQueryState) → parts ≡ [] → add (bound_under parts doc) (trees_bound s (trees_of all) doc) ≡ trees_bound s (trees_of all) doc
+  bounds_first parts none = ap (λ (ps : List PreparedQueryState). add (bound_under ps doc) (trees_bound s (trees_of all) doc)) none ∙ few all
+    where
+      few : (qs : List Query) → add 0 (trees_bound s (trees_of qs) doc) ≡ trees_bound s (trees_of qs) doc
+      few [] = omega arith
+      few (q ∷ qs) = omega arith
 
--- one query more
-pub bounds_next : (s : Scored) (all left others : List Query) (q : Query) (parts more : List PreparedQueryState) (part : PreparedQueryState) (doc : ℕ) → left ≡ q ∷ others → prepared_query_bound part doc ≡ query_bound s q doc → more ≡ parts ++ part ∷ []
-    → add (bound_under parts doc) (trees_bound s (trees_of left) doc) ≡ trees_bound s (trees_of all) doc → add (bound_under more doc) (trees_bound s (trees_of others) doc) ≡ trees_bound s (trees_of all) doc
-bounds_next s all left others q parts more part doc is bound more_is so_far =
-    let row = ap (λ (ps : List PreparedQueryState). bound_under ps doc) more_is ∙ under_more parts part doc in
-    let rest : trees_bound s (trees_of left) doc ≡ add (query_bound s q doc) (trees_bound s (trees_of others) doc) = ap (λ (qs : List Query). trees_bound s (trees_of qs) doc) is in
-    omega (arith, row, bound, rest, so_far)
+  -- one query more
+  pub bounds_next : (left others : List Query) (q : Query) (parts more : List PreparedQueryState) (part : PreparedQueryState) → left ≡ q ∷ others → prepared_query_bound part doc ≡ query_bound s q doc → more ≡ parts ++ part ∷ []
+      → add (bound_under parts doc) (trees_bound s (trees_of left) doc) ≡ trees_bound s (trees_of all) doc → add (bound_under more doc) (trees_bound s (trees_of others) doc) ≡ trees_bound s (trees_of all) doc
+  bounds_next left others q parts more part is bound more_is so_far =
+      let row = ap (λ (ps : List PreparedQueryState). bound_under ps doc) more_is ∙ under_more parts part doc in
+      let rest : trees_bound s (trees_of left) doc ≡ add (query_bound s q doc) (trees_bound s (trees_of others) doc) = ap (λ (qs : List Query). trees_bound s (trees_of qs) doc) is in
+      omega (arith, row, bound, rest, so_far)
 
--- all of them
-pub bounds_all : (s : Scored) (all left : List Query) (parts : List PreparedQueryState) (doc : ℕ) → left ≡ [] → add (bound_under parts doc) (trees_bound s (trees_of left) doc) ≡ trees_bound s (trees_of all) doc → bound_under parts doc ≡ trees_bound s (trees_of all) doc
-bounds_all s all left parts doc none so_far = sym (under_few parts doc) ∙ ap (λ (qs : List Query). add (bound_under parts doc) (trees_bound s (trees_of qs) doc)) (sym none) ∙ so_far
+  -- all of them
+  pub bounds_all : (left : List Query) (parts : List PreparedQueryState) → left ≡ [] → add (bound_under parts doc) (trees_bound s (trees_of left) doc) ≡ trees_bound s (trees_of all) doc → bound_under parts doc ≡ trees_bound s (trees_of all) doc
+  bounds_all left parts none so_far = sym (under_few parts doc) ∙ ap (λ (qs : List Query). add (bound_under parts doc) (trees_bound s (trees_of qs) doc)) (sym none) ∙ so_far

@@ -36,7 +36,7 @@ prepare_each-loop-query-preserved g t c =
     let is : c.query-item.result ≡ get_or all l.query-index c.query-item.result = search rules in
     record {
       preparing = prepares_next s c.args.index.now all (drop l.query-index all) (drop (l.query-index + 1) all) c.query-item.result l.parts.items c.push.new.self.items c.in-Ok.part l.invariant.preparing (query_at all l.query-index c.query-item.result inside is) c.in-Ok.ensures.scores c.in-Ok.ensures.ends c.in-Ok.ensures.sound c.in_ok-push.ensures.items;
-      bounds = λ doc low. bounds_next s all (drop l.query-index all) (drop (l.query-index + 1) all) c.query-item.result l.parts.items c.push.new.self.items c.in-Ok.part doc (query_at all l.query-index c.query-item.result inside is) (c.in-Ok.ensures.bounds doc low) c.in_ok-push.ensures.items (l.invariant.bounds doc low);
+      bounds = λ doc low. bounds_next s all doc (drop l.query-index all) (drop (l.query-index + 1) all) c.query-item.result l.parts.items c.push.new.self.items c.in-Ok.part (query_at all l.query-index c.query-item.result inside is) (c.in-Ok.ensures.bounds doc low) c.in_ok-push.ensures.items (l.invariant.bounds doc low);
       lists = lists_next c.args.index.now all (drop l.query-index all) (drop (l.query-index + 1) all) c.query-item.result l.parts.items c.push.new.self.items c.in-Ok.part (query_at all l.query-index c.query-item.result inside is) c.in-Ok.ensures.lists c.in_ok-push.ensures.items l.invariant.lists;
     }
 
@@ -44,7 +44,7 @@ pub prepare_each-loop-query-init : goal.prepare_each-loop-query-init
 prepare_each-loop-query-init g t c =
     let all = c.args.queries.now.items in
     let s = scored_in c.args.index.now (g.S.Bm25StatisticsProvider.statistics c.args.statistics.now) in
-    record { preparing = search rules; bounds = λ doc low. bounds_first s all c.new-parts.result.items doc c.new-parts.ensures.items; lists = search rules }
+    record { preparing = search rules; bounds = λ doc low. bounds_first s all doc c.new-parts.result.items c.new-parts.ensures.items; lists = search rules }
 
 pub prepare_each-returns-clause-bounds : goal.prepare_each-returns-clause-bounds
 prepare_each-returns-clause-bounds g t c = λ doc low.
@@ -52,4 +52,4 @@ prepare_each-returns-clause-bounds g t c = λ doc low.
     let all = c.args.queries.now.items in
     let s = scored_in c.args.index.now (g.S.Bm25StatisticsProvider.statistics c.args.statistics.now) in
     let end : length all ≤ l.query-index = search rules in
-    bounds_all s all (drop l.query-index all) l.parts.items doc (drop_all l.query-index all end) (l.invariant.bounds doc low)
+    bounds_all s all doc (drop l.query-index all) l.parts.items (drop_all l.query-index all end) (l.invariant.bounds doc low)
