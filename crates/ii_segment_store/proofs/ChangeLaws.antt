@@ -19,7 +19,7 @@ use Rattle.ii_store.specs.IndexMeta.{SegmentState, file_meta}
 use Rattle.ii_directory.specs.Names.{component_generation, component_number, name_generation}
 use Rattle.ii_store.specs.Segments.{listed_bytes}
 use Rattle.ii_segment_store.specs.Changes.{IsChangedTo, IsFlagged, KeepsButFlags, KeepsOlder, files_with_flags, latest_file, result_without, with_flags, without}
-use Rattle.ii_segment_store.specs.Contents.{SegmentContents, alive_file, component_bytes, file_of, fitting_flags, flags_in, flags_with, optional_bytes, segment_in}
+use Rattle.ii_segment_store.specs.Contents.{SegmentContents, alive_file, file_of, fitting_flags, flags_in, flags_with, loaded_in, optional_bytes, segment_in}
 use Rattle.ii_segment_store.proofs.FlagLaws.{finds_after, finds_before, finds_flags, latest_with_flags}
 use Rattle.ii_segment_store.proofs.CommitLaws.{KeepsFileOf, flags_same, found_has, listed_same, read_back}
 
@@ -90,33 +90,23 @@ flags_again s g alive files size there =
     ∙ rw (read_back s.id (Alive g) (alive_bytes alive) (files (Segment s.id (Alive g))) there, bits, eq-eqb (num_living alive) (num_living alive) refl) refl
 
 -- what a segment holds, part by part
-abbrev parts : ℕ → Result (List ℕ) IndexFault → Result (List ℕ) IndexFault → Result (List ℕ) IndexFault → Result (List ℕ) IndexFault → Result (Option (List ℕ)) IndexFault → Result (Option (List ℕ)) IndexFault → List Bool → Result SegmentContents IndexFault
-parts n a b d e f h alive = do
-  terms ← a
-  postings ← b
-  positions ← d
-  fieldnorms ← e
-  counts ← f
-  store ← h
-  Ok (record { num_docs = n; terms = terms; postings = postings; positions = positions; fieldnorms = fieldnorms; counts = counts; store = store; alive = alive })
+abbrev parts : Result SegmentContents IndexFault → Result (Option (List ℕ)) IndexFault → List Bool → Result SegmentContents IndexFault
+parts loaded store alive = loaded >>= λ contents. store >>= λ stored. Ok (record contents { store = stored; alive = alive })
 
-parts_without : (docs : List ℕ) (n : ℕ) (a b d e : Result (List ℕ) IndexFault) (f h : Result (Option (List ℕ)) IndexFault) (alive : List Bool) → parts n a b d e f h (without docs alive) ≡ result_without docs (parts n a b d e f h alive)
-parts_without docs n (Err fault) b d e f h alive = refl
-parts_without docs n (Ok w) (Err fault) d e f h alive = refl
-parts_without docs n (Ok w) (Ok x) (Err fault) e f h alive = refl
-parts_without docs n (Ok w) (Ok x) (Ok y) (Err fault) f h alive = refl
-parts_without docs n (Ok w) (Ok x) (Ok y) (Ok z) (Err fault) h alive = refl
-parts_without docs n (Ok w) (Ok x) (Ok y) (Ok z) (Ok counts) (Err fault) alive = refl
-parts_without docs n (Ok w) (Ok x) (Ok y) (Ok z) (Ok counts) (Ok store) alive = refl
+parts_without : (docs : List ℕ) (loaded : Result SegmentContents IndexFault) (store : Result (Option (List ℕ)) IndexFault) (alive : List Bool) → parts loaded store (without docs alive) ≡ result_without docs (parts loaded store alive)
+parts_without docs (Err fault) store alive = refl
+parts_without docs (Ok contents) (Err fault) alive = refl
+parts_without docs (Ok contents) (Ok stored) alive = refl
 
 abbrev parts_of : SegmentState → Files → List Bool → Result SegmentContents IndexFault
-parts_of s files alive = parts s.num_docs (component_bytes s Terms files) (component_bytes s Postings files) (component_bytes s Positions files) (component_bytes s FieldNorms files) (optional_bytes s Counts files) (optional_bytes s Store files) alive
+parts_of s files alive = parts (loaded_in s files) (optional_bytes s Store files) alive
 
 with_known_flags : (s : SegmentState) (files : Files) (alive : List Bool) → flags_in s files ≡ Ok alive → segment_in s files ≡ parts_of s files alive
 unfolding segment_in
 with_known_flags s files alive known = rw known refl
 
 same_parts : (s : SegmentState) (g : ℕ) (alive : List Bool) (files : Files) → parts_of (with_flags s g alive) files alive ≡ parts_of s files alive
+unfolding loaded_in
 same_parts s g alive files =
     let x = file_meta (Alive g) (alive_bytes alive) in
     let finds : (component : SegmentComponent) → component_number component < 5 → file_of component (files_with_flags x s.files) ≡ file_of component s.files = λ component lt. finds_before component x s.files refl lt in
@@ -134,7 +124,7 @@ flagged_reads docs s g alive old new later known put =
     let size : length flags ≡ s.num_docs = length_without docs alive ∙ flags_length s (alive_file s.files) old alive known in
     record {
       read = with_known_flags (with_flags s g flags) new flags (flags_again s g flags new size put.there) ∙ same_parts s g flags new
-          ∙ parts_without docs s.num_docs (component_bytes s Terms new) (component_bytes s Postings new) (component_bytes s Positions new) (component_bytes s FieldNorms new) (optional_bytes s Counts new) (optional_bytes s Store new) alive
+          ∙ parts_without docs (loaded_in s new) (optional_bytes s Store new) alive
           ∙ ap (result_without docs) (sym (with_known_flags s new alive now) ∙ older_segment (latest_file s.files) s old new (omega arith) older);
       flagged = inr (alive, known, refl);
       keeps = keeps;

@@ -27,7 +27,7 @@ use Rattle.ii_store.proofs.ListLaws.{list_consistent, list_version}
 use Rattle.ii_store.proofs.SaveLaws.{index_outside}
 use Rattle.ii_segment_store.specs.BlockTables.{segment_tables}
 use Rattle.ii_segment_store.specs.Commits.{HasFileIf, HasSegment, HaveIdsBelow, HoldsOldOr, IsFresh, LeavesOneIndex, emptied, index_of_segment, listed_if, listed_segment}
-use Rattle.ii_segment_store.specs.Contents.{IndexContents, SegmentContents, alive_file, bytes_if_listed, contents_at, contents_in, index_contents, file_of, bytes_of_component, flags_with, list_contents, one_segment, only_segment, segment_in, all_contents, with_segment, all_of}
+use Rattle.ii_segment_store.specs.Contents.{IndexContents, SegmentContents, alive_file, bytes_if_listed, contents_at, contents_in, index_contents, file_of, bytes_of_component, loaded_in, flags_with, list_contents, one_segment, only_segment, segment_in, all_contents, with_segment, all_of}
 use Rattle.ii_segment_store.specs.Pending.{with_next}
 
 -- lists that a `meta` file holds
@@ -116,7 +116,7 @@ flags_same s (Some f) a c same = rw same refl
 
 -- the same listed files hold the same segment
 pub listed_same : (s : SegmentState) (a c : Files) → AllByRecursion (KeepsFileOf s.id a c) s.files → segment_in s c ≡ segment_in s a
-unfolding segment_in
+unfolding segment_in loaded_in
 listed_same s a c all =
     let has : (p : FileMeta → Bool) → IfSome (find p s.files) (KeepsFileOf s.id a c) = λ p. found_has p (KeepsFileOf s.id a c) s.files all in
     rw (
@@ -217,7 +217,7 @@ unfolding flags_with
 flags_again s all files = rw (all_living s.num_docs, eq-eqb s.num_docs s.num_living (sym all)) refl
 
 segment_again : (id : ℕ) (s : SegmentContents) (files : Files) → s.alive ≡ replicate s.num_docs true → HasSegment id s files → segment_in (listed_segment id s) files ≡ Ok s
-unfolding segment_in bytes_of_component
+unfolding segment_in loaded_in bytes_of_component
 segment_again id s files all there =
     rw (
       read_back id Terms s.terms (files (Segment id Terms)) there.terms,

@@ -10,8 +10,7 @@ use Rattle.ii_store.specs.IndexMeta.{MetaState, SegmentState, segment_view}
 use Rattle.ii_store.specs.declared.index_meta.SegmentMeta.{SegmentMeta}
 use Rattle.ii_store.specs.Segments.{list_in}
 use Rattle.ii_segment_store.specs.Commits.{HaveIdsBelow}
-use Rattle.ii_segment_store.specs.Contents.{IndexContents, SegmentContents, all_contents, index_contents, list_contents, segment_contents, segment_in, all_of}
-use Rattle.ii_segment_store.specs.declared.stored_segments.StoredSegment.{StoredSegment}
+use Rattle.ii_segment_store.specs.Contents.{IndexContents, SegmentContents, all_contents, index_contents, list_contents, segment_in, all_of}
 use Rattle.ii_segment_store.specs.Joins.{first_contents, first_listed}
 use Rattle.ii_segment_store.proofs.CommitLaws.{listed_contents}
 
@@ -35,9 +34,8 @@ none_read : (cs : List SegmentContents) → ◌≡◌ {A = Result (List SegmentC
 none_read cs e = cc
 
 -- no segment is left
-pub none_left : (first : ℕ) (listed : List SegmentMeta) (none : List StoredSegment) (files : Files) → length listed < first → none ≡ [] → all_contents (drop first (map segment_view listed)) files ≡ Ok (map segment_contents none)
-unfolding all_of
-none_left first listed none files over is = rw (is, drop_all first (map segment_view listed) (let many = length-map listed segment_view in omega (arith, many, over))) refl
+pub none_left : (first : ℕ) (listed : List SegmentMeta) → length listed < first → map segment_view [] ≡ drop first (map segment_view listed)
+none_left first listed over = sym (drop_all first (map segment_view listed) (let many = length-map listed segment_view in omega (arith, many, over)))
 
 -- Segments that are read are read in two parts.
 record AreRead (first : ℕ) (ss : List SegmentState) (files : Files) (cs : List SegmentContents) : Type 0 where

@@ -15,7 +15,7 @@ use Rattle.ii_store.specs.Segments.{listed_bytes}
 use Rattle.ii_segment_store.specs.declared.wanted_files.WantedFiles.{WantedFiles}
 use Rattle.ii_segment_store.specs.declared.wanted_files.WantedFiles.TheVariants.{All, WithoutCountsAndStore, WithoutStore}
 use Rattle.ii_segment_store.specs.WantedFiles.{wanted_segment}
-use Rattle.ii_segment_store.specs.Contents.{IndexContents, SegmentContents, alive_file, bytes_if_listed, bytes_of_component, file_of, fitting_flags, flags_in, flags_with, optional_bytes, segment_in, with_segment}
+use Rattle.ii_segment_store.specs.Contents.{IndexContents, SegmentContents, alive_file, bytes_if_listed, bytes_of_component, file_of, fitting_flags, flags_in, flags_with, loaded_in, optional_bytes, segment_in, with_segment}
 
 abbrev no_files : Files
 no_files name = None
@@ -90,11 +90,11 @@ flags_of_three : alive_file (file Terms ∷ file (Alive 3) ∷ []) ≡ Some (fil
 flags_of_three = refl
 
 no_terms : segment_in (segment 2 (file Postings ∷ [])) no_files ≡ refused (MissingFile 7 Terms)
-unfolding segment_in bytes_of_component
+unfolding segment_in loaded_in bytes_of_component
 no_terms = refl
 
 no_file_of_terms : segment_in (segment 2 (file Terms ∷ [])) no_files ≡ refused (MissingFile 7 Terms)
-unfolding segment_in bytes_of_component listed_bytes
+unfolding segment_in loaded_in bytes_of_component listed_bytes
 no_file_of_terms = refl
 
 abbrev bytes_or : Option (List ℕ) → Result (Option (List ℕ)) IndexFault

@@ -104,17 +104,23 @@ flags_with s (Some f) files = do
 abbrev pub flags_in : SegmentState → Files → Result (List Bool) IndexFault
 flags_in s files = flags_with s (alive_file s.files) files
 
--- what a segment holds, or the first fault
-unfoldable pub segment_in : SegmentState → Files → Result SegmentContents IndexFault
-segment_in s files = do
+-- what a segment holds but for its stored documents and its flags, or the first fault
+unfoldable pub loaded_in : SegmentState → Files → Result SegmentContents IndexFault
+loaded_in s files = do
   terms ← component_bytes s Terms files
   postings ← component_bytes s Postings files
   positions ← component_bytes s Positions files
   fieldnorms ← component_bytes s FieldNorms files
   counts ← optional_bytes s Counts files
+  Ok (record { num_docs = s.num_docs; terms = terms; postings = postings; positions = positions; fieldnorms = fieldnorms; counts = counts; store = None; alive = replicate s.num_docs true })
+
+-- what a segment holds, or the first fault
+unfoldable pub segment_in : SegmentState → Files → Result SegmentContents IndexFault
+segment_in s files = do
+  loaded ← loaded_in s files
   store ← optional_bytes s Store files
   alive ← flags_in s files
-  Ok (record { num_docs = s.num_docs; terms = terms; postings = postings; positions = positions; fieldnorms = fieldnorms; counts = counts; store = store; alive = alive })
+  Ok (record loaded { store = store; alive = alive })
 
 -- what each of some segments gives, in their order, or the first fault
 unfoldable pub all_of : {X : Type 0} → (SegmentState → Files → Result X IndexFault) → List SegmentState → Files → Result (List X) IndexFault

@@ -8,3 +8,4 @@ pub mod OpenSegments
 pub mod WantedFiles
 pub mod Pending
 pub mod NewSegments
+pub mod Sources

@@ -1,5 +1,5 @@
 -- Segments whose files were written piece by piece, and have no names yet.
-use Rattle.std.specs.Prelude.{◌≡◌, ℕ, IfSome, List, [], ◌∷◌, length, true, replicate, Option, None, Some}
+use Rattle.std.specs.Prelude.{◌≡◌, ℕ, IfSome, List, [], ◌∷◌, length, true, replicate, Option, Some}
 use Rattle.std.specs.Option.{option_map}
 use Rattle.ii_io.specs.CountingWriter.{CountingWriterState}
 use Rattle.ii_directory.specs.declared.name.Name.TheVariants.{Segment}
@@ -7,13 +7,9 @@ use Rattle.ii_directory.specs.declared.name.SegmentComponent.TheVariants.{FieldN
 use Rattle.ii_directory.specs.Directory.{Files}
 use Rattle.ii_store.specs.declared.index_meta.FileMeta.{FileMeta}
 use Rattle.ii_store.specs.IndexMeta.{file_meta}
+use Rattle.ii_block_file.specs.ListedFile.{bytes_or_none}
 use Rattle.ii_segment_store.specs.declared.new_segment.NewSegment.{NewSegment}
 use Rattle.ii_segment_store.specs.Contents.{SegmentContents}
-
--- bytes, or none if they aren't known
-abbrev pub bytes_or_none : Option (List ℕ) → List ℕ
-bytes_or_none None = []
-bytes_or_none (Some bytes) = bytes
 
 -- the bytes of a file that was written
 abbrev pub new_file : CountingWriterState → List ℕ

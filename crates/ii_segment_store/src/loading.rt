@@ -6,7 +6,7 @@ ghost use Rattle.ii_store.specs.Faults.{IsRefused, of_directory};
 ghost use Rattle.ii_directory.specs.declared.faults.DirectoryFault.TheVariants.{OutOfMemory};
 ghost use Rattle.ii_store.specs.Index.{AnswersFromFiles, view};
 ghost use Rattle.ii_store.specs.IndexMeta.{segment_view, meta_view};
-ghost use Rattle.ii_segment_store.specs.Contents.{alive_file, all_contents, bytes_if_listed, component_bytes, contents_view, contents_with, file_of, fitting_flags, flags_in, flags_with, index_contents, list_contents, one_segment, optional_bytes, segment_contents, segment_in};
+ghost use Rattle.ii_segment_store.specs.Contents.{alive_file, all_contents, bytes_if_listed, component_bytes, contents_view, contents_with, file_of, files_contents, fitting_flags, flags_in, flags_with, index_contents, list_contents, loaded_in, one_segment, optional_bytes, segment_contents, segment_in};
 ghost use Rattle.ii_segment_store.specs.WantedFiles.{wanted_at, wanted_contents};
 ghost use Rattle.ii_alive.specs.AliveBytes.{alive_of};
 
@@ -188,24 +188,36 @@ fn load_segment<D: Directory>(
     ensures answers { D.is_known directory.now → AnswersFromFiles segment_contents result (segment_in (segment_view segment.now) (D.seen directory.now)) }
     ensures obeyed { is_obeyed IsRefused (D.may_refuse directory.now) result }
 {
+    let mut files = load_files(alloc, directory, segment)?;
+    let store = load_if_listed(alloc, directory, segment, SegmentComponent::Store)?;
+    let alive = load_flags(alloc, directory, segment)?;
+    files.store = store;
+    Ok(StoredSegment { files, alive })
+}
+
+// Loads the files of a segment but that of its stored documents and that of its flags.
+#[tactic(auto, unfolding(crate::specs::Contents::loaded_in))]
+pub(crate) fn load_files<D: Directory>(
+    alloc: Global,
+    directory: &D,
+    segment: &SegmentMeta,
+) -> Result<SegmentFiles, StoreFault>
+    ensures answers { D.is_known directory.now → AnswersFromFiles files_contents result (loaded_in (segment_view segment.now) (D.seen directory.now)) }
+    ensures obeyed { is_obeyed IsRefused (D.may_refuse directory.now) result }
+{
     let terms = load_file(alloc, directory, segment, SegmentComponent::Terms)?;
     let postings = load_file(alloc, directory, segment, SegmentComponent::Postings)?;
     let positions = load_file(alloc, directory, segment, SegmentComponent::Positions)?;
     let fieldnorms = load_file(alloc, directory, segment, SegmentComponent::FieldNorms)?;
     let counts = load_if_listed(alloc, directory, segment, SegmentComponent::Counts)?;
-    let store = load_if_listed(alloc, directory, segment, SegmentComponent::Store)?;
-    let alive = load_flags(alloc, directory, segment)?;
-    Ok(StoredSegment {
-        files: SegmentFiles {
-            num_docs: segment.num_docs,
-            terms,
-            postings,
-            positions,
-            fieldnorms,
-            counts,
-            store,
-        },
-        alive,
+    Ok(SegmentFiles {
+        num_docs: segment.num_docs,
+        terms,
+        postings,
+        positions,
+        fieldnorms,
+        counts,
+        store: None,
     })
 }
 

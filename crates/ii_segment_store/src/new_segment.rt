@@ -63,20 +63,7 @@ pub(crate) fn finish_segment<D: Directory>(
         counts,
         store,
     } = segment;
-    let mut listed = ListedFiles {
-        files: Vec::new(alloc),
-        tables: Vec::new(alloc),
-    };
-    finish_lists(
-        alloc,
-        directory,
-        id,
-        terms,
-        postings,
-        positions,
-        fieldnorms,
-        &mut listed,
-    )?;
+    let mut listed = finish_lists(alloc, directory, id, terms, postings, positions, fieldnorms)?;
     finish_if_some(
         alloc,
         directory,
@@ -102,7 +89,7 @@ pub(crate) fn finish_segment<D: Directory>(
     })
 }
 
-// Gives the files that each segment has their names.
+// Gives the files that each segment has their names, and lists them.
 fn finish_lists<D: Directory>(
     alloc: Global,
     directory: &mut D,
@@ -111,41 +98,28 @@ fn finish_lists<D: Directory>(
     postings: CountingWriter<D::NewFile>,
     positions: CountingWriter<D::NewFile>,
     fieldnorms: CountingWriter<D::NewFile>,
-    listed: &mut ListedFiles,
-) -> Result<(), DirectoryFault>
+) -> Result<ListedFiles, DirectoryFault>
     ensures known { D.is_known directory.old → OnOk result (D.is_known directory.new) }
     ensures obeys { D.is_known directory.old → AreCounted terms postings positions fieldnorms → Obeys IsRefusal (D.may_refuse directory.old) (D.may_refuse directory.new) result }
     ensures there { D.is_known directory.old → AreCounted terms postings positions fieldnorms → OnOk result (HasLists id (new_file terms) (new_file postings) (new_file positions) (new_file fieldnorms) (D.seen directory.new)) }
-    ensures files { D.is_known directory.old → AreCounted terms postings positions fieldnorms → OnOk result (listed.new.files.items ≡ listed.old.files.items ++ listed_lists (new_file terms) (new_file postings) (new_file positions) (new_file fieldnorms)) }
-    ensures tables { D.is_known directory.old → AreCounted terms postings positions fieldnorms → OnOk result (listed.new.tables.items ≡ listed.old.tables.items ++ file_table (new_file terms) ++ file_table (new_file postings) ++ file_table (new_file positions) ++ file_table (new_file fieldnorms)) }
+    ensures files { D.is_known directory.old → AreCounted terms postings positions fieldnorms → IfOk result (λ listed. listed.files.items ≡ listed_lists (new_file terms) (new_file postings) (new_file positions) (new_file fieldnorms)) }
+    ensures tables { D.is_known directory.old → AreCounted terms postings positions fieldnorms → IfOk result (λ listed. listed.tables.items ≡ file_table (new_file terms) ++ file_table (new_file postings) ++ file_table (new_file positions) ++ file_table (new_file fieldnorms)) }
     ensures keeps { D.is_known directory.old → OnOk result (KeepsButSegment id (D.seen directory.old) (D.seen directory.new)) }
     ensures time { D.is_known directory.old → Elapses (D.moment directory.old) (D.moment directory.new) (D.left_since directory.old) (D.left_since directory.new) (KeepsButSegment id (D.seen directory.old)) }
 {
-    finish_file(alloc, directory, id, SegmentComponent::Terms, terms, listed)?;
-    finish_file(
-        alloc,
-        directory,
-        id,
-        SegmentComponent::Postings,
-        postings,
-        listed,
-    )?;
-    finish_file(
-        alloc,
-        directory,
-        id,
-        SegmentComponent::Positions,
-        positions,
-        listed,
-    )?;
-    finish_file(
-        alloc,
-        directory,
-        id,
-        SegmentComponent::FieldNorms,
-        fieldnorms,
-        listed,
-    )
+    let mut listed = ListedFiles {
+        files: Vec::new(alloc),
+        tables: Vec::new(alloc),
+    };
+    let component = SegmentComponent::Terms;
+    finish_file(alloc, directory, id, component, terms, &mut listed)?;
+    let component = SegmentComponent::Postings;
+    finish_file(alloc, directory, id, component, postings, &mut listed)?;
+    let component = SegmentComponent::Positions;
+    finish_file(alloc, directory, id, component, positions, &mut listed)?;
+    let component = SegmentComponent::FieldNorms;
+    finish_file(alloc, directory, id, component, fieldnorms, &mut listed)?;
+    Ok(listed)
 }
 
 // Gives a file that a segment may not have its name.
