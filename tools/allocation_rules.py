@@ -26,9 +26,10 @@ PLACES = {
         'from'},  # the kit's error becomes a fault
     'ii_alive/src/faults.rt': {'from'},
     'ii_block_file/src/faults.rt': {'from'},
+    'ii_block_file/src/listed_file.rt': {'table_fault'},  # reading a table was refused memory
     'ii_file_slice/src/faults.rt': {'from'},
     'ii_warmup/src/index_parts.rt': {'open_fields'},  # the list of readers couldn't grow
-    'ii_doc_store/src/faults.rt': {'from'},
+    'ii_doc_store/src/faults.rt': {'from', 'in_file'},
     'ii_documents/src/faults.rt': {'of_json', 'of_hex', 'from'},  # errors of the kit's crates become faults
     'ii_documents/src/line_fields.rt': {
         'read_line',  # the kit's reader of JSON was refused memory
@@ -47,7 +48,7 @@ PLACES = {
         'write_fault'},  # a vector that is written fails only if it can't grow
     'ii_directory/src/new_file.rt': {'over'},  # the buffer of a writer was refused
     'ii_term_text/src/terms.rt': {'bytes_term', 'is_memory'},  # the kit's `hex` couldn't grow
-    'ii_folder_promises/src/stored_lines.rt': {'stored_lines_come_back', 'merged_lines_come_back', 'line_of', 'copied'},  # a store, or a copy of a line
+    'ii_folder_promises/src/stored_lines.rt': {'stored_lines_come_back', 'merged_lines_come_back', 'line_of', 'read_fault', 'copied'},  # a store, or a copy of a line
     'ii_folder_promises/src/stored_fields.rt': {'stored_fields_come_back'},  # a store couldn't be shared
     'ii_index/src/faults.rt': {'from'},
     'nequllpa_opening/src/faults.rt': {'is_memory', 'from'},
@@ -62,7 +63,7 @@ PLACES = {
         'from', 'memory',
         'store_of', 'store_damages'},  # stored documents couldn't be opened for it
     'nequllpa_merging/src/faults.rt': {'from'},
-    'nequllpa_merging/src/stores.rt': {'store_fault'},  # stores couldn't be opened or merged for it
+    'nequllpa_merging/src/stores.rt': {'read_fault'},  # a range of a store couldn't be read for it
     'nequllpa_writing/src/indexing.rt': {'put_line'},  # a line with its place couldn't be built
     # The program prints `error 1` for any refused allocation, so a fault of a call that fails only with
     # `OutOfMemory` becomes the kit's error.

@@ -1,5 +1,6 @@
 // An index of segments in a directory: segments are added, documents deleted, and stops lose neither.
-ghost use Rattle.std.specs.Prelude.{◌≡◌, ◌⊎◌, List, Ok, IfOk, IsTrue, OnOk, map};
+ghost use Rattle.std.specs.Prelude.{◌≡◌, ◌⊎◌, ℕ, List, Ok, IfOk, IsErrOf, IsTrue, OnOk, map, replicate, true};
+ghost use Rattle.std.specs.List.{AllByRecursion};
 ghost use Rattle.std.specs.Option.{option_map};
 ghost use Rattle.ii_directory.specs.Directory.{Files};
 ghost use Rattle.ii_directory.specs.declared.name.Name.TheVariants.{Meta};
@@ -8,19 +9,22 @@ ghost use Rattle.ii_store.specs.Segments.{index_with, list_in, segments_of};
 ghost use Rattle.ii_segment_store.specs.Changes.{changed_index};
 ghost use Rattle.ii_segment_store.specs.Commits.{index_of_segment};
 ghost use Rattle.ii_segment_store.specs.Contents.{contents_view, files_contents, index_contents, with_segment};
+ghost use Rattle.ii_segment_store.specs.NewSegments.{new_contents};
+ghost use Rattle.ii_segment_store.specs.Sources.{HasKnownStore, source_contents};
 ghost use Rattle.ii_segments.specs.Segments.{Segment, index_tokens, num_docs_of};
+ghost use Rattle.nequllpa_merging.specs.HeldSegments.{HoldSegments, HoldsSegment};
 ghost use Rattle.nequllpa_merging.specs.Joins.{HoldsIndex};
 
-use ii_base::{DocId, Schema};
+use ii_base::{DocId, Part, Schema};
 use ii_segment_store::{
-    CommitFault, PendingSegments, SegmentFiles, StoredSegments, append_segment, commit_changes,
-    load_segments, replace_index, upgrade,
+    CommitFault, NewSegment, PendingSegments, SegmentFiles, SegmentSource, StoredSegments,
+    append_segment, commit_changes, load_segments, replace_index, upgrade,
 };
 use ii_store::collect::collect;
 use ii_store::commit_check::may_commit;
 use ii_store::segments::commit;
 use ii_store::{Directory, DirectoryFault, IndexMeta, StoreFault};
-use nequllpa_merging::{JoinFault, merge_last};
+use nequllpa_merging::{JoinFault, MergeFault, merge_last, merge_segments};
 use std::alloc::Global;
 
 /// What is loaded is what the index of the directory holds.
@@ -124,6 +128,23 @@ pub fn merges_keep_the_documents<D: Directory>(
         → (ts : List Segment) × HoldsIndex schema.now files ts × (index_tokens ts ≡ index_tokens ss) × (num_docs_of ts ≡ num_docs_of ss) }
 {
     merge_last(alloc, directory, schema, first)
+}
+
+/// Segments that hold their tokens become the files of one, of as many documents as are alive in them, none of which is
+/// deleted, with the tokens of their index. No part of them is called damaged.
+pub fn segments_become_one<D: Directory>(
+    alloc: Global,
+    directory: &D,
+    schema: &Schema,
+    segments: Vec<SegmentSource<D::File>>,
+) -> Result<NewSegment<D::NewFile>, JoinFault>
+    requires known { D.is_known directory.now }
+    requires readable { AllByRecursion (HasKnownStore D.File.bytes) segments.items }
+    ensures holds { (ss : List Segment) → HoldSegments schema.now (map (source_contents D.File.bytes) segments.items) ss
+        → IfOk result (λ s. HoldsSegment schema.now (new_contents s) (record { alive = replicate (num_docs_of ss) true; tokens = index_tokens ss })) }
+    ensures undamaged { (ss : List Segment) (place : ℕ) (part : Part) → HoldSegments schema.now (map (source_contents D.File.bytes) segments.items) ss → IsErrOf result (JoinFault.Merge (MergeFault.Segment place part)) → ⊥ }
+{
+    merge_segments(alloc, directory, schema, segments)
 }
 
 /// An index of version 1 becomes one of version 3 that holds the same, wherever this is stopped.

@@ -4,13 +4,14 @@ ghost use Rattle.std.specs.List.{AllByRecursion, AllZip};
 ghost use Rattle.ii_doc_store.specs.StoreReader.{HoldsDocuments};
 ghost use Rattle.ii_doc_store.specs.declared.faults.StoreDamage.{StoreDamage};
 ghost use Rattle.ii_doc_store_merger.specs.declared.faults.StoreMergeFault.{StoreMergeFault};
-ghost use Rattle.ii_doc_store_merger.specs.StoreSources.{FitsFlags, SegmentDocuments, SourceHolds, documents_of_segments, opened_store};
+ghost use Rattle.ii_doc_store_merger.specs.StoreSources.{FitsFlags, SegmentDocuments, SourceHolds, documents_of_segments, memory_store};
 
 use bytes::Bytes;
 use ii_base::{DocId, Fault};
-use ii_doc_store::{StoreOpenFault, StoreReader};
+use ii_doc_store::{StoreFile, StoreFileFault, StoreOpenFault, StoreReader};
 use ii_doc_store_merger::{StoreMergeFault, StoreSource, merge_stores};
 use ii_documents::LinePlace;
+use ii_file_slice::{FileHandle, ReadFault};
 use ii_segment_store::SegmentFiles;
 use ii_tokenizers::FieldAnalyzers;
 use nequllpa_indexing::Documents;
@@ -57,13 +58,13 @@ pub fn stored_lines_come_back<F: FieldAnalyzers>(
 /// and it isn't missing. The documents are the living ones, one store after the other. No block is called damaged.
 pub fn merged_lines_come_back(
     alloc: Global,
-    sources: &[StoreSource<'_>],
+    sources: &[StoreSource<'_, Bytes>],
     doc: DocId,
 ) -> Result<Vec<u8>, StoredLineFault>
-    requires fits { AllByRecursion FitsFlags (map opened_store sources.now) }
-    ensures same { (ds : List SegmentDocuments) → AllZip SourceHolds (map opened_store sources.now) ds → doc < length (documents_of_segments ds) → IfOk result (λ found. found.items ≡ get_or (documents_of_segments ds) doc []) }
-    ensures there { (ds : List SegmentDocuments) → AllZip SourceHolds (map opened_store sources.now) ds → doc < length (documents_of_segments ds) → IsErrOf result StoredLineFault.Missing → ⊥ }
-    ensures undamaged { (ds : List SegmentDocuments) (place : ℕ) (damage : StoreDamage) → AllZip SourceHolds (map opened_store sources.now) ds → IsErrOf result (StoredLineFault.Merge (StoreMergeFault.Damaged place damage)) → ⊥ }
+    requires fits { AllByRecursion FitsFlags (map memory_store sources.now) }
+    ensures same { (ds : List SegmentDocuments) → AllZip SourceHolds (map memory_store sources.now) ds → doc < length (documents_of_segments ds) → IfOk result (λ found. found.items ≡ get_or (documents_of_segments ds) doc []) }
+    ensures there { (ds : List SegmentDocuments) → AllZip SourceHolds (map memory_store sources.now) ds → doc < length (documents_of_segments ds) → IsErrOf result StoredLineFault.Missing → ⊥ }
+    ensures undamaged { (ds : List SegmentDocuments) (place : ℕ) (damage : StoreDamage) → AllZip SourceHolds (map memory_store sources.now) ds → IsErrOf result (StoredLineFault.Merge (StoreMergeFault.Damaged place damage)) → ⊥ }
 {
     let merged = match merge_stores(alloc, sources) {
         Ok(merged) => merged,
@@ -73,6 +74,43 @@ pub fn merged_lines_come_back(
         return Err(StoredLineFault::OutOfMemory);
     };
     line_of(alloc, bytes, doc)
+}
+
+/// A line is given back from the file of its store, of which the index and one block are read: exactly its bytes. Only an
+/// allocation fails if the file can be read.
+pub fn lines_of_files_come_back<H: FileHandle>(
+    alloc: Global,
+    file: &H,
+    doc: DocId,
+) -> Result<Vec<u8>, StoredLineFault>
+    ensures same { (bytes : List ℕ) (lines : List (List ℕ)) → H.bytes file.now ≡ Some bytes → HoldsDocuments bytes lines → doc < length lines → IfOk result (λ found. found.items ≡ get_or lines doc []) }
+    ensures only { (bytes : List ℕ) (lines : List (List ℕ)) → H.bytes file.now ≡ Some bytes → HoldsDocuments bytes lines → doc < length lines → H.is_sound file.now → IfErr result (λ e. e ≡ StoredLineFault.OutOfMemory) }
+{
+    let store = match StoreFile::open(alloc, file) {
+        Ok(store) => store,
+        Err(fault) => return Err(read_fault(fault)),
+    };
+    if doc >= store.num_docs() {
+        return Err(StoredLineFault::Missing);
+    }
+    let block = match store.block(alloc, doc) {
+        Ok(block) => block,
+        Err(fault) => return Err(read_fault(fault)),
+    };
+    match block.as_block().get(doc) {
+        Ok(found) => copied(alloc, found),
+        Err(_) => Err(StoredLineFault::Missing),
+    }
+}
+
+// Returns why a line of a file isn't given back.
+fn read_fault(fault: StoreFileFault) -> StoredLineFault
+    ensures { fault ≡ StoreFileFault.Read ReadFault.OutOfMemory → result ≡ StoredLineFault.OutOfMemory }
+{
+    match fault {
+        StoreFileFault::Read(ReadFault::OutOfMemory) => StoredLineFault::OutOfMemory,
+        _ => StoredLineFault::Missing,
+    }
 }
 
 // Returns the file of stored lines.

@@ -1,5 +1,5 @@
 -- New files that were written, as those of a segment.
-use Rattle.std.proofs.Common.{◌≡◌, ◌∙◌, ℕ, List, [], length, Option, Some, None, ap, arith, subst, sym}
+use Rattle.std.proofs.Common.{◌≡◌, ℕ, List, [], length, Option, Some, None, ap, arith, refl, subst, sym}
 use Rattle.std.specs.Io.KnownBytes.{Appends}
 use Rattle.ii_io.specs.CountingWriter.{CountingWriterState, Wrote}
 use Rattle.ii_base.specs.Schema.{SchemaEntry}
@@ -10,22 +10,27 @@ use Rattle.ii_definitions.specs.Tokens.{IndexToken}
 use Rattle.ii_indexing.specs.IndexFiles.{WroteIndex}
 use Rattle.ii_indexing.specs.declared.index_writers.IndexWriters.{IndexWriters}
 use Rattle.ii_indexing.specs.RamFiles.{empty_file, empty_files}
-use Rattle.ii_segment_store.specs.NewSegments.{IsCounted, bytes_or_none, new_file}
+use Rattle.ii_block_file.specs.ListedFile.{bytes_or_none}
+use Rattle.ii_segment_store.specs.NewSegments.{IsCounted, new_file}
 
--- what was appended to an empty file is all of it
-whole : (bytes : List ℕ) (now : Option (List ℕ)) → Appends (Some []) now bytes → now ≡ Some bytes
-whole bytes None h = absurd h
-whole bytes (Some xs) h = ap (λ (ys : List ℕ). Some ys) h
+-- what was appended to an empty file is all of it, which is known
+appended_is : (bytes : List ℕ) (now : Option (List ℕ)) → Appends (Some []) now bytes → bytes ≡ bytes_or_none now
+appended_is bytes None h = absurd h
+appended_is bytes (Some xs) h = sym h
+
+appended_known : (bytes : List ℕ) (now : Option (List ℕ)) → Appends (Some []) now bytes → now ≡ Some (bytes_or_none now)
+appended_known bytes None h = absurd h
+appended_known bytes (Some xs) h = refl
 
 -- the bytes of a file that was written are all of it, and were counted
 
 module _ (new : CountingWriterState) (bytes : List ℕ) (w : Wrote empty_file new bytes) where
   pub file_is : bytes ≡ new_file new
-  file_is = sym (ap bytes_or_none (whole bytes new.contents w.appends))
+  file_is = appended_is bytes new.contents w.appends
 
   pub is_counted : IsCounted new
   is_counted = record {
-    known = whole bytes new.contents w.appends ∙ ap (λ (ys : List ℕ). Some ys) file_is;
+    known = appended_known bytes new.contents w.appends;
     counted = let same : length bytes ≡ length (new_file new) = ap length file_is in omega (arith, w.written_bytes, same);
   }
 

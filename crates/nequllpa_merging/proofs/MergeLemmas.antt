@@ -147,6 +147,7 @@ all_tokens_are entries (o ∷ os) (s ∷ ss) hold = (hold.0.source.tokens, all_t
 pub opening_undamaged : (fault : MergeFault) (entries : List SchemaEntry) (cs : List SegmentContents) (ss : List Segment) → HoldSegments entries cs ss → IsOpeningFault fault entries cs → IsDamage fault → ⊥
 opening_undamaged (merges.Segment place part) entries cs ss hold cause damage = none_damaged entries cs ss place cause.segment part hold cause.found cause.damaged
 opening_undamaged (merges.Store place stored) entries cs ss hold cause damage = cause
+opening_undamaged (merges.Read place fault) entries cs ss hold cause damage = cause
 opening_undamaged (merges.LongDocument place) entries cs ss hold cause damage = damage
 opening_undamaged merges.TooManyDocuments entries cs ss hold cause damage = damage
 opening_undamaged merges.TooManyFields entries cs ss hold cause damage = damage

@@ -1,15 +1,14 @@
 -- The merged files with stored documents.
-use Rattle.std.proofs.Common.{◌≡◌, ℕ, ◌+◌, Bool, true, List, [], ◌∷◌, ◌++◌, length, map, replicate, Option, Result, Ok, Err, inl, inr, refl, sym, ap, subst, ◌∙◌}
-use Rattle.std.specs.Prelude.{IfOk}
+use Rattle.std.proofs.Common.{◌≡◌, ℕ, ◌+◌, Bool, true, List, [], ◌∷◌, ◌++◌, length, map, replicate, Option, inl, inr, refl, sym, ap, subst, ◌∙◌}
 use Rattle.std.specs.List.{AllZip}
 use Rattle.std.proofs.lemmas.List.{length-replicate, map-append}
-use Rattle.ii_io.specs.declared.faults.Fault.{Fault}
 use Rattle.ii_base.specs.Schema.{SchemaEntry}
 use Rattle.ii_alive.specs.Alive.{num_living}
 use Rattle.ii_doc_store_merger.specs.StoreSources.{SegmentDocuments, documents_of_segments}
 use Rattle.ii_merger.specs.MergedIndex.{all_living}
-use Rattle.ii_segment_store.specs.Contents.{SegmentContents, segment_contents}
-use Rattle.ii_segment_store.specs.declared.stored_segments.StoredSegment.{StoredSegment}
+use Rattle.ii_segment_store.specs.Contents.{SegmentContents}
+use Rattle.ii_segment_store.specs.Sources.{source_contents}
+use Rattle.ii_segment_store.specs.declared.segment_source.SegmentSource.{SegmentSource}
 use Rattle.ii_segments.specs.Segments.{Segment, merged, num_docs_of}
 use Rattle.nequllpa_merging.specs.Faults.{IsDamage, IsPartDamage, OfMerge}
 use Rattle.nequllpa_merging.specs.declared.faults.JoinFault.{JoinFault}
@@ -24,15 +23,15 @@ use Rattle.nequllpa_merging.specs.declared.opening.OpenedSegment.{OpenedSegment}
 use Rattle.nequllpa_merging.proofs.StoreLemmas.{HoldsCount, documents_count, living_in, some_merged, stored_merged, stores_undamaged}
 
 -- one more segment keeps its file
-pub stored_goes_on : (taken : List StoredSegment) (made new : List OpenedSegment) (x : StoredSegment) (y : OpenedSegment) → new ≡ made ++ y ∷ [] → stored_view y ≡ stored_file (segment_contents x) → map stored_view made ≡ map stored_file (map segment_contents taken)
-    → map stored_view new ≡ map stored_file (map segment_contents (taken ++ x ∷ []))
-stored_goes_on taken made new x y pushed is so_far =
-    ap (map stored_view) pushed ∙ map-append stored_view made (y ∷ []) ∙ ap (λ (fs : List StoredFile). fs ++ stored_view y ∷ []) so_far ∙ ap (λ (f : StoredFile). map stored_file (map segment_contents taken) ++ f ∷ []) is
-    ∙ sym (ap (map stored_file) (map-append segment_contents taken (x ∷ [])) ∙ map-append stored_file (map segment_contents taken) (segment_contents x ∷ []))
+pub stored_goes_on : {F : Type 0} (bytes : F → Option (List ℕ)) (taken : List (SegmentSource F)) (made new : List (OpenedSegment F)) (x : SegmentSource F) (y : OpenedSegment F) → new ≡ made ++ y ∷ [] → stored_view bytes y ≡ stored_file (source_contents bytes x) → map (stored_view bytes) made ≡ map stored_file (map (source_contents bytes) taken)
+    → map (stored_view bytes) new ≡ map stored_file (map (source_contents bytes) (taken ++ x ∷ []))
+stored_goes_on bytes taken made new x y pushed is so_far =
+    ap (map (stored_view bytes)) pushed ∙ map-append (stored_view bytes) made (y ∷ []) ∙ ap (λ (fs : List StoredFile). fs ++ stored_view bytes y ∷ []) so_far ∙ ap (λ (f : StoredFile). map stored_file (map (source_contents bytes) taken) ++ f ∷ []) is
+    ∙ sym (ap (map stored_file) (map-append (source_contents bytes) taken (x ∷ [])) ∙ map-append stored_file (map (source_contents bytes) taken) (source_contents bytes x ∷ []))
 
-pub stored_result : (c : SegmentContents) (store : Option (List ℕ)) (alive : List Bool) (result : Result OpenedSegment Fault) → store ≡ c.store → IfOk result (λ o. o.store ≡ store) → IfOk result (λ o. o.alive ≡ c.alive) → IfOk result (λ o. stored_view o ≡ stored_file c)
-stored_result c store alive (Err e) same file flags = tt
-stored_result c store alive (Ok o) same file flags = ap (λ (b : Option (List ℕ)). record { bytes = b; alive = o.alive }) (file ∙ same) ∙ ap (λ (a : List Bool). record { bytes = c.store; alive = a }) flags
+-- a segment that keeps its file and flags
+pub stored_same : {F : Type 0} (bytes : F → Option (List ℕ)) (x : SegmentSource F) (y : OpenedSegment F) → (y.store ≡ x.store) × (y.alive ≡ x.alive) → stored_view bytes y ≡ stored_file (source_contents bytes x)
+stored_same bytes x y same = rw (same.0, same.1) refl
 
 holds_with : (entries : List SchemaEntry) (f : SegmentContents) (store : Option (List ℕ)) (s : Segment) → HoldsSegment entries f s → HoldsSomeDocuments store (length s.alive) → HoldsSegment entries (record f { store = store }) s
 holds_with entries f store s h some = record { lists = h.lists; norms = h.norms; counts = h.counts; store = some; alive = h.alive; are = h.are }
@@ -56,14 +55,14 @@ segment_with entries cs ss f store hold held is =
     holds_with entries f store (merged ss) held
     (subst (HoldsSomeDocuments store) (living_same entries cs ss hold ∙ sym (length-replicate (num_docs_of ss) true)) some)
 
-living_opened : (xs : List OpenedSegment) → all_living (map merge_source (map opened_view xs)) ≡ living_in (map stored_view xs)
-living_opened [] = refl
-living_opened (x ∷ xs) = ap (λ (n : ℕ). num_living x.alive + n) (living_opened xs)
+living_opened : {F : Type 0} (bytes : F → Option (List ℕ)) (xs : List (OpenedSegment F)) → all_living (map merge_source (map opened_view xs)) ≡ living_in (map (stored_view bytes) xs)
+living_opened bytes [] = refl
+living_opened bytes (x ∷ xs) = ap (λ (n : ℕ). num_living x.alive + n) (living_opened bytes xs)
 
-pub documents_with : (xs : List OpenedSegment) (fs : List StoredFile) (ds : List SegmentDocuments) (n : ℕ) (store : Option (List ℕ)) → map stored_view xs ≡ fs → n ≡ all_living (map merge_source (map opened_view xs)) → AllZip HoldsStored fs ds → HasMergedStore fs store
+pub documents_with : {F : Type 0} (bytes : F → Option (List ℕ)) (xs : List (OpenedSegment F)) (fs : List StoredFile) (ds : List SegmentDocuments) (n : ℕ) (store : Option (List ℕ)) → map (stored_view bytes) xs ≡ fs → n ≡ all_living (map merge_source (map opened_view xs)) → AllZip HoldsStored fs ds → HasMergedStore fs store
     → HoldsStored (record { bytes = store; alive = replicate n true }) (merged_documents ds)
-documents_with xs fs ds n store same docs hold is =
-    let many : n ≡ length (documents_of_segments ds) = docs ∙ living_opened xs ∙ ap living_in same ∙ sym (documents_count fs ds hold) in
+documents_with bytes xs fs ds n store same docs hold is =
+    let many : n ≡ length (documents_of_segments ds) = docs ∙ living_opened bytes xs ∙ ap living_in same ∙ sym (documents_count fs ds hold) in
     record {
       store = stored_merged fs ds store hold is;
       alive = ap (λ (k : ℕ). replicate k true) many;
@@ -81,6 +80,7 @@ of_merge P Q (joins.Commit fault) implies holds = holds
 pub stored_undamaged : (entries : List SchemaEntry) (cs : List SegmentContents) (ss : List Segment) (fault : MergeFault) → HoldSegments entries cs ss → IsStoresFault (map stored_file cs) fault → IsDamage fault → ⊥
 stored_undamaged entries cs ss (merges.Segment place part) hold cause damage = cause
 stored_undamaged entries cs ss (merges.Store place stored) hold cause damage = stores_undamaged (map stored_file cs) (map (λ (s : Segment). length s.alive) ss) place stored (counted entries cs ss hold) cause
+stored_undamaged entries cs ss (merges.Read place fault) hold cause damage = cause
 stored_undamaged entries cs ss (merges.LongDocument place) hold cause damage = damage
 stored_undamaged entries cs ss merges.TooManyDocuments hold cause damage = damage
 stored_undamaged entries cs ss merges.TooManyFields hold cause damage = damage

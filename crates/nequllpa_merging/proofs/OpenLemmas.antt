@@ -93,7 +93,7 @@ totals_refused entries c index counts fault known more (inl memory) = inl memory
 totals_refused entries c index counts fault known more (inr (part, is, failed)) = inr (part, is, rw (known, more, failed) refl)
 
 -- the result of the last step
-pub opened_result : (entries : List SchemaEntry) (c : SegmentContents) (index : OpenIndexState) (counts : Option (List Body)) (result : Result OpenedSegment Fault) → index_of_files c.terms c.postings c.positions c.fieldnorms entries ≡ Ok index
+pub opened_result : {F : Type 0} (entries : List SchemaEntry) (c : SegmentContents) (index : OpenIndexState) (counts : Option (List Body)) (result : Result (OpenedSegment F) Fault) → index_of_files c.terms c.postings c.positions c.fieldnorms entries ≡ Ok index
     → bodies_of_counts c.counts ≡ Ok counts → IfOk result (λ o. living_totals (length entries) index counts c.alive ≡ Ok o.num_tokens.items) → IfOk result (λ o. (o.index ≡ index) × (o.counts ≡ counts) × (o.alive ≡ c.alive))
     → IfOk result (λ o. opened_from entries c ≡ Ok (opened_view o))
 opened_result entries c index counts (Err e) known more totals same = tt
@@ -105,7 +105,7 @@ opened_result entries c index counts (Ok o) known more totals same =
       alive = same.2;
     })
 
-pub refused_result : (entries : List SchemaEntry) (c : SegmentContents) (index : OpenIndexState) (counts : Option (List Body)) (result : Result OpenedSegment Fault) → index_of_files c.terms c.postings c.positions c.fieldnorms entries ≡ Ok index
+pub refused_result : {F : Type 0} (entries : List SchemaEntry) (c : SegmentContents) (index : OpenIndexState) (counts : Option (List Body)) (result : Result (OpenedSegment F) Fault) → index_of_files c.terms c.postings c.positions c.fieldnorms entries ≡ Ok index
     → bodies_of_counts c.counts ≡ Ok counts → IfErr result (IsRefusal (living_totals (length entries) index counts c.alive)) → IfErr result (IsRefusal (opened_from entries c))
 refused_result entries c index counts (Ok o) known more refused = tt
 refused_result entries c index counts (Err e) known more refused = totals_refused entries c index counts e known more refused

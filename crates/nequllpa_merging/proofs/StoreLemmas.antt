@@ -1,27 +1,26 @@
 -- Stored documents that are opened to be merged, and what the merged file holds.
 use Rattle.std.proofs.Common.{◌≡◌, ℕ, zero, suc, ◌+◌, ◌<◌, ◌≤◌, ◌==◌, Bool, true, false, List, [], ◌∷◌, ◌++◌, get_or, length, map, take, Option, None, Some, Result, Ok, Err, inl, inr, refl, sym, ap, subst, ◌∙◌, arith, length-append, Vec, Global}
-use Rattle.std.specs.Prelude.{◌||◌, IsSomeAnd, if◌then◌else◌, is_none, slice_get}
+use Rattle.std.specs.Prelude.{◌||◌, IfSome, IsSomeAnd, if◌then◌else◌, is_none, slice_get}
 use Rattle.std.specs.List.{AllByRecursion, AllZip, list_any}
 use Rattle.std.specs.Option.{option_map}
 use Rattle.std.proofs.lemmas.Bool.{eq-eqb, eqb-true}
 use Rattle.std.proofs.lemmas.List.{get_or-map, length-map, map-append, take_all, take_more}
 use Rattle.std.proofs.lemmas.Option.{slice_get-get_or}
-use Rattle.ii_io.specs.declared.faults.Fault.TheVariants.{OutOfMemory}
 use Rattle.ii_alive.specs.Alive.{num_living}
 use Rattle.ii_doc_store.specs.declared.checkpoint.Checkpoint.{Checkpoint}
 use Rattle.ii_doc_store.specs.declared.faults.StoreDamage.{StoreDamage}
 use Rattle.ii_doc_store.specs.declared.faults.StoreDamage.TheVariants.{Index}
-use Rattle.ii_doc_store.specs.declared.faults.StoreOpenFault.{StoreOpenFault}
-use Rattle.ii_doc_store.specs.declared.faults.StoreOpenFault.TheVariants as opens
+use Rattle.ii_block_file.specs.declared.faults.ReadFault.{ReadFault}
+use Rattle.ii_block_file.specs.declared.faults.ReadFault.TheVariants as reads
+use Rattle.ii_doc_store.specs.declared.faults.StoreFileFault.{StoreFileFault}
+use Rattle.ii_doc_store.specs.declared.faults.StoreFileFault.TheVariants as opens
 use Rattle.ii_doc_store.specs.StoreReader.{HoldsDocuments, index_of, num_docs}
+use Rattle.ii_doc_store_merger.specs.declared.faults.StoreMergeFault.{StoreMergeFault}
 use Rattle.ii_doc_store_merger.specs.declared.faults.StoreMergeFault.TheVariants as merges
-use Rattle.ii_doc_store_merger.specs.declared.store_source.StoreSource.{StoreSource}
-use Rattle.ii_doc_store_merger.specs.StoreSources.{FitsFlags, SegmentDocuments, SourceHolds, StoreSourceState, documents_of_segments, living_documents, opened_store}
+use Rattle.ii_doc_store_merger.specs.StoreSources.{FitsFlags, IsStoreMergeFault, SegmentDocuments, SourceHolds, StoreSourceState, documents_of_segments, living_documents}
 use Rattle.ii_doc_store_merger.proofs.MergeLemmas.{documents_length, holds_given, undamaged}
-use Rattle.nequllpa_merging.specs.declared.faults.MergeFault.{MergeFault}
 use Rattle.nequllpa_merging.specs.declared.faults.MergeFault.TheVariants as faults
-use Rattle.nequllpa_merging.specs.declared.opening.OpenedSegment.{OpenedSegment}
-use Rattle.nequllpa_merging.specs.StoredDocuments.{AreOpenStores, HasMergedStore, HasStore, HoldsSomeDocuments, HoldsStored, IsFirstDamagedIndex, IsOpenStoresFault, IsStoresFault, OpensStore, StoredFile, fitting_store, store_in, stored_view}
+use Rattle.nequllpa_merging.specs.StoredDocuments.{AreOpenStores, HasMergedStore, HasStore, HoldsSomeDocuments, HoldsStored, IsFirstDamagedIndex, IsOpenStoresFault, IsStoresFault, OpensStore, StoredFile, fitting_store, read_fault, store_fault, store_in, stores_fault}
 
 -- ---- one file more
 zip_more : (fs : List StoredFile) (ss : List StoreSourceState) (f : StoredFile) (s : StoreSourceState) → AllZip OpensStore fs ss → OpensStore f s → AllZip OpensStore (fs ++ f ∷ []) (ss ++ s ∷ [])
@@ -36,32 +35,32 @@ all_have [] (s ∷ ss) all = absurd all
 all_have (f ∷ fs) [] all = absurd all
 all_have (f ∷ fs) (s ∷ ss) all = ((s, all.0), all_have fs ss all.1)
 
-module _ (xs : List OpenedSegment) (i : ℕ) (x : OpenedSegment) (inside : i < length xs) (is : x ≡ get_or xs i x) where
+module _ {A Y : Type 0} (view : A → StoredFile) (source : Y → StoreSourceState) (xs : List A) (i : ℕ) (x : A) (inside : i < length xs) (is : x ≡ get_or xs i x) where
   abbrev files : List StoredFile
-  files = map stored_view xs
+  files = map view xs
 
   few : i < length files
-  few = omega (arith, inside, length-map xs stored_view)
+  few = omega (arith, inside, length-map xs view)
 
-  file_is : get_or files i (stored_view x) ≡ stored_view x
-  file_is = get_or-map stored_view xs i x (stored_view x) inside ∙ ap stored_view (sym is)
+  file_is : get_or files i (view x) ≡ view x
+  file_is = get_or-map view xs i x (view x) inside ∙ ap view (sym is)
 
-  found : slice_get files i ≡ Some (stored_view x)
-  found = slice_get-get_or files i (stored_view x) few ∙ ap (λ (f : StoredFile). Some f) file_is
+  found : slice_get files i ≡ Some (view x)
+  found = slice_get-get_or files i (view x) few ∙ ap (λ (f : StoredFile). Some f) file_is
 
-  next : take (i + 1) files ≡ take i files ++ stored_view x ∷ []
-  next = take_more files i (stored_view x) few ∙ ap (λ (f : StoredFile). take i files ++ f ∷ []) file_is
+  next : take (i + 1) files ≡ take i files ++ view x ∷ []
+  next = take_more files i (view x) few ∙ ap (λ (f : StoredFile). take i files ++ f ∷ []) file_is
 
-  pub opened_more : (made new : List StoreSource) (y : StoreSource) (o : Option StoreSource) → o ≡ Some y → new ≡ made ++ y ∷ [] → store_in (stored_view x) ≡ option_map (λ (s : StoreSource). Ok (opened_store s)) o
-      → AllZip OpensStore (take i files) (map opened_store made) → AllZip OpensStore (take (i + 1) files) (map opened_store new)
+  pub opened_more : (made new : List Y) (y : Y) (o : Option Y) → o ≡ Some y → new ≡ made ++ y ∷ [] → store_in (view x) ≡ option_map (λ (s : Y). Ok (source s)) o
+      → AllZip OpensStore (take i files) (map source made) → AllZip OpensStore (take (i + 1) files) (map source new)
   opened_more made new y o some pushed opens so_far =
-      let own : store_in (stored_view x) ≡ Some (Ok (opened_store y)) = opens ∙ ap (option_map (λ (s : StoreSource). Ok (opened_store s))) some in
-      let ends = ap (map opened_store) pushed ∙ map-append opened_store made (y ∷ []) in
-      subst (λ (fs : List StoredFile). AllZip OpensStore fs (map opened_store new)) (sym next)
-      (subst (AllZip OpensStore (take i files ++ stored_view x ∷ [])) (sym ends) (zip_more (take i files) (map opened_store made) (stored_view x) (opened_store y) so_far own))
+      let own : store_in (view x) ≡ Some (Ok (source y)) = opens ∙ ap (option_map (λ (s : Y). Ok (source s))) some in
+      let ends = ap (map source) pushed ∙ map-append source made (y ∷ []) in
+      subst (λ (fs : List StoredFile). AllZip OpensStore fs (map source new)) (sym next)
+      (subst (AllZip OpensStore (take i files ++ view x ∷ [])) (sym ends) (zip_more (take i files) (map source made) (view x) (source y) so_far own))
 
-  pub first_index : (made : List StoreSource) (damage : StoreDamage) → store_in (stored_view x) ≡ Some (Err damage) → AllZip OpensStore (take i files) (map opened_store made) → IsFirstDamagedIndex files i damage
-  first_index made damage damaged so_far = record { file = stored_view x; found = found; damaged = damaged; before = all_have (take i files) (map opened_store made) so_far }
+  pub first_index : (made : List Y) (damage : StoreDamage) → store_in (view x) ≡ Some (Err damage) → AllZip OpensStore (take i files) (map source made) → IsFirstDamagedIndex files i damage
+  first_index made damage damaged so_far = record { file = view x; found = found; damaged = damaged; before = all_have (take i files) (map source made) so_far }
 
 -- a file is missing
 no_bytes : (f : StoredFile) → store_in f ≡ None → is_none f.bytes ≡ true
@@ -80,20 +79,20 @@ any_at p (g ∷ fs) (suc i) f found is = by (p g) (any_at p fs i f found is)
     by true rest = refl
     by false rest = rest
 
-pub one_missing : (xs : List OpenedSegment) (i : ℕ) (x : OpenedSegment) (o : Option StoreSource) → i < length xs → x ≡ get_or xs i x → o ≡ None → store_in (stored_view x) ≡ option_map (λ (s : StoreSource). Ok (opened_store s)) o
-    → list_any (λ (f : StoredFile). is_none f.bytes) (map stored_view xs) ≡ true
-one_missing xs i x o inside is none opens =
-    any_at (λ (f : StoredFile). is_none f.bytes) (map stored_view xs) i (stored_view x) (found xs i x inside is) (no_bytes (stored_view x) (opens ∙ ap (option_map (λ (s : StoreSource). Ok (opened_store s))) none))
+pub one_missing : {A Y : Type 0} (view : A → StoredFile) (source : Y → StoreSourceState) (xs : List A) (i : ℕ) (x : A) (o : Option Y) → i < length xs → x ≡ get_or xs i x → o ≡ None → store_in (view x) ≡ option_map (λ (s : Y). Ok (source s)) o
+    → list_any (λ (f : StoredFile). is_none f.bytes) (map view xs) ≡ true
+one_missing view source xs i x o inside is none opens =
+    any_at (λ (f : StoredFile). is_none f.bytes) (map view xs) i (view x) (found view source xs i x inside is) (no_bytes (view x) (opens ∙ ap (option_map (λ (s : _). Ok (source s))) none))
 
 pub all_opened : (fs : List StoredFile) (n : ℕ) (ss : List StoreSourceState) → length fs ≤ n → AllZip OpensStore (take n fs) ss → AllZip OpensStore fs ss
 all_opened fs n ss many all = subst (λ (gs : List StoredFile). AllZip OpensStore gs ss) (take_all n fs many) all
 
 -- why an index isn't opened
-pub index_fault : (xs : List OpenedSegment) (i : ℕ) (x : OpenedSegment) (made : List StoreSource) (fault : StoreOpenFault) (result : MergeFault) → i < length xs → x ≡ get_or xs i x
-    → ((damage : StoreDamage) → fault ≡ opens.Damaged damage → store_in (stored_view x) ≡ Some (Err damage)) → ((damage : StoreDamage) → fault ≡ opens.Damaged damage → result ≡ faults.Store i damage)
-    → (fault ≡ opens.OutOfMemory → result ≡ faults.Merge OutOfMemory) → AllZip OpensStore (take i (map stored_view xs)) (map opened_store made) → IsOpenStoresFault (map stored_view xs) result
-index_fault xs i x made (opens.Damaged damage) result inside is damaged named memory so_far = subst (IsOpenStoresFault (map stored_view xs)) (sym (named damage refl)) (first_index xs i x inside is made damage (damaged damage refl) so_far)
-index_fault xs i x made opens.OutOfMemory result inside is damaged named memory so_far = subst (IsOpenStoresFault (map stored_view xs)) (sym (memory refl)) refl
+pub index_fault : {A Y : Type 0} (view : A → StoredFile) (source : Y → StoreSourceState) (xs : List A) (i : ℕ) (x : A) (made : List Y) (fault : StoreFileFault) → i < length xs → x ≡ get_or xs i x
+    → ((damage : StoreDamage) → fault ≡ opens.Damaged damage → store_in (view x) ≡ Some (Err damage)) → ((e : ReadFault) → fault ≡ opens.Read e → e ≡ reads.OutOfMemory)
+    → AllZip OpensStore (take i (map view xs)) (map source made) → IsOpenStoresFault (map view xs) (store_fault i fault)
+index_fault view source xs i x made (opens.Damaged damage) inside is damaged memory so_far = first_index view source xs i x inside is made damage (damaged damage refl) so_far
+index_fault view source xs i x made (opens.Read e) inside is damaged memory so_far = subst (λ (f : ReadFault). IsOpenStoresFault (map view xs) (read_fault i f)) (sym (memory e refl)) refl
 
 -- ---- an open store
 pub record IsOpenedStore (f : StoredFile) (s : StoreSourceState) : Type 0 where
@@ -128,12 +127,22 @@ all_fit [] (s ∷ ss) all = absurd all
 all_fit (f ∷ fs) [] all = absurd all
 all_fit (f ∷ fs) (s ∷ ss) all = let h = opened_is f s all.0 in (h.fits ∙ ap length (sym h.flags), all_fit fs ss all.1)
 
--- the sources that are given to the merge
-pub given_fit : (fs : List StoredFile) (found : Option (Vec StoreSource Global)) (sources : Vec StoreSource Global) (given : List StoreSource) → AreOpenStores fs (option_map (λ v. map opened_store v.items) found) → found ≡ Some sources → given ≡ sources.items
-    → AllByRecursion FitsFlags (map opened_store given)
-given_fit fs opened_of sources given opened some same =
-    let all = subst (λ (o : Option (Vec StoreSource Global)). AreOpenStores fs (option_map (λ v. map opened_store v.items) o)) some opened in
-    subst (λ (xs : List StoreSource). AllByRecursion FitsFlags (map opened_store xs)) (sym same) (all_fit fs (map opened_store sources.items) all)
+-- what holds of the sources holds of those that are given to the merge
+pub given : {A : Type 0} (P : List A → Type 0) (found : Option (Vec A Global)) (sources : Vec A Global) (items : List A) → IfSome found (λ v. P v.items) → found ≡ Some sources → items ≡ sources.items → P items
+given P found sources items all some same = subst P (sym same) (subst (λ (o : Option (Vec _ Global)). IfSome o (λ v. P v.items)) some all)
+
+pub given_opens : {Y : Type 0} (source : Y → StoreSourceState) (fs : List StoredFile) (found : Option (Vec Y Global)) (sources : Vec Y Global) (items : List Y) → AreOpenStores fs (option_map (λ v. map source v.items) found) → found ≡ Some sources → items ≡ sources.items
+    → AllZip OpensStore fs (map source items)
+given_opens source fs found sources items opened some same =
+    subst (λ (xs : List _). AllZip OpensStore fs (map source xs)) (sym same) (subst (λ (o : Option (Vec _ Global)). AreOpenStores fs (option_map (λ v. map source v.items) o)) some opened)
+
+-- why open stores aren't merged
+pub stores_refused : (fs : List StoredFile) (ss : List StoreSourceState) (fault : StoreMergeFault) → AllZip OpensStore fs ss → IsStoreMergeFault ss fault → IsStoresFault fs (stores_fault fault)
+stores_refused fs ss (merges.Output fault) opens cause = cause
+stores_refused fs ss (merges.Read place fault) opens cause = subst (λ (f : ReadFault). IsStoresFault fs (read_fault place f)) (sym cause) (inl refl)
+stores_refused fs ss (merges.Damaged place damage) opens cause = inr (ss, opens, cause)
+stores_refused fs ss (merges.DocumentLen place) opens cause = (ss, opens, cause)
+stores_refused fs ss merges.NumDocs opens cause = (ss, opens, cause)
 
 -- ---- what is held
 held_some : (file : Option (List ℕ)) (bytes : List ℕ) (P : List ℕ → Type 0) → file ≡ Some bytes → IsSomeAnd file P → P bytes

@@ -1,5 +1,7 @@
 -- Faults that are damage, and refusals of a directory.
 use Rattle.std.specs.Prelude.{⊤}
+use Rattle.ii_block_file.specs.declared.faults.ReadFault.{ReadFault}
+use Rattle.ii_block_file.specs.declared.faults.ReadFault.TheVariants as reads
 use Rattle.ii_directory.specs.Directory.{IsRefusal}
 use Rattle.ii_io.specs.declared.faults.Fault.{Fault}
 use Rattle.ii_io.specs.declared.faults.Fault.TheVariants as faults
@@ -8,7 +10,7 @@ use Rattle.nequllpa_merging.specs.declared.faults.FilesFault.TheVariants as file
 use Rattle.nequllpa_merging.specs.declared.faults.JoinFault.{JoinFault}
 use Rattle.nequllpa_merging.specs.declared.faults.JoinFault.TheVariants as joins
 use Rattle.nequllpa_merging.specs.declared.faults.MergeFault.{MergeFault}
-use Rattle.nequllpa_merging.specs.declared.faults.MergeFault.TheVariants.{LongDocument, Merge, Segment, Store, TooManyDocuments, TooManyFields}
+use Rattle.nequllpa_merging.specs.declared.faults.MergeFault.TheVariants.{LongDocument, Merge, Read, Segment, Store, TooManyDocuments, TooManyFields}
 
 -- A fault of an index is damage.
 abbrev pub IsPartDamage : Fault → Type 0
@@ -21,10 +23,18 @@ IsPartDamage (faults.UnsupportedLeaf kind) = ⊥
 IsPartDamage faults.DecreasingPosition = ⊥
 IsPartDamage (faults.Limit name) = ⊥
 
--- A fault of a merge is damage: of a segment, of its stored documents, or of its lists.
+-- A block of a file isn't as it was when the file was opened.
+abbrev pub IsBlockDamage : ReadFault → Type 0
+IsBlockDamage reads.OutOfMemory = ⊥
+IsBlockDamage reads.Range = ⊥
+IsBlockDamage (reads.Refused kind) = ⊥
+IsBlockDamage (reads.Damaged block) = ⊤
+
+-- A fault of a merge is damage: of a segment, of its stored documents or their file, or of its lists.
 abbrev pub IsDamage : MergeFault → Type 0
 IsDamage (Segment place part) = ⊤
 IsDamage (Store place damage) = ⊤
+IsDamage (Read place fault) = IsBlockDamage fault
 IsDamage (LongDocument place) = ⊥
 IsDamage TooManyDocuments = ⊥
 IsDamage TooManyFields = ⊥

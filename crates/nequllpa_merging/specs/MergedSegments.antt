@@ -18,7 +18,7 @@ use Rattle.ii_segment_store.specs.Contents.{SegmentContents}
 use Rattle.nequllpa_merging.specs.OpenedSegments.{IsFirstDamaged, OpenedSegmentState, OpensFrom}
 use Rattle.nequllpa_merging.specs.StoredDocuments.{HasMergedStore, IsStoresFault, stored_file}
 use Rattle.nequllpa_merging.specs.declared.faults.MergeFault.{MergeFault}
-use Rattle.nequllpa_merging.specs.declared.faults.MergeFault.TheVariants.{LongDocument, Merge, Segment, Store, TooManyDocuments, TooManyFields}
+use Rattle.nequllpa_merging.specs.declared.faults.MergeFault.TheVariants.{LongDocument, Merge, Read, Segment, Store, TooManyDocuments, TooManyFields}
 
 -- the lists and norms of an open segment, as they are merged
 abbrev pub merge_source : OpenedSegmentState → MergeSourceState
@@ -107,6 +107,7 @@ IsOpenMergeFault entries os fault =
 abbrev pub IsOpenedFault : MergeFault → List SchemaEntry → List OpenedSegmentState → Type 0
 IsOpenedFault (Segment place part) entries os = ⊥
 IsOpenedFault (Store place damage) entries os = ⊥
+IsOpenedFault (Read place fault) entries os = ⊥
 IsOpenedFault (LongDocument place) entries os = ⊥
 IsOpenedFault TooManyDocuments entries os = TERMINATED < all_living (map merge_source os)
 IsOpenedFault TooManyFields entries os = 2 ^ 32 - 1 ≤ length entries
@@ -122,6 +123,7 @@ pub record IsOpenedRefusal (fault : MergeFault) (entries : List SchemaEntry) (cs
 abbrev pub IsOpeningFault : MergeFault → List SchemaEntry → List SegmentContents → Type 0
 IsOpeningFault (Segment place part) entries cs = IsFirstDamaged entries cs place part
 IsOpeningFault (Store place damage) entries cs = ⊥
+IsOpeningFault (Read place fault) entries cs = ⊥
 IsOpeningFault (LongDocument place) entries cs = ⊥
 IsOpeningFault TooManyDocuments entries cs = ⊥
 IsOpeningFault TooManyFields entries cs = ⊥

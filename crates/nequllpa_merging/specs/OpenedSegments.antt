@@ -23,7 +23,7 @@ pub record OpenedSegmentState : Type 0 where
   pub num_tokens : List ℕ
 
 -- the model of an open segment
-abbrev pub opened_view : OpenedSegment → OpenedSegmentState
+abbrev pub opened_view : {F : Type 0} → OpenedSegment F → OpenedSegmentState
 opened_view o = record { index = o.index; counts = o.counts; alive = o.alive; num_tokens = o.num_tokens.items }
 
 -- the bodies of a file of counts, if there is one, or Composite

@@ -3,7 +3,14 @@ use Rattle.std.specs.Prelude.{◌≡◌, ℕ, ◌≤◌, ◌^◌, ◌⊎◌, ◌
 use Rattle.std.specs.List.{AllByRecursion, AllZip, list_any}
 use Rattle.std.specs.Option.{option_map}
 use Rattle.ii_io.specs.declared.faults.Fault.TheVariants.{OutOfMemory}
+use Rattle.ii_block_file.specs.ListedFile.{HasKnownBytes, bytes_or_none}
+use Rattle.ii_block_file.specs.declared.block_file.BlockFile.{BlockFile}
+use Rattle.ii_block_file.specs.declared.faults.ReadFault.{ReadFault}
+use Rattle.ii_block_file.specs.declared.faults.ReadFault.TheVariants as reads
+use Rattle.ii_file_slice.specs.FileSlice.{IsTableOf, bytes_if}
 use Rattle.ii_doc_store.specs.declared.checkpoint.Checkpoint.{Checkpoint}
+use Rattle.ii_doc_store.specs.declared.faults.StoreFileFault.{StoreFileFault}
+use Rattle.ii_doc_store.specs.declared.faults.StoreFileFault.TheVariants as opens
 use Rattle.ii_doc_store.specs.declared.faults.StoreDamage.{StoreDamage}
 use Rattle.ii_doc_store.specs.declared.faults.StoreDamage.TheVariants.{Index}
 use Rattle.ii_doc_store.specs.StoreReader.{HoldsDocuments, index_of, num_docs}
@@ -12,7 +19,7 @@ use Rattle.ii_doc_store_merger.specs.declared.faults.StoreMergeFault.{StoreMerge
 use Rattle.ii_doc_store_merger.specs.declared.faults.StoreMergeFault.TheVariants as stores
 use Rattle.ii_segment_store.specs.Contents.{SegmentContents}
 use Rattle.nequllpa_merging.specs.declared.faults.MergeFault.{MergeFault}
-use Rattle.nequllpa_merging.specs.declared.faults.MergeFault.TheVariants.{LongDocument, Merge, Segment, Store, TooManyDocuments, TooManyFields}
+use Rattle.nequllpa_merging.specs.declared.faults.MergeFault.TheVariants.{LongDocument, Merge, Read, Segment, Store, TooManyDocuments, TooManyFields}
 use Rattle.nequllpa_merging.specs.declared.opening.OpenedSegment.{OpenedSegment}
 
 -- the bytes of the file of a segment's stored documents, if there is one, and whether each document is alive
@@ -24,9 +31,21 @@ pub record StoredFile : Type 0 where
 abbrev pub stored_file : SegmentContents → StoredFile
 stored_file c = record { bytes = c.store; alive = c.alive }
 
--- the file of an open segment
-abbrev pub stored_view : OpenedSegment → StoredFile
-stored_view o = record { bytes = o.store; alive = o.alive }
+-- the file of an open segment, given what bytes its source has
+abbrev pub stored_view : {F : Type 0} → (F → Option (List ℕ)) → OpenedSegment F → StoredFile
+stored_view bytes o = record { bytes = option_map (λ b. bytes_or_none (bytes b.source)) o.store; alive = o.alive }
+
+-- The bytes of an open segment's file of stored documents are known.
+abbrev pub KnowsStore : {F : Type 0} → (F → Option (List ℕ)) → OpenedSegment F → Type 0
+KnowsStore bytes o = IfSome o.store (HasKnownBytes bytes)
+
+-- what is known of the bytes of a file with a table
+abbrev pub file_bytes : {F : Type 0} → (F → Option (List ℕ)) → BlockFile F → Option (List ℕ)
+file_bytes bytes b = bytes_if b.table (bytes b.source)
+
+-- A file's table is that of its bytes.
+abbrev pub is_sound_file : {F : Type 0} → (F → Option (List ℕ)) → BlockFile F → Type 0
+is_sound_file bytes b = IsTableOf b.table (bytes b.source)
 
 -- a store, if its index is sound and it has a document for each flag
 abbrev pub fitting_store : List ℕ → List Bool → Result (List Checkpoint) StoreDamage → Result StoreSourceState StoreDamage
@@ -66,6 +85,7 @@ pub record IsFirstDamagedIndex (fs : List StoredFile) (place : ℕ) (damage : St
 abbrev pub IsOpenStoresFault : List StoredFile → MergeFault → Type 0
 IsOpenStoresFault fs (Segment place part) = ⊥
 IsOpenStoresFault fs (Store place damage) = IsFirstDamagedIndex fs place damage
+IsOpenStoresFault fs (Read place fault) = ⊥
 IsOpenStoresFault fs (LongDocument place) = ⊥
 IsOpenStoresFault fs TooManyDocuments = ⊥
 IsOpenStoresFault fs TooManyFields = ⊥
@@ -79,14 +99,28 @@ AllStoresOpen fs P = (ss : List StoreSourceState) × AllZip OpensStore fs ss × 
 abbrev pub IsStoresFault : List StoredFile → MergeFault → Type 0
 IsStoresFault fs (Segment place part) = ⊥
 IsStoresFault fs (Store place damage) = IsFirstDamagedIndex fs place damage ⊎ AllStoresOpen fs (λ ss. IsFirstDamagedStore ss place damage)
+IsStoresFault fs (Read place fault) = ⊥
 IsStoresFault fs (LongDocument place) = AllStoresOpen fs (λ ss. IsSomeAnd (slice_get ss place) HasLongDocument)
 IsStoresFault fs TooManyDocuments = AllStoresOpen fs (λ ss. 2 ^ 31 ≤ num_living_of ss)
 IsStoresFault fs TooManyFields = ⊥
 IsStoresFault fs (Merge fault) = IsOutputFault fault
 
+-- why segments aren't merged, where the file of the one at a place isn't read
+abbrev pub read_fault : ℕ → ReadFault → MergeFault
+read_fault place reads.OutOfMemory = Merge OutOfMemory
+read_fault place reads.Range = Read place reads.Range
+read_fault place (reads.Refused kind) = Read place (reads.Refused kind)
+read_fault place (reads.Damaged block) = Read place (reads.Damaged block)
+
+-- why segments aren't merged, where the store of the one at a place isn't opened
+abbrev pub store_fault : ℕ → StoreFileFault → MergeFault
+store_fault place (opens.Damaged damage) = Store place damage
+store_fault place (opens.Read fault) = read_fault place fault
+
 -- why segments aren't merged, by why their stores aren't
 abbrev pub stores_fault : StoreMergeFault → MergeFault
 stores_fault (stores.Output fault) = Merge fault
+stores_fault (stores.Read place fault) = read_fault place fault
 stores_fault (stores.Damaged place damage) = Store place damage
 stores_fault (stores.DocumentLen place) = LongDocument place
 stores_fault stores.NumDocs = TooManyDocuments

@@ -5,6 +5,7 @@ ghost use Rattle.nequllpa_merging.specs.declared.faults.MergeFault.TheVariants a
 
 use ii_base::{Fault, Part};
 use ii_doc_store::StoreDamage;
+use ii_file_slice::ReadFault;
 use ii_segment_store::CommitFault;
 use ii_store::{DirectoryFault, StoreFault};
 use std::alloc::{AllocError, AllocFailed};
@@ -20,6 +21,9 @@ pub enum MergeFault {
     /// The stored documents of the segment at this place, from 0, are damaged: a block, or the index.
     #[error("segment {0}: {1}")]
     Store(usize, StoreDamage),
+    /// The file of stored documents of the segment at this place, from 0, can't be read.
+    #[error("segment {0}: stored documents: {1}")]
+    Read(usize, ReadFault),
     /// A stored document of the segment at this place, from 0, has 2^31 bytes or more.
     #[error("segment {0}: limit passed: bytes of a document")]
     LongDocument(usize),
@@ -62,7 +66,7 @@ pub(crate) enum FilesFault {
 }
 
 impl MergeFault {
-    /// Returns whether a part of a segment is damaged.
+    /// Returns whether a part of a segment is damaged, or its file of stored documents changed meanwhile.
     pub fn is_damage(&self) -> bool
         ensures { IsTrue result ↔ IsDamage self.now }
     {
@@ -70,6 +74,7 @@ impl MergeFault {
             self,
             MergeFault::Segment(_, _)
                 | MergeFault::Store(_, _)
+                | MergeFault::Read(_, ReadFault::Damaged(_))
                 | MergeFault::Merge(Fault::Damaged(_))
         )
     }

@@ -7,7 +7,7 @@ ghost use Rattle.nequllpa_merging.specs.Joins.{HoldsIndex, HoldsSameIndex, IsJoi
 use crate::faults::JoinFault;
 use crate::merging::merge_segments;
 use ii_base::Schema;
-use ii_segment_store::{load_last, replace_last};
+use ii_segment_store::{open_last, replace_last};
 use ii_segments::merge_keeps;
 use ii_store::Directory;
 use ii_store::segments::load_meta;
@@ -45,7 +45,7 @@ pub fn merge_last<D: Directory>(
         Ok(list) => list,
         Err(fault) => return Err(JoinFault::Store(fault)),
     };
-    let last = match load_last(alloc, directory, &list, first) {
+    let last = match open_last(alloc, directory, &list, first) {
         Ok(last) => last,
         Err(fault) => return Err(JoinFault::Store(fault)),
     };

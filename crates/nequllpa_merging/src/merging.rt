@@ -9,8 +9,8 @@ ghost use Rattle.ii_merger.specs.MergedIndex.{all_living};
 ghost use Rattle.ii_indexing.specs.IndexFiles.{WroteIndex};
 ghost use Rattle.ii_indexing.specs.RamFiles.{empty_files};
 ghost use Rattle.ii_directory.specs.Directory.{is_obeyed};
-ghost use Rattle.ii_segment_store.specs.Contents.{segment_contents};
 ghost use Rattle.ii_segment_store.specs.NewSegments.{IsWritten, new_contents};
+ghost use Rattle.ii_segment_store.specs.Sources.{HasKnownStore, source_contents};
 ghost use Rattle.ii_segments.specs.Segments.{Segment, index_tokens, merged, num_docs_of};
 ghost use Rattle.nequllpa_merging.specs.Faults.{IsDamage, IsPartDamage, IsRefusedFiles, OfFault, OfMerge};
 ghost use Rattle.nequllpa_merging.specs.Joins.{IsRefusedJoin};
@@ -27,15 +27,16 @@ use crate::stores::{merge_all_stores, with_store};
 use crate::totals::{all_totals, num_living};
 use ii_base::{DocId, Fault, LimitName, Schema};
 use ii_counts_merger::{MergedCounts, merge_counts};
+use ii_directory::ReadAt;
 use ii_merger::{IndexWriters, merge};
-use ii_segment_store::{NewSegment, StoredSegment};
+use ii_segment_store::{NewSegment, SegmentSource};
 use ii_segments::{counts_of_segments, merged_is_segment};
 use ii_store::Directory;
 use std::alloc::Global;
 
 /// Writes the files of one segment of the living documents of several segments, numbered one segment after the other, to
 /// the directory. They have no names yet. It has a file of counts if each of the segments has one, and stored documents if
-/// each has some.
+/// each has some. Of these one block at a time is read.
 ///
 /// # Errors
 ///
@@ -46,21 +47,22 @@ use std::alloc::Global;
 ///   merged files, or with `OutOfMemory` if an allocation fails.
 /// * Where all else can be merged: `Store` with the place of the first segment whose index of stored documents is
 ///   damaged or, if none is, of the first one with a damaged block that has living documents, and the first such
-///   block; `LongDocument` with the place of a segment that has a stored document of 2^31 bytes or more.
+///   block; `LongDocument` with the place of a segment that has a stored document of 2^31 bytes or more; `Read` with the
+///   place of a segment whose file of stored documents can't be read, or changed since it was opened.
 pub fn merge_segments<D: Directory>(
     alloc: Global,
     directory: &D,
     schema: &Schema,
-    segments: Vec<StoredSegment>,
+    segments: Vec<SegmentSource<D::File>>,
 ) -> Result<NewSegment<D::NewFile>, JoinFault>
     ensures written { D.is_known directory.now → IfOk result IsWritten }
-    ensures merged { D.is_known directory.now → IfOk result (λ s. IsMergedFrom schema.now (map segment_contents segments.items) (new_contents s)) }
-    ensures holds { D.is_known directory.now → (ss : List Segment) → HoldSegments schema.now (map segment_contents segments.items) ss → IfOk result (λ s. HoldsSegment schema.now (new_contents s) (merged ss)) }
-    ensures documents { D.is_known directory.now → (ds : List SegmentDocuments) → AllZip HoldsStored (map stored_file (map segment_contents segments.items)) ds → IfOk result (λ s. HoldsStored (stored_file (new_contents s)) (merged_documents ds)) }
+    ensures merged { D.is_known directory.now → AllByRecursion (HasKnownStore D.File.bytes) segments.items → IfOk result (λ s. IsMergedFrom schema.now (map (source_contents D.File.bytes) segments.items) (new_contents s)) }
+    ensures holds { D.is_known directory.now → AllByRecursion (HasKnownStore D.File.bytes) segments.items → (ss : List Segment) → HoldSegments schema.now (map (source_contents D.File.bytes) segments.items) ss → IfOk result (λ s. HoldsSegment schema.now (new_contents s) (merged ss)) }
+    ensures documents { D.is_known directory.now → AllByRecursion (HasKnownStore D.File.bytes) segments.items → (ds : List SegmentDocuments) → AllZip HoldsStored (map stored_file (map (source_contents D.File.bytes) segments.items)) ds → IfOk result (λ s. HoldsStored (stored_file (new_contents s)) (merged_documents ds)) }
 
     // Which errors it returns, and when.
-    ensures fault { D.is_known directory.now → IfErr result (OfMerge (IsMergingFault schema.now (map segment_contents segments.items))) }
-    ensures undamaged { (ss : List Segment) → HoldSegments schema.now (map segment_contents segments.items) ss → IfErr result (OfMerge (λ e. ¬ IsDamage e)) }
+    ensures fault { D.is_known directory.now → AllByRecursion (HasKnownStore D.File.bytes) segments.items → IfErr result (OfMerge (IsMergingFault schema.now (map (source_contents D.File.bytes) segments.items))) }
+    ensures undamaged { AllByRecursion (HasKnownStore D.File.bytes) segments.items → (ss : List Segment) → HoldSegments schema.now (map (source_contents D.File.bytes) segments.items) ss → IfErr result (OfMerge (λ e. ¬ IsDamage e)) }
     ensures obeyed { is_obeyed IsRefusedJoin (D.may_refuse directory.now) result }
 {
     let opened = match open_segments(alloc, schema, segments) {
@@ -82,7 +84,7 @@ fn merge_opened<D: Directory>(
     alloc: Global,
     directory: &D,
     schema: &Schema,
-    segments: &[OpenedSegment],
+    segments: &[OpenedSegment<D::File>],
 ) -> Result<NewSegment<D::NewFile>, JoinFault>
     requires opened { AllByRecursion (IsOpenedFor schema.now) (map opened_view segments.now) }
     ensures written { D.is_known directory.now → IfOk result IsWritten }
@@ -111,7 +113,7 @@ fn merge_files<D: Directory>(
     alloc: Global,
     directory: &D,
     schema: &Schema,
-    segments: &[OpenedSegment],
+    segments: &[OpenedSegment<D::File>],
     num_docs: DocId,
 ) -> Result<NewSegment<D::NewFile>, FilesFault>
     requires opened { AllByRecursion (IsOpenedFor schema.now) (map opened_view segments.now) }
@@ -156,10 +158,10 @@ fn merge_files<D: Directory>(
 }
 
 // Merges the files of counts, if each segment has one.
-fn merge_all_counts(
+fn merge_all_counts<F: ReadAt + Drop>(
     alloc: Global,
     schema: &Schema,
-    segments: &[OpenedSegment],
+    segments: &[OpenedSegment<F>],
     num_docs: DocId,
 ) -> Result<Option<Vec<u8>>, Fault>
     requires opened { AllByRecursion (IsOpenedFor schema.now) (map opened_view segments.now) }
@@ -195,7 +197,7 @@ fn merge_lists<D: Directory>(
     alloc: Global,
     directory: &D,
     schema: &Schema,
-    segments: &[OpenedSegment],
+    segments: &[OpenedSegment<D::File>],
 ) -> Result<IndexWriters<D::NewFile>, FilesFault>
     requires opened { AllByRecursion (IsOpenedFor schema.now) (map opened_view segments.now) }
     requires many { length schema.now < 2 ^ 32 - 1 }

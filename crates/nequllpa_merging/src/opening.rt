@@ -1,47 +1,50 @@
 //! Opens the files of segments.
 ghost use Rattle.std.specs.Prelude.{◌≡◌, IfErr, IfOk, Ok, length, map};
-ghost use Rattle.std.specs.List.{AllZip};
+ghost use Rattle.std.specs.List.{AllByRecursion, AllZip};
 ghost use Rattle.std.specs.Option.{option_map};
 ghost use Rattle.ii_io.specs.declared.faults.Part.{Part};
 ghost use Rattle.ii_io.specs.Faults.{OnlyMemory};
 ghost use Rattle.ii_reader.specs.InvertedIndexReader.{IsRefusal};
 ghost use Rattle.ii_reader.specs.OpenIndex.{index_of_files};
-ghost use Rattle.ii_segment_store.specs.Contents.{segment_contents};
+ghost use Rattle.ii_segment_store.specs.Sources.{HasKnownStore, source_contents};
 ghost use Rattle.nequllpa_merging.specs.MergedSegments.{IsOpeningFault};
 ghost use Rattle.nequllpa_merging.specs.OpenedSegments.{OpensFrom, bodies_of_counts, living_totals, opened_from, opened_view};
-ghost use Rattle.nequllpa_merging.specs.StoredDocuments.{stored_file, stored_view};
+ghost use Rattle.nequllpa_merging.specs.StoredDocuments.{KnowsStore, stored_file, stored_view};
 
 use crate::faults::MergeFault;
 use crate::totals::living_totals;
 use bytes::Bytes;
 use ii_alive::AliveBits;
 use ii_base::{Fault, Schema};
+use ii_block_file::BlockFile;
 use ii_counts::CountReaders;
+use ii_directory::ReadAt;
 use ii_reader::{OpenIndex, open_index_with_norms};
-use ii_segment_store::{SegmentFiles, StoredSegment};
+use ii_segment_store::{SegmentFiles, SegmentSource};
 use std::alloc::Global;
 
 // A segment whose files are open.
 #[derive(Drop)]
-pub(crate) struct OpenedSegment {
+pub(crate) struct OpenedSegment<F: ReadAt + Drop> {
     pub(crate) index: OpenIndex,
     pub(crate) alive: AliveBits,
     pub(crate) counts: Option<CountReaders>,
-    // The file of stored documents, which isn't open.
-    pub(crate) store: Option<Bytes>,
+    // The file of stored documents.
+    pub(crate) store: Option<BlockFile<F>>,
     // For each field, how many tokens the living documents have.
     pub(crate) num_tokens: Vec<u64>,
 }
 
 // Opens segments one by one.
-pub(crate) fn open_segments(
+pub(crate) fn open_segments<F: ReadAt + Drop>(
     alloc: Global,
     schema: &Schema,
-    segments: Vec<StoredSegment>,
-) -> Result<Vec<OpenedSegment>, MergeFault>
-    ensures opens { IfOk result (λ v. AllZip (OpensFrom schema.now) (map segment_contents segments.items) (map opened_view v.items)) }
-    ensures stored { IfOk result (λ v. map stored_view v.items ≡ map stored_file (map segment_contents segments.items)) }
-    ensures fault { IfErr result (λ e. IsOpeningFault e schema.now (map segment_contents segments.items)) }
+    segments: Vec<SegmentSource<F>>,
+) -> Result<Vec<OpenedSegment<F>>, MergeFault>
+    ensures opens { IfOk result (λ v. AllZip (OpensFrom schema.now) (map (source_contents F.bytes) segments.items) (map opened_view v.items)) }
+    ensures stored { IfOk result (λ v. map (stored_view F.bytes) v.items ≡ map stored_file (map (source_contents F.bytes) segments.items)) }
+    ensures known { AllByRecursion (HasKnownStore F.bytes) segments.items → IfOk result (λ v. AllByRecursion (KnowsStore F.bytes) v.items) }
+    ensures fault { IfErr result (λ e. IsOpeningFault e schema.now (map (source_contents F.bytes) segments.items)) }
 {
     let mut opened = Vec::new(alloc);
     for segment in segments {
@@ -67,16 +70,20 @@ fn segment_fault(place: usize, fault: Fault) -> MergeFault
 }
 
 // Opens the files of a segment.
-fn open_segment(
+fn open_segment<F: ReadAt + Drop>(
     alloc: Global,
     schema: &Schema,
-    segment: StoredSegment,
-) -> Result<OpenedSegment, Fault>
-    ensures ok { IfOk result (λ o. opened_from schema.now (segment_contents segment) ≡ Ok (opened_view o)) }
-    ensures stored { IfOk result (λ o. stored_view o ≡ stored_file (segment_contents segment)) }
-    ensures err { IfErr result (IsRefusal (opened_from schema.now (segment_contents segment))) }
+    segment: SegmentSource<F>,
+) -> Result<OpenedSegment<F>, Fault>
+    ensures ok { IfOk result (λ o. opened_from schema.now (source_contents F.bytes segment) ≡ Ok (opened_view o)) }
+    ensures stored { IfOk result (λ o. (o.store ≡ segment.store) × (o.alive ≡ segment.alive)) }
+    ensures err { IfErr result (IsRefusal (opened_from schema.now (source_contents F.bytes segment))) }
 {
-    let StoredSegment { files, alive } = segment;
+    let SegmentSource {
+        files,
+        store,
+        alive,
+    } = segment;
     let SegmentFiles {
         num_docs: _,
         terms,
@@ -84,7 +91,7 @@ fn open_segment(
         positions,
         fieldnorms,
         counts,
-        store,
+        store: _,
     } = files;
     let files = TermFiles {
         terms,
@@ -100,22 +107,18 @@ fn open_segment(
         Ok(counts) => counts,
         Err(fault) => return Err(fault),
     };
-    let store = match shared(store) {
-        Ok(store) => store,
-        Err(fault) => return Err(fault),
-    };
     with_totals(alloc, schema, index, alive, counts, store)
 }
 
 // Adds the numbers of tokens to what was opened.
-fn with_totals(
+fn with_totals<F: ReadAt + Drop>(
     alloc: Global,
     schema: &Schema,
     index: OpenIndex,
     alive: AliveBits,
     counts: Option<CountReaders>,
-    store: Option<Bytes>,
-) -> Result<OpenedSegment, Fault>
+    store: Option<BlockFile<F>>,
+) -> Result<OpenedSegment<F>, Fault>
     requires many { length index.readers ≡ length schema.now }
     ensures totals { IfOk result (λ o. living_totals (length schema.now) index counts alive ≡ Ok o.num_tokens.items) }
     ensures same { IfOk result (λ o. (o.index ≡ index) × (o.counts ≡ counts) × (o.alive ≡ alive)) }
@@ -131,17 +134,6 @@ fn with_totals(
             num_tokens,
         }),
         Err(fault) => Err(fault),
-    }
-}
-
-// Returns bytes that can be shared, if there are some.
-fn shared(bytes: Option<Vec<u8>>) -> Result<Option<Bytes>, Fault>
-    ensures ok { IfOk result (λ found. found ≡ option_map (λ v. v.items) bytes) }
-    ensures only { OnlyMemory result }
-{
-    match bytes {
-        Some(bytes) => Ok(Some(Bytes::from_vec(bytes)?)),
-        None => Ok(None),
     }
 }
 

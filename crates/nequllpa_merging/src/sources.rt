@@ -10,13 +10,14 @@ ghost use Rattle.nequllpa_merging.specs.OpenedSegments.{opened_view};
 use crate::opening::OpenedSegment;
 use ii_base::Fault;
 use ii_counts_merger::CountsSource;
+use ii_directory::ReadAt;
 use ii_merger::MergeSource;
 use std::alloc::Global;
 
 // Returns the files of each segment.
-pub(crate) fn merge_sources<'a>(
+pub(crate) fn merge_sources<'a, F: ReadAt + Drop>(
     alloc: Global,
-    segments: &'a [OpenedSegment],
+    segments: &'a [OpenedSegment<F>],
 ) -> Result<Vec<MergeSource<'a>>, Fault>
     ensures ok { IfOk result (λ v. map opened_segment v.items ≡ map merge_source (map opened_view segments.now)) }
     ensures only { OnlyMemory result }
@@ -30,7 +31,7 @@ pub(crate) fn merge_sources<'a>(
 }
 
 // Returns the files of a segment.
-fn merge_source<'a>(segment: &'a OpenedSegment) -> MergeSource<'a>
+fn merge_source<'a, F: ReadAt + Drop>(segment: &'a OpenedSegment<F>) -> MergeSource<'a>
     ensures { opened_segment result ≡ merge_source (opened_view segment.now) }
 {
     MergeSource {
@@ -40,9 +41,9 @@ fn merge_source<'a>(segment: &'a OpenedSegment) -> MergeSource<'a>
 }
 
 // Returns the counts of each segment, or `None` if a segment has none.
-pub(crate) fn counts_sources<'a>(
+pub(crate) fn counts_sources<'a, F: ReadAt + Drop>(
     alloc: Global,
-    segments: &'a [OpenedSegment],
+    segments: &'a [OpenedSegment<F>],
 ) -> Result<Option<Vec<CountsSource<'a>>>, Fault>
     ensures ok { IfOk result (λ found. option_map (λ v. map opened_counts v.items) found ≡ counts_sources (map opened_view segments.now)) }
     ensures only { OnlyMemory result }
@@ -58,7 +59,7 @@ pub(crate) fn counts_sources<'a>(
 }
 
 // Returns the counts of a segment, if it has some.
-fn counts_source<'a>(segment: &'a OpenedSegment) -> Option<CountsSource<'a>>
+fn counts_source<'a, F: ReadAt + Drop>(segment: &'a OpenedSegment<F>) -> Option<CountsSource<'a>>
     ensures { option_map opened_counts result ≡ counts_source_if segment.now.counts (opened_view segment.now) }
 {
     match &segment.counts {

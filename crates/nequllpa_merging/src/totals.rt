@@ -14,6 +14,7 @@ use ii_alive::AliveBits;
 use ii_base::{DocId, Fault, Field, LimitName, Part, Schema, TERMINATED};
 use ii_counts::CountReaders;
 use ii_counts_merger::{CountsSource, count_tokens};
+use ii_directory::ReadAt;
 use ii_reader::OpenIndex;
 use std::alloc::Global;
 
@@ -92,10 +93,10 @@ fn living_total(
 }
 
 // Returns how many tokens the living documents of all segments have in each field.
-pub(crate) fn all_totals(
+pub(crate) fn all_totals<F: ReadAt + Drop>(
     alloc: Global,
     schema: &Schema,
-    segments: &[OpenedSegment],
+    segments: &[OpenedSegment<F>],
 ) -> Result<Vec<u64>, Fault>
     requires many { AllByRecursion (λ o. length o.num_tokens ≡ length schema.now) (map opened_view segments.now) }
     ensures ok { IfOk result (λ v. v.items ≡ totals_of (length schema.now) (map opened_view segments.now)) }
@@ -114,7 +115,10 @@ pub(crate) fn all_totals(
 }
 
 // Returns how many tokens the living documents of all segments have in a field.
-fn sum_of_totals(field: Field, segments: &[OpenedSegment]) -> Result<u64, Fault>
+fn sum_of_totals<F: ReadAt + Drop>(
+    field: Field,
+    segments: &[OpenedSegment<F>],
+) -> Result<u64, Fault>
     requires known { AllByRecursion (λ o. field < length o.num_tokens) (map opened_view segments.now) }
     ensures ok { IfOk result (λ n. n ≡ total_of field (map opened_view segments.now)) }
     ensures err { IfErr result (λ e. (e ≡ Fault.Limit LimitName.Tokens) × (2 ^ 64 ≤ total_of field (map opened_view segments.now))) }
@@ -132,7 +136,9 @@ fn sum_of_totals(field: Field, segments: &[OpenedSegment]) -> Result<u64, Fault>
 }
 
 // Returns how many documents of all segments are alive.
-pub(crate) fn num_living(segments: &[OpenedSegment]) -> Result<DocId, MergeFault>
+pub(crate) fn num_living<F: ReadAt + Drop>(
+    segments: &[OpenedSegment<F>],
+) -> Result<DocId, MergeFault>
     ensures ok { IfOk result (λ n. n ≡ all_living (map merge_source (map opened_view segments.now))) }
     ensures few { IfOk result (λ n. n ≤ TERMINATED) }
     ensures err { IfErr result (λ e. (e ≡ MergeFault.TooManyDocuments) × (TERMINATED < all_living (map merge_source (map opened_view segments.now)))) }

@@ -9,14 +9,14 @@ use Rattle.nequllpa_merging.proofs.MergeLemmas.{all_have_counts, counts_fault, c
 use Rattle.nequllpa_merging.proofs.merging.merge_all_counts.Goals as goal
 
 pub merge_counts-requires : goal.merge_counts-requires
-merge_counts-requires c =
+merge_counts-requires g c =
     let os = map opened_view c.args.segments.now in
     let given = map opened_counts c.as_slice.result.now in
     let are = given_counts os c.in-Ok-Some.field-0 c.in-Ok-Some.sources c.as_slice.result.now c.in-Ok-Some.ensures.ok c.in-Ok-Some.field-0-is c.as_slice.ensures.value in
     record { docs = c.requires.docs ∙ sym (same_docs os given are) }
 
 pub returns-in-Ok-clause-holds : goal.returns-in-Ok-clause-holds
-returns-in-Ok-clause-holds c ss hold =
+returns-in-Ok-clause-holds g c ss hold =
     let entries = c.args.schema.now in
     let os = map opened_view c.args.segments.now in
     let given = map opened_counts c.as_slice.result.now in
@@ -26,7 +26,7 @@ returns-in-Ok-clause-holds c ss hold =
     rw c.bytes_of.ensures many
 
 pub returns-clause-fault : goal.returns-clause-fault
-returns-clause-fault c =
+returns-clause-fault g c =
     let os = map opened_view c.args.segments.now in
     let given = map opened_counts c.as_slice.result.now in
     let are = given_counts os c.in-Ok-Some.field-0 c.in-Ok-Some.sources c.as_slice.result.now c.in-Ok-Some.ensures.ok c.in-Ok-Some.field-0-is c.as_slice.ensures.value in

@@ -4,4 +4,4 @@ use Rattle.nequllpa_merging.specs.OpenedSegments.{opened_view}
 use Rattle.nequllpa_merging.proofs.totals.all_totals.Given as goal
 
 abbrev pub invariant-loop-place : goal.invariant-loop-place
-invariant-loop-place l = l.totals.items ≡ totals_of l.place (map opened_view l.segments)
+invariant-loop-place g l = l.totals.items ≡ totals_of l.place (map opened_view l.segments)

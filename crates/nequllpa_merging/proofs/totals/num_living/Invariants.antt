@@ -6,7 +6,7 @@ use Rattle.nequllpa_merging.specs.OpenedSegments.{opened_view}
 use Rattle.nequllpa_merging.proofs.totals.num_living.Given as goal
 
 abbrev pub invariant-loop-place : goal.invariant-loop-place
-invariant-loop-place l = record {
+invariant-loop-place g l = record {
   left : l.total + all_living (map merge_source (drop l.place (map opened_view l.segments))) ≡ all_living (map merge_source (map opened_view l.segments));
   few : l.total ≤ TERMINATED;
 }

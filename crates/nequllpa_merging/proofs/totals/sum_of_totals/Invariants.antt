@@ -4,4 +4,4 @@ use Rattle.nequllpa_merging.specs.OpenedSegments.{opened_view}
 use Rattle.nequllpa_merging.proofs.totals.sum_of_totals.Given as goal
 
 abbrev pub invariant-loop-place : goal.invariant-loop-place
-invariant-loop-place l = l.total + total_of l.field (drop l.place (map opened_view l.segments)) ≡ total_of l.field (map opened_view l.segments)
+invariant-loop-place g l = l.total + total_of l.field (drop l.place (map opened_view l.segments)) ≡ total_of l.field (map opened_view l.segments)
