@@ -132,21 +132,12 @@ ends_in_memory old new e apart ends = record { entries = ends.entries; failures 
 pub not_closed : {A : Type 0} (e : Fault) (closed : Bool) → (IsErrOf {T = A} (Err e) SerializerClosed ↔ IsTrue closed) → closed ≡ false → ¬ (e ≡ SerializerClosed)
 not_closed e closed iff opened is = true≢false (sym (iff.0 (ap Err is)) ∙ opened)
 
-pub memory_apart : (e : Fault) → (e ≡ OutOfMemory) ⊎ (e ≡ SerializerClosed) → ¬ (e ≡ Write)
-memory_apart e (inl memory) is = absurd (cc)
-memory_apart e (inr closed) is = absurd (cc)
-
 pub push_apart : (e : Fault) → (e ≡ OutOfMemory) ⊎ (e ≡ SerializerClosed) ⊎ (e ≡ Limit limit.BlockFrequencySum) → ¬ (e ≡ Write)
 push_apart e (inl memory) is = absurd (cc)
 push_apart e (inr (inl closed)) is = absurd (cc)
 push_apart e (inr (inr sum)) is = absurd (cc)
 
--- why a term can't be started
-pub begin_fault : {A B C : Type 0} (e : Fault) → ¬ (e ≡ SerializerClosed) → (e ≡ OutOfMemory) ⊎ (e ≡ SerializerClosed) → IsFaultBy A B C e
-begin_fault e apart (inl memory) = inl memory
-begin_fault e apart (inr closed) = absurd (apart closed)
-
--- and why its entries can't be pushed
+-- why a term's entries can't be pushed
 pub push_fault : {A B C : Type 0} (e : Fault) → ¬ (e ≡ SerializerClosed) → (e ≡ Limit limit.BlockFrequencySum → A) → (e ≡ OutOfMemory) ⊎ (e ≡ SerializerClosed) ⊎ (e ≡ Limit limit.BlockFrequencySum) → IsFaultBy A B C e
 push_fault e apart large (inl memory) = inl memory
 push_fault e apart large (inr (inl closed)) = absurd (apart closed)
