@@ -6,7 +6,7 @@ use crate::new_file::NewSystemFile;
 use crate::read_at::SystemFile;
 use std::alloc::Global;
 use std::fs::{self, File, Files, OpenFile};
-use std::io::{self, Write};
+use std::io::{self, Read, Write};
 
 /// The files of a folder of the system.
 ///
@@ -35,11 +35,35 @@ impl<'a, R: Files + AllocGlobal> SystemFiles<'a, R> {
         told(fs::exists(self.rt, path.as_str()))
     }
 
+    // Opens a file, if there is one.
+    fn open_file(&self, name: Name) -> Result<Option<R::File>, DirectoryFault> {
+        let path = self.path_of(name)?;
+        match fs::open(self.rt, path.as_str()) {
+            Ok(file) => Ok(Some(file)),
+            Err(e) => {
+                if e.kind() == io::ErrorKind::NotFound {
+                    return Ok(None);
+                }
+                Err(DirectoryFault::Refused(e.kind()))
+            }
+        }
+    }
+
     // Returns the path of a file.
     fn path_of(&self, name: Name) -> Result<String, DirectoryFault> {
         let name = name.text(self.rt.alloc())?;
         Ok(format!(in self.rt.alloc(); "{}/{name}", self.path)?)
     }
+}
+
+// Reads a file to its end. It has room for the file's length and one byte, so that it doesn't grow to find the end.
+fn read_all(alloc: Global, file: File) -> Result<Vec<u8>, DirectoryFault> {
+    let mut file = file;
+    let len = told(file.metadata())?.len();
+    let mut bytes = Vec::new(alloc);
+    bytes.reserve_exact((len as usize).saturating_add(1))?;
+    told(file.read_to_end(&mut bytes))?;
+    Ok(bytes)
 }
 
 // Writes a file.
@@ -81,28 +105,16 @@ impl<R: Files<File = File> + AllocGlobal> FileSystem for SystemFiles<'_, R> {
     ghost counts_now = { λ d t known le. absurd known };
 
     fn read(&self, alloc: Global, name: Name) -> Result<Option<Vec<u8>>, DirectoryFault> {
-        let path = self.path_of(name)?;
-        match fs::read(self.rt, path.as_str()) {
-            Ok(bytes) => Ok(Some(bytes)),
-            Err(e) => {
-                if e.kind() == io::ErrorKind::NotFound {
-                    return Ok(None);
-                }
-                Err(DirectoryFault::Refused(e.kind()))
-            }
+        match self.open_file(name)? {
+            Some(file) => Ok(Some(read_all(alloc, file)?)),
+            None => Ok(None),
         }
     }
 
     fn open(&self, alloc: Global, name: Name) -> Result<Option<SystemFile<File>>, DirectoryFault> {
-        let path = self.path_of(name)?;
-        match fs::open(self.rt, path.as_str()) {
-            Ok(file) => Ok(Some(SystemFile::new(file))),
-            Err(e) => {
-                if e.kind() == io::ErrorKind::NotFound {
-                    return Ok(None);
-                }
-                Err(DirectoryFault::Refused(e.kind()))
-            }
+        match self.open_file(name)? {
+            Some(file) => Ok(Some(SystemFile::new(file))),
+            None => Ok(None),
         }
     }
 
