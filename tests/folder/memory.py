@@ -129,7 +129,7 @@ def refused(user):
 
 
 def settled(user):
-    """Checks that an add merges no more than its memory allows."""
+    """Checks that an add merges as much as its memory allows, and no more."""
     docs = [(['sea'], place) for place in range(40)]
     for size, segments in (('1KB', 6), ('512MB', 1)):
         user.write('few.jsonl', [line_of(doc) for doc in docs[:20]])
@@ -141,6 +141,17 @@ def settled(user):
             user.write('few.jsonl', [line_of(doc) for doc in docs])
             user.wants(['add', 'settled', '--memory', size, 'few.jsonl'], '40 documents added\n')
         holds(user, 'settled', docs if size == '1KB' else docs + docs, segments)
+    # the stored lines don't count, since a merge doesn't load them: lines of 3 KB with one word each
+    user.write('few.jsonl', ['{' + ' ' * 3_000 + line_of(doc)[1:] for doc in docs[:4]])
+    user.wants(['index', 'padded', '--schema', 'schema.toml', '--memory', '62KB', 'few.jsonl'], '4 documents indexed\n')
+    for segments in (1, 2, 1):
+        user.wants(['add', 'padded', '--memory', '62KB', 'few.jsonl'], '4 documents added\n')
+        told = user.wants(['stats', 'padded'], '').split()
+        if told[2] != str(segments):
+            raise Failed(f'{told[2]} segments of few terms, with lines of 12 KB each; wanted {segments}')
+    stored = sum(len(data) for name, data in user.files('padded').items() if name.endswith('.store'))
+    if stored < 48_000:
+        raise Failed(f'only {stored} bytes of lines are stored')
 
 
 def bounded(user, dice):

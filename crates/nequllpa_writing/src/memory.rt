@@ -8,7 +8,7 @@ const DEFAULT_MEMORY: u64 = 512_000_000;
 // About how many bytes of memory indexing takes per byte of lines, for these and then for their segment.
 const INDEXING_MULTIPLE: u64 = 5;
 
-// How many bytes of memory a merge takes per byte of the files of its segments, for these and then for the new ones.
+// How many bytes of memory a merge takes, at most, per byte of the files that it loads.
 const MERGING_MULTIPLE: u64 = 2;
 
 // The units of a size, and how many bytes each has.
@@ -31,7 +31,7 @@ impl Budget {
         self.bytes / INDEXING_MULTIPLE
     }
 
-    /// Returns how many bytes the files of segments may have that are merged without being asked for.
+    /// Returns how many bytes may be loaded of segments that are merged without being asked for.
     pub fn bytes_to_merge(self) -> u64 {
         self.bytes / MERGING_MULTIPLE
     }

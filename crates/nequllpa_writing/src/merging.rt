@@ -174,7 +174,7 @@ pub fn settle(rt: &HostRuntime, path: &str, budget: Budget) -> anyhow::Result<()
     Ok(())
 }
 
-// Does it, of the last segments whose files may be merged.
+// Does it, of the last segments that may be merged.
 fn settled(rt: &HostRuntime, path: &str, budget: Budget) -> anyhow::Result<()> {
     let mut folder = Folder::new(rt, path);
     let list = load_meta(rt.alloc(), &folder)?;
@@ -205,7 +205,7 @@ fn settled(rt: &HostRuntime, path: &str, budget: Budget) -> anyhow::Result<()> {
 struct Counted {
     // how many documents of each are alive
     num_living: Vec<u32>,
-    // how many bytes the files of each have
+    // how many bytes a merge loads of each
     lens: Vec<u64>,
 }
 
@@ -220,11 +220,23 @@ impl Counted {
                 lens.clear();
             } else {
                 num_living.push(segment.num_living)?;
-                lens.push(len_of_files(segment))?;
+                lens.push(len_to_load(segment))?;
             }
         }
         Ok(Counted { num_living, lens })
     }
+}
+
+// Returns how many bytes a merge loads of a segment: those of all files but that of the stored documents, of which it
+// reads one block at a time.
+fn len_to_load(segment: &SegmentMeta) -> u64 {
+    let mut len = 0u64;
+    for file in &segment.files {
+        if file.component != SegmentComponent::Store {
+            len = len.saturating_add(file.len);
+        }
+    }
+    len
 }
 
 /// Returns how many bytes the files of a segment have.
