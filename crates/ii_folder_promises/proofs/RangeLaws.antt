@@ -3,7 +3,7 @@ use Rattle.std.proofs.Common.{◌≡◌, List, Ok, eq-eqb, length, refl}
 use Rattle.ii_base.specs.Schema.{SchemaEntry}
 use Rattle.ii_reader.specs.OpenIndex.{OpenIndexState, index_of_files}
 use Rattle.ii_segment_store.specs.Contents.{SegmentContents}
-use Rattle.ii_segment_store.specs.OpenSegments.{opened_of}
+use Rattle.ii_open_segments.specs.OpenSegments.{opened_of}
 use Rattle.nequllpa_warming.specs.WarmedSegments.{HasItsTables, SegmentHolds}
 
 -- the open files of a segment that was written hold its index

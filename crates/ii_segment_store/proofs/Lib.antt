@@ -1,11 +1,9 @@
-mod LoadLaws
+pub mod LoadLaws
 mod KeptLaws
 mod WantedLaws
 pub mod CommitLaws
 pub mod PendingLaws
 mod FlagLaws
-mod OpenLaws
-mod OpenSegmentLaws
 mod OrderLaws
 mod ClearLaws
 mod WorkedRows

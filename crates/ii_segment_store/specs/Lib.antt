@@ -3,8 +3,6 @@ pub mod Commits
 pub mod BlockTables
 pub mod Changes
 pub mod Joins
-pub mod OpenFiles
-pub mod OpenSegments
 pub mod WantedFiles
 pub mod Pending
 pub mod NewSegments

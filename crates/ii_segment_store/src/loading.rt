@@ -23,8 +23,8 @@ use ii_store::{
 };
 use std::alloc::Global;
 
-// How often an index is read again while its list changes.
-pub(crate) const MOST_RETRIES: u32 = 10;
+/// How often an index is read again while its list changes.
+pub const MOST_RETRIES: u32 = 10;
 
 /// Loads the index of a directory, of any version: its schema, exactly the bytes of each segment, and which
 /// of its documents are alive. An index of version 1 is one segment.

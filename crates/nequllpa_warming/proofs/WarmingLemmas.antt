@@ -1,6 +1,6 @@
 -- Segments that are opened one after the other.
 use Rattle.std.proofs.Common.{◌≡◌, List, ◌∷◌, ◌++◌, ap, sym, ◌∙◌}
-use Rattle.ii_segment_store.specs.OpenSegments.{OpenSegmentState}
+use Rattle.ii_open_segments.specs.OpenSegments.{OpenSegmentState}
 use Rattle.nequllpa_opening.specs.declared.opened.Opened.{Opened}
 use Rattle.nequllpa_opening.proofs.OpenLemmas.{IsMaking}
 use Rattle.nequllpa_warming.specs.WarmedSegments.{HoldsOfOne}

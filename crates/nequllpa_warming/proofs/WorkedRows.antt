@@ -1,7 +1,7 @@
 -- Rows of the definitions, worked out by hand.
 use Rattle.std.proofs.Common.{◌≡◌, true, false, [], ◌∷◌, None, Some, refl}
-use Rattle.ii_segment_store.specs.OpenFiles.{OpenFileState}
-use Rattle.ii_segment_store.specs.OpenSegments.{OpenSegmentState}
+use Rattle.ii_open_segments.specs.OpenFiles.{OpenFileState}
+use Rattle.ii_open_segments.specs.OpenSegments.{OpenSegmentState}
 use Rattle.std.specs.Prelude.{Option}
 use Rattle.nequllpa_warming.specs.WarmedSegments.{known_bytes, lacks_file}
 

@@ -4,8 +4,8 @@ use Rattle.ii_base.specs.Schema.{SchemaEntry}
 use Rattle.ii_file_slice.specs.FileSlice.{IsTableOf, bytes_if}
 use Rattle.ii_query_parser.specs.declared.query.Query.{Query}
 use Rattle.ii_reader.specs.OpenIndex.{OpenIndexState}
-use Rattle.ii_segment_store.specs.OpenFiles.{OpenFileState}
-use Rattle.ii_segment_store.specs.OpenSegments.{OpenSegmentState}
+use Rattle.ii_open_segments.specs.OpenFiles.{OpenFileState}
+use Rattle.ii_open_segments.specs.OpenSegments.{OpenSegmentState}
 use Rattle.ii_warmup.specs.IndexParts.{HaveNormsFor, HoldIndex, IsWarmupFault, requests}
 use Rattle.ii_warmup.specs.Parts.{IsPartFor}
 use Rattle.ii_warmup.specs.QueryTerms.{query_ranges, requested_terms}

@@ -12,9 +12,9 @@ ghost use Rattle.nequllpa_warming.specs.WarmedSegments.{HoldsOfOne, IsWarmupRefu
 use crate::faults::WarmupFault;
 use ii_base::Schema;
 use ii_directory::ReadAt;
+use ii_open_segments::{OpenSegment, OpenSegments};
 use ii_query_parser::Query;
 use ii_reader::OpenIndex;
-use ii_segment_store::{OpenSegment, OpenSegments};
 use ii_warmup::{EnableScoring, IndexHandles, SearchHints, warm_up};
 use nequllpa_opening::{Opened, OpenedIndex, schema_of};
 use std::alloc::Global;

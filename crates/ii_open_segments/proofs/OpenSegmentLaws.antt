@@ -6,9 +6,9 @@ use Rattle.ii_directory.specs.Directory.{Files}
 use Rattle.ii_segment_store.specs.BlockTables.{segment_tables}
 use Rattle.ii_segment_store.specs.Commits.{HasSegment, listed_segment}
 use Rattle.ii_segment_store.specs.Contents.{SegmentContents}
-use Rattle.ii_segment_store.specs.OpenSegments.{opened_of, opened_segment}
+use Rattle.ii_open_segments.specs.OpenSegments.{opened_of, opened_segment}
 use Rattle.ii_segment_store.proofs.CommitLaws.{flags_again, no_flags}
-use Rattle.ii_segment_store.proofs.OpenLaws.{opens}
+use Rattle.ii_open_segments.proofs.OpenLaws.{opens}
 
 pub segment_opens : (id : ℕ) (s : SegmentContents) (files : Files) → HasSegment id s files → s.alive ≡ replicate s.num_docs true → opened_segment (listed_segment id s) files ≡ Ok (opened_of s)
 unfolding opened_segment

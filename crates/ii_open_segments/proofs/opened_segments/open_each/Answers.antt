@@ -3,9 +3,9 @@ use Rattle.std.specs.Prelude.{map}
 use Rattle.std.proofs.lemmas.Result.{err_from_is_err_and}
 use Rattle.ii_store.specs.IndexMeta.{segment_view}
 use Rattle.ii_segment_store.specs.Contents.{all_of}
-use Rattle.ii_segment_store.specs.OpenSegments.{OpenSegmentState, opened_segment}
+use Rattle.ii_open_segments.specs.OpenSegments.{OpenSegmentState, opened_segment}
 use Rattle.ii_segment_store.proofs.LoadLaws.{begins, ends, goes_on, is_done, with_front}
-use Rattle.ii_segment_store.proofs.opened_segments.open_each.Goals as goal
+use Rattle.ii_open_segments.proofs.opened_segments.open_each.Goals as goal
 
 pub loop-segment-init : goal.loop-segment-init
 loop-segment-init g c = λ known.

@@ -7,13 +7,13 @@ ghost use Rattle.ii_store.specs.Index.{AnswersFromFiles};
 ghost use Rattle.ii_store.specs.IndexMeta.{meta_view, segment_view};
 ghost use Rattle.ii_segment_store.specs.Commits.{HasSegment, listed_segment};
 ghost use Rattle.ii_segment_store.specs.Contents.{SegmentContents, all_of};
-ghost use Rattle.ii_segment_store.specs.OpenSegments.{opened_at, opened_contents, opened_list, opened_of, opened_segment};
+ghost use Rattle.ii_open_segments.specs.OpenSegments.{opened_at, opened_contents, opened_list, opened_of, opened_segment};
 
-use crate::loading::{MOST_RETRIES, load_flags};
 use crate::opening::open_one;
 use ii_alive::AliveBits;
 use ii_block_file::BlockFile;
 use ii_directory::ReadAt;
+use ii_segment_store::loading::{MOST_RETRIES, load_flags};
 use ii_store::index_meta_reader::decode;
 use ii_store::meta::{VERSION, version_of};
 use ii_store::{Directory, IndexFault, IndexMeta, Name, SegmentComponent, SegmentMeta, StoreFault};
@@ -34,7 +34,7 @@ pub struct OpenSegment<F: ReadAt + Drop> {
 
 impl<F: ReadAt + Drop> Model for OpenSegment<F> {
     ghost use Rattle.std.specs.Option.{option_map};
-    ghost use Rattle.ii_segment_store.specs.OpenSegments.{OpenSegmentState};
+    ghost use Rattle.ii_open_segments.specs.OpenSegments.{OpenSegmentState};
 
     ghost Value = { OpenSegmentState };
 

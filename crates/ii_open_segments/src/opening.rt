@@ -8,13 +8,13 @@ ghost use Rattle.ii_directory.specs.Directory.{Files, found_bytes, is_obeyed};
 ghost use Rattle.ii_store.specs.Faults.{IsRefused};
 ghost use Rattle.ii_store.specs.Index.{AnswersFromFiles};
 ghost use Rattle.ii_store.specs.IndexMeta.{segment_view};
-ghost use Rattle.ii_segment_store.specs.OpenFiles.{OpenFileState, component_contents, has_table, len_before, listed_table, open_in, open_listed, open_with, table_end, table_in, table_len, table_start};
+ghost use Rattle.ii_open_segments.specs.OpenFiles.{OpenFileState, component_contents, has_table, len_before, listed_table, open_in, open_listed, open_with, table_end, table_in, table_len, table_start};
 ghost use Rattle.ii_segment_store.specs.Contents.{SegmentContents, file_of};
 ghost use Rattle.ii_segment_store.specs.Commits.{HasSegment, listed_segment};
 ghost use Rattle.ii_block_file.specs.BlockTable.{block_table_of};
 
-use crate::loading::file_of;
 use ii_block_file::{BlockFile, BlockTable};
+use ii_segment_store::loading::file_of;
 use ii_store::file_digest::BLOCK_LEN;
 use ii_store::{
     Directory, FileMeta, IndexFault, Name, SegmentComponent, SegmentId, SegmentMeta, StoreFault,

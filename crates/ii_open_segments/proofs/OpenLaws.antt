@@ -14,7 +14,7 @@ use Rattle.ii_block_file.proofs.TableLaws.{num_bytes, own_table}
 use Rattle.ii_segment_store.specs.BlockTables.{file_table, segment_tables, table_if}
 use Rattle.ii_segment_store.specs.Commits.{HasFileIf, HasSegment, listed_if, listed_segment}
 use Rattle.ii_segment_store.specs.Contents.{SegmentContents, file_of}
-use Rattle.ii_segment_store.specs.OpenFiles.{component_contents, has_table, listed_table, open_found, open_in, open_listed, open_with, table_start}
+use Rattle.ii_open_segments.specs.OpenFiles.{component_contents, has_table, listed_table, open_found, open_in, open_listed, open_with, table_start}
 
 -- the length of a table
 table_long : (bytes : List ℕ) → length (file_table bytes) ≡ 8 * num_file_blocks (length bytes)

@@ -1,7 +1,7 @@
 use Rattle.std.proofs.Common.{◌≡◌, ◌≤◌, take}
 use Rattle.std.specs.List.{sum_by}
-use Rattle.ii_segment_store.specs.OpenFiles.{len_before}
-use Rattle.ii_segment_store.proofs.opening.table_start.Given as goal
+use Rattle.ii_open_segments.specs.OpenFiles.{len_before}
+use Rattle.ii_open_segments.proofs.opening.table_start.Given as goal
 
 -- the lengths of the tables before the index
 abbrev pub invariant-loop-file : goal.invariant-loop-file

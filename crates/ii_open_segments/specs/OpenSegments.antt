@@ -9,7 +9,7 @@ use Rattle.ii_store.specs.Index.{◌>>=◌, version_in}
 use Rattle.ii_store.specs.IndexMeta.{MetaState, SegmentState, meta_of}
 use Rattle.ii_block_file.specs.BlockTable.{block_table_of}
 use Rattle.ii_segment_store.specs.Contents.{SegmentContents, all_of, flags_in}
-use Rattle.ii_segment_store.specs.OpenFiles.{OpenFileState, open_in}
+use Rattle.ii_open_segments.specs.OpenFiles.{OpenFileState, open_in}
 
 -- a segment's files that are open, each of which is there if the segment has a table of it, and whether each of its documents is alive
 pub record OpenSegmentState : Type 0 where

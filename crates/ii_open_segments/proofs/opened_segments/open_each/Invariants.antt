@@ -2,9 +2,9 @@ use Rattle.std.proofs.Common.{◌≡◌}
 use Rattle.std.specs.Prelude.{map}
 use Rattle.ii_store.specs.IndexMeta.{segment_view}
 use Rattle.ii_segment_store.specs.Contents.{all_of}
-use Rattle.ii_segment_store.specs.OpenSegments.{opened_segment}
+use Rattle.ii_open_segments.specs.OpenSegments.{opened_segment}
 use Rattle.ii_segment_store.proofs.LoadLaws.{segments_from, with_front}
-use Rattle.ii_segment_store.proofs.opened_segments.open_each.Given as goal
+use Rattle.ii_open_segments.proofs.opened_segments.open_each.Given as goal
 
 -- what was opened, and what is still to be opened, is all of it
 abbrev pub invariant-loop-segment : goal.invariant-loop-segment

@@ -1,0 +1,2 @@
+pub mod OpenFiles
+pub mod OpenSegments
