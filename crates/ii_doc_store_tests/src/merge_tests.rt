@@ -1,5 +1,5 @@
-ghost use Rattle.std.specs.Prelude.{◌≡◌, IfOk, length};
-ghost use Rattle.ii_doc_store.specs.StoreReader.{num_docs};
+ghost use Rattle.std.specs.Prelude.{IfOk};
+ghost use Rattle.ii_doc_store_merger.specs.StoreSources.{FitsFlags, memory_store};
 
 use bytes::Bytes;
 use ii_alive::AliveBits;
@@ -60,44 +60,52 @@ fn three(alloc: Global, changed: usize) -> Result<Bytes, MergeTestFault> {
     Ok(bytes)
 }
 
-// Opens a store for flags of as many documents.
-fn fitting<'a>(
-    alloc: Global,
-    bytes: &'a Bytes,
-    alive: &AliveBits,
-) -> Result<StoreFile<'a, Bytes>, MergeTestFault>
-    ensures { IfOk result (λ store. num_docs store.checkpoints ≡ length alive.now) }
+// The file of a store, and which of its documents are alive.
+#[derive(Drop)]
+struct Stored {
+    file: Bytes,
+    alive: AliveBits,
+}
+
+// Opens a store with flags of as many documents.
+fn fitting<'a>(alloc: Global, stored: &'a Stored) -> Result<StoreSource<'a, Bytes>, MergeTestFault>
+    ensures { IfOk result (λ source. FitsFlags (memory_store source)) }
 {
-    let store = match StoreFile::open(alloc, bytes) {
+    let store = match StoreFile::open(alloc, &stored.file) {
         Ok(store) => store,
         Err(fault) => return Err(MergeTestFault::Unopened(fault)),
     };
-    if store.num_docs() != alive.num_docs() {
+    if store.num_docs() != stored.alive.num_docs() {
         return Err(MergeTestFault::OtherNumDocs);
     }
-    Ok(store)
+    Ok(StoreSource {
+        store,
+        alive: &stored.alive,
+    })
 }
 
-// Merges `THREE` without a document, and `THREE` with one byte changed.
-fn merged(alloc: Global, dead: u32, changed: usize) -> Result<Vec<u8>, MergeTestFault> {
-    let first = flags(alloc, dead)?;
-    let second = flags(alloc, 3)?;
-    let sound = three(alloc, THREE.len())?;
-    let other = three(alloc, changed)?;
-    let sources = [
-        StoreSource {
-            store: fitting(alloc, &sound, &first)?,
-            alive: &first,
-        },
-        StoreSource {
-            store: fitting(alloc, &other, &second)?,
-            alive: &second,
-        },
-    ];
+// Merges two stores.
+fn merged_two(alloc: Global, stored: &[Stored; 2]) -> Result<Vec<u8>, MergeTestFault> {
+    let sources = [fitting(alloc, &stored[0])?, fitting(alloc, &stored[1])?];
     match merge_stores(alloc, &sources) {
         Ok(bytes) => Ok(bytes),
         Err(fault) => Err(MergeTestFault::Merge(fault)),
     }
+}
+
+// Merges `THREE` without a document, and `THREE` with one byte changed.
+fn merged(alloc: Global, dead: u32, changed: usize) -> Result<Vec<u8>, MergeTestFault> {
+    let stored = [
+        Stored {
+            file: three(alloc, THREE.len())?,
+            alive: flags(alloc, dead)?,
+        },
+        Stored {
+            file: three(alloc, changed)?,
+            alive: flags(alloc, 3)?,
+        },
+    ];
+    merged_two(alloc, &stored)
 }
 
 // Returns whether these are the bytes of `FIVE`.
