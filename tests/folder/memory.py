@@ -141,14 +141,36 @@ def settled(user):
             user.write('few.jsonl', [line_of(doc) for doc in docs])
             user.wants(['add', 'settled', '--memory', size, 'few.jsonl'], '40 documents added\n')
         holds(user, 'settled', docs if size == '1KB' else docs + docs, segments)
-    # the stored lines don't count, since a merge doesn't load them: lines of 3 KB with one word each
-    user.write('few.jsonl', ['{' + ' ' * 3_000 + line_of(doc)[1:] for doc in docs[:4]])
+    exactly_settled(user, docs[:4])
+    padded(user, docs[:4])
+
+
+def has_segments(user, folder, segments):
+    """Checks how many segments an index has."""
+    told = user.wants(['stats', folder], '').split()
+    if told[2] != str(segments):
+        raise Failed(f'{folder}: {told[2]} segments; wanted {segments}')
+
+
+def exactly_settled(user, docs):
+    """Checks that two segments are merged whose files, but for the stored lines, have exactly half of the memory."""
+    user.write('few.jsonl', [line_of(doc) for doc in docs])
+    index = ['index', 'exact', '--schema', 'schema.toml', 'few.jsonl']
+    user.wants(index, '4 documents indexed\n')
+    loaded = sum(len(data) for name, data in user.files('exact').items() if '.' in name and not name.endswith('.store'))
+    for size, segments in ((4 * loaded - 1, 2), (4 * loaded, 1)):
+        user.wants(index, '4 documents indexed\n')
+        user.wants(['add', 'exact', '--memory', f'{size}B', 'few.jsonl'], '4 documents added\n')
+        has_segments(user, 'exact', segments)
+
+
+def padded(user, docs):
+    """Checks that stored lines don't count for what is merged, by lines of 3 KB with one word each."""
+    user.write('few.jsonl', ['{' + ' ' * 3_000 + line_of(doc)[1:] for doc in docs])
     user.wants(['index', 'padded', '--schema', 'schema.toml', '--memory', '62KB', 'few.jsonl'], '4 documents indexed\n')
     for segments in (1, 2, 1):
         user.wants(['add', 'padded', '--memory', '62KB', 'few.jsonl'], '4 documents added\n')
-        told = user.wants(['stats', 'padded'], '').split()
-        if told[2] != str(segments):
-            raise Failed(f'{told[2]} segments of few terms, with lines of 12 KB each; wanted {segments}')
+        has_segments(user, 'padded', segments)
     stored = sum(len(data) for name, data in user.files('padded').items() if name.endswith('.store'))
     if stored < 48_000:
         raise Failed(f'only {stored} bytes of lines are stored')
